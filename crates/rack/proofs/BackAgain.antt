@@ -30,9 +30,8 @@ use Rattle.rack_parts.specs.declared.heads_said.Said.{Said}
 use Rattle.rack_parts.specs.declared.rack.ImageRest.{ImageRest}
 use Rattle.rack_parts.specs.declared.rack.Rack.{Rack}
 use Rattle.rack_parts.specs.declared.rack.Rest.{Rest}
-use Rattle.rack.proofs.FatesOf.{FateAt, stayed, went, fate_at, kept_owned}
+use Rattle.rack.proofs.Fates.{FateAt, stayed, went, fate_at, kept_owned, IsBackLane, lane_at, logger_seen, in_view, not_own}
 use Rattle.rack_parts.proofs.Members.{all_member, is_member, segment_in_image}
-use Rattle.rack.proofs.MayReturn.{IsBackLane, lane_at, logger_seen, in_view, not_own}
 use Rattle.rack.proofs.OpenAway.{is_pair}
 use Rattle.rack.proofs.Openable.{IsInImage}
 use Rattle.rack_closing.proofs.SameOut.{same_out}
@@ -243,7 +242,7 @@ module _ {D : Type 0} (state : D → State) (tells : Bool) (config : Config) (va
   pub each_row : All (λ p. IsRow (length (shapes_of config)) p) last.passes.items
   each_row = subst (λ x. All (λ p. IsRow (length (shapes_of config)) p) x.items) (sym puts.owned.passes)
       (puts.lanes.rows.rows (length (shapes_of config)) (puts.home.rows.rows (length (shapes_of config))
-      (Rattle.rack.proofs.MayReturn.away_rows state tells config valid b said id r own ready lt at view own_view away o takes n back)))
+      (Rattle.rack.proofs.Fates.away_rows state tells config valid b said id r own ready lt at view own_view away o takes n back)))
 
   -- ---- Segments
 

@@ -38,7 +38,7 @@ use Rattle.rack_parts.specs.declared.rack.ImageRest.{ImageRest}
 use Rattle.rack_parts.specs.declared.rack.Rack.{Rack}
 use Rattle.rack_parts.specs.declared.rack.VolumePasses.{VolumePasses}
 use Rattle.rack_parts.proofs.Returned.{here_within}
-use Rattle.rack_parts.proofs.Rows.{all_read}
+use Rattle.rack_parts.proofs.LanesMoved.{all_read}
 
 there_at : {X : Type 0} (xs : List X) (k : ℕ) → k < length xs → (x : X) × (slice_get xs k ≡ Some x)
 there_at [] k lt = absurd (omega (arith, lt))

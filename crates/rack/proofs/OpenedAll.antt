@@ -50,7 +50,7 @@ use Rattle.rack.proofs.Asking.{refuses_later}
 use Rattle.rack_closing.proofs.NewFaults.{told_each, told_with}
 use Rattle.rack.proofs.StillThere.{there_left}
 use Rattle.rack_closing.proofs.Names.{names_differ}
-use Rattle.rack.proofs.SentNames.{names_alike, none_named}
+use Rattle.rack.proofs.ImagesSent.{names_alike, none_named}
 use Rattle.rack.proofs.TakenReady.{alike}
 
 -- lists with the same images out

@@ -38,16 +38,14 @@ use Rattle.rack_parts.specs.declared.volume_fault.VolumeFault.{VolumeFault}
 use Rattle.rack_parts.specs.declared.volume_fault.VolumeFault.TheVariants as volume_fault
 use Rattle.rack.proofs.BackAgain as back_again
 use Rattle.rack.proofs.BackAgain.{still_here, handed_on}
-use Rattle.rack.proofs.Fates.{kept_had, freed_gone}
-use Rattle.rack.proofs.FatesOf.{FateAt, stayed, went}
+use Rattle.rack.proofs.Fates.{kept_had, freed_gone, FateAt, stayed, went}
 use Rattle.rack_parts.proofs.Members.{none_in, segment_in_image}
 use Rattle.rack.proofs.OpenAway.{is_pair}
-use Rattle.rack.proofs.Openable.{parts_in_images}
+use Rattle.rack.proofs.Openable.{parts_in_images, image_id}
 use Rattle.rack.proofs.OpeningOf.{opening_of}
 use Rattle.rack.proofs.RefusedRack.{next, image_before, segment_now, place_at, named, fault_own, fault_other}
 use Rattle.rack.proofs.RestAgain.{owner_is}
 use Rattle.rack_closing.proofs.SameOut.{taken_same, opening_too, refuses_too}
-use Rattle.rack.proofs.Takes.{image_id}
 
 module _ {D : Type 0} (state : D → State) (sound : (d : D) → IsDisk (state d)) (tells : Bool) (config : Config) (valid : IsValid config) (b : BayState) (said : List (Option Said)) (id : ℕ) (r : Rack D) (own : Said)
     (ready : IsOpeningRack state config b said id r) (lt : id < length (shapes_of config)) (at : slice_get said id ≡ Some (Some own)) (view : List ℕ) (own_view : own.view ≡ view)

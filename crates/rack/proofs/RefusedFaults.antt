@@ -28,12 +28,11 @@ use Rattle.rack_parts.specs.declared.rack.Rest.{Rest}
 use Rattle.rack_parts.specs.declared.volume_fault.VolumeFault.{VolumeFault}
 use Rattle.rack_parts.specs.declared.volume_fault.VolumeFault.TheVariants as volume_fault
 use Rattle.rack.proofs.BackAgain as back_again
-use Rattle.rack.proofs.FatesOf.{kept_owned}
-use Rattle.rack.proofs.MayReturn.{owned_at}
+use Rattle.rack.proofs.Fates.{kept_owned, owned_at}
 use Rattle.rack.proofs.RefusedRack.{next, place_at, named, fault_own, fault_other}
 use Rattle.rack.proofs.RestAgain.{owner_is}
 use Rattle.rack_closing.proofs.SameOut.{out_too}
-use Rattle.rack.proofs.Takes.{image_id}
+use Rattle.rack.proofs.Openable.{image_id}
 
 -- a count that rose isn't zero
 above_zero : (a b : ℕ) → Rose a b → 0 < b

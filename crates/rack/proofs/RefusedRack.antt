@@ -49,17 +49,13 @@ use Rattle.rack_parts.specs.declared.volume_fault.VolumeFault.{VolumeFault}
 use Rattle.rack_parts.specs.declared.volume_fault.VolumeFault.TheVariants as volume_fault
 use Rattle.rack.proofs.BackAgain as back_again
 use Rattle.rack.proofs.BackAgain.{as_it_was, of_a_lane, spindle_still, spindle_of_home, spindle_of_lane, still_here, handed_on}
-use Rattle.rack.proofs.Fates.{kept_says}
-use Rattle.rack.proofs.FatesOf.{none_freed, freed_owned}
-use Rattle.rack.proofs.MayReturn as may
+use Rattle.rack.proofs.Fates.{kept_says, none_freed, freed_owned}
+use Rattle.rack.proofs.Fates as may
 use Rattle.rack_parts.proofs.Members.{a_value, no_value, none_in, of_map, segment_in_image, here_within}
-use Rattle.rack.proofs.OneClosable.{one_owner}
-use Rattle.rack.proofs.OneOpened.{base_stays, out_stays}
-use Rattle.rack.proofs.Openable.{can_open}
-use Rattle.rack.proofs.OpenNamed.{all_out, all_inside}
+use Rattle.rack.proofs.LockedStation.{one_owner, base_stays, out_stays}
+use Rattle.rack.proofs.Openable.{can_open, all_out, all_inside, no_base, said_id}
 use Rattle.rack.proofs.RestAgain.{rest_again, only_accesses, held_was, owner_is}
 use Rattle.rack_closing.proofs.SameOut.{out_too}
-use Rattle.rack.proofs.Takes.{no_base, said_id}
 
 module _ {D : Type 0} (state : D → State) (sound : (d : D) → IsDisk (state d)) (tells : Bool) (config : Config) (valid : IsValid config) (b : BayState) (said : List (Option Said)) (id : ℕ) (r : Rack D) (own : Said)
     (ready : IsOpeningRack state config b said id r) (lt : id < length (shapes_of config)) (at : slice_get said id ≡ Some (Some own)) (view : List ℕ) (own_view : own.view ≡ view)

@@ -39,12 +39,11 @@ use Rattle.rack_parts.specs.declared.rack.Rack.{Rack}
 use Rattle.rack_parts.specs.declared.rack.Rest.{Rest}
 use Rattle.rack.proofs.BackAgain as back_again
 use Rattle.rack.proofs.BackAgain.{as_it_was, of_a_lane, spindle_still, spindle_of_home, spindle_of_lane, still_here, handed_on}
-use Rattle.rack.proofs.Fates.{held_before, held_still}
-use Rattle.rack.proofs.FatesOf.{stayed, went}
-use Rattle.rack.proofs.FaultsKept.{taken_owner}
+use Rattle.rack.proofs.Fates.{held_before, held_still, stayed, went}
+use Rattle.rack.proofs.OpenedBegun.{taken_owner}
 use Rattle.rack_parts.proofs.Members.{a_value, segment_in_image, none_in}
 use Rattle.rack.proofs.OpenAway.{is_pair}
-use Rattle.rack.proofs.Takes.{parts, no_home, no_lane}
+use Rattle.rack.proofs.Openable.{parts, no_home, no_lane}
 
 -- a pass that was used stands where it stood
 pass_stays : {T B : Type 0} (l : TurnLock T B) (v : ℕ) (p q : PassOf T B) → IsPassAt l v p → IsSamePass p q → Rattle.turn_lock.specs.Passes.IsFree q → IsPassAt l v q
@@ -282,7 +281,7 @@ module _ {D : Type 0} (state : D → State) (tells : Bool) (config : Config) (va
           ap is_some (sym (segment_in_image last k y now i) ∙ back_again.segment_other state tells config valid b said id r own ready lt at view own_view away o takes n back last puts k i never ∙ segment_in_image r.rest k x here i) ∙ there)
           (is_pair (map place_of o.owned.items) k i)
         where
-          of_fate : {v : ℕ} → Contains (map place_of o.owned.items) (k, i) → v ≡ id → (v ≡ id → Contains (freed_on k o.owned.items back.fates) i → ⊥) → Rattle.rack.proofs.FatesOf.FateAt state o.want.id o.owned.items back.fates k i → IsSome (segment_here y i)
+          of_fate : {v : ℕ} → Contains (map place_of o.owned.items) (k, i) → v ≡ id → (v ≡ id → Contains (freed_on k o.owned.items back.fates) i → ⊥) → Rattle.rack.proofs.Fates.FateAt state o.want.id o.owned.items back.fates k i → IsSome (segment_here y i)
           of_fate has same never (stayed part new in_os is in_kept at_new fate not_freed) =
               ap is_some (sym (segment_in_image last k y now i) ∙ back_again.segment_kept state tells config valid b said id r own ready lt at view own_view away o takes n back last puts new k i in_kept at_new)
           of_fate has same never (went part f in_os is fate freed none) = absurd (never same freed)

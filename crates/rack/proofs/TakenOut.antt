@@ -24,7 +24,7 @@ use Rattle.rack_parts.specs.declared.heads_said.Said.{Said}
 use Rattle.rack.specs.declared.images.Images.{Images}
 use Rattle.rack_parts.specs.declared.rack.ImageRest.{ImageRest}
 use Rattle.rack_closing.proofs.Places.{some_at}
-use Rattle.rack.proofs.SentNames.{names_alike, none_named}
+use Rattle.rack.proofs.ImagesSent.{names_alike, none_named}
 
 -- a segment with a free head is idle
 pub idle_of_free : (volumes : ℕ) (c : List Block) → HasHead volumes c (segment_head Free) → IsIdle c

@@ -38,7 +38,7 @@ use Rattle.rack_parts.specs.declared.volume_fault.VolumeFault.TheVariants.{Absen
 use Rattle.rack_closing.proofs.Places.{some_at}
 use Rattle.rack.proofs.FirstRest.{IsSupplier, AreFirst}
 use Rattle.rack.proofs.FirstOpening.{IsReadyFirst, first_opening}
-use Rattle.rack.proofs.SentNames.{names_out, neither, not_this}
+use Rattle.rack.proofs.ImagesSent.{names_out, neither, not_this}
 use Rattle.rack_closing.proofs.Names.{names_differ}
 
 -- ---- Names

@@ -47,13 +47,11 @@ use Rattle.rack.proofs.Fates.{HasFate, has_fate, kept_in, freed_in, held_before,
 use Rattle.rack_parts.proofs.LanesTaken.{pairs_apart}
 use Rattle.rack_parts.proofs.ManagerBack as back
 use Rattle.rack_parts.proofs.Members.{segment_in_image, in_map, of_recursion}
-use Rattle.rack.proofs.NewBase.{owner_new, view_new, others_new, all_new, inside_new, base_new, rest_new, accesses_new, unmanaged}
-use Rattle.rack.proofs.OneClosable.{one_owner}
-use Rattle.rack.proofs.OneOpened.{base_stays, out_stays}
+use Rattle.rack.proofs.OpenAway.{owner_new, view_new, others_new, all_new, inside_new, base_new, rest_new, accesses_new, unmanaged}
+use Rattle.rack.proofs.LockedStation.{one_owner, base_stays, out_stays}
 use Rattle.rack.proofs.OpenAway as away
-use Rattle.rack.proofs.Openable.{IsInImage, parts_in_images}
+use Rattle.rack.proofs.Openable.{IsInImage, parts_in_images, contains_map, no_home}
 use Rattle.rack_closing.proofs.SameOut.{same_out, taken_same}
-use Rattle.rack.proofs.Takes.{contains_map, no_home}
 use Rattle.rack.proofs.Without as without
 
 -- the element of the first list at the place of one of the second

@@ -48,7 +48,7 @@ use Rattle.rack_parts.specs.declared.rack.ImageRest.{ImageRest}
 use Rattle.rack_parts.specs.declared.rack.Rack.{Rack}
 use Rattle.rack_parts.specs.declared.rack.Rest.{Rest}
 use Rattle.rack_parts.proofs.Members.{a_value, is_there, here_within, of_map, in_map, none_in}
-use Rattle.rack_parts.proofs.LanesAway.{is_lane_of}
+use Rattle.rack_parts.proofs.ManagerBack.{is_lane_of}
 pub use Rattle.rack_closing.proofs.LeftImage.{volume_at, IsLeftNow, left_image}
 use Rattle.rack_closing.proofs.Closable.{blocks_at, image_was, images_rest, images_whole}
 use Rattle.rack_closing.proofs.RackClosed.{same_out}
@@ -125,10 +125,10 @@ module _ {D : Type 0} (state : D → State) (tells : Bool) (told : IsTrue tells)
           → ((j : ℕ) × (u : Station D) × (slice_get (t ∷ ts) j ≡ Some u) × (w ≡ (base_of_station u).volume.began.owner) × Contains (base_of_station u).volume.began.view k) ⊎ (Contains (away_with (map (λ (u : Station D). base_of_station u) (t ∷ ts))).lanes (w, k) → ⊥)
       go (inl x) rest = inl (0, t, refl, x.0, x.1)
       go (inr never) (inl y) = inl (suc y.0, y.1, y.2, y.3, y.4)
-      go (inr never) (inr none) = inr (λ has. two (Rattle.std.proofs.lemmas.List.Elements.Contains-append_cases (Rattle.rack_parts.proofs.LanesAway.lanes_with (base_of_station t)) (away_with (map (λ (u : Station D). base_of_station u) ts)).lanes (w, k) has))
+      go (inr never) (inr none) = inr (λ has. two (Rattle.std.proofs.lemmas.List.Elements.Contains-append_cases (Rattle.rack_parts.proofs.ManagerBack.lanes_with (base_of_station t)) (away_with (map (λ (u : Station D). base_of_station u) ts)).lanes (w, k) has))
         where
-          two : Contains (Rattle.rack_parts.proofs.LanesAway.lanes_with (base_of_station t)) (w, k) ⊎ Contains (away_with (map (λ (u : Station D). base_of_station u) ts)).lanes (w, k) → ⊥
-          two (inl mine) = let x = Rattle.rack_parts.proofs.LanesAway.with_lane (base_of_station t) w k mine in never x.0 x.1
+          two : Contains (Rattle.rack_parts.proofs.ManagerBack.lanes_with (base_of_station t)) (w, k) ⊎ Contains (away_with (map (λ (u : Station D). base_of_station u) ts)).lanes (w, k) → ⊥
+          two (inl mine) = let x = Rattle.rack_parts.proofs.ManagerBack.with_lane (base_of_station t) w k mine in never x.0 x.1
           two (inr more) = none more
 
   -- a segment in a list of a lane

@@ -16,7 +16,7 @@ use Rattle.wol_config.specs.declared.config.VolumeConf.{VolumeConf}
 use Rattle.volume_images.specs.Volumes.{shape_in, shapes_of, MayLeave, AreLeft}
 use Rattle.rack_closing.specs.Owners.{recovered_but}
 use Rattle.rack_closing.proofs.Places.{some_at}
-use Rattle.rack_parts.proofs.LeftParts.{image_length}
+use Rattle.rack_parts.proofs.GivenBack.{image_length}
 use Rattle.rack_closing.proofs.Assembled.{assembled, assembled_size, assembled_front, assembled_segment, assembled_image}
 use Rattle.rack_closing.proofs.SameRecovered.{SegmentsKeep, ImagesKeep, recovered_same, recovered_all}
 

@@ -17,7 +17,7 @@ use Rattle.rack_parts.specs.Rests.{segment_here, IsImageRest}
 use Rattle.rack_parts.specs.Closing.{IsStoredAs}
 use Rattle.rack_parts.specs.declared.rack.ImageRest.{ImageRest}
 use Rattle.rack_parts.proofs.Members.{element_at}
-use Rattle.rack_parts.proofs.LeftParts.{all_told, left_size, left_label, left_home, left_segment}
+use Rattle.rack_parts.proofs.GivenBack.{all_told, left_size, left_label, left_home, left_segment}
 
 -- the image of a shape, by its volume
 pub volume_at : (config : Config) (k : ℕ) (z : Shape) → slice_get (shapes_of config) k ≡ Some z → (v : VolumeConf) × (slice_get config.volumes.items k ≡ Some v) × (shape_in config v ≡ z)

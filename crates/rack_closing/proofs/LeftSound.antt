@@ -27,7 +27,7 @@ use Rattle.rack_parts.specs.Rests.{image_here, IsImageOut, IsRest}
 use Rattle.rack_parts.specs.declared.rack.ImageRest.{ImageRest}
 use Rattle.rack_parts.specs.declared.rack.Rack.{Rack}
 use Rattle.rack_parts.specs.declared.rack.Rest.{Rest}
-use Rattle.rack_parts.proofs.BackInTurn.{names_apart}
+use Rattle.rack_parts.proofs.GivenBack.{names_apart}
 use Rattle.rack_closing.proofs.FinalImages.{distinct_left}
 use Rattle.rack_closing.proofs.LeftOfParts.{left_parts}
 use Rattle.rack_parts.proofs.Members.{all_member}

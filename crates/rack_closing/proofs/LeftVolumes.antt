@@ -46,7 +46,7 @@ use Rattle.rack_closing.proofs.FinalImages.{Origin, was_here, was_pooled, of_sta
 use Rattle.rack_closing.proofs.KeepsNothing.{KeepsNothing, nothing_same, idle_keeps, other_keeps, left_keeps, gone_keeps}
 use Rattle.rack_closing.proofs.KeptImages as pieces
 use Rattle.rack_closing.proofs.LeftOfParts.{says_of}
-use Rattle.rack_parts.proofs.LeftParts.{image_length}
+use Rattle.rack_parts.proofs.GivenBack.{image_length}
 use Rattle.rack_parts.proofs.Members.{a_value, first_in, later_in, of_recursion, of_map}
 use Rattle.rack_closing.proofs.PartsThrough.{IsThrough, image_through}
 use Rattle.rack_closing.proofs.QuietClosed.{left_quiet}

@@ -11,7 +11,7 @@ use Rattle.rack_parts.specs.Racks.{IsStation, KeepToViews, base_of_station}
 use Rattle.rack_parts.specs.Rests.{away_with, spindle_pass}
 use Rattle.rack_parts.specs.declared.rack.Rack.{Rack}
 use Rattle.rack_parts.specs.declared.rack.Rest.{Rest}
-use Rattle.rack_parts.proofs.LanesAway.{lanes_with, with_lane}
+use Rattle.rack_parts.proofs.ManagerBack.{lanes_with, with_lane}
 use Rattle.rack_parts.proofs.Members.{first_in, later_in, none_in}
 
 module _ {D : Type 0} (views : ℕ → List ℕ) where

@@ -15,7 +15,7 @@ use Rattle.turn_lock.specs.Passes.{pass_number, pass_mine, AreWhole}
 use Rattle.manager.specs.Stands.{notes_of}
 use Rattle.manager.specs.declared.station.Station.{Station}
 use Rattle.rack_parts.specs.Racks.{IsStation}
-use Rattle.rack_parts.proofs.OthersAccess.{self_equal}
+use Rattle.rack_parts.proofs.SpindlesClosed.{self_equal}
 use Rattle.rack_closing.specs.Closes.{IsUnbroken, IsQuiet}
 
 abbrev flight_in : List Entry → Option (List Write)

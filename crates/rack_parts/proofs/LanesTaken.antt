@@ -19,7 +19,7 @@ use Rattle.rack_parts.specs.Rests.{image_here, pool_pass, spindle_pass, held_her
 use Rattle.rack_parts.specs.Parts.{KeepsPlace, KeepsRows, IsBarePlace, HasBack, PutsLanes, CanPutLanes, IsUsablePlace, IsNewLane, TakesPasses, TakesOneLane, IsSameRest, segments_of, loggers_out, TakesLanes}
 use Rattle.rack_parts.specs.declared.rack.ImageRest.{ImageRest}
 use Rattle.rack_parts.specs.declared.rack.Rest.{Rest}
-use Rattle.rack_parts.proofs.LanesPut.{all_both, bare_then, keeps_same, keeps_then, rows_same, rows_then, place_then}
+use Rattle.rack_parts.proofs.LanesMoved.{all_both, bare_then, keeps_same, keeps_then, rows_same, rows_then, place_then}
 
 -- different numbers at different places
 pub apart_at : (xs : List ℕ) (i j : ℕ) → AreApart xs → i < j → j < length xs → slice_index_or xs i 0 ≢ slice_index_or xs j 0

@@ -1,11 +1,13 @@
--- Members of lists, and options that are empty.
-use Rattle.std.proofs.Common.{◌≡◌, ◌<◌, ◌≤◌, ◌+◌, ◌⊎◌, inl, inr, ℕ, zero, suc, List, [], ◌∷◌, ◌++◌, length, take, get_or, map, Option, Some, None, is_some, refl, sym, ap, ◌∙◌, subst, arith}
+-- Members of lists, and lists side by side.
+use Rattle.std.proofs.Common.{◌≡◌, ◌<◌, ◌≤◌, ◌+◌, ◌⊎◌, inl, inr, ℕ, zero, suc, List, [], ◌∷◌, ◌++◌, length, take, get_or, map, Option, Some, None, is_some, refl, sym, ap, ◌∙◌, subst, arith, ◌-◌, reverse}
 use Rattle.std.specs.Prelude.{Contains, All, IsSome, slice_get}
 use Rattle.std.specs.List.{AllByRecursion}
 use Rattle.std.proofs.lemmas.Bool.{cases_eq}
 use Rattle.std.proofs.lemmas.Option.{slice_get-get_or}
-use Rattle.std.proofs.lemmas.List.{take-take, take_at, length-take, get_or-take, get_or_at, get_or_append_left, get_or-map, length-map, length_push}
+use Rattle.std.proofs.lemmas.List.{take-take, take_at, length-take, get_or-take, get_or_at, get_or_append_left, get_or-map, length-map, length_push, append_assoc, map-append, reverse-append, length-reverse, get_or-reverse}
 use Rattle.std.proofs.lemmas.List.Elements.{All-contains, Contains-push, Contains-get_or}
+
+-- ---- Members of lists, and options that are empty
 
 pub no_value : {A : Type 0} (o : Option A) → (IsSome o → ⊥) → o ≡ None
 no_value None never = refl
@@ -125,3 +127,29 @@ front_last {X} all xs ys y front split =
     let within : length ys < length all = omega (arith, n, l, ap length front) in
     slice_get-get_or all (length ys) y within
     ∙ ap (λ (x : X). Some x) (sym (get_or-take (length xs) all (length ys) y (omega (arith, n))) ∙ ap (λ (l : List X). get_or l (length ys) y) (sym front ∙ split) ∙ get_or_at ys y [] y (length ys) refl)
+
+-- ---- The parts of an image are put together
+
+pub all_reverse : {X : Type 0} (P : X → Type 0) (xs : List X) → All P xs → All P (reverse xs)
+all_reverse P xs all k d within =
+    let short : k < length xs = subst (λ (n : ℕ). k < n) (length-reverse xs) within in
+    subst P (sym (get_or-reverse xs k d short)) (all (length xs - 1 - k) d (omega (arith, short)))
+
+-- one segment more
+pub together_next : {X : Type 0} (row : List X) (left : List (Option X)) (x : X) (o : Option X) (whole : List (Option X)) → o ≡ Some x
+    → map (λ (p : X). Some p) row ++ reverse (left ++ o ∷ []) ≡ whole → map (λ (p : X). Some p) (row ++ x ∷ []) ++ reverse left ≡ whole
+together_next {X} row left x o whole is kept =
+    ap (λ (l : List (Option X)). l ++ reverse left) (map-append (λ (p : X). Some p) row (x ∷ []))
+    ∙ append_assoc (map (λ (p : X). Some p) row) (Some x ∷ []) (reverse left)
+    ∙ ap (λ (p : Option X). map (λ (q : X). Some q) row ++ (p ∷ reverse left)) (sym is)
+    ∙ ap (λ (l : List (Option X)). map (λ (p : X). Some p) row ++ l) (sym (reverse-append left (o ∷ [])))
+    ∙ kept
+
+-- one segment more is laid out
+pub laid_next : {X : Type 0} (done now : List (Option X)) (row rest : List X) (x : X) (whole : List (Option X)) → now ≡ done ++ Some x ∷ [] → row ≡ rest ++ x ∷ []
+    → done ++ map (λ (p : X). Some p) (reverse row) ≡ whole → now ++ map (λ (p : X). Some p) (reverse rest) ≡ whole
+laid_next {X} done now row rest x whole more is kept =
+    ap (λ (l : List (Option X)). l ++ map (λ (p : X). Some p) (reverse rest)) more
+    ∙ append_assoc done (Some x ∷ []) (map (λ (p : X). Some p) (reverse rest))
+    ∙ ap (λ (l : List X). done ++ map (λ (p : X). Some p) l) (sym (ap reverse is ∙ reverse-append rest (x ∷ [])))
+    ∙ kept

@@ -21,7 +21,7 @@ use Rattle.rack_parts.specs.Rests.{image_here}
 use Rattle.rack_parts.specs.Parts.{IsFilled, IsBarePlace, PutsLanes, CanPutLanes, ChangesHome, with_home, PutsManager, IsSameBut, KeepsImage, segment_in, in_image, IsOwedPlace, PutsOwned, CanPutOwned}
 use Rattle.rack_parts.specs.declared.rack.ImageRest.{ImageRest}
 use Rattle.rack_parts.specs.declared.rack.Rest.{Rest}
-use Rattle.rack_parts.proofs.LanesPut.{all_both, pairs_last, pairs_front, rows_then, place_then}
+use Rattle.rack_parts.proofs.LanesMoved.{all_both, pairs_last, pairs_front, rows_then, place_then}
 
 module _ {D : Type 0} where
   -- ---- A manager

@@ -10,8 +10,8 @@ use Rattle.rack.specs.Opening.{view_at, IsOpeningRack, HasBegun, HaveFaults}
 use Rattle.rack_parts.specs.declared.heads_said.Said.{Said}
 use Rattle.rack_closing.proofs.Complete.{opens_all}
 use Rattle.rack.proofs.FailedParts.{gained_parts, part_failed}
-use Rattle.rack_parts.proofs.Issues.{on_err}
-use Rattle.rack.proofs.OthersKept.{others_same, others_then}
+use Rattle.rack_parts.proofs.LocksIssued.{on_err}
+use Rattle.rack.proofs.ImagesSent.{others_same, others_then}
 use Rattle.rack.proofs.TakenBack.{left_back, nothing_done}
 use Rattle.rack.proofs.OpenedAll.{out_after, opened_out, opened_home, opened_others, opened_faulty, opened_unfaulty, opened_kept, opened_failed, opened_there, opened_views, closed_left, closed_sound, quiet_stations, fresh_passes, count_spindles, count_pools, told_at}
 use Rattle.rack.proofs.TakenBegun.{begun_first, refused_first}

@@ -14,9 +14,8 @@ use Rattle.rack_parts.specs.Rests.{image_here}
 use Rattle.rack_parts.specs.declared.heads_said.Said.{Said}
 use Rattle.rack_parts.specs.declared.locks.Issued.{Issued}
 use Rattle.rack_parts.specs.declared.rack.ImageRest.{ImageRest}
-use Rattle.rack.proofs.SentNames.{names_out}
-use Rattle.rack_parts.proofs.Issues.{on_err}
-use Rattle.rack.proofs.OthersKept.{others_same, others_then, back_others, sent_others}
+use Rattle.rack.proofs.ImagesSent.{names_out, others_same, others_then, back_others, sent_others}
+use Rattle.rack_parts.proofs.LocksIssued.{on_err}
 use Rattle.rack.proofs.TakenBack.{left_back, sound_back, nothing_done, left_again, sound_again}
 use Rattle.rack.proofs.TakenOut.{shape_here, may_issue, again, same_here, home_again}
 use Rattle.rack.proofs.all.take_out.Goals as goal

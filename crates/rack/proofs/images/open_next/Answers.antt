@@ -16,9 +16,7 @@ use Rattle.turn_lock.specs.declared.pass.PassOf.{PassOf}
 use Rattle.spin_model.specs.declared.spindle.Spindle.{Spindle}
 use Rattle.spin_model.specs.declared.spindle.SpindleBase.{SpindleBase}
 use Rattle.spin_model.specs.Operations.{has_token}
-use Rattle.rack.proofs.NextImage.{sized, next_rest, next_all, next_says, next_heads, next_entry}
-use Rattle.rack.proofs.NextRefused.{next_refuses, next_stayed, back_at_once}
-use Rattle.rack.proofs.UsedPass.{used_pass}
+use Rattle.rack.proofs.NextImage.{sized, next_rest, next_all, next_says, next_heads, next_entry, next_refuses, next_stayed, back_at_once, used_pass}
 use Rattle.rack.proofs.images.open_next.Goals as goal
 
 pub open_image-requires-clause-home : goal.open_image-requires-clause-home

@@ -1,9 +1,8 @@
 use Rattle.rack_closing.proofs.SameOut.{same_out, out_too, none_too, refuses_too}
 use Rattle.rack.proofs.LockedStation.{opened, one_popped, not_none, popped}
 use Rattle.std.proofs.Common.{◌≡◌, length, refl, sym, subst, arith, inl, inr, ⊎_elim, is_some, ap, Bool, true, Some}
-use Rattle.rack.proofs.Without.{count_without, out_without}
-use Rattle.rack.proofs.FaultsKept.{fault_kept}
-use Rattle.rack.proofs.OpenedBegun.{tried_before, opened_begun}
+use Rattle.rack.proofs.Without.{count_without, out_without, nothing_taken, began_still}
+use Rattle.rack.proofs.OpenedBegun.{fault_kept, tried_before, opened_begun}
 use Rattle.std.specs.Vec.{with_item}
 use Rattle.std.proofs.lemmas.List.{length-map}
 use Rattle.wol_disk.specs.Disk.{State}
@@ -15,17 +14,15 @@ use Rattle.manager_recovery.specs.declared.refusal.OpenRefusal.{OpenRefusal}
 use Rattle.manager_recovery.specs.declared.refusal.OpenRefusal.TheVariants.{DiskFault, NoMemory}
 use Rattle.volume_images.specs.Volumes.{shape_in, shapes_of}
 use Rattle.rack.specs.Locked.{IsUnopened}
-use Rattle.rack.proofs.Takes.{can_take}
-use Rattle.rack.proofs.Openable.{can_open, home_away}
-use Rattle.rack_parts.proofs.Issues.{on_err}
-use Rattle.rack.proofs.SameRest.{nothing_taken, began_still}
+use Rattle.rack.proofs.Openable.{can_take, can_open, home_away}
+use Rattle.rack_parts.proofs.LocksIssued.{on_err}
 use Rattle.rack.proofs.Unlocked.{lanes_home, lanes_others, out_same, unlocked_stopped, unlocked_began}
 use Rattle.rack_parts.specs.Racks.{NamesVolumes}
 use Rattle.rack_parts.specs.declared.volume_fault.VolumeFault.TheVariants.{Refused}
 use Rattle.rack.proofs.volumes.open_one.Goals.{in_default-via-in-Some+in-Some+in_default, in_default-via-in-Some+in_default, in_default-via-in_default}
 use Rattle.rack.specs.declared.volumes.Unopened.{Unopened}
 use Rattle.rack.specs.declared.volumes.Unopened.TheVariants as unopened
-use Rattle.rack.proofs.MayReturn.{lanes_return, lanes_of_others, owned_return}
+use Rattle.rack.proofs.Fates.{lanes_return, lanes_of_others, owned_return}
 use Rattle.rack.proofs.BackAgain.{out_back}
 use Rattle.rack.proofs.RefusedBegun.{begun_again, refused_again}
 use Rattle.rack.proofs.RefusedFaults.{faults_again}

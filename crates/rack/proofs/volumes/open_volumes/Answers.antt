@@ -7,7 +7,7 @@ use Rattle.rack.specs.Opening.{said_at, IsOpeningRack, HasBegun, AreRefusedBelow
 use Rattle.rack_parts.specs.declared.heads_said.Said.{Said}
 use Rattle.rack_parts.specs.declared.rack.Rack.{Rack}
 use Rattle.manager.proofs.ReadThrough.{never_some}
-use Rattle.rack_parts.proofs.Issues.{on_err}
+use Rattle.rack_parts.proofs.LocksIssued.{on_err}
 use Rattle.rack.proofs.OpeningSteps.{passed, whole, begun_passed, refused_passed, all_refused, failed_passed}
 use Rattle.rack.proofs.volumes.open_volumes.Goals.{in-Some+in_ok-open_one, in_default}
 use Rattle.rack.proofs.volumes.open_volumes.Goals as goal

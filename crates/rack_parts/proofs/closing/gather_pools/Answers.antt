@@ -3,7 +3,7 @@ use Rattle.std.specs.Prelude.{IsSome}
 use Rattle.std.proofs.lemmas.List.{length-set, length_push}
 use Rattle.rack_parts.specs.Closing.{pool_in, IsPoolTaken}
 use Rattle.rack_parts.specs.declared.rack.VolumePasses.{VolumePasses}
-use Rattle.rack_parts.proofs.Gathering.{gathered_more}
+use Rattle.rack_parts.proofs.SpindlesClosed.{gathered_more}
 use Rattle.rack_parts.proofs.closing.gather_pools.Goals as goal
 
 pub loop-volume-init : goal.loop-volume-init

@@ -4,7 +4,7 @@ use Rattle.spin_model.specs.declared.spindle.Spindle.{Spindle}
 use Rattle.spin_model.specs.declared.spindle.SpindleBase.{SpindleBase}
 use Rattle.rack_parts.specs.Locks.{AreSpindlesOf}
 use Rattle.rack_parts.specs.declared.locks.Issued.{Issued}
-use Rattle.rack_parts.proofs.Issuing.{new_in_order, new_settled, one_more}
+use Rattle.rack_parts.proofs.LocksIssued.{new_in_order, new_settled, one_more}
 use Rattle.rack_parts.proofs.locks.issue_spindles.Goals as goal
 
 pub loop-id-preserved : goal.loop-id-preserved

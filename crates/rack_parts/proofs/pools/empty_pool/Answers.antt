@@ -3,8 +3,7 @@ use Rattle.std.specs.Prelude.{IfSome}
 use Rattle.spin_model.specs.declared.spun.Spun.{Spun}
 use Rattle.rack_parts.specs.Parts.{IsFilled}
 use Rattle.rack_parts.specs.declared.rack.ImageRest.{ImageRest}
-use Rattle.rack_parts.proofs.Slots.{fewer_items}
-use Rattle.rack_parts.proofs.Emptying.{none_moved, place_there, place_empty, moved_next, all_moved}
+use Rattle.rack_parts.proofs.PoolsEmptied.{fewer_items, none_moved, place_there, place_empty, moved_next, all_moved}
 use Rattle.rack_parts.proofs.pools.empty_pool.Goals as goal
 
 pub loop-index-init : goal.loop-index-init

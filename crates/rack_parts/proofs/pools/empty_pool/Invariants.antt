@@ -1,5 +1,4 @@
-use Rattle.rack_parts.proofs.Emptying.{AreMovedInto}
-use Rattle.rack_parts.proofs.Slots.{free_count}
+use Rattle.rack_parts.proofs.PoolsEmptied.{AreMovedInto, free_count}
 use Rattle.rack_parts.proofs.pools.empty_pool.Given as goal
 
 abbrev pub invariant-loop-index : goal.invariant-loop-index

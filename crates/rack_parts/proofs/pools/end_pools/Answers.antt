@@ -3,7 +3,7 @@ use Rattle.std.proofs.lemmas.List.{nil_from_length, get_or_default}
 use Rattle.rack_parts.specs.declared.rack.ImageRest.{ImageRest}
 use Rattle.turn_lock.specs.Passes.{lock_id}
 use Rattle.rack_parts.specs.Parts.{CanEnd, EndsInto}
-use Rattle.rack_parts.proofs.AllEnded.{AreEndedTo, ended_none, end_within, next_can_end, ended_next}
+use Rattle.rack_parts.proofs.PoolsEmptied.{AreEndedTo, ended_none, end_within, next_can_end, ended_next}
 use Rattle.rack_parts.proofs.pools.end_pools.Goals as goal
 
 pub loop-issued-init : goal.loop-issued-init

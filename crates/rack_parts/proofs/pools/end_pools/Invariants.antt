@@ -1,5 +1,5 @@
 use Rattle.std.proofs.Common.{vec_len}
-use Rattle.rack_parts.proofs.AllEnded.{AreEndedTo}
+use Rattle.rack_parts.proofs.PoolsEmptied.{AreEndedTo}
 use Rattle.rack_parts.proofs.pools.end_pools.Given as goal
 
 abbrev pub invariant-loop-issued : goal.invariant-loop-issued

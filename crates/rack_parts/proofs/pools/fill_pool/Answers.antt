@@ -4,7 +4,7 @@ use Rattle.std.proofs.lemmas.List.{get_or_default}
 use Rattle.std.proofs.lemmas.Option.{slice_get-get_or}
 use Rattle.log_layout.specs.declared.segment.SegHead.TheVariants.{Free}
 use Rattle.spin_model.specs.declared.spun.Spun.{Spun}
-use Rattle.rack_parts.proofs.Filling.{filled_none, filled_next, filled_all}
+use Rattle.rack_parts.proofs.LocksIssued.{filled_none, filled_next, filled_all}
 use Rattle.rack_parts.proofs.pools.fill_pool.Goals as goal
 
 pub loop-index-init : goal.loop-index-init

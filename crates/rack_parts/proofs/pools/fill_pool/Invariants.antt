@@ -1,4 +1,4 @@
-use Rattle.rack_parts.proofs.Filling.{IsFilledTo}
+use Rattle.rack_parts.proofs.LocksIssued.{IsFilledTo}
 use Rattle.rack_parts.proofs.pools.fill_pool.Given as goal
 
 abbrev pub invariant-loop-index : goal.invariant-loop-index

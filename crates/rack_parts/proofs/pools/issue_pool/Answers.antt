@@ -4,8 +4,7 @@ use Rattle.std.proofs.lemmas.Option.{slice_get_read, slice_get-map, same_Some}
 use Rattle.wol_model.specs.Heads.{Shape}
 use Rattle.volume_images.specs.Volumes.{shape_in, shapes_of}
 use Rattle.rack_parts.specs.Parts.{CanIssue, Restores}
-use Rattle.rack_parts.proofs.Issues.{unchanged, on_err}
-use Rattle.rack_parts.proofs.IssuedOne.{issued_one}
+use Rattle.rack_parts.proofs.LocksIssued.{unchanged, on_err, issued_one}
 use Rattle.rack_parts.proofs.pools.issue_pool.Goals as goal
 
 pub returns-in_err-pool-clause-restores : goal.returns-in_err-pool-clause-restores

@@ -5,7 +5,7 @@ use Rattle.turn_lock.specs.Passes.{lock_id}
 use Rattle.volume_images.specs.Volumes.{shape_in}
 use Rattle.rack_parts.specs.Parts.{CanEnd, EndsInto}
 use Rattle.rack_parts.specs.declared.rack.ImageRest.{ImageRest}
-use Rattle.rack_parts.proofs.Issues.{AreIssuedTo, issued_none, may_issue, issued_next, may_end, all_restored, kept_at, supplies_all}
+use Rattle.rack_parts.proofs.LocksIssued.{AreIssuedTo, issued_none, may_issue, issued_next, may_end, all_restored, kept_at, supplies_all}
 use Rattle.rack_parts.proofs.pools.issue_pools.Goals as goal
 
 pub loop-id-init : goal.loop-id-init

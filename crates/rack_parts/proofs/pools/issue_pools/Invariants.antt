@@ -1,5 +1,5 @@
 use Rattle.std.proofs.Common.{◌≡◌, ◌≤◌, length, vec_capacity}
-use Rattle.rack_parts.proofs.Issues.{AreIssuedTo}
+use Rattle.rack_parts.proofs.LocksIssued.{AreIssuedTo}
 use Rattle.rack_parts.proofs.pools.issue_pools.Given as goal
 
 abbrev pub invariant-loop-id : goal.invariant-loop-id

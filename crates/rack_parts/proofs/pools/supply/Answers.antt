@@ -4,7 +4,7 @@ use Rattle.rack_parts.specs.Parts.{CanIssue, IsSupplied, IsFilledPool, TakesFree
 use Rattle.rack_parts.specs.declared.heads_said.Said.{Said}
 use Rattle.rack_parts.specs.declared.rack.ImageRest.{ImageRest}
 use Rattle.seg_pool.specs.Pools.{volume_of}
-use Rattle.rack_parts.proofs.Supplying.{supplied_some}
+use Rattle.rack_parts.proofs.LocksIssued.{supplied_some}
 use Rattle.rack_parts.proofs.pools.supply.Goals as goal
 
 pub returns-clause-supplied : goal.returns-clause-supplied

@@ -5,7 +5,7 @@ use Rattle.std.proofs.lemmas.Option.{get_or_from_slice_get, slice_get-map}
 use Rattle.volume_images.specs.Volumes.{shape_in}
 use Rattle.rack_parts.specs.Rests.{image_here}
 use Rattle.rack_parts.proofs.Members.{element_at, front_less, front_last, is_there}
-use Rattle.rack_parts.proofs.BackInTurn.{IsBackFrom, none_so_far, one_more_back, all_are_back}
+use Rattle.rack_parts.proofs.GivenBack.{IsBackFrom, none_so_far, one_more_back, all_are_back}
 use Rattle.rack_parts.proofs.rest.give_back.Goals as goal
 
 pub loop-image-init : goal.loop-image-init

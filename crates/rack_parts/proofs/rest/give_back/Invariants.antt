@@ -1,5 +1,5 @@
 use Rattle.std.proofs.Common.{◌≡◌, ◌≤◌, length, take, vec_len}
-use Rattle.rack_parts.proofs.BackInTurn.{IsBackFrom}
+use Rattle.rack_parts.proofs.GivenBack.{IsBackFrom}
 use Rattle.rack_parts.proofs.rest.give_back.Given as goal
 
 -- the images behind those that are left are back

@@ -6,7 +6,7 @@ use Rattle.wol_bay.specs.Parts.{blocks_of, sizes_of, faulty_places}
 use Rattle.volume_images.specs.Volumes.{shape_in}
 use Rattle.rack_parts.specs.Closing.{IsImageBack}
 use Rattle.rack_parts.proofs.Members.{element_at}
-use Rattle.rack_parts.proofs.LeftParts.{sizes_together}
+use Rattle.rack_parts.proofs.GivenBack.{sizes_together}
 use Rattle.rack_parts.proofs.rest.give_image_back.Goals as goal
 
 pub into_parts-requires : goal.into_parts-requires

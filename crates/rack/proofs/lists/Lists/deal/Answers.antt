@@ -5,7 +5,7 @@ use Rattle.std.specs.declared.vec.Vec.{Vec}
 use Rattle.std.proofs.lemmas.List.{with_items_is}
 use Rattle.std.proofs.lemmas.Option.{slice_get_read}
 use Rattle.rack.specs.Making.{last_of, ArePopped}
-use Rattle.rack.proofs.Dealing.{PoolPass, SpindlePass, AreDealtDown, dealt_down_none, empty, pool_places, spindle_places, dealt_down_next, dealt_down_all}
+use Rattle.rack.proofs.SettingUp.{PoolPass, SpindlePass, AreDealtDown, dealt_down_none, empty, pool_places, spindle_places, dealt_down_next, dealt_down_all}
 use Rattle.rack.proofs.lists.Lists.deal.Goals as goal
 
 pub loop-left-init : goal.loop-left-init

@@ -4,7 +4,7 @@ use Rattle.std.proofs.lemmas.Bool.{false≢true}
 use Rattle.std.proofs.lemmas.List.{append-nil, reverse-reverse, nil_from_length}
 use Rattle.std.proofs.lemmas.List.Elements.{All-from_get_or, All-pop}
 use Rattle.spin_model.specs.declared.spun.Spun.{Spun}
-use Rattle.rack_parts.proofs.Together.{all_reverse, together_next}
+use Rattle.rack_parts.proofs.Members.{all_reverse, together_next}
 use Rattle.rack_parts.proofs.rack.ImageRest.into_parts.Goals as goal
 
 pub loop-segment-init : goal.loop-segment-init

@@ -4,7 +4,7 @@ use Rattle.std.proofs.lemmas.List.{append-nil, length-append}
 use Rattle.std.proofs.lemmas.Option.{slice_get-get_or}
 use Rattle.log_layout.specs.Values.{shape_of}
 use Rattle.log_layout.specs.declared.segment.SegHead.TheVariants.{Free}
-use Rattle.rack_parts.proofs.Taking.{owner_of_true, taken_none, still_here, fewer_taken, taken_next, taken_all}
+use Rattle.rack_parts.proofs.OwnedTaken.{owner_of_true, taken_none, still_here, fewer_taken, taken_next, taken_all}
 use Rattle.rack_parts.proofs.rack.ImageRest.take_owned.Goals as goal
 
 pub loop-index-init : goal.loop-index-init

@@ -8,9 +8,9 @@ use Rattle.rack_parts.specs.Parts.{HasPlaces, EmptiesInto}
 use Rattle.rack_parts.specs.Closing.{pool_in, ArePoolsTaken, RefillsAll}
 use Rattle.rack_parts.specs.declared.rack.ImageRest.{ImageRest}
 use Rattle.rack_parts.specs.declared.rack.VolumePasses.{VolumePasses}
-use Rattle.rack_parts.proofs.Gathering.{pool_at_row, pools_gathered, pools_kept, spindles_stay, lists_stay, rows_stay}
+use Rattle.rack_parts.proofs.SpindlesClosed.{pool_at_row, pools_gathered, pools_kept, spindles_stay, lists_stay, rows_stay}
 use Rattle.rack_parts.proofs.Members.{is_there}
-use Rattle.rack_parts.proofs.PoolBack.{closed_pool, lists_go, places_empty, all_back}
+use Rattle.rack_parts.proofs.PoolsClosed.{closed_pool, lists_go, places_empty, all_back}
 use Rattle.rack_parts.proofs.rack.Rest.close_pool.Goals as goal
 
 pub gather_pools-room-requires-clause-there : goal.gather_pools-room-requires-clause-there

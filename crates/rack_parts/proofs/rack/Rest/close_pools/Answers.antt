@@ -8,7 +8,7 @@ use Rattle.rack_parts.specs.Rests.{image_here}
 use Rattle.rack_parts.specs.declared.rack.Rooms.{Rooms}
 use Rattle.rack_parts.specs.Closing.{CanClosePool}
 use Rattle.rack_parts.proofs.Members.{element_at, all_last, front_less, front_last}
-use Rattle.rack_parts.proofs.PoolsInTurn.{ArePoolsClosed, still_may, refills_same, no_pool_closed, one_pool_more}
+use Rattle.rack_parts.proofs.PoolsClosed.{ArePoolsClosed, still_may, refills_same, no_pool_closed, one_pool_more}
 use Rattle.rack_parts.proofs.rack.Rest.close_pools.Goals as goal
 
 pub loop-lock-init : goal.loop-lock-init

@@ -1,5 +1,5 @@
 use Rattle.std.proofs.Common.{◌≡◌, ◌≤◌, length, take, vec_len}
-use Rattle.rack_parts.proofs.PoolsInTurn.{ArePoolsClosed}
+use Rattle.rack_parts.proofs.PoolsClosed.{ArePoolsClosed}
 use Rattle.rack_parts.proofs.rack.Rest.close_pools.Given as goal
 
 -- the pools behind those that are left are closed

@@ -11,9 +11,8 @@ use Rattle.logger.specs.Lanes.{AreAccesses}
 use Rattle.rack_parts.specs.Closing.{spindle_in, AreSpindlesTaken}
 use Rattle.rack_parts.specs.Rests.{spindle_pass}
 use Rattle.rack_parts.specs.declared.rack.VolumePasses.{VolumePasses}
-use Rattle.rack_parts.proofs.Gathering.{spindle_at_row, spindles_gathered, spindles_all, spindles_kept, spindles_numbered, no_spindle_past, some_element}
+use Rattle.rack_parts.proofs.SpindlesClosed.{spindle_at_row, spindles_gathered, spindles_all, spindles_kept, spindles_numbered, no_spindle_past, some_element, others_access, others_ended, others_made}
 use Rattle.rack_parts.proofs.Members.{is_there}
-use Rattle.rack_parts.proofs.OthersAccess.{others_access, others_ended, others_made}
 use Rattle.rack_parts.proofs.rack.Rest.close_spindle.Goals as goal
 
 pub gather_spindles-room-requires-clause-there : goal.gather_spindles-room-requires-clause-there

@@ -10,7 +10,7 @@ use Rattle.spin_model.specs.declared.spindle.SpindleBase.{SpindleBase}
 use Rattle.rack_parts.specs.Closing.{CanCloseSpindles, HasSpindlePasses, StandsClosed, KeepsOtherRows}
 use Rattle.rack_parts.specs.Rests.{spindle_pass}
 use Rattle.rack_parts.proofs.Members.{all_front, all_last, front_less, front_last}
-use Rattle.rack_parts.proofs.SpindlesInTurn.{same_count, next_passes, others_may, rows_then, made_in, one_more_closed}
+use Rattle.rack_parts.proofs.SpindlesClosed.{same_count, next_passes, others_may, rows_then, made_in, one_more_closed}
 use Rattle.rack_parts.proofs.rack.Rest.close_spindles.Goals as goal
 
 pub close_spindle-spindle-requires-clause-passes : goal.close_spindle-spindle-requires-clause-passes

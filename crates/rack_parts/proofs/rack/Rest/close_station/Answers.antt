@@ -13,7 +13,7 @@ use Rattle.rack_parts.specs.Rests.{AreRooms}
 use Rattle.rack_parts.specs.Racks.{IsStation, base_of_station}
 use Rattle.rack_parts.specs.Parts.{CanPutLanes}
 use Rattle.rack_parts.proofs.Members.{all_last}
-use Rattle.rack_parts.proofs.StationBack.{home_away, lanes_away, lanes_of_others, stations_back, station_closed, rooms_less}
+use Rattle.rack_parts.proofs.StationsClosed.{home_away, lanes_away, lanes_of_others, stations_back, station_closed, rooms_less}
 use Rattle.rack_parts.proofs.rack.Rest.close_station.Goals as goal
 
 -- the three passes in the row

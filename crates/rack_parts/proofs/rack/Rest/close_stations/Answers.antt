@@ -5,7 +5,7 @@ use Rattle.rack_parts.specs.Rests.{IsRest}
 use Rattle.rack_parts.specs.Racks.{base_of_station}
 use Rattle.rack_parts.specs.Closing.{CanCloseStations, ClosesStations}
 use Rattle.rack_parts.proofs.Members.{front_less, front_last}
-use Rattle.rack_parts.proofs.StationsInTurn.{none_closed, one_closed, apart_behind, next_drop}
+use Rattle.rack_parts.proofs.StationsClosed.{none_closed, one_closed, apart_behind, next_drop}
 use Rattle.rack_parts.proofs.rack.Rest.close_stations.Goals as goal
 
 pub loop-station-init : goal.loop-station-init

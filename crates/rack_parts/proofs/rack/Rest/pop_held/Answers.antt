@@ -3,8 +3,8 @@ use Rattle.std.specs.Prelude.{slice_get}
 use Rattle.std.specs.Vec.{with_item}
 use Rattle.std.proofs.lemmas.Option.{slice_get_read}
 use Rattle.rack_parts.specs.declared.rack.Rest.{Rest}
-use Rattle.rack_parts.proofs.HeldPut.{row_held, held_popped}
-use Rattle.rack_parts.proofs.Rows.{size_of}
+use Rattle.rack_parts.proofs.HeldBack.{row_held, held_popped}
+use Rattle.rack_parts.proofs.LanesMoved.{size_of}
 use Rattle.rack_parts.proofs.rack.Rest.pop_held.Goals as goal
 
 pub index_mut-requires : goal.index_mut-requires

@@ -7,9 +7,9 @@ use Rattle.rack_parts.specs.Parts.{IsFilled}
 use Rattle.rack_parts.specs.Rests.{held_here, segment_here}
 use Rattle.rack_parts.specs.declared.rack.ImageRest.{ImageRest}
 use Rattle.rack_parts.specs.declared.rack.Rest.{Rest}
-use Rattle.rack_parts.proofs.HeldPut.{held_none, held_is, place_within, place_free, mid_out, held_next, one_less, held_all}
+use Rattle.rack_parts.proofs.HeldBack.{held_none, held_is, place_within, place_free, mid_out, held_next, one_less, held_all}
 use Rattle.rack_parts.proofs.Returned.{here_within, one_put_at}
-use Rattle.rack_parts.proofs.Rows.{size_of}
+use Rattle.rack_parts.proofs.LanesMoved.{size_of}
 use Rattle.rack_parts.proofs.rack.Rest.put_held.Goals as goal
 
 pub loop-segment-init : goal.loop-segment-init

@@ -1,6 +1,6 @@
 use Rattle.std.proofs.Common.{◌≡◌, ◌+◌, length}
 use Rattle.rack_parts.specs.Rests.{held_here}
-use Rattle.rack_parts.proofs.HeldPut.{AreHeldSoFar}
+use Rattle.rack_parts.proofs.HeldBack.{AreHeldSoFar}
 use Rattle.rack_parts.proofs.rack.Rest.put_held.Given as goal
 
 abbrev pub invariant-loop-segment : goal.invariant-loop-segment

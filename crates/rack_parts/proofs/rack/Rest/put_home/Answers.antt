@@ -4,10 +4,8 @@ use Rattle.std.proofs.lemmas.List.{get_or_read}
 use Rattle.std.proofs.lemmas.Option.{slice_get_read}
 use Rattle.rack_parts.specs.Parts.{with_home}
 use Rattle.rack_parts.specs.Rests.{image_here}
-use Rattle.rack_parts.proofs.HomeMoved.{home_moved}
+use Rattle.rack_parts.proofs.LanesMoved.{home_moved, spindle_bare, size_of}
 use Rattle.rack_parts.proofs.Returned.{here_within}
-use Rattle.rack_parts.proofs.LanePut.{spindle_bare}
-use Rattle.rack_parts.proofs.Rows.{size_of}
 use Rattle.rack_parts.proofs.rack.Rest.put_home.Goals as goal
 
 pub index_mut-requires-2 : goal.index_mut-requires-2

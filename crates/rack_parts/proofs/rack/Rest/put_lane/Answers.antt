@@ -6,8 +6,7 @@ use Rattle.spin_model.specs.declared.spun.Spun.{Spun}
 use Rattle.std.proofs.lemmas.List.{get_or_read}
 use Rattle.std.proofs.lemmas.Option.{slice_get_read}
 use Rattle.logger.specs.Lanes.{logger_of}
-use Rattle.rack_parts.proofs.LanePut.{lane_put, pool_bare, spindle_bare, held_bare}
-use Rattle.rack_parts.proofs.Rows.{size_of}
+use Rattle.rack_parts.proofs.LanesMoved.{lane_put, pool_bare, spindle_bare, held_bare, size_of}
 use Rattle.rack_parts.proofs.rack.Rest.put_lane.Goals as goal
 
 pub index_mut-requires : goal.index_mut-requires

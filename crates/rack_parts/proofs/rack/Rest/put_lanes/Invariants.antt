@@ -1,5 +1,5 @@
 use Rattle.std.proofs.Common.{vec_len}
-use Rattle.rack_parts.proofs.LanesPut.{ArePutSoFar}
+use Rattle.rack_parts.proofs.LanesMoved.{ArePutSoFar}
 use Rattle.rack_parts.proofs.rack.Rest.put_lanes.Given as goal
 
 abbrev pub invariant-loop-lane : goal.invariant-loop-lane

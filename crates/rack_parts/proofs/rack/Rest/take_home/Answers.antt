@@ -5,9 +5,8 @@ use Rattle.std.proofs.lemmas.Option.{slice_get_read}
 use Rattle.rack_parts.specs.Parts.{with_home}
 use Rattle.rack_parts.specs.Rests.{image_here}
 use Rattle.rack_parts.specs.declared.rack.ImageRest.{ImageRest}
-use Rattle.rack_parts.proofs.HomeMoved.{home_moved}
+use Rattle.rack_parts.proofs.LanesMoved.{home_moved, size_of}
 use Rattle.rack_parts.proofs.Returned.{some_within}
-use Rattle.rack_parts.proofs.Rows.{size_of}
 use Rattle.rack_parts.proofs.rack.Rest.take_home.Goals as goal
 
 pub index_mut-requires : goal.index_mut-requires

@@ -12,8 +12,7 @@ use Rattle.seg_pool.specs.declared.pool.Pool.{Pool}
 use Rattle.log_segment.specs.declared.free.FreeSegment.{FreeSegment}
 use Rattle.logger.specs.Lanes.{AreAccesses}
 use Rattle.rack_parts.specs.Rests.{pool_pass, spindle_pass}
-use Rattle.rack_parts.proofs.LaneTaken.{segments_are, lane_gone, lane_back, pool_read, spindle_read, pool_taken, spindle_taken}
-use Rattle.rack_parts.proofs.Rows.{size_of}
+use Rattle.rack_parts.proofs.LanesMoved.{segments_are, lane_gone, lane_back, pool_read, spindle_read, pool_taken, spindle_taken, size_of}
 use Rattle.rack_parts.proofs.rack.Rest.take_lane.Goals as goal
 
 pub index_mut-requires : goal.index_mut-requires

@@ -5,8 +5,7 @@ use Rattle.volume_images.specs.Volumes.{shape_in}
 use Rattle.rack_parts.specs.Parts.{CanPutLanes, PutsLanes}
 use Rattle.rack_parts.specs.declared.rack.Rest.{Rest}
 use Rattle.rack_parts.proofs.LanesTaken.{pairs_apart}
-use Rattle.rack_parts.proofs.OpeningTaken.{owned_here_then, home_place, spindle_same, image_there, home_there, home_same}
-use Rattle.rack_parts.proofs.OwnedOf.{shape_at}
+use Rattle.rack_parts.proofs.OwnedTaken.{owned_here_then, home_place, spindle_same, image_there, home_there, home_same, shape_at}
 use Rattle.rack_parts.proofs.Returned.{here_within}
 use Rattle.rack_parts.proofs.rack.Rest.take_opening.Goals as goal
 

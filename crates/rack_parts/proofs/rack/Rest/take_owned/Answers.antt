@@ -2,7 +2,7 @@ use Rattle.std.proofs.Common.{◌≡◌, ◌+◌, List, Some, length, refl, sym,
 use Rattle.std.specs.Prelude.{slice_get}
 use Rattle.std.proofs.lemmas.Option.{slice_get_read}
 use Rattle.manager_recovery.specs.declared.opening.OwnedPart.{OwnedPart}
-use Rattle.rack_parts.proofs.Owning.{AreOwnedTo, owned_to_none, may_take_of, owned_to_next, owned_to_all, total_front, total_next}
+use Rattle.rack_parts.proofs.OwnedTaken.{AreOwnedTo, owned_to_none, may_take_of, owned_to_next, owned_to_all, total_front, total_next}
 use Rattle.rack_parts.proofs.rack.Rest.take_owned.Goals as goal
 
 pub loop-logger-init : goal.loop-logger-init

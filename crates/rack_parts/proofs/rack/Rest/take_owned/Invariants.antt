@@ -1,6 +1,6 @@
 use Rattle.std.proofs.Common.{◌≤◌, vec_capacity}
 use Rattle.rack_parts.specs.Parts.{owned_total}
-use Rattle.rack_parts.proofs.Owning.{AreOwnedTo}
+use Rattle.rack_parts.proofs.OwnedTaken.{AreOwnedTo}
 use Rattle.rack_parts.proofs.rack.Rest.take_owned.Given as goal
 
 abbrev pub invariant-loop-logger : goal.invariant-loop-logger

@@ -8,7 +8,7 @@ use Rattle.manager_recovery.specs.declared.opening.OwnedPart.{OwnedPart}
 use Rattle.rack_parts.specs.Parts.{owned_in, TakesOwnedOf, CanTakeOwnedOf}
 use Rattle.rack_parts.specs.declared.heads_said.Said.{Said}
 use Rattle.rack_parts.specs.declared.rack.ImageRest.{ImageRest}
-use Rattle.rack_parts.proofs.OwnedOf.{Gave, shape_at, took_of}
+use Rattle.rack_parts.proofs.OwnedTaken.{Gave, shape_at, took_of}
 use Rattle.rack_parts.proofs.rack.Rest.take_owned_of.Goals as goal
 
 pub returns-clause-taken : goal.returns-clause-taken
