@@ -1,6 +1,6 @@
 -- The part that refuses a volume: it is here with a fault, or it came back with one.
 use Rattle.std.proofs.Common.{◌≡◌, ◌⊎◌, inl, inr, ⊎_elim, ℕ, ◌+◌, List, ◌++◌, length, Option, None, Some, refl, sym, ap, subst, ◌∙◌, append_assoc, arith}
-use Rattle.std.specs.Prelude.{Bool, slice_get, Contains}
+use Rattle.std.specs.Prelude.{Bool, slice_get}
 use Rattle.std.proofs.lemmas.List.{length-map}
 use Rattle.std.proofs.lemmas.List.Elements.{Contains-append_right}
 use Rattle.std.proofs.lemmas.Option.{slice_get_within}
@@ -9,7 +9,6 @@ use Rattle.wol_promise.specs.Policy.{PartName}
 use Rattle.wol_bay.specs.Bay.{BayState, Name, Told}
 use Rattle.wol_config.specs.declared.config.Config.{Config}
 use Rattle.wol_config.specs.declared.config.VolumeConf.{VolumeConf}
-use Rattle.spin_model.specs.declared.spun.Spun.{Spun}
 use Rattle.manager.specs.declared.part.Part.{Part}
 use Rattle.manager.specs.declared.part.Part.TheVariants as part
 use Rattle.manager_recovery.specs.declared.refusal.OpenRefusal.TheVariants.{DiskFault}
@@ -19,7 +18,7 @@ use Rattle.volume_images.specs.Volumes.{shape_in, shapes_of}
 use Rattle.volume_images.specs.declared.reading.ImageFault.{ImageFault}
 use Rattle.volume_images.specs.declared.reading.ImageFault.TheVariants as fault
 use Rattle.rack_closing.specs.Closes.{CameBackFaulty, HasFaultAt, HasFaultIn, HasFaultyPart, IsNamedHere, IsPartHere, ListsFaulty, part_named, place_in}
-use Rattle.rack_closing.specs.Opens.{AreRefused, HasFaulty, HasNewFault, RefusesImage, fault_in_image}
+use Rattle.rack_closing.specs.Opens.{AreRefused, HasFaulty, HasNewFault, fault_in_image}
 use Rattle.rack_parts.specs.Rests.{IsImageOut}
 use Rattle.rack_parts.specs.declared.rack.Rack.{Rack}
 use Rattle.rack_parts.specs.declared.rack.Rest.{Rest}

@@ -20,7 +20,7 @@ use Rattle.rack_parts.specs.declared.heads_said.Said.{Said}
 use Rattle.rack_parts.specs.declared.volume_fault.VolumeFault.{VolumeFault}
 use Rattle.rack_parts.specs.declared.rack.ImageRest.{ImageRest}
 use Rattle.rack.proofs.NextImage.{no_more}
-use Rattle.rack_closing.proofs.Places.{still_there, at_less, at_new, some_at}
+use Rattle.rack_closing.proofs.Places.{still_there, at_less, at_new, some_at, both_slices}
 use Rattle.rack.proofs.Asking.{SameAt}
 use Rattle.std.proofs.Math.Nat.{suc-mul}
 use Rattle.std.proofs.lemmas.List.{take_all, length-map, get_or-map, get_or_past}
@@ -37,7 +37,7 @@ use Rattle.rack_parts.specs.Closing.{IsComplete, GivesBack, LeavesNoneOut}
 use Rattle.rack_parts.specs.Parts.{IsTogether}
 use Rattle.rack.specs.declared.images.Images.{Images}
 use Rattle.rack_closing.proofs.CutParts.{reads_range}
-use Rattle.rack_closing.proofs.Names.{cases_name}
+use Rattle.rack_closing.proofs.Names.{cases_name, names_differ}
 use Rattle.rack_closing.specs.Opens.{KeepsOthers}
 use Rattle.rack_closing.proofs.NewFaults.{told_each}
 

@@ -21,9 +21,6 @@ pub mod LockedStation
 pub mod Fates
 mod Unlocked
 pub mod BackAgain
-pub mod RestAgain
 pub mod RefusedNames
-pub mod RefusedRack
-pub mod RefusedBegun
-pub mod RefusedFaults
+pub mod RefusedAgain
 pub mod OpenedBegun

@@ -1,9 +1,9 @@
 -- The opening of a volume is one of the images as they read.
-use Rattle.std.proofs.Common.{◌≡◌, ℕ, ◌^◌, ◌<◌, ◌≤◌, length, get_or, Some, option_map, refl, sym, ap, ◌∙◌, subst, arith, ◌==◌, not, cond, List, [], ◌∷◌, Option, None}
+use Rattle.std.proofs.Common.{◌≡◌, ℕ, ◌^◌, ◌<◌, length, Some, option_map, refl, sym, ap, ◌∙◌, subst, arith, ◌==◌, not, cond, List, [], ◌∷◌, Option, None}
 use Rattle.std.specs.Prelude.{slice_get, unwrap_or, is_some, All, Contains}
 use Rattle.std.proofs.lemmas.List.{length-map}
-use Rattle.std.proofs.lemmas.Option.{same_Some, slice_get-map, slice_get_within, get_or_from_slice_get, none-some, slice_get-get_or}
-use Rattle.wol_model.specs.Heads.{Shape, IsShape, owned_block}
+use Rattle.std.proofs.lemmas.Option.{same_Some, slice_get-map, get_or_from_slice_get, none-some, slice_get-get_or}
+use Rattle.wol_model.specs.Heads.{Shape, owned_block}
 use Rattle.wol_config.specs.Configs.{IsValid}
 use Rattle.wol_config.specs.declared.config.Config.{Config}
 use Rattle.wol_config.specs.declared.config.VolumeConf.{VolumeConf}

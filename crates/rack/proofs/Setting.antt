@@ -5,7 +5,7 @@ use Rattle.std.specs.List.{AllZip}
 use Rattle.std.specs.declared.alloc.Global.{Global}
 use Rattle.std.specs.declared.vec.Vec.{Vec}
 use Rattle.std.proofs.lemmas.Bool.{cases_eq}
-use Rattle.std.proofs.lemmas.List.{append_assoc, append-nil, map-append, reverse-append, reverse-reverse, length-append, length-map, length-reverse, length-set, take_at, take_all, map_more, get_or_read, get_or-set_same, get_or-set_other}
+use Rattle.std.proofs.lemmas.List.{append_assoc, append-nil, map-append, reverse-append, reverse-reverse, length-append, length-map, length-reverse, length-set, take_at, map_more, get_or_read, get_or-set_same, get_or-set_other}
 use Rattle.std.proofs.lemmas.List.Elements.{All-pop}
 use Rattle.std.proofs.lemmas.Option.{slice_get-get_or, slice_get_past}
 use Rattle.turn_lock.specs.declared.lock.TurnLock.{TurnLock}
@@ -15,7 +15,7 @@ use Rattle.spin_model.specs.declared.spindle.SpindleBase.{SpindleBase}
 use Rattle.seg_pool.specs.declared.base.PoolBase.{PoolBase}
 use Rattle.seg_pool.specs.declared.pool.Pool.{Pool}
 use Rattle.log_segment.specs.declared.free.FreeSegment.{FreeSegment}
-use Rattle.rack.specs.Making.{AreLists, PutsSpindles, PutsPools, last_of, ArePopped}
+use Rattle.rack.specs.Making.{AreLists, PutsSpindles, PutsPools, last_of}
 use Rattle.rack.specs.declared.lists.Lists.{Lists}
 use Rattle.rack_parts.specs.declared.locks.Issued.{Issued}
 

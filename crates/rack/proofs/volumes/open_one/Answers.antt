@@ -24,10 +24,8 @@ use Rattle.rack.specs.declared.volumes.Unopened.{Unopened}
 use Rattle.rack.specs.declared.volumes.Unopened.TheVariants as unopened
 use Rattle.rack.proofs.Fates.{lanes_return, lanes_of_others, owned_return}
 use Rattle.rack.proofs.BackAgain.{out_back}
-use Rattle.rack.proofs.RefusedBegun.{begun_again, refused_again}
-use Rattle.rack.proofs.RefusedFaults.{faults_again}
+use Rattle.rack.proofs.RefusedAgain.{begun_again, refused_again, faults_again, stopped_again, opening_again}
 use Rattle.rack.proofs.RefusedNames.{names_volumes}
-use Rattle.rack.proofs.RefusedRack.{stopped_again, opening_again}
 use Rattle.rack.proofs.volumes.open_one.Given.{Over}
 use Rattle.rack.proofs.volumes.open_one.Goals as goal
 
