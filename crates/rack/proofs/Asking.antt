@@ -1,29 +1,14 @@
 -- The images of a configuration that are asked for one after the other.
-use Rattle.std.proofs.Common.{◌≡◌, ◌⊎◌, inl, inr, ⊎_elim, ℕ, zero, suc, ◌+◌, ◌-◌, ◌^◌, ◌<◌, ◌≤◌, Bool, true, false, List, [], ◌∷◌, ◌++◌, length, get_or, Option, None, Some, option_map, IfSome, Result, Ok, Err, IfOk, IfErr, refl, sym, ap, ◌∙◌, subst, arith}
-use Rattle.std.specs.Prelude.{slice_get}
-use Rattle.std.proofs.lemmas.Bool.{cases_lt}
-use Rattle.std.proofs.lemmas.List.{length_push}
-use Rattle.std.proofs.lemmas.Option.{none-some, same_Some, slice_get-map}
-use Rattle.wol_disk.specs.Disk.{State, Rose}
-use Rattle.wol_model.specs.Heads.{Shape}
-use Rattle.wol_bay.specs.Bay.{Name, Told, BayState, at_name}
-use Rattle.wol_bay.specs.Refusals.{refusal, refusal_of}
-use Rattle.wol_bay.specs.declared.fault.BayFault.{BayFault}
-use Rattle.wol_config.specs.declared.config.Config.{Config}
-use Rattle.wol_config.specs.declared.config.VolumeConf.{VolumeConf}
-use Rattle.volume_images.specs.Formatted.{part_sizes}
-use Rattle.volume_images.specs.Left.{IsTold}
-use Rattle.volume_images.specs.Volumes.{shape_in, shapes_of}
+use Rattle.rack.proofs.Basics.{◌≡◌, ◌⊎◌, inl, inr, ⊎_elim, ℕ, zero, suc, ◌+◌, ◌-◌, ◌^◌, ◌<◌, ◌≤◌, Bool, true, false, List, [], ◌∷◌, ◌++◌}
+use Rattle.rack.proofs.Basics.{length, get_or, Option, None, Some, option_map, IfSome, Result, Ok, Err, IfOk, IfErr, refl, sym, ap, ◌∙◌}
+use Rattle.rack.proofs.Basics.{subst, arith, slice_get, cases_lt, length_push, none-some, same_Some, slice_get-map}
+use Rattle.rack.proofs.Terms.{State, Rose, Shape, Name, Told, BayState, at_name, refusal, refusal_of, BayFault, Config, VolumeConf}
+use Rattle.rack.proofs.Terms.{part_sizes, IsTold, shape_in, shapes_of, image_here, AreNewImages, PushesImage, HasFaulty, RefusesVolume}
+use Rattle.rack.proofs.Terms.{RefusesImage, said_at, fault_at, IsRefused, WasAtEntry, AreAsked, StayedAs, IsNextOpened, IsNextRefused, Said}
+use Rattle.rack.proofs.Terms.{ImageRest, VolumeFault, Absent, WrongLength, Refused, LabelFault, BayFailed}
 use Rattle.volume_images.proofs.Refused.{rose_since}
-use Rattle.rack_parts.specs.Rests.{image_here}
-use Rattle.rack.specs.Making.{AreNewImages, PushesImage}
-use Rattle.rack_closing.specs.Opens.{HasFaulty, RefusesVolume, RefusesImage}
-use Rattle.rack.specs.Opening.{said_at, fault_at, IsRefused, IsOut, WasAtEntry, AreAsked, StayedAs, IsNextOpened, IsNextRefused}
-use Rattle.rack_parts.specs.declared.heads_said.Said.{Said}
+use Rattle.rack.specs.Opening.{IsOut}
 use Rattle.rack.specs.declared.images.Images.{Images}
-use Rattle.rack_parts.specs.declared.rack.ImageRest.{ImageRest}
-use Rattle.rack_parts.specs.declared.volume_fault.VolumeFault.{VolumeFault}
-use Rattle.rack_parts.specs.declared.volume_fault.VolumeFault.TheVariants.{Absent, WrongLength, Refused, LabelFault, BayFailed}
 use Rattle.rack_closing.proofs.NewFaults.{told_each, sent_faulty, fault_since, fault_later}
 use Rattle.rack_closing.proofs.Places.{at_less, at_new, push_cases}
 

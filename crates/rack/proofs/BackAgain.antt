@@ -1,51 +1,21 @@
 -- The rest once the opening of one volume came back.
-use Rattle.std.proofs.Common.{◌≡◌, ◌≢◌, ◌⊎◌, inl, inr, ⊎_elim, ℕ, ◌<◌, Bool, List, [], length, map, Option, None, Some, refl, sym, ap, ◌∙◌, subst, ◌+◌, true, false, arith, vec_capacity, ◌≤◌}
-use Rattle.std.specs.Prelude.{slice_get, is_some, All, Contains, ◌↔◌, IsSome, IfSome}
-use Rattle.std.proofs.lemmas.Bool.{cases_eq}
-use Rattle.std.proofs.lemmas.List.Elements.{All-contains, All-nil}
-use Rattle.std.proofs.lemmas.Option.{MatchOption-at_some, MatchOption-at_none, none-some, same_Some}
-use Rattle.wol_disk.specs.Disk.{State}
-use Rattle.wol_bay.specs.Bay.{BayState}
-use Rattle.wol_config.specs.Configs.{IsValid}
-use Rattle.wol_config.specs.declared.config.Config.{Config}
-use Rattle.turn_lock.specs.declared.pass.PassOf.{PassOf}
-use Rattle.spin_model.specs.declared.spun.Spun.{Spun}
-use Rattle.spin_model.specs.declared.spindle.Spindle.{Spindle}
-use Rattle.spin_model.specs.declared.spindle.SpindleBase.{SpindleBase}
-use Rattle.seg_pool.specs.declared.base.PoolBase.{PoolBase}
-use Rattle.seg_pool.specs.declared.pool.Pool.{Pool}
-use Rattle.log_segment.specs.declared.free.FreeSegment.{FreeSegment}
-use Rattle.logger.specs.Lanes.{logger_of, pool_of, spindle_of}
-use Rattle.logger.specs.declared.lane.HeldSegment.{HeldSegment}
-use Rattle.logger.specs.declared.lane.Lane.{Lane}
-use Rattle.manager_recovery.specs.Left.{IsHandedBack, IsFateOf, Kept, kept_of, freed_on}
-use Rattle.manager_recovery.specs.Opening.{place_of}
-use Rattle.manager_recovery.specs.declared.opening.Opening.{Opening}
-use Rattle.manager_recovery.specs.declared.opening.OwnedPart.{OwnedPart}
-use Rattle.volume_images.specs.Volumes.{shapes_of}
-use Rattle.rack.specs.Opening.{IsOpeningRack}
-use Rattle.rack_parts.specs.Parts.{TakesOpening, PutsOpening, HasBack, IsSameBut, segment_in, with_home, loggers_out, IsOwnedPlace}
-use Rattle.rack_parts.specs.Rests.{image_here, segment_here, pool_pass, spindle_pass, held_here, IsRow, indexes_here, away_with, IsPassAt, IsRestBut, IsImageRest, IsPart, IsHolding, IsHeldHere, OnlyAccess}
-use Rattle.rack_parts.specs.declared.heads_said.Said.{Said}
-use Rattle.rack_parts.specs.declared.rack.ImageRest.{ImageRest}
-use Rattle.rack_parts.specs.declared.rack.Rack.{Rack}
-use Rattle.rack_parts.specs.declared.rack.Rest.{Rest}
+use Rattle.rack.proofs.Basics.{◌≡◌, ◌≢◌, ◌⊎◌, inl, inr, ⊎_elim, ℕ, ◌<◌, Bool, List, [], length, map, Option, None, Some, refl, sym, ap, ◌∙◌}
+use Rattle.rack.proofs.Basics.{subst, ◌+◌, true, false, arith, vec_capacity, ◌≤◌, slice_get, is_some, All, Contains, ◌↔◌, IsSome, IfSome}
+use Rattle.rack.proofs.Basics.{cases_eq, All-contains, All-nil, MatchOption-at_some, MatchOption-at_none, none-some, same_Some}
+use Rattle.rack.proofs.Terms.{State, BayState, IsValid, Config, PassOf, Spun, Spindle, SpindleBase, PoolBase, Pool, FreeSegment, logger_of}
+use Rattle.rack.proofs.Terms.{pool_of, spindle_of, HeldSegment, Lane, IsHandedBack, IsFateOf, Kept, kept_of, freed_on, place_of, Opening}
+use Rattle.rack.proofs.Terms.{OwnedPart, shapes_of, IsOpeningRack, TakesOpening, PutsOpening, HasBack, IsSameBut, segment_in, with_home}
+use Rattle.rack.proofs.Terms.{loggers_out, IsOwnedPlace, image_here, segment_here, pool_pass, spindle_pass, held_here, IsRow, indexes_here}
+use Rattle.rack.proofs.Terms.{away_with, IsPassAt, IsRestBut, IsImageRest, IsPart, IsHolding, IsHeldHere, OnlyAccess, Said, ImageRest, Rack}
+use Rattle.rack.proofs.Terms.{Rest, AreApart, Shape, pass_lock, pass_number, pass_mine, IsSamePass, TurnLock, has_token, holds, ManagerBase}
+use Rattle.rack.proofs.Terms.{Station, base_of_station}
 use Rattle.rack.proofs.Fates.{FateAt, stayed, went, fate_at, kept_owned, IsBackLane, lane_at, logger_seen, in_view, not_own, held_before, held_still}
 use Rattle.rack_parts.proofs.Members.{all_member, is_member, segment_in_image, a_value, none_in}
 use Rattle.rack.proofs.OpenAway.{is_pair}
 use Rattle.rack.proofs.Openable.{IsInImage, parts, no_home, no_lane}
 use Rattle.rack_closing.proofs.SameOut.{same_out}
-use Rattle.rack.proofs.Without as without
-use Rattle.wol_model.specs.Blocks.{AreApart}
-use Rattle.wol_model.specs.Heads.{Shape}
-use Rattle.turn_lock.specs.Passes.{pass_lock, pass_number, pass_mine, IsSamePass}
-use Rattle.turn_lock.specs.declared.lock.TurnLock.{TurnLock}
-use Rattle.spin_model.specs.Operations.{has_token}
-use Rattle.seg_pool.specs.Operations.{holds}
-use Rattle.manager.specs.declared.base.ManagerBase.{ManagerBase}
-use Rattle.manager.specs.declared.station.Station.{Station}
-use Rattle.rack_parts.specs.Racks.{base_of_station}
 use Rattle.rack.proofs.OpenedBegun.{taken_owner}
+use Rattle.rack.proofs.Without as without
 
 -- a pass that was used stands where it stood
 pass_stays : {T B : Type 0} (l : TurnLock T B) (v : ℕ) (p q : PassOf T B) → IsPassAt l v p → IsSamePass p q → Rattle.turn_lock.specs.Passes.IsFree q → IsPassAt l v q

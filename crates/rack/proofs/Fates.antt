@@ -1,51 +1,23 @@
 -- What became of the segments of an opening that was handed back, and that they may return.
-use Rattle.std.proofs.Common.{◌≡◌, ◌≢◌, ◌⊎◌, inl, inr, ⊎_elim, ℕ, zero, suc, ◌+◌, ◌<◌, ◌≤◌, Bool, true, false, cond, eqb, List, [], ◌∷◌, ◌++◌, length, map, reverse, get_or, Option, Some, refl, sym, ap, ◌∙◌, subst, arith, None}
-use Rattle.std.specs.Prelude.{slice_get, AllPairs, Contains, is_some, All}
-use Rattle.std.proofs.lemmas.Bool.{cases_lt, eq-eqb, ne_eqb, eqb-true}
-use Rattle.std.proofs.lemmas.Grind.{reverse_onto}
-use Rattle.std.proofs.lemmas.List.{append_assoc, append-nil, get_or-map, get_or_default, length-map}
-use Rattle.std.proofs.lemmas.List.Elements.{Contains-append_left, Contains-push, All-contains, All-contains_itself, All-filter}
-use Rattle.std.proofs.lemmas.Option.{none-some, same_Some, slice_get-get_or}
-use Rattle.wol_disk.specs.Disk.{Block, Values, State, IsDisk, TellsContent, IsImageOf, reads}
-use Rattle.wol_disk.proofs.Calls.{now_leaves}
-use Rattle.wol_disk.proofs.Images.{image_reads}
-use Rattle.wol_model.specs.Heads.{Shape, owned_block}
-use Rattle.wol_model.specs.Log.{IsIdle, IsLog}
-use Rattle.wol_promise.specs.Manager.{SaysOwnerOrFree}
-use Rattle.wol_bay.specs.Bay.{Image, BayState}
-use Rattle.turn_lock.specs.Histories.{Entry}
-use Rattle.turn_lock.specs.Passes.{IsSamePass, pass_lock, pass_number, pass_mine}
-use Rattle.spin_model.specs.Spun.{state_of}
-use Rattle.seg_pool.specs.Holders.{Gave}
-use Rattle.seg_pool.specs.Operations.{holds, operation_of}
-use Rattle.seg_pool.specs.declared.base.PoolBase.{PoolBase}
+use Rattle.rack.proofs.Basics.{◌≡◌, ◌≢◌, ◌⊎◌, inl, inr, ⊎_elim, ℕ, zero, suc, ◌+◌, ◌<◌, ◌≤◌, Bool, true, false, cond, eqb, List, [], ◌∷◌}
+use Rattle.rack.proofs.Basics.{◌++◌, length, map, reverse, get_or, Option, Some, refl, sym, ap, ◌∙◌, subst, arith, None, slice_get}
+use Rattle.rack.proofs.Basics.{AllPairs, Contains, is_some, All, cases_lt, eq-eqb, ne_eqb, eqb-true, reverse_onto, append_assoc, append-nil}
+use Rattle.rack.proofs.Basics.{get_or-map, get_or_default, length-map, Contains-append_left, Contains-push, All-contains}
+use Rattle.rack.proofs.Basics.{All-contains_itself, All-filter, none-some, same_Some, slice_get-get_or, AllByRecursion, AllZip}
+use Rattle.rack.proofs.Terms.{Block, Values, State, IsDisk, TellsContent, IsImageOf, reads, now_leaves, image_reads, Shape, owned_block}
+use Rattle.rack.proofs.Terms.{IsIdle, IsLog, SaysOwnerOrFree, Image, BayState, Entry, IsSamePass, pass_lock, pass_number, pass_mine}
+use Rattle.rack.proofs.Terms.{state_of, Gave, holds, PoolBase, free_disk, FreeSegment, logger_of, pool_of, IsLane, taken_in, Lane, Station}
+use Rattle.rack.proofs.Terms.{Fate, Kept, Freed, IsFateOf, AreFates, HasGiven, freed_on, kept_of, IsHandedBack, IsUsedLane, OwnedPart}
+use Rattle.rack.proofs.Terms.{HasHead, head_place, HadBefore, HadSegmentBefore, IsGone, AreInOrder, IsBefore, place_of, IsValid, Config}
+use Rattle.rack.proofs.Terms.{Opening, shapes_of, IsOpeningRack, TakesOpening, IsNewLane, IsBarePlace, CanPutLanes, IsOwedPlace}
+use Rattle.rack.proofs.Terms.{CanPutOwned, HasPlace, loggers_out, segments_of, image_here, segment_here, IsRow, Said, Rack, Rest}
+use Rattle.std.proofs.lemmas.Bool.Decides.{eqb_tells}
+use Rattle.std.proofs.lemmas.List.Kept.{AllPairs-cons, AllPairs-filter}
+use Rattle.seg_pool.specs.Operations.{operation_of}
 use Rattle.seg_pool.proofs.Holding.{holds-push}
-use Rattle.log_segment.specs.Segment.{free_disk}
-use Rattle.log_segment.specs.declared.free.FreeSegment.{FreeSegment}
-use Rattle.logger.specs.Lanes.{logger_of, pool_of, IsLane, taken_in}
-use Rattle.logger.specs.declared.lane.Lane.{Lane}
-use Rattle.manager.specs.declared.station.Station.{Station}
-use Rattle.manager_recovery.specs.Left.{Fate, Kept, Freed, IsFateOf, AreFates, HasGiven, freed_on, kept_of, IsHandedBack, IsUsedLane}
-use Rattle.manager_recovery.specs.declared.opening.OwnedPart.{OwnedPart}
-use Rattle.volume_images.specs.Accepted.{HasHead, head_place}
-use Rattle.rack_closing.specs.Opens.{HadBefore, HadSegmentBefore, IsGone}
 use Rattle.rack_parts.proofs.Members.{first_in, later_in, in_cases, none_in, of_recursion, all_member, in_map, of_map, segment_in_image, here_within}
 use Rattle.rack_closing.proofs.StationParts.{zip_at}
-use Rattle.std.specs.List.{AllByRecursion, AllZip}
-use Rattle.std.proofs.lemmas.Bool.Decides.{eqb_tells}
-use Rattle.manager_recovery.specs.Opening.{AreInOrder, IsBefore, place_of}
 use Rattle.rack_closing.proofs.OwnedSegments.{never_itself}
-use Rattle.std.proofs.lemmas.List.Kept.{AllPairs-cons, AllPairs-filter}
-use Rattle.wol_config.specs.Configs.{IsValid}
-use Rattle.wol_config.specs.declared.config.Config.{Config}
-use Rattle.manager_recovery.specs.declared.opening.Opening.{Opening}
-use Rattle.volume_images.specs.Volumes.{shapes_of}
-use Rattle.rack.specs.Opening.{IsOpeningRack}
-use Rattle.rack_parts.specs.Parts.{TakesOpening, IsNewLane, IsBarePlace, CanPutLanes, IsOwedPlace, CanPutOwned, HasPlace, loggers_out, segments_of}
-use Rattle.rack_parts.specs.Rests.{image_here, segment_here, IsRow}
-use Rattle.rack_parts.specs.declared.heads_said.Said.{Said}
-use Rattle.rack_parts.specs.declared.rack.Rack.{Rack}
-use Rattle.rack_parts.specs.declared.rack.Rest.{Rest}
 use Rattle.rack.proofs.Openable.{IsInImage, parts_in_images, parts, can_take}
 use Rattle.wol_model.specs.Heads as head
 use Rattle.rack.proofs.Without as without

@@ -1,44 +1,24 @@
 -- What a bay tells while images go out of it in order, and when they go back at once.
-use Rattle.std.proofs.Common.{◌≡◌, ◌≢◌, ℕ, zero, suc, ◌+◌, ◌<◌, ◌≤◌, Bool, true, false, cond, List, [], ◌∷◌, ◌++◌, length, Option, None, Some, option_map, IfSome, Result, Ok, Err, IfOk, IfErr, refl, sym, ap, ◌∙◌, subst, arith, append_assoc, ◌⊎◌, inl, inr, ⊎_elim, ◌-◌, ◌*◌, map, take, drop, get_or}
-use Rattle.std.specs.Prelude.{slice_get, is_some, All, slice_range, IsTrue}
+use Rattle.rack.proofs.Basics.{◌≡◌, ◌≢◌, ℕ, zero, suc, ◌+◌, ◌<◌, ◌≤◌, Bool, true, false, cond, List, [], ◌∷◌, ◌++◌, length, Option, None}
+use Rattle.rack.proofs.Basics.{Some, option_map, IfSome, Result, Ok, Err, IfOk, IfErr, refl, sym, ap, ◌∙◌, subst, arith, append_assoc, ◌⊎◌}
+use Rattle.rack.proofs.Basics.{inl, inr, ⊎_elim, ◌-◌, ◌*◌, map, take, drop, get_or, slice_get, is_some, All, slice_range, IsTrue, none-some}
+use Rattle.rack.proofs.Basics.{same_Some, slice_get-map, suc-mul, take_all, length-map, get_or-map, get_or_past, cases_lt}
+use Rattle.rack.proofs.Terms.{State, Block, Values, TellsContent, IsImage, IsImageOf, Name, Image, Told, BayState, at_name, outs, sent_out}
+use Rattle.rack.proofs.Terms.{IsHome, IsOut, IsValid, Config, VolumeConf, part_sizes, IsTold, shape_in, MayLeave, NoneOut, shapes_of}
+use Rattle.rack.proofs.Terms.{image_here, IsImageOut, out_names, StayedAs, StayedSo, HasSentOut, IsBackAtOnce, IsNextOpened, IsNextRefused}
+use Rattle.rack.proofs.Terms.{AreCutOf, AreAsked, HasAllBack, LeavesNoMore, image_by, Said, VolumeFault, ImageRest, image_reads, Shape}
+use Rattle.rack.proofs.Terms.{image_size, blocks_of, state_of, disk_of, Spun, IsComplete, GivesBack, LeavesNoneOut, IsTogether, KeepsOthers}
 use Rattle.std.specs.Str.{bytes_eq}
-use Rattle.std.proofs.lemmas.Option.{none-some, same_Some, slice_get-map}
 use Rattle.std.proofs.lemmas.Slice.Eq.{bytes_eq-Decides}
-use Rattle.wol_disk.specs.Disk.{State, Block, Values, TellsContent, IsImage, IsImageOf}
-use Rattle.wol_bay.specs.Bay.{Name, Image, Told, BayState, at_name, outs, sent_out, IsHome, IsOut}
-use Rattle.wol_config.specs.Configs.{IsValid}
-use Rattle.wol_config.specs.declared.config.Config.{Config}
-use Rattle.wol_config.specs.declared.config.VolumeConf.{VolumeConf}
-use Rattle.volume_images.specs.Formatted.{part_sizes}
-use Rattle.volume_images.specs.Left.{IsTold}
-use Rattle.volume_images.specs.Volumes.{shape_in, MayLeave, NoneOut, shapes_of}
 use Rattle.wol_bay.proofs.NamedApart.{other_gone}
-use Rattle.rack_parts.specs.Rests.{image_here, IsImageOut, out_names}
-use Rattle.rack.specs.Opening.{StayedAs, StayedSo, HasSentOut, IsBackAtOnce, IsNextOpened, IsNextRefused, AreCutOf, AreAsked, HasAllBack, LeavesNoMore}
-use Rattle.rack.specs.Making.{image_by}
-use Rattle.rack_parts.specs.declared.heads_said.Said.{Said}
-use Rattle.rack_parts.specs.declared.volume_fault.VolumeFault.{VolumeFault}
-use Rattle.rack_parts.specs.declared.rack.ImageRest.{ImageRest}
+use Rattle.wol_bay.proofs.OneImage.{all_told}
+use Rattle.volume_images.proofs.SettledParts.{cut_image}
+use Rattle.rack.specs.declared.images.Images.{Images}
 use Rattle.rack.proofs.NextImage.{no_more}
 use Rattle.rack_closing.proofs.Places.{still_there, at_less, at_new, some_at, both_slices}
 use Rattle.rack.proofs.Asking.{SameAt}
-use Rattle.std.proofs.Math.Nat.{suc-mul}
-use Rattle.std.proofs.lemmas.List.{take_all, length-map, get_or-map, get_or_past}
-use Rattle.std.proofs.lemmas.Bool.{cases_lt}
-use Rattle.wol_disk.proofs.Images.{image_reads}
-use Rattle.wol_model.specs.Heads.{Shape}
-use Rattle.wol_model.specs.Images.{image_size}
-use Rattle.wol_bay.specs.Parts.{blocks_of}
-use Rattle.wol_bay.proofs.OneImage.{all_told}
-use Rattle.spin_model.specs.Spun.{state_of, disk_of}
-use Rattle.spin_model.specs.declared.spun.Spun.{Spun}
-use Rattle.volume_images.proofs.SettledParts.{cut_image}
-use Rattle.rack_parts.specs.Closing.{IsComplete, GivesBack, LeavesNoneOut}
-use Rattle.rack_parts.specs.Parts.{IsTogether}
-use Rattle.rack.specs.declared.images.Images.{Images}
 use Rattle.rack_closing.proofs.CutParts.{reads_range}
 use Rattle.rack_closing.proofs.Names.{cases_name, names_differ}
-use Rattle.rack_closing.specs.Opens.{KeepsOthers}
 use Rattle.rack_closing.proofs.NewFaults.{told_each}
 
 -- ---- What a bay tells while images go out of it in order

@@ -1,3 +1,5 @@
+pub mod Basics
+pub mod Terms
 pub mod Asking
 pub mod FailedParts
 pub mod ImagesSent

@@ -1,49 +1,19 @@
 -- A station more: the rack may be closed with it.
-use Rattle.std.proofs.Common.{◌≡◌, ⊎_elim, ℕ, ◌<◌, ◌≤◌, List, [], ◌∷◌, ◌++◌, length, Option, None, Some, refl, sym, ap, ◌∙◌, subst, arith, ◌⊎◌, inl, inr, ◌+◌, ◌^◌, map, vec_capacity, Bool, get_or}
-use Rattle.std.specs.Prelude.{slice_get, IsSome, is_some, All, Contains}
-use Rattle.std.proofs.lemmas.Bool.{cases_lt}
-use Rattle.std.proofs.lemmas.List.{length_push, length-map, map_push}
-use Rattle.std.proofs.lemmas.Option.{same_Some, slice_get_within, none-some, slice_get-map}
-use Rattle.wol_disk.specs.Disk.{State, Block, TellsContent, IsImageOf}
-use Rattle.wol_bay.specs.Bay.{BayState}
-use Rattle.wol_config.specs.declared.config.Config.{Config}
-use Rattle.manager.specs.declared.base.ManagerBase.{ManagerBase}
-use Rattle.logger.specs.declared.shared.Shared.{Shared}
-use Rattle.rack_parts.specs.Rests.{image_here, IsImageOut, Away, IsRestBut, segment_here, held_here, away_with, AreRooms}
-use Rattle.rack_parts.specs.Racks.{AreOut, AreRising, IsOpenBase, base_of_station, IsStation, IsUnused, IsClosable, KeepToViews}
-use Rattle.rack_parts.specs.declared.rack.ImageRest.{ImageRest}
-use Rattle.rack_parts.specs.declared.rack.Rest.{Rest}
-use Rattle.rack_parts.specs.declared.rack.Rooms.{Rooms}
-use Rattle.std.specs.Option.{option_map_or, option_to_list}
-use Rattle.std.specs.declared.alloc.Global.{Global}
-use Rattle.std.specs.declared.vec.Vec.{Vec}
-use Rattle.std.proofs.lemmas.List.Elements.{All-push, Contains-push, Contains-push_cases, Contains-append_left, filter_passes}
-use Rattle.wol_model.specs.Heads.{owned_block, free_block, SpellsSegment}
-use Rattle.wol_model.specs.Log.{Record, IsLog}
-use Rattle.wol_model.proofs.Spellings.{one_segment_head}
-use Rattle.wol_promise.specs.Manager.{SaysOwnerOrFree}
-use Rattle.wol_config.specs.Configs.{IsValid}
-use Rattle.log_layout.specs.declared.segment.SegHead.{SegHead}
-use Rattle.log_layout.specs.declared.segment.SegHead.TheVariants.{Free, Owned}
-use Rattle.spin_model.specs.Spun.{state_of}
-use Rattle.spin_model.specs.declared.spun.Spun.{Spun}
-use Rattle.manager.specs.declared.station.Station.{Station}
-use Rattle.manager_recovery.specs.Opening.{place_of, CanOpen}
-use Rattle.manager_recovery.specs.declared.opening.Opening.{Opening}
-use Rattle.volume_images.specs.Volumes.{shape_in, shapes_of}
-use Rattle.rack_parts.specs.Parts.{TakesOpening, IsOwnedPlace, loggers_out}
-use Rattle.rack.specs.Opening.{said_at, view_at, fault_at, IsSaidOf, AreTried, IsOpeningRack}
-use Rattle.rack_parts.specs.declared.heads_said.Said.{Said}
-use Rattle.rack_parts.specs.declared.rack.Rack.{Rack}
+use Rattle.rack.proofs.Basics.{◌≡◌, ⊎_elim, ℕ, ◌<◌, ◌≤◌, List, [], ◌∷◌, ◌++◌, length, Option, None, Some, refl, sym, ap, ◌∙◌, subst, arith}
+use Rattle.rack.proofs.Basics.{◌⊎◌, inl, inr, ◌+◌, ◌^◌, map, vec_capacity, Bool, get_or, slice_get, IsSome, is_some, All, Contains}
+use Rattle.rack.proofs.Basics.{cases_lt, length_push, length-map, map_push, same_Some, slice_get_within, none-some, slice_get-map}
+use Rattle.rack.proofs.Basics.{option_map_or, option_to_list, Global, Vec, All-push, Contains-push, Contains-push_cases}
+use Rattle.rack.proofs.Basics.{Contains-append_left, filter_passes}
+use Rattle.rack.proofs.Terms.{State, Block, TellsContent, IsImageOf, BayState, Config, ManagerBase, Shared, image_here, IsImageOut, Away}
+use Rattle.rack.proofs.Terms.{IsRestBut, segment_here, held_here, away_with, AreRooms, AreOut, AreRising, IsOpenBase, base_of_station}
+use Rattle.rack.proofs.Terms.{IsStation, IsUnused, IsClosable, KeepToViews, ImageRest, Rest, Rooms, owned_block, free_block, SpellsSegment}
+use Rattle.rack.proofs.Terms.{Record, IsLog, one_segment_head, SaysOwnerOrFree, IsValid, SegHead, Free, Owned, state_of, Spun, Station}
+use Rattle.rack.proofs.Terms.{place_of, CanOpen, Opening, shape_in, shapes_of, TakesOpening, IsOwnedPlace, loggers_out, said_at, view_at}
+use Rattle.rack.proofs.Terms.{fault_at, IsSaidOf, AreTried, IsOpeningRack, Said, Rack, IsNewPass, TurnLock, PassOf, Manager, IsLocked}
 use Rattle.rack_closing.proofs.Places.{some_at}
 use Rattle.rack_parts.proofs.Members.{segment_in_image, a_value, no_value, here_within}
 use Rattle.rack.proofs.OpenAway.{open_away, WasHere, was_here, segment_was, pool_was, spindle_was, held_none, owner_of, open_base}
 use Rattle.rack.proofs.Openable.{image_id, said_id, all_out, all_inside, lanes_taken, can_open, parts, can_take}
-use Rattle.turn_lock.specs.Passes.{IsNewPass}
-use Rattle.turn_lock.specs.declared.lock.TurnLock.{TurnLock}
-use Rattle.turn_lock.specs.declared.pass.PassOf.{PassOf}
-use Rattle.manager.specs.declared.manager.Manager.{Manager}
-use Rattle.rack.specs.Locked.{IsLocked}
 use Rattle.wol_model.specs.Heads as head
 use Rattle.rack.proofs.Without as without
 

@@ -1,60 +1,29 @@
 -- The next image is taken out, or refused.
-use Rattle.std.proofs.Common.{◌≡◌, ◌⊎◌, inl, inr, ⊎_elim, ℕ, ◌+◌, ◌<◌, [], ◌∷◌, ◌++◌, false, List, length, get_or, set, refl, sym, ap, ◌∙◌, subst, arith, ◌≤◌, map, Option, None, Some, option_map, IfSome, vec_capacity, Bool, Err, append-nil}
-use Rattle.std.specs.Vec.{with_item}
-use Rattle.std.proofs.lemmas.Bool.{cases_eq, cases_lt}
-use Rattle.std.proofs.lemmas.List.{length-set, get_or-set_same, get_or-set_other, length-map, get_or-map, get_or_past}
-use Rattle.std.proofs.lemmas.List.Elements.{All-set}
-use Rattle.turn_lock.specs.Passes.{pass_lock, pass_number, pass_seen, pass_mine, IsPassOf, IsFree, IsSamePass}
-use Rattle.turn_lock.specs.declared.pass.PassOf.{PassOf}
-use Rattle.turn_lock.specs.Histories.{Entry}
-use Rattle.spin_model.specs.Operations.{has_token, operation_of}
+use Rattle.rack.proofs.Basics.{◌≡◌, ◌⊎◌, inl, inr, ⊎_elim, ℕ, ◌+◌, ◌<◌, [], ◌∷◌, ◌++◌, false, List, length, get_or, set, refl, sym, ap, ◌∙◌}
+use Rattle.rack.proofs.Basics.{subst, arith, ◌≤◌, map, Option, None, Some, option_map, IfSome, vec_capacity, Bool, Err, append-nil}
+use Rattle.rack.proofs.Basics.{with_item, cases_eq, cases_lt, length-set, get_or-set_same, get_or-set_other, length-map, get_or-map}
+use Rattle.rack.proofs.Basics.{get_or_past, All-set, slice_get, slice_range, is_some, Contains, IsErrOf, Global, Vec, none-some, same_Some}
+use Rattle.rack.proofs.Terms.{pass_lock, pass_number, pass_seen, pass_mine, IsPassOf, IsFree, IsSamePass, PassOf, Entry, has_token}
+use Rattle.rack.proofs.Terms.{operation_of, AreAccesses, Spindle, SpindleBase, IsInOrder, AreSettled, AreSpindlesOf, IsSpindleLock}
+use Rattle.rack.proofs.Terms.{segment_here, IsPart, IsImageRest, Issued, Block, Values, State, IsDisk, IsImageOf, reads, Rose, IsImage}
+use Rattle.rack.proofs.Terms.{Shape, Image, Told, Name, BayState, at_name, each_place, AreCut, blocks_at, refusal, Config, VolumeConf}
+use Rattle.rack.proofs.Terms.{segment_head, SegHead, state_of, volume_of, Spun, HasHead, IsAccepted, head_place, IsImageFault, part_sizes}
+use Rattle.rack.proofs.Terms.{IsCutOpenable, SaysSo, GaveBack, IsCallFault, IsFaultAt, shape_in, shapes_of, MayLeave, IsComplete, IsAsRead}
+use Rattle.rack.proofs.Terms.{fault_in_image, fault_of_image, HasFaulty, IsFaultAmong, HasNewFault, RefusesVolume, RefusesImage, IsSaidOf}
+use Rattle.rack.proofs.Terms.{HaveHeads, IsCutOf, AreCutOf, WasAtEntry, StayedAs, IsLaidOut, Said, ImageRest, image_size, BayFault, IsTold}
+use Rattle.rack.proofs.Terms.{VolumeFault, Absent, WrongLength, BayFailed}
 use Rattle.wol_model.specs.Journal.{Needed, Done}
-use Rattle.logger.specs.Lanes.{AreAccesses}
-use Rattle.spin_model.specs.declared.spindle.Spindle.{Spindle}
-use Rattle.spin_model.specs.declared.spindle.SpindleBase.{SpindleBase}
-use Rattle.rack_parts.specs.Locks.{IsInOrder, AreSettled, AreSpindlesOf}
-use Rattle.rack_parts.specs.Rests.{IsSpindleLock, segment_here, IsPart, IsImageRest}
-use Rattle.rack_parts.specs.declared.locks.Issued.{Issued}
-use Rattle.std.specs.Prelude.{slice_get, slice_range, is_some, Contains, IsErrOf}
-use Rattle.std.specs.declared.alloc.Global.{Global}
-use Rattle.std.specs.declared.vec.Vec.{Vec}
-use Rattle.std.proofs.lemmas.Option.{none-some, same_Some}
-use Rattle.wol_disk.specs.Disk.{Block, Values, State, IsDisk, IsImageOf, reads, Rose, IsImage}
-use Rattle.wol_model.specs.Heads.{Shape}
-use Rattle.wol_bay.specs.Bay.{Image, Told, Name, BayState, at_name, each_place}
-use Rattle.wol_bay.specs.Parts.{AreCut}
-use Rattle.wol_bay.specs.Refusals.{blocks_at, refusal}
-use Rattle.wol_config.specs.declared.config.Config.{Config}
-use Rattle.wol_config.specs.declared.config.VolumeConf.{VolumeConf}
-use Rattle.log_layout.specs.Values.{segment_head}
-use Rattle.log_layout.specs.declared.segment.SegHead.{SegHead}
-use Rattle.spin_model.specs.Spun.{state_of, volume_of}
-use Rattle.spin_model.specs.declared.spun.Spun.{Spun}
-use Rattle.volume_images.specs.Accepted.{HasHead, IsAccepted, head_place, IsImageFault}
 use Rattle.volume_images.specs.Disks.{disks_of}
-use Rattle.volume_images.specs.Formatted.{part_sizes}
 use Rattle.volume_images.specs.ImageParts.{ArePartsOf}
 use Rattle.volume_images.specs.Reads.{IsOnlyRead}
-use Rattle.volume_images.specs.Refusals.{IsCutOpenable, SaysSo, Refuses, GaveBack, IsCallFault, IsFaultAt}
-use Rattle.volume_images.specs.Volumes.{shape_in, shapes_of, MayLeave}
+use Rattle.volume_images.specs.Refusals.{Refuses}
 use Rattle.volume_images.specs.declared.attach.OutImage.{OutImage}
 use Rattle.volume_images.proofs.HeadSteps.{only_same}
 use Rattle.volume_images.proofs.ReadOut.{parts_of, read_parts}
 use Rattle.volume_images.proofs.SentOut.{cut_sizes}
-use Rattle.rack_parts.specs.Closing.{IsComplete}
-use Rattle.rack_closing.specs.Opens.{IsAsRead, fault_in_image, fault_of_image, HasFaulty, IsFaultAmong, HasNewFault, RefusesVolume, RefusesImage}
-use Rattle.rack.specs.Opening.{IsSaidOf, HaveHeads, IsCutOf, AreCutOf, WasAtEntry, StayedAs}
-use Rattle.rack_parts.specs.Parts.{IsLaidOut}
-use Rattle.rack_parts.specs.declared.heads_said.Said.{Said}
-use Rattle.rack_parts.specs.declared.rack.ImageRest.{ImageRest}
-use Rattle.rack_closing.proofs.CutParts.{cut_reads, cut_had, cut_synced, cut_at}
-use Rattle.wol_model.specs.Images.{image_size}
-use Rattle.wol_bay.specs.declared.fault.BayFault.{BayFault}
-use Rattle.volume_images.specs.Left.{IsTold}
 use Rattle.volume_images.specs.declared.opening.ImageRefusal.{ImageRefusal}
 use Rattle.volume_images.specs.declared.reading.ImageFault.{ImageFault}
-use Rattle.rack_parts.specs.declared.volume_fault.VolumeFault.{VolumeFault}
-use Rattle.rack_parts.specs.declared.volume_fault.VolumeFault.TheVariants.{Absent, WrongLength, BayFailed}
+use Rattle.rack_closing.proofs.CutParts.{cut_reads, cut_had, cut_synced, cut_at}
 use Rattle.rack_parts.proofs.Members.{in_map}
 use Rattle.rack_closing.proofs.NewFaults.{told_each}
 use Rattle.wol_bay.specs.declared.fault.BayFault.TheVariants as bay

@@ -1,49 +1,19 @@
 -- The rest once the opening of one volume is away, where its manager has it.
-use Rattle.std.proofs.Common.{◌≡◌, ◌≢◌, ◌⊎◌, inl, inr, ⊎_elim, ℕ, ◌+◌, ◌<◌, ◌≤◌, List, [], ◌∷◌, ◌++◌, length, map, Option, None, Some, IfSome, refl, sym, ap, ◌∙◌, subst, arith, Bool, get_or}
-use Rattle.std.specs.Prelude.{◌↔◌, slice_get, IsSome, is_some, All, Contains, false, vec_len, AllPairs}
-use Rattle.std.proofs.lemmas.Bool.{cases_eq}
-use Rattle.std.proofs.lemmas.List.Elements.{All-contains, All-nil, recursion_from_All, filter_passes}
-use Rattle.std.proofs.lemmas.Option.{none-some, same_Some}
-use Rattle.wol_disk.specs.Disk.{State}
-use Rattle.wol_model.specs.Heads.{Shape}
-use Rattle.wol_bay.specs.Bay.{BayState}
-use Rattle.wol_config.specs.Configs.{IsValid, most_of}
-use Rattle.wol_config.specs.declared.config.Config.{Config}
-use Rattle.turn_lock.specs.declared.pass.PassOf.{PassOf}
-use Rattle.log_segment.specs.declared.free.FreeSegment.{FreeSegment}
-use Rattle.log_layout.specs.declared.segment.SegHead.TheVariants.{Owned}
-use Rattle.seg_pool.specs.declared.base.PoolBase.{PoolBase}
-use Rattle.seg_pool.specs.declared.pool.Pool.{Pool}
-use Rattle.spin_model.specs.declared.spun.Spun.{Spun}
-use Rattle.spin_model.specs.declared.spindle.Spindle.{Spindle}
-use Rattle.spin_model.specs.declared.spindle.SpindleBase.{SpindleBase}
-use Rattle.wol_model.specs.Blocks.{AreApart}
-use Rattle.manager.specs.declared.base.ManagerBase.{ManagerBase}
-use Rattle.manager.specs.declared.station.Station.{Station}
-use Rattle.manager_recovery.specs.Opening.{place_of, CanOpen}
-use Rattle.manager_recovery.specs.declared.opening.Opening.{Opening}
-use Rattle.volume_images.specs.Volumes.{shapes_of}
-use Rattle.rack_parts.specs.Rests.{image_here, segment_here, pool_pass, spindle_pass, held_here, indexes_here, away_with, IsRestBut, IsImageRest, IsPart, IsRow, IsHeldHere, IsImageOut, OnlyAccess}
-use Rattle.rack_parts.specs.Racks.{base_of_station, IsOpenBase}
-use Rattle.rack_parts.specs.Parts.{TakesOpening, IsTakenOf, IsOwnedPlace, loggers_out, segment_in, IsNewLane, segments_of}
-use Rattle.rack.specs.Opening.{IsOpeningRack}
-use Rattle.rack_parts.specs.declared.heads_said.Said.{Said}
-use Rattle.rack_parts.specs.declared.rack.ImageRest.{ImageRest}
-use Rattle.rack_parts.specs.declared.rack.Rack.{Rack}
-use Rattle.rack_parts.specs.declared.rack.Rest.{Rest}
+use Rattle.rack.proofs.Basics.{◌≡◌, ◌≢◌, ◌⊎◌, inl, inr, ⊎_elim, ℕ, ◌+◌, ◌<◌, ◌≤◌, List, [], ◌∷◌, ◌++◌, length, map, Option, None, Some}
+use Rattle.rack.proofs.Basics.{IfSome, refl, sym, ap, ◌∙◌, subst, arith, Bool, get_or, ◌↔◌, slice_get, IsSome, is_some, All, Contains}
+use Rattle.rack.proofs.Basics.{false, vec_len, AllPairs, cases_eq, All-contains, All-nil, recursion_from_All, filter_passes, none-some}
+use Rattle.rack.proofs.Basics.{same_Some, AllByRecursion, AllZip}
+use Rattle.rack.proofs.Terms.{State, Shape, BayState, IsValid, most_of, Config, PassOf, FreeSegment, Owned, PoolBase, Pool, Spun, Spindle}
+use Rattle.rack.proofs.Terms.{SpindleBase, AreApart, ManagerBase, Station, place_of, CanOpen, Opening, shapes_of, image_here, segment_here}
+use Rattle.rack.proofs.Terms.{pool_pass, spindle_pass, held_here, indexes_here, away_with, IsRestBut, IsImageRest, IsPart, IsRow}
+use Rattle.rack.proofs.Terms.{IsHeldHere, IsImageOut, OnlyAccess, base_of_station, IsOpenBase, TakesOpening, IsTakenOf, IsOwnedPlace}
+use Rattle.rack.proofs.Terms.{loggers_out, segment_in, IsNewLane, segments_of, IsOpeningRack, Said, ImageRest, Rack, Rest, lock_id}
+use Rattle.rack.proofs.Terms.{pass_mine, pass_number, shape_of, IsAt, IsSameLane, logger_of, pool_of, spindle_of, Lane, Shared, AreNamed}
+use Rattle.rack.proofs.Terms.{IsLaneShared, takes_in, Manager, Opens, CountsTakes}
+use Rattle.manager.specs.declared.base.LaneBase.{LaneBase}
 use Rattle.rack_parts.proofs.ManagerBack.{lane_stays, lane_came, lane_cases, home_stays, home_came, home_cases, is_lane_of}
 use Rattle.rack_parts.proofs.Members.{segment_in_image, a_value, in_cases, first_in, later_in}
 use Rattle.rack.proofs.Openable.{parts, contains_map, all_out, all_inside, can_open, lane_out, image_id, no_home, can_take}
-use Rattle.std.specs.List.{AllByRecursion, AllZip}
-use Rattle.turn_lock.specs.Passes.{lock_id, pass_mine, pass_number}
-use Rattle.log_layout.specs.Values.{shape_of}
-use Rattle.logger.specs.Lanes.{IsAt, IsSameLane, logger_of, pool_of, spindle_of}
-use Rattle.logger.specs.declared.lane.Lane.{Lane}
-use Rattle.logger.specs.declared.shared.Shared.{Shared}
-use Rattle.manager.specs.Stands.{AreNamed, IsLaneShared, takes_in}
-use Rattle.manager.specs.declared.base.LaneBase.{LaneBase}
-use Rattle.manager.specs.declared.manager.Manager.{Manager}
-use Rattle.manager_recovery.specs.Opened.{Opens, CountsTakes}
 use Rattle.rack_closing.proofs.Places.{some_at}
 use Rattle.rack.proofs.Without as without
 

@@ -1,51 +1,23 @@
 -- What a volume is opened of can be taken out, and may be opened.
-use Rattle.std.proofs.Common.{◌≡◌, ◌≢◌, ⊎_elim, ℕ, zero, suc, ◌<◌, ◌≤◌, Bool, true, false, List, [], ◌∷◌, length, map, filter, get_or, Option, None, Some, refl, sym, ap, ◌∙◌, subst, arith, ◌-◌, ◌*◌}
-use Rattle.std.specs.Prelude.{slice_get, IsSome, is_some, Contains, All, ◌==◌, position}
-use Rattle.std.specs.List.{flat_map}
-use Rattle.std.proofs.lemmas.Bool.{cases_lt, eq-eqb, eqb-true}
-use Rattle.std.proofs.lemmas.List.{get_or_past, length-map, get_or-map}
-use Rattle.std.proofs.lemmas.List.Elements.{All-filter, filter_passes, Contains-append_cases, recursion_from_All, filter_agree}
-use Rattle.std.proofs.lemmas.Option.{none-some, same_Some, get_or_from_slice_get, MatchOption-at_some, slice_get_within, slice_get-get_or}
-use Rattle.wol_disk.specs.Disk.{State, Block, Values, IsImageOf, reads}
-use Rattle.wol_model.specs.Heads.{Shape, IsShape, owned_block}
-use Rattle.wol_bay.specs.Bay.{BayState}
-use Rattle.wol_config.specs.Configs.{IsValid}
-use Rattle.wol_config.specs.declared.config.Config.{Config}
-use Rattle.turn_lock.specs.Passes.{pass_lock, lock_id, pass_number, pass_mine}
-use Rattle.spin_model.specs.declared.spun.Spun.{Spun}
-use Rattle.manager.specs.declared.base.ManagerBase.{ManagerBase}
-use Rattle.manager.specs.declared.station.Station.{Station}
-use Rattle.volume_images.specs.Volumes.{shapes_of}
-use Rattle.rack_parts.specs.Rests.{image_here, segment_here, pool_pass, spindle_pass, away_with, IsRestBut, IsPart, IsRow}
-use Rattle.rack_parts.specs.Racks.{base_of_station}
-use Rattle.rack_parts.specs.Parts.{HasPlace, IsUsablePlace, CanTake, IsOwnedPlace, segments_of, segment_in, TakesOpening, IsNewLane, IsTakenOf, loggers_out, holder_by, holder_said, IsHomeAway, IsSameBut, with_home}
-use Rattle.rack.specs.Opening.{said_at, IsOpeningRack}
-use Rattle.rack_closing.proofs.Names.{valid_shape}
-use Rattle.rack_parts.specs.declared.heads_said.Said.{Said}
-use Rattle.rack_parts.specs.declared.rack.ImageRest.{ImageRest}
-use Rattle.rack_parts.specs.declared.rack.Rack.{Rack}
-use Rattle.std.proofs.Math.Nat.{mul-le-mul}
-use Rattle.wol_disk.proofs.Images.{image_reads}
-use Rattle.log_layout.specs.Values.{shape_of}
-use Rattle.log_layout.specs.declared.segment.SegHead.TheVariants.{Free, Owned}
-use Rattle.log_layout.specs.declared.segment.SegHead.{SegHead}
-use Rattle.seg_pool.specs.Holders.{holder, is_held_by}
-use Rattle.seg_pool.specs.Operations.{holds}
+use Rattle.rack.proofs.Basics.{◌≡◌, ◌≢◌, ⊎_elim, ℕ, zero, suc, ◌<◌, ◌≤◌, Bool, true, false, List, [], ◌∷◌, length, map, filter, get_or}
+use Rattle.rack.proofs.Basics.{Option, None, Some, refl, sym, ap, ◌∙◌, subst, arith, ◌-◌, ◌*◌, slice_get, IsSome, is_some, Contains, All}
+use Rattle.rack.proofs.Basics.{◌==◌, position, flat_map, cases_lt, eq-eqb, eqb-true, get_or_past, length-map, get_or-map, All-filter}
+use Rattle.rack.proofs.Basics.{filter_passes, Contains-append_cases, recursion_from_All, filter_agree, none-some, same_Some}
+use Rattle.rack.proofs.Basics.{get_or_from_slice_get, MatchOption-at_some, slice_get_within, slice_get-get_or, mul-le-mul}
+use Rattle.rack.proofs.Terms.{State, Block, Values, IsImageOf, reads, Shape, IsShape, owned_block, BayState, IsValid, Config, pass_lock}
+use Rattle.rack.proofs.Terms.{lock_id, pass_number, pass_mine, Spun, ManagerBase, Station, shapes_of, image_here, segment_here, pool_pass}
+use Rattle.rack.proofs.Terms.{spindle_pass, away_with, IsRestBut, IsPart, IsRow, base_of_station, HasPlace, IsUsablePlace, CanTake}
+use Rattle.rack.proofs.Terms.{IsOwnedPlace, segments_of, segment_in, TakesOpening, IsNewLane, IsTakenOf, loggers_out, holder_by}
+use Rattle.rack.proofs.Terms.{holder_said, IsHomeAway, IsSameBut, with_home, said_at, IsOpeningRack, Said, ImageRest, Rack, image_reads}
+use Rattle.rack.proofs.Terms.{shape_of, Free, Owned, SegHead, holder, is_held_by, holds, state_of, IsAt, logger_of, pool_of, spindle_of}
+use Rattle.rack.proofs.Terms.{segments_in, pool_blocks, Lane, IsOpeningLane, IsHeldIn, IsOwned, SaysOwner, HoldsOwned, CanOpen, place_of}
+use Rattle.rack.proofs.Terms.{Opening, OwnedPart, head_place, Rest, Shared, IsNamesAnswer, is_named}
 use Rattle.seg_pool.specs.declared.base.Holder.{Holder}
 use Rattle.seg_pool.specs.declared.base.Holder.TheVariants.{Elsewhere, HeldBy}
-use Rattle.spin_model.specs.Spun.{state_of}
-use Rattle.logger.specs.Lanes.{IsAt, logger_of, pool_of, spindle_of, segments_in, pool_blocks}
-use Rattle.logger.specs.declared.lane.Lane.{Lane}
-use Rattle.manager_recovery.specs.Opening.{IsOpeningLane, IsHeldIn, IsOwned, SaysOwner, HoldsOwned, CanOpen, place_of}
-use Rattle.manager_recovery.specs.declared.opening.Opening.{Opening}
-use Rattle.manager_recovery.specs.declared.opening.OwnedPart.{OwnedPart}
-use Rattle.volume_images.specs.Accepted.{head_place}
-use Rattle.rack_parts.specs.declared.rack.Rest.{Rest}
-use Rattle.rack_closing.proofs.Places.{some_at}
-use Rattle.logger.specs.declared.shared.Shared.{Shared}
-use Rattle.manager_recovery.specs.Refused.{IsNamesAnswer, is_named}
 use Rattle.manager_recovery.proofs.Indexing.{all_named}
 use Rattle.manager_recovery.proofs.Places.{at_position, loggers_are}
+use Rattle.rack_closing.proofs.Names.{valid_shape}
+use Rattle.rack_closing.proofs.Places.{some_at}
 use Rattle.rack_parts.proofs.Members.{a_value, of_recursion}
 
 -- ---- What a volume is opened of may be taken out

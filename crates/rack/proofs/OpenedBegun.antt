@@ -1,58 +1,19 @@
 -- A station more began as the images at entry say, and the faults stay.
-use Rattle.std.proofs.Common.{◌≡◌, ◌≢◌, inl, inr, ⊎_elim, ℕ, ◌<◌, List, length, map, Option, None, Some, sym, ap, ◌∙◌, ◌⊎◌, ◌+◌, ◌≤◌, Bool, [], ◌∷◌, ◌++◌, option_map, refl, subst, arith}
-use Rattle.std.specs.Prelude.{slice_get, Contains, slice_range, is_some, IsTrue, All}
-use Rattle.std.proofs.lemmas.List.Elements.{All-contains, All-push, Contains-append_left, Contains-push}
-use Rattle.std.proofs.lemmas.Option.{same_Some, get_or_from_slice_get, none-some, slice_get-map}
-use Rattle.wol_disk.specs.Disk.{State, Block, IsImageOf, reads}
-use Rattle.wol_bay.specs.Bay.{BayState, Image, Told, at_name}
-use Rattle.wol_config.specs.Configs.{IsValid}
-use Rattle.wol_config.specs.declared.config.Config.{Config}
-use Rattle.log_layout.specs.declared.segment.SegHead.{SegHead}
-use Rattle.log_layout.specs.declared.segment.SegHead.TheVariants.{Owned}
-use Rattle.manager.specs.declared.part.Part.{Part}
-use Rattle.manager_recovery.specs.Opening.{place_of}
-use Rattle.manager_recovery.specs.declared.opening.Opening.{Opening}
-use Rattle.manager_recovery.specs.declared.opening.OwnedPart.{OwnedPart}
-use Rattle.volume_images.specs.Volumes.{shapes_of, shape_in}
-use Rattle.rack.specs.Opening.{said_at, HasFaultOf, IsOpeningRack, HasBegun, fault_at}
-use Rattle.rack_parts.specs.Parts.{TakesOpening, IsOwnedPlace, loggers_out, segment_in}
-use Rattle.rack_parts.specs.declared.heads_said.Said.{Said}
-use Rattle.rack_parts.specs.declared.rack.Rack.{Rack}
-use Rattle.rack_parts.specs.declared.rack.Rest.{Rest}
-use Rattle.rack_parts.specs.declared.rack.Rooms.{Rooms}
+use Rattle.rack.proofs.Basics.{◌≡◌, ◌≢◌, inl, inr, ⊎_elim, ℕ, ◌<◌, List, length, map, Option, None, Some, sym, ap, ◌∙◌, ◌⊎◌, ◌+◌, ◌≤◌, Bool}
+use Rattle.rack.proofs.Basics.{[], ◌∷◌, ◌++◌, option_map, refl, subst, arith, slice_get, Contains, slice_range, is_some, IsTrue, All}
+use Rattle.rack.proofs.Basics.{All-contains, All-push, Contains-append_left, Contains-push, same_Some, get_or_from_slice_get, none-some}
+use Rattle.rack.proofs.Basics.{slice_get-map, AllByRecursion, Global, Vec, cases_lt, cases_eq}
+use Rattle.rack.proofs.Terms.{State, Block, IsImageOf, reads, BayState, Image, Told, at_name, IsValid, Config, SegHead, Owned, Part}
+use Rattle.rack.proofs.Terms.{place_of, Opening, OwnedPart, shapes_of, shape_in, said_at, HasFaultOf, IsOpeningRack, HasBegun, fault_at}
+use Rattle.rack.proofs.Terms.{TakesOpening, IsOwnedPlace, loggers_out, segment_in, Said, Rack, Rest, Rooms, image_reads, Shape, Images}
+use Rattle.rack.proofs.Terms.{image_of, recovered_from, VolumeConf, Base, TurnLock, PassOf, shape_of, segment_head, HasView, state_of, Spun}
+use Rattle.rack.proofs.Terms.{ManagerBase, Manager, Station, Shared, Begins, IsPlaceOf, Opens, IsListedOf, read_of, all_owned, records_in}
+use Rattle.rack.proofs.Terms.{writes_in, heads_in, recovered_of, AreIntact, HaveNoTwins, IsRecoverable, head_place, IsLocked, IsLeftHere}
+use Rattle.rack.proofs.Terms.{IsGone, images_taken, AreOwnedIn, BeganInPlace, IsBegun, IsOpeningOf, base_of_station, image_here}
+use Rattle.rack.proofs.Terms.{segment_here, held_here, IsSegmentHere, ImageRest, VolumeFault}
+use Rattle.wol_promise.specs.Stands.{next_version}
 use Rattle.rack_parts.proofs.Members.{of_map, segment_in_image, none_in, is_member}
 use Rattle.rack.proofs.Openable.{IsInImage, parts_in_images, image_id}
-use Rattle.std.specs.List.{AllByRecursion}
-use Rattle.std.specs.declared.alloc.Global.{Global}
-use Rattle.std.specs.declared.vec.Vec.{Vec}
-use Rattle.std.proofs.lemmas.Bool.{cases_lt, cases_eq}
-use Rattle.wol_disk.proofs.Images.{image_reads}
-use Rattle.wol_model.specs.Heads.{Shape}
-use Rattle.wol_model.specs.Images.{Images, image_of, recovered_from}
-use Rattle.wol_config.specs.declared.config.VolumeConf.{VolumeConf}
-use Rattle.wol_promise.specs.Manager.{Base}
-use Rattle.wol_promise.specs.Stands.{next_version}
-use Rattle.turn_lock.specs.declared.lock.TurnLock.{TurnLock}
-use Rattle.turn_lock.specs.declared.pass.PassOf.{PassOf}
-use Rattle.log_layout.specs.Values.{shape_of, segment_head}
-use Rattle.logger_view.specs.Stored.{HasView}
-use Rattle.spin_model.specs.Spun.{state_of}
-use Rattle.spin_model.specs.declared.spun.Spun.{Spun}
-use Rattle.manager.specs.declared.base.ManagerBase.{ManagerBase}
-use Rattle.manager.specs.declared.manager.Manager.{Manager}
-use Rattle.manager.specs.declared.station.Station.{Station}
-use Rattle.logger.specs.declared.shared.Shared.{Shared}
-use Rattle.manager_recovery.specs.Opened.{Begins, IsPlaceOf, Opens}
-use Rattle.manager_recovery.specs.Owned.{IsListedOf, read_of, all_owned, records_in, writes_in, heads_in, recovered_of, AreIntact, HaveNoTwins}
-use Rattle.manager_recovery.specs.Refused.{IsRecoverable}
-use Rattle.volume_images.specs.Accepted.{head_place}
-use Rattle.rack.specs.Locked.{IsLocked}
-use Rattle.rack_closing.specs.Opens.{IsLeftHere, IsGone}
-use Rattle.rack_closing.specs.Owners.{images_taken, AreOwnedIn, BeganInPlace, IsBegun, IsOpeningOf}
-use Rattle.rack_parts.specs.Racks.{base_of_station}
-use Rattle.rack_parts.specs.Rests.{image_here, segment_here, held_here, IsSegmentHere}
-use Rattle.rack_parts.specs.declared.rack.ImageRest.{ImageRest}
-use Rattle.rack_parts.specs.declared.volume_fault.VolumeFault.{VolumeFault}
 use Rattle.rack_closing.proofs.CutParts.{reads_range}
 use Rattle.rack.proofs.OpenAway.{is_pair}
 use Rattle.rack.proofs.OpeningOf.{sized, opening_of, read_at}

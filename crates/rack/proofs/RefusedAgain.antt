@@ -1,69 +1,29 @@
 -- A rack whose volume was refused stands as it did before the volume was tried.
-use Rattle.std.proofs.Common.{◌≡◌, ◌≢◌, ⊎_elim, ℕ, ◌+◌, ◌<◌, ◌≤◌, ◌^◌, Bool, List, [], length, map, set, get_or, Option, None, Some, sym, ap, ◌∙◌, subst, arith, inl, inr, refl}
-use Rattle.std.specs.Prelude.{slice_get, is_some, Contains, All, IsTrue}
-use Rattle.std.specs.List.{AllZip}
-use Rattle.std.specs.Option.{option_map_or}
-use Rattle.std.specs.declared.alloc.Global.{Global}
-use Rattle.std.specs.declared.vec.Vec.{Vec}
-use Rattle.std.proofs.lemmas.Bool.{cases_eq, cases_lt}
-use Rattle.std.proofs.lemmas.List.{length-map, length-set, get_or-set_same, get_or-set_other}
-use Rattle.std.proofs.lemmas.List.Elements.{length_all_zip, All-contains}
-use Rattle.std.proofs.lemmas.Option.{none-some, same_Some, slice_get-get_or, get_or_from_slice_get, slice_get_within}
-use Rattle.wol_disk.specs.Disk.{Block, State, IsDisk, TellsContent, IsImageOf, Rose}
-use Rattle.wol_promise.specs.Manager.{SaysOwnerOrFree}
-use Rattle.wol_bay.specs.Bay.{BayState, Image, Told, at_name}
-use Rattle.wol_config.specs.Configs.{IsValid}
-use Rattle.wol_config.specs.declared.config.Config.{Config}
-use Rattle.log_layout.specs.declared.segment.SegHead.TheVariants.{Free, Owned}
-use Rattle.seg_pool.specs.declared.base.PoolBase.{PoolBase}
-use Rattle.seg_pool.specs.declared.pool.Pool.{Pool}
-use Rattle.spin_model.specs.Spun.{state_of}
-use Rattle.spin_model.specs.declared.spindle.Spindle.{Spindle}
-use Rattle.spin_model.specs.declared.spindle.SpindleBase.{SpindleBase}
-use Rattle.spin_model.specs.declared.spun.Spun.{Spun}
-use Rattle.turn_lock.specs.Passes.{pass_mine}
-use Rattle.turn_lock.specs.declared.pass.PassOf.{PassOf}
-use Rattle.log_segment.specs.declared.free.FreeSegment.{FreeSegment}
-use Rattle.logger.specs.Lanes.{logger_of}
-use Rattle.manager.specs.declared.base.ManagerBase.{ManagerBase}
-use Rattle.manager.specs.declared.part.Part.TheVariants.{Home, Segment}
-use Rattle.manager.specs.declared.station.Station.{Station}
-use Rattle.manager_recovery.specs.Left.{IsHandedBack, IsFateOf, IsSameOwned, Kept, freed_on, kept_of}
-use Rattle.manager_recovery.specs.Opening.{place_of}
-use Rattle.manager_recovery.specs.Refused.{Refuses, HandsBackAll}
-use Rattle.manager_recovery.specs.declared.opening.Opening.{Opening}
-use Rattle.manager_recovery.specs.declared.opening.OwnedPart.{OwnedPart}
-use Rattle.manager_recovery.specs.declared.refusal.OpenRefusal.{OpenRefusal}
-use Rattle.manager_recovery.specs.declared.refusal.OpenRefusal.TheVariants.{LabelDiffers, LoggerMissing, OutsideView, Damaged, Twins, DiskFault, NoMemory}
-use Rattle.volume_images.specs.Volumes.{shape_in, shapes_of}
-use Rattle.rack_parts.specs.Foreign.{IsForeign}
-use Rattle.rack.specs.Opening.{said_at, view_at, fault_at, AreOwnersHere, AreTried, IsOpeningRack, IsStopped, AreStillCut, HasBegun, AreRefusedBelow, HasFaultOf, HaveFaults}
-use Rattle.rack_parts.specs.Parts.{TakesOpening, PutsOpening, IsOwnedPlace, loggers_out, segment_in}
-use Rattle.rack_parts.specs.Racks.{base_of_station, NamesVolumes, IsClosable}
-use Rattle.rack_parts.specs.Rests.{image_here, segment_here, held_here, IsImageOut, AreRooms, IsSegmentHere}
-use Rattle.rack_parts.specs.declared.heads_said.Said.{Said}
-use Rattle.rack_parts.specs.declared.rack.ImageRest.{ImageRest}
-use Rattle.rack_parts.specs.declared.rack.Rack.{Rack}
-use Rattle.rack_parts.specs.declared.rack.Rest.{Rest}
-use Rattle.rack_parts.specs.declared.volume_fault.VolumeFault.{VolumeFault}
-use Rattle.rack_parts.specs.declared.volume_fault.VolumeFault.TheVariants as volume_fault
-use Rattle.rack.proofs.BackAgain as back_again
+use Rattle.rack.proofs.Basics.{◌≡◌, ◌≢◌, ⊎_elim, ℕ, ◌+◌, ◌<◌, ◌≤◌, ◌^◌, Bool, List, [], length, map, set, get_or, Option, None, Some, sym}
+use Rattle.rack.proofs.Basics.{ap, ◌∙◌, subst, arith, inl, inr, refl, slice_get, is_some, Contains, All, IsTrue, AllZip, option_map_or}
+use Rattle.rack.proofs.Basics.{Global, Vec, cases_eq, cases_lt, length-map, length-set, get_or-set_same, get_or-set_other, length_all_zip}
+use Rattle.rack.proofs.Basics.{All-contains, none-some, same_Some, slice_get-get_or, get_or_from_slice_get, slice_get_within}
+use Rattle.rack.proofs.Terms.{Block, State, IsDisk, TellsContent, IsImageOf, Rose, SaysOwnerOrFree, BayState, Image, Told, at_name, IsValid}
+use Rattle.rack.proofs.Terms.{Config, Free, Owned, PoolBase, Pool, state_of, Spindle, SpindleBase, Spun, pass_mine, PassOf, FreeSegment}
+use Rattle.rack.proofs.Terms.{logger_of, ManagerBase, Home, Segment, Station, IsHandedBack, IsFateOf, IsSameOwned, Kept, freed_on, kept_of}
+use Rattle.rack.proofs.Terms.{place_of, Refuses, HandsBackAll, Opening, OwnedPart, OpenRefusal, LabelDiffers, LoggerMissing, OutsideView}
+use Rattle.rack.proofs.Terms.{Damaged, Twins, DiskFault, NoMemory, shape_in, shapes_of, IsForeign, said_at, view_at, fault_at}
+use Rattle.rack.proofs.Terms.{AreOwnersHere, AreTried, IsOpeningRack, IsStopped, AreStillCut, HasBegun, AreRefusedBelow, HasFaultOf}
+use Rattle.rack.proofs.Terms.{HaveFaults, TakesOpening, PutsOpening, IsOwnedPlace, loggers_out, segment_in, base_of_station, NamesVolumes}
+use Rattle.rack.proofs.Terms.{IsClosable, image_here, segment_here, held_here, IsImageOut, AreRooms, IsSegmentHere, Said, ImageRest, Rack}
+use Rattle.rack.proofs.Terms.{Rest, VolumeFault, now_leaves, Images, VolumeConf, head_place, HadBefore, HadSegmentBefore, IsLeftHere}
+use Rattle.rack.proofs.Terms.{IsGone, RefusesVolume, images_taken, BeganInPlace, IsBegun, Part}
 use Rattle.rack.proofs.BackAgain.{as_it_was, of_a_lane, spindle_still, spindle_of_home, spindle_of_lane, still_here, handed_on, rest_again, only_accesses, held_was, owner_is}
 use Rattle.rack.proofs.Fates.{kept_says, none_freed, freed_owned, kept_had, freed_gone, FateAt, stayed, went, kept_owned, owned_at}
-use Rattle.rack.proofs.Fates as may
 use Rattle.rack_parts.proofs.Members.{a_value, no_value, none_in, of_map, segment_in_image, here_within}
 use Rattle.rack.proofs.LockedStation.{one_owner, base_stays, out_stays}
 use Rattle.rack.proofs.Openable.{can_open, all_out, all_inside, no_base, said_id, parts_in_images, image_id}
 use Rattle.rack_closing.proofs.SameOut.{out_too, taken_same, opening_too, refuses_too}
-use Rattle.wol_disk.proofs.Calls.{now_leaves}
-use Rattle.wol_model.specs.Images.{Images}
-use Rattle.wol_config.specs.declared.config.VolumeConf.{VolumeConf}
-use Rattle.volume_images.specs.Accepted.{head_place}
-use Rattle.rack_closing.specs.Opens.{HadBefore, HadSegmentBefore, IsLeftHere, IsGone, RefusesVolume}
-use Rattle.rack_closing.specs.Owners.{images_taken, BeganInPlace, IsBegun}
 use Rattle.rack.proofs.OpenAway.{is_pair}
 use Rattle.rack.proofs.OpeningOf.{opening_of}
-use Rattle.manager.specs.declared.part.Part.{Part}
+use Rattle.rack_parts.specs.declared.volume_fault.VolumeFault.TheVariants as volume_fault
+use Rattle.rack.proofs.BackAgain as back_again
+use Rattle.rack.proofs.Fates as may
 
 -- a count that rose isn't zero
 above_zero : (a b : ℕ) → Rose a b → 0 < b

@@ -1,35 +1,16 @@
 -- The passes are dealt to the volumes, and the rack before a volume is opened.
-use Rattle.std.proofs.Common.{◌≡◌, ◌≢◌, ◌<◌, ◌≤◌, ◌+◌, ◌-◌, ⊎_elim, ℕ, zero, suc, List, [], ◌∷◌, length, map, take, Option, Some, refl, sym, ap, subst, ◌∙◌, arith, None, option_and_then, option_map}
-use Rattle.std.specs.Prelude.{All, slice_get, slice_index_or, slice_set, vec_capacity}
-use Rattle.std.specs.declared.alloc.Global.{Global}
-use Rattle.std.specs.declared.vec.Vec.{Vec}
-use Rattle.std.proofs.lemmas.Bool.{cases_eq}
-use Rattle.std.proofs.lemmas.List.{length-take, length-set, take-take, take_all, length-map}
-use Rattle.std.proofs.lemmas.Option.{same_Some, slice_get_within, slice_get-map, get_or_from_slice_get}
-use Rattle.turn_lock.specs.declared.pass.PassOf.{PassOf}
-use Rattle.spin_model.specs.declared.spindle.Spindle.{Spindle}
-use Rattle.spin_model.specs.declared.spindle.SpindleBase.{SpindleBase}
-use Rattle.seg_pool.specs.declared.base.PoolBase.{PoolBase}
-use Rattle.seg_pool.specs.declared.pool.Pool.{Pool}
-use Rattle.log_segment.specs.declared.free.FreeSegment.{FreeSegment}
+use Rattle.rack.proofs.Basics.{◌≡◌, ◌≢◌, ◌<◌, ◌≤◌, ◌+◌, ◌-◌, ⊎_elim, ℕ, zero, suc, List, [], ◌∷◌, length, map, take, Option, Some, refl}
+use Rattle.rack.proofs.Basics.{sym, ap, subst, ◌∙◌, arith, None, option_and_then, option_map, All, slice_get, slice_index_or, slice_set}
+use Rattle.rack.proofs.Basics.{vec_capacity, Global, Vec, cases_eq, length-take, length-set, take-take, take_all, length-map, same_Some}
+use Rattle.rack.proofs.Basics.{slice_get_within, slice_get-map, get_or_from_slice_get, All-nil}
+use Rattle.rack.proofs.Terms.{PassOf, Spindle, SpindleBase, PoolBase, Pool, FreeSegment, AreEmptyPasses, last_of, ArePopped, AreEmptied}
+use Rattle.rack.proofs.Terms.{CanDeal, Deals, AreLists, PutsSpindles, PutsPools, IsSetUp, Lists, TurnLock, Spun, Shared, ManagerBase}
+use Rattle.rack.proofs.Terms.{Manager, Station, IsRow, AreRooms, held_here, list_of, Issued, Rack, Rooms}
 use Rattle.manager.proofs.Lanes.{get_set, get_other}
-use Rattle.rack.specs.Making.{AreEmptyPasses, last_of, ArePopped, AreEmptied, CanDeal, Deals, AreLists, PutsSpindles, PutsPools, IsSetUp}
-use Rattle.rack.specs.declared.lists.Lists.{Lists}
+use Rattle.manager_recovery.proofs.Lists.{zip_get, zip_length}
 use Rattle.rack_parts.specs.declared.rack.VolumePasses.{VolumePasses}
 use Rattle.rack_parts.proofs.LanesMoved.{all_read}
 use Rattle.rack.proofs.Setting.{map_same}
-use Rattle.std.proofs.lemmas.List.Elements.{All-nil}
-use Rattle.turn_lock.specs.declared.lock.TurnLock.{TurnLock}
-use Rattle.spin_model.specs.declared.spun.Spun.{Spun}
-use Rattle.logger.specs.declared.shared.Shared.{Shared}
-use Rattle.manager.specs.declared.base.ManagerBase.{ManagerBase}
-use Rattle.manager.specs.declared.manager.Manager.{Manager}
-use Rattle.manager.specs.declared.station.Station.{Station}
-use Rattle.manager_recovery.proofs.Lists.{zip_get, zip_length}
-use Rattle.rack_parts.specs.Rests.{IsRow, AreRooms, held_here, list_of}
-use Rattle.rack_parts.specs.declared.locks.Issued.{Issued}
-use Rattle.rack_parts.specs.declared.rack.Rack.{Rack}
-use Rattle.rack_parts.specs.declared.rack.Rooms.{Rooms}
 
 -- ---- The passes are dealt, and the rack is set
 

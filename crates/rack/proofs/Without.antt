@@ -1,29 +1,11 @@
 -- A rest that lost nothing, and one whose opening of one volume is away.
-use Rattle.std.proofs.Common.{◌≡◌, inl, inr, ⊎_elim, ℕ, List, length, map, Option, sym, ap, ◌∙◌, subst, arith, ◌≢◌, [], None, Some, refl}
-use Rattle.std.specs.Prelude.{is_some, Contains, All}
-use Rattle.wol_disk.specs.Disk.{State}
-use Rattle.wol_bay.specs.Bay.{Told, BayState}
-use Rattle.wol_config.specs.declared.config.Config.{Config}
-use Rattle.spin_model.specs.declared.spun.Spun.{Spun}
-use Rattle.wol_model.specs.Blocks.{AreApart}
-use Rattle.logger.specs.declared.shared.Shared.{Shared}
-use Rattle.manager.specs.declared.station.Station.{Station}
-use Rattle.volume_images.specs.Volumes.{shapes_of}
-use Rattle.rack_parts.specs.Rests.{image_here, indexes_here, Away, away_with, AreImageRests, IsHolding, IsHeldHere, IsPart, IsRestBut, AreRooms, IsSegmentHere, segment_here, pool_pass, spindle_pass, held_here}
-use Rattle.rack_closing.specs.Owners.{images_taken, BeganInPlace, IsBegun}
-use Rattle.rack_parts.specs.Racks.{base_of_station, AreOut, IsOpenBase}
-use Rattle.rack_parts.specs.Parts.{IsSameRest, TakesOpening, IsSameBut, loggers_out, segment_in, with_home}
-use Rattle.rack.specs.Opening.{IsOpeningRack, HasBegun, IsStopped}
-use Rattle.rack_closing.specs.Opens.{BeganWith}
-use Rattle.rack_parts.specs.declared.heads_said.Said.{Said}
-use Rattle.rack_parts.specs.declared.rack.ImageRest.{ImageRest}
-use Rattle.rack_parts.specs.declared.rack.Rack.{Rack}
-use Rattle.rack_parts.specs.declared.rack.Rest.{Rest}
-use Rattle.std.proofs.lemmas.Bool.{cases_eq}
-use Rattle.std.proofs.lemmas.List.Elements.{All-contains}
-use Rattle.std.proofs.lemmas.Option.{MatchOption-at_some, MatchOption-at_none}
-use Rattle.manager_recovery.specs.Opening.{place_of}
-use Rattle.manager_recovery.specs.declared.opening.Opening.{Opening}
+use Rattle.rack.proofs.Basics.{◌≡◌, inl, inr, ⊎_elim, ℕ, List, length, map, Option, sym, ap, ◌∙◌, subst, arith, ◌≢◌, [], None, Some, refl}
+use Rattle.rack.proofs.Basics.{is_some, Contains, All, cases_eq, All-contains, MatchOption-at_some, MatchOption-at_none}
+use Rattle.rack.proofs.Terms.{State, Told, BayState, Config, Spun, AreApart, Shared, Station, shapes_of, image_here, indexes_here, Away}
+use Rattle.rack.proofs.Terms.{away_with, AreImageRests, IsHolding, IsHeldHere, IsPart, IsRestBut, AreRooms, IsSegmentHere, segment_here}
+use Rattle.rack.proofs.Terms.{pool_pass, spindle_pass, held_here, images_taken, BeganInPlace, IsBegun, base_of_station, AreOut, IsOpenBase}
+use Rattle.rack.proofs.Terms.{IsSameRest, TakesOpening, IsSameBut, loggers_out, segment_in, with_home, IsOpeningRack, HasBegun, IsStopped}
+use Rattle.rack.proofs.Terms.{BeganWith, Said, ImageRest, Rack, Rest, place_of, Opening}
 
 -- ---- A rack whose rest lost nothing when what a volume is opened of was asked for
 

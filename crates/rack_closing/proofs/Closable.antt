@@ -1,27 +1,14 @@
 -- What the steps of closing a rack need, from what the rack promises.
-use Rattle.std.proofs.Common.{◌≡◌, ◌<◌, ◌≤◌, ◌+◌, ◌⊎◌, inl, inr, ℕ, List, [], length, Option, Some, None, refl, sym, ap, ◌∙◌, subst, arith}
-use Rattle.std.specs.Prelude.{Contains, All, IsSome, slice_get}
-use Rattle.std.proofs.lemmas.Option.{none-some, slice_get_within}
-use Rattle.wol_disk.specs.Disk.{State}
-use Rattle.wol_model.specs.Heads.{Shape}
-use Rattle.wol_bay.specs.Bay.{BayState}
-use Rattle.wol_config.specs.declared.config.Config.{Config}
-use Rattle.turn_lock.specs.Passes.{lock_id}
-use Rattle.turn_lock.specs.declared.lock.TurnLock.{TurnLock}
+use Rattle.rack_closing.proofs.Basics.{◌≡◌, ◌<◌, ◌≤◌, ◌+◌, ◌⊎◌, inl, inr, ℕ, List, [], length, Option, Some, None, refl, sym, ap, ◌∙◌}
+use Rattle.rack_closing.proofs.Basics.{subst, arith, Contains, All, IsSome, slice_get, none-some, slice_get_within}
+use Rattle.rack_closing.proofs.Terms.{State, Shape, BayState, Config, lock_id, TurnLock, PoolBase, Pool, FreeSegment, shapes_of, image_here}
+use Rattle.rack_closing.proofs.Terms.{segment_here, pool_pass, spindle_pass, held_here, IsPart, IsImageRest, AreImageRests, IsPassAt}
+use Rattle.rack_closing.proofs.Terms.{AreLocks, OnlyAccess, IsRest, IsClosable, AreKeepers, CanCloseStations, CanClosePool, CanClosePools}
+use Rattle.rack_closing.proofs.Terms.{CanCloseSpindles, KeepsSpindles, RefillsAll, AreComplete, ImageRest, Rack, Rest}
 use Rattle.turn_lock.specs.declared.pass.PassOf.{PassOf}
 use Rattle.spin_model.specs.declared.spindle.Spindle.{Spindle}
 use Rattle.spin_model.specs.declared.spindle.SpindleBase.{SpindleBase}
-use Rattle.seg_pool.specs.declared.base.PoolBase.{PoolBase}
-use Rattle.seg_pool.specs.declared.pool.Pool.{Pool}
-use Rattle.log_segment.specs.declared.free.FreeSegment.{FreeSegment}
 use Rattle.logger.specs.declared.shared.Shared.{Shared}
-use Rattle.volume_images.specs.Volumes.{shapes_of}
-use Rattle.rack_parts.specs.Rests.{image_here, segment_here, pool_pass, spindle_pass, held_here, IsPart, IsImageRest, AreImageRests, IsPassAt, AreLocks, OnlyAccess, IsRest}
-use Rattle.rack_parts.specs.Racks.{IsClosable, AreKeepers}
-use Rattle.rack_parts.specs.Closing.{CanCloseStations, CanClosePool, CanClosePools, CanCloseSpindles, KeepsSpindles, RefillsAll, AreComplete}
-use Rattle.rack_parts.specs.declared.rack.ImageRest.{ImageRest}
-use Rattle.rack_parts.specs.declared.rack.Rack.{Rack}
-use Rattle.rack_parts.specs.declared.rack.Rest.{Rest}
 use Rattle.rack_parts.proofs.Members.{a_value, none_in}
 
 module _ {D : Type 0} (state : D → State) (config : Config) where

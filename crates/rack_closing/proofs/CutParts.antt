@@ -1,18 +1,13 @@
 -- Parts that were cut from an image and read.
-use Rattle.std.proofs.Common.{◌≡◌, ⊎_elim, ℕ, zero, suc, ◌+◌, ◌-◌, ◌*◌, ◌<◌, List, [], ◌∷◌, map, take, drop, replicate, get_or, Option, Some, option_map, refl, sym, ap, ◌∙◌, subst, arith}
-use Rattle.std.specs.Prelude.{slice_range, unwrap_or}
+use Rattle.rack_closing.proofs.Basics.{◌≡◌, ⊎_elim, ℕ, zero, suc, ◌+◌, ◌-◌, ◌*◌, ◌<◌, List, [], ◌∷◌, map, take, drop, replicate, get_or}
+use Rattle.rack_closing.proofs.Basics.{Option, Some, option_map, refl, sym, ap, ◌∙◌, subst, arith, slice_range, unwrap_or, take-map}
+use Rattle.rack_closing.proofs.Basics.{drop-map, drop-drop}
+use Rattle.rack_closing.proofs.Terms.{Block, Values, State, IsImageOf, only, reads, settled, Shape, AreCut, state_of, disk_of, Spun}
+use Rattle.rack_closing.proofs.Terms.{head_place, part_sizes}
 use Rattle.std.proofs.Math.Nat.{suc-mul, add-mul}
-use Rattle.std.proofs.lemmas.List.{take-map, drop-map, drop-drop}
-use Rattle.wol_disk.specs.Disk.{Block, Values, State, IsImageOf, only, reads, settled}
 use Rattle.wol_disk.proofs.Images.{settled_image, only_image}
-use Rattle.wol_model.specs.Heads.{Shape}
-use Rattle.wol_bay.specs.Parts.{AreCut}
-use Rattle.spin_model.specs.Spun.{state_of, disk_of}
-use Rattle.spin_model.specs.declared.spun.Spun.{Spun}
 use Rattle.manager_recovery.specs.Owned.{read_of}
-use Rattle.volume_images.specs.Accepted.{head_place}
 use Rattle.volume_images.specs.Disks.{disks_of}
-use Rattle.volume_images.specs.Formatted.{part_sizes}
 use Rattle.volume_images.specs.Reads.{IsOnlyRead}
 use Rattle.volume_images.specs.declared.parts.ImageParts.{ImageParts}
 

@@ -1,20 +1,11 @@
 -- The segments of a manager's lanes, and the segments that it is seen to hold.
-use Rattle.std.proofs.Common.{◌≡◌, ◌≢◌, ◌<◌, ◌+◌, ◌^◌, ◌⊎◌, inl, inr, ℕ, Bool, List, [], ◌∷◌, ◌++◌, map, Option, Some, None, refl, sym, ap, subst}
-use Rattle.std.specs.Prelude.{Contains, unwrap_or}
-use Rattle.std.specs.List.{AllByRecursion}
-use Rattle.wol_disk.specs.Disk.{Block}
-use Rattle.wol_model.specs.Heads.{Free, Owned, owned_block}
-use Rattle.wol_model.specs.Log.{Record, IsIdle, IsLog, extent_of}
-use Rattle.wol_model.specs.Recovered.{read_log, extents_in}
+use Rattle.rack_closing.proofs.Basics.{◌≡◌, ◌≢◌, ◌<◌, ◌+◌, ◌^◌, ◌⊎◌, inl, inr, ℕ, Bool, List, [], ◌∷◌, ◌++◌, map, Option, Some, None, refl}
+use Rattle.rack_closing.proofs.Basics.{sym, ap, subst, Contains, unwrap_or, AllByRecursion}
+use Rattle.rack_closing.proofs.Terms.{Block, Free, Owned, owned_block, Record, IsIdle, IsLog, extent_of, read_log, Held, SaysOwnerOrFree}
+use Rattle.rack_closing.proofs.Terms.{Spun, part_of, held_in, HeldSegment, Lane, Logs, AllHold, AllLanesHold, held_with, all_held}
+use Rattle.wol_model.specs.Recovered.{extents_in}
 use Rattle.wol_model.proofs.ReadLogs.{log_from}
 use Rattle.wol_model.proofs.Spellings.{one_segment_head}
-use Rattle.wol_promise.specs.Manager.{Held, SaysOwnerOrFree}
-use Rattle.spin_model.specs.declared.spun.Spun.{Spun}
-use Rattle.log_segment.specs.Segment.{part_of}
-use Rattle.logger.specs.Lanes.{held_in}
-use Rattle.logger.specs.declared.lane.HeldSegment.{HeldSegment}
-use Rattle.logger.specs.declared.lane.Lane.{Lane}
-use Rattle.manager.specs.Seen.{Logs, AllHold, AllLanesHold, held_with, all_held}
 use Rattle.rack_parts.proofs.Members.{none_in, first_in, later_in, in_cases}
 
 -- ---- Blocks that are no log of a volume

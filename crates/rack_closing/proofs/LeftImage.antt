@@ -1,21 +1,10 @@
 -- An image that a crash leaves of parts that went back.
-use Rattle.std.proofs.Common.{◌≡◌, ◌+◌, ℕ, List, [], length, Option, Some, None, option_map, refl, sym, ap, ◌∙◌, subst, arith}
-use Rattle.std.specs.Prelude.{slice_get, slice_index_or, slice_range}
-use Rattle.std.proofs.lemmas.List.{length-map}
-use Rattle.std.proofs.lemmas.Option.{same_Some, slice_get_within, slice_get-map, get_or_from_slice_get}
-use Rattle.wol_disk.specs.Disk.{Block, State, Values, IsDisk, TellsContent, IsImageOf}
-use Rattle.wol_model.specs.Heads.{Shape}
-use Rattle.wol_model.specs.Images.{Images, image_of, image_size, segment_of}
-use Rattle.wol_bay.specs.Bay.{Name, Told, at_name}
-use Rattle.wol_bay.specs.Parts.{blocks_of}
-use Rattle.wol_config.specs.declared.config.Config.{Config}
-use Rattle.wol_config.specs.declared.config.VolumeConf.{VolumeConf}
-use Rattle.spin_model.specs.Spun.{state_of}
-use Rattle.spin_model.specs.declared.spun.Spun.{Spun}
-use Rattle.volume_images.specs.Volumes.{shape_in, shapes_of, MayLeave, AreLeft}
-use Rattle.rack_parts.specs.Rests.{segment_here, IsImageRest}
-use Rattle.rack_parts.specs.Closing.{IsStoredAs}
-use Rattle.rack_parts.specs.declared.rack.ImageRest.{ImageRest}
+use Rattle.rack_closing.proofs.Basics.{◌≡◌, ◌+◌, ℕ, List, [], length, Option, Some, None, option_map, refl, sym, ap, ◌∙◌, subst, arith}
+use Rattle.rack_closing.proofs.Basics.{slice_get, slice_index_or, slice_range, length-map, same_Some, slice_get_within, slice_get-map}
+use Rattle.rack_closing.proofs.Basics.{get_or_from_slice_get}
+use Rattle.rack_closing.proofs.Terms.{Block, State, Values, IsDisk, TellsContent, IsImageOf, Shape, Images, image_of, image_size}
+use Rattle.rack_closing.proofs.Terms.{segment_of, Name, Told, at_name, blocks_of, Config, VolumeConf, state_of, Spun, shape_in, shapes_of}
+use Rattle.rack_closing.proofs.Terms.{MayLeave, AreLeft, segment_here, IsImageRest, IsStoredAs, ImageRest}
 use Rattle.rack_parts.proofs.Members.{element_at}
 use Rattle.rack_parts.proofs.GivenBack.{all_told, left_size, left_label, left_home, left_segment}
 

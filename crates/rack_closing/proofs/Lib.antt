@@ -1,3 +1,5 @@
+pub mod Basics
+pub mod Terms
 pub mod CutParts
 pub mod NewFaults
 pub mod OwnedSegments

@@ -1,13 +1,8 @@
 -- The records that an index lists, among the extents of the segments that it is of.
-use Rattle.std.proofs.Common.{◌≡◌, ◌⊎◌, inl, inr, ⊎_elim, ℕ, zero, suc, List, [], ◌∷◌, ◌++◌, map, Some, refl, sym, ap, ◌∙◌, subst}
-use Rattle.std.specs.Prelude.{Contains, slice_get}
-use Rattle.std.proofs.lemmas.Option.{same_Some}
-use Rattle.wol_disk.specs.Disk.{IsAmong}
-use Rattle.wol_model.specs.Extents.{Extent, IsValid, marked}
-use Rattle.wol_model.specs.Index.{AreRising, Indexed, Listed, listed_in}
-use Rattle.wol_model.specs.Log.{Record, extent_of}
-use Rattle.wol_promise.specs.Manager.{Held, IsEntryOf, IsFound, IsBacked, IsIndexOf, IsSorted, extents_held}
-use Rattle.rack_closing.specs.Closes.{IsOfExtent, AreListedOf}
+use Rattle.rack_closing.proofs.Basics.{◌≡◌, ◌⊎◌, inl, inr, ⊎_elim, ℕ, zero, suc, List, [], ◌∷◌, ◌++◌, map, Some, refl, sym, ap, ◌∙◌, subst}
+use Rattle.rack_closing.proofs.Basics.{Contains, slice_get, same_Some}
+use Rattle.rack_closing.proofs.Terms.{IsAmong, Extent, IsValid, marked, AreRising, Indexed, Listed, listed_in, Record, extent_of, Held}
+use Rattle.rack_closing.proofs.Terms.{IsEntryOf, IsFound, IsBacked, IsIndexOf, IsSorted, extents_held, IsOfExtent, AreListedOf}
 use Rattle.rack_parts.proofs.Members.{first_in, in_cases, in_map, later_in, none_in, of_map, of_recursion}
 
 -- ---- The extents of held segments

@@ -1,17 +1,11 @@
 -- The names and sizes of the volumes of a configuration.
-use Rattle.std.proofs.Common.{◌≡◌, ◌≢◌, ⊎_elim, ℕ, zero, suc, ◌<◌, ◌≤◌, Bool, true, false, get_or, Some, refl, sym, ap, ◌∙◌, arith, ◌^◌, length, option_map, subst}
-use Rattle.std.specs.Prelude.{slice_get}
+use Rattle.rack_closing.proofs.Basics.{◌≡◌, ◌≢◌, ⊎_elim, ℕ, zero, suc, ◌<◌, ◌≤◌, Bool, true, false, get_or, Some, refl, sym, ap, ◌∙◌, arith}
+use Rattle.rack_closing.proofs.Basics.{◌^◌, length, option_map, subst, slice_get, cases_lt, slice_get_within, get_or_from_slice_get}
+use Rattle.rack_closing.proofs.Basics.{same_Some, slice_get-map, length-map}
+use Rattle.rack_closing.proofs.Terms.{Name, Config, VolumeConf, Shape, IsShape, shape_in, shapes_of}
 use Rattle.std.specs.Str.{bytes_eq}
-use Rattle.std.proofs.lemmas.Bool.{cases_lt}
-use Rattle.std.proofs.lemmas.Option.{slice_get_within, get_or_from_slice_get, same_Some, slice_get-map}
 use Rattle.std.proofs.lemmas.Slice.Eq.{bytes_eq-Decides}
-use Rattle.wol_bay.specs.Bay.{Name}
 use Rattle.wol_config.specs.Configs.{IsValid}
-use Rattle.wol_config.specs.declared.config.Config.{Config}
-use Rattle.wol_config.specs.declared.config.VolumeConf.{VolumeConf}
-use Rattle.std.proofs.lemmas.List.{length-map}
-use Rattle.wol_model.specs.Heads.{Shape, IsShape}
-use Rattle.volume_images.specs.Volumes.{shape_in, shapes_of}
 use Rattle.rack_closing.proofs.Places.{some_at}
 
 -- two names are the same or not

@@ -1,20 +1,12 @@
 -- Parts that came back with a fault stay in the list of the bay.
-use Rattle.std.proofs.Common.{◌≡◌, ℕ, ◌+◌, List, [], ◌++◌, Option, None, Some, option_map, sym, ap, ◌∙◌, subst, append-nil, append_assoc, zero, suc, ◌-◌, length, refl, arith}
-use Rattle.std.proofs.lemmas.List.Elements.{Contains-append_left, Contains-append_right}
-use Rattle.wol_bay.specs.Bay.{Name, Told, sent_out, Image, BayState, at_name}
+use Rattle.rack_closing.proofs.Basics.{◌≡◌, ℕ, ◌+◌, List, [], ◌++◌, Option, None, Some, option_map, sym, ap, ◌∙◌, subst, append-nil}
+use Rattle.rack_closing.proofs.Basics.{append_assoc, zero, suc, ◌-◌, length, refl, arith, Contains-append_left, Contains-append_right}
+use Rattle.rack_closing.proofs.Basics.{same_Some}
+use Rattle.rack_closing.proofs.Terms.{Name, Told, sent_out, Image, BayState, at_name, HasFaulty, IsFaultAmong, HasNewFault, RefusesImage}
+use Rattle.rack_closing.proofs.Terms.{reads, Config, VolumeConf, IsImageFault, shape_in, shapes_of, ImageRest, VolumeFault, LabelFault}
 use Rattle.volume_images.specs.Left.{IsTold}
 use Rattle.volume_images.specs.declared.reading.ImageFault.{ImageFault}
 use Rattle.volume_images.specs.declared.reading.ImageFault.TheVariants as fault
-use Rattle.rack_closing.specs.Opens.{HasFaulty, IsFaultAmong, HasNewFault, RefusesImage}
-use Rattle.std.proofs.lemmas.Option.{same_Some}
-use Rattle.wol_disk.specs.Disk.{reads}
-use Rattle.wol_config.specs.declared.config.Config.{Config}
-use Rattle.wol_config.specs.declared.config.VolumeConf.{VolumeConf}
-use Rattle.volume_images.specs.Accepted.{IsImageFault}
-use Rattle.volume_images.specs.Volumes.{shape_in, shapes_of}
-use Rattle.rack_parts.specs.declared.rack.ImageRest.{ImageRest}
-use Rattle.rack_parts.specs.declared.volume_fault.VolumeFault.{VolumeFault}
-use Rattle.rack_parts.specs.declared.volume_fault.VolumeFault.TheVariants.{LabelFault}
 
 pub told_each : (P Q : Told → Told → Type 0) (o n : Option Told) → ((x y : Told) → P x y → Q x y) → IsTold P o n → IsTold Q o n
 told_each P Q None n each is = is

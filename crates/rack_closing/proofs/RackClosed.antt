@@ -1,25 +1,11 @@
 -- A rack whose stations and pools are closed: its images are whole, and the same ones are out.
-use Rattle.std.proofs.Common.{◌≡◌, ◌<◌, ◌≤◌, ◌⊎◌, inl, inr, ℕ, suc, Bool, List, [], ◌∷◌, ◌++◌, length, get_or, Option, Some, None, is_some, option_map, refl, sym, ap, ◌∙◌, subst, arith}
-use Rattle.std.specs.Prelude.{All, slice_get, option_and_then}
-use Rattle.std.proofs.lemmas.List.{length-map}
-use Rattle.std.proofs.lemmas.Option.{slice_get-get_or}
-use Rattle.wol_disk.specs.Disk.{State}
-use Rattle.wol_bay.specs.Bay.{Name, BayState, IsOut}
-use Rattle.wol_config.specs.declared.config.Config.{Config}
-use Rattle.wol_config.specs.declared.config.VolumeConf.{VolumeConf}
-use Rattle.turn_lock.specs.Passes.{lock_id}
-use Rattle.turn_lock.specs.declared.lock.TurnLock.{TurnLock}
-use Rattle.seg_pool.specs.declared.base.PoolBase.{PoolBase}
-use Rattle.seg_pool.specs.declared.pool.Pool.{Pool}
-use Rattle.log_segment.specs.declared.free.FreeSegment.{FreeSegment}
-use Rattle.volume_images.specs.Formatted.{part_sizes}
-use Rattle.volume_images.specs.Volumes.{shape_in}
-use Rattle.rack_parts.specs.Rests.{image_here, held_here, list_of, IsImageOut, IsRow, IsRest, out_names}
-use Rattle.rack_parts.specs.Racks.{IsClosable}
-use Rattle.rack_parts.specs.Closing.{KeepsButHome, ClosesStations, RefillsAll, KeepsSpindles, KeepsOtherRows, LeavesNoneOut}
-use Rattle.rack_parts.specs.declared.rack.ImageRest.{ImageRest}
-use Rattle.rack_parts.specs.declared.rack.Rack.{Rack}
-use Rattle.rack_parts.specs.declared.rack.Rest.{Rest}
+use Rattle.rack_closing.proofs.Basics.{◌≡◌, ◌<◌, ◌≤◌, ◌⊎◌, inl, inr, ℕ, suc, Bool, List, [], ◌∷◌, ◌++◌, length, get_or, Option, Some, None}
+use Rattle.rack_closing.proofs.Basics.{is_some, option_map, refl, sym, ap, ◌∙◌, subst, arith, All, slice_get, option_and_then, length-map}
+use Rattle.rack_closing.proofs.Basics.{slice_get-get_or}
+use Rattle.rack_closing.proofs.Terms.{State, Name, BayState, IsOut, Config, VolumeConf, lock_id, TurnLock, PoolBase, Pool, FreeSegment}
+use Rattle.rack_closing.proofs.Terms.{part_sizes, shape_in, image_here, held_here, list_of, IsImageOut, IsRow, IsRest, out_names}
+use Rattle.rack_closing.proofs.Terms.{IsClosable, KeepsButHome, ClosesStations, RefillsAll, KeepsSpindles, KeepsOtherRows, LeavesNoneOut}
+use Rattle.rack_closing.proofs.Terms.{ImageRest, Rack, Rest}
 use Rattle.rack_parts.specs.declared.rack.VolumePasses.{VolumePasses}
 use Rattle.rack_parts.proofs.Members.{element_at}
 

@@ -1,19 +1,10 @@
 -- Lists of which the same images are out.
-use Rattle.std.proofs.Common.{◌≡◌, inl, inr, ⊎_elim, ℕ, zero, suc, Bool, false, not, List, [], ◌∷◌, length, map, get_or, Option, None, Some, refl, sym, ap, ◌∙◌, subst, arith}
-use Rattle.std.specs.Prelude.{is_some}
-use Rattle.wol_disk.specs.Disk.{State}
-use Rattle.wol_model.specs.Images.{Images, accepted}
-use Rattle.wol_bay.specs.Bay.{Told, BayState}
-use Rattle.wol_config.specs.declared.config.Config.{Config}
-use Rattle.wol_config.specs.declared.config.VolumeConf.{VolumeConf}
+use Rattle.rack_closing.proofs.Basics.{◌≡◌, inl, inr, ⊎_elim, ℕ, zero, suc, Bool, false, not, List, [], ◌∷◌, length, map, get_or, Option}
+use Rattle.rack_closing.proofs.Basics.{None, Some, refl, sym, ap, ◌∙◌, subst, arith, is_some}
+use Rattle.rack_closing.proofs.Terms.{State, Images, accepted, Told, BayState, Config, VolumeConf, images_read, RefusesVolume, image_here}
+use Rattle.rack_closing.proofs.Terms.{IsImageOut, ImageRest, VolumeFault, Absent, WrongLength, Refused, LabelFault, BayFailed}
 use Rattle.manager_recovery.specs.declared.opening.Opening.{Opening}
-use Rattle.volume_images.specs.Volumes.{images_read}
-use Rattle.rack_closing.specs.Opens.{RefusesVolume}
 use Rattle.rack_closing.specs.Owners.{images_taken, IsOpeningOf}
-use Rattle.rack_parts.specs.Rests.{image_here, IsImageOut}
-use Rattle.rack_parts.specs.declared.rack.ImageRest.{ImageRest}
-use Rattle.rack_parts.specs.declared.volume_fault.VolumeFault.{VolumeFault}
-use Rattle.rack_parts.specs.declared.volume_fault.VolumeFault.TheVariants.{Absent, WrongLength, Refused, LabelFault, BayFailed}
 
 module _ {D : Type 0} where
   -- lists of one length whose images are out at the same places

@@ -1,33 +1,11 @@
 -- The parts of a station, among the images that go back.
-use Rattle.std.proofs.Common.{◌≡◌, ℕ, zero, suc, Bool, List, [], ◌∷◌, Option, Some, refl, sym, ap, ◌∙◌, subst, arith}
-use Rattle.std.specs.Prelude.{Contains, slice_get, option_and_then}
-use Rattle.std.specs.List.{AllZip}
-use Rattle.std.proofs.lemmas.Option.{slice_get_within, get_or_from_slice_get}
-use Rattle.std.proofs.lemmas.List.Elements.{All-contains}
-use Rattle.wol_disk.specs.Disk.{State}
-use Rattle.wol_model.specs.Heads.{Shape}
-use Rattle.wol_bay.specs.Bay.{BayState}
-use Rattle.wol_config.specs.declared.config.Config.{Config}
-use Rattle.turn_lock.specs.Passes.{lock_id}
-use Rattle.turn_lock.specs.declared.lock.TurnLock.{TurnLock}
-use Rattle.spin_model.specs.Spun.{volume_of}
-use Rattle.seg_pool.specs.declared.base.PoolBase.{PoolBase}
-use Rattle.seg_pool.specs.declared.pool.Pool.{Pool}
-use Rattle.log_segment.specs.Segment.{part_of}
-use Rattle.log_segment.specs.declared.free.FreeSegment.{FreeSegment}
-use Rattle.logger.specs.Lanes.{IsHeld, logger_of, held_in}
-use Rattle.logger.specs.declared.lane.HeldSegment.{HeldSegment}
-use Rattle.logger.specs.declared.lane.Lane.{Lane}
-use Rattle.manager.specs.Stands.{IsReadyLane}
-use Rattle.manager.specs.declared.station.Station.{Station}
-use Rattle.volume_images.specs.Volumes.{shapes_of}
-use Rattle.rack_parts.specs.Rests.{image_here, segment_here, held_here, IsImageOut, IsRest}
-use Rattle.rack_parts.specs.Racks.{IsClosable, IsOpenBase, base_of_station}
+use Rattle.rack_closing.proofs.Basics.{◌≡◌, ℕ, zero, suc, Bool, List, [], ◌∷◌, Option, Some, refl, sym, ap, ◌∙◌, subst, arith, Contains}
+use Rattle.rack_closing.proofs.Basics.{slice_get, option_and_then, AllZip, slice_get_within, get_or_from_slice_get, All-contains}
+use Rattle.rack_closing.proofs.Terms.{State, Shape, BayState, Config, lock_id, TurnLock, volume_of, PoolBase, Pool, part_of, FreeSegment}
+use Rattle.rack_closing.proofs.Terms.{IsHeld, logger_of, held_in, HeldSegment, Lane, IsReadyLane, Station, shapes_of, image_here}
+use Rattle.rack_closing.proofs.Terms.{segment_here, held_here, IsImageOut, IsRest, IsClosable, IsOpenBase, base_of_station, Closing}
+use Rattle.rack_closing.proofs.Terms.{IsClosing, ClosesStations, RefillsAll, KeepsSpindles, home_here, ImageRest, Rack, Rest}
 use Rattle.rack_parts.specs.Parts.{HasBack}
-use Rattle.rack_parts.specs.Closing.{Closing, IsClosing, ClosesStations, RefillsAll, KeepsSpindles, home_here}
-use Rattle.rack_parts.specs.declared.rack.ImageRest.{ImageRest}
-use Rattle.rack_parts.specs.declared.rack.Rack.{Rack}
-use Rattle.rack_parts.specs.declared.rack.Rest.{Rest}
 use Rattle.rack_parts.proofs.Members.{a_value, element_at, here_within, in_map, of_recursion}
 use Rattle.rack_closing.proofs.Closable.{image_was}
 use Rattle.rack_closing.proofs.RackClosed.{same_out}

@@ -1,32 +1,18 @@
 -- What images of a station's parts recover to, among all segments.
-use Rattle.std.proofs.Common.{◌≡◌, ◌≢◌, ◌<◌, ◌≤◌, ◌⊎◌, inl, inr, ℕ, Bool, List, [], ◌∷◌, length, map, Option, Some, None, refl, sym, ap, ◌∙◌, subst, arith}
-use Rattle.std.specs.Prelude.{All, AllPairs, Contains, IsTrue, is_some, slice_get, unwrap_or}
-use Rattle.std.specs.List.{AllByRecursion, AllZip}
-use Rattle.std.proofs.lemmas.Bool.{cases_lt}
-use Rattle.std.proofs.lemmas.Option.{slice_get_within, get_or_from_slice_get}
-use Rattle.std.proofs.lemmas.List.Elements.{All-from_recursion}
-use Rattle.wol_disk.specs.Disk.{Block, State, IsImageOf}
-use Rattle.wol_model.specs.Blocks.{after}
-use Rattle.wol_model.specs.Extents.{AreDistinct, Extent, covers_of, with_extents}
-use Rattle.wol_model.specs.Heads.{Shape}
-use Rattle.wol_model.specs.History.{writes, flight_of, IsCut}
-use Rattle.wol_model.specs.Images.{Images, image_of, image_size, segment_of, all_segments}
-use Rattle.wol_model.specs.Index.{Indexed, Listed, listed_in}
-use Rattle.wol_model.specs.Log.{IsLog, extent_of}
-use Rattle.wol_model.specs.Recovered.{extents_in, extents_of, recovered}
-use Rattle.wol_promise.specs.Manager.{Held, IsBacked, extents_held}
-use Rattle.wol_promise.specs.Ruled.{Noted, entries_of}
+use Rattle.rack_closing.proofs.Basics.{◌≡◌, ◌≢◌, ◌<◌, ◌≤◌, ◌⊎◌, inl, inr, ℕ, Bool, List, [], ◌∷◌, length, map, Option, Some, None, refl}
+use Rattle.rack_closing.proofs.Basics.{sym, ap, ◌∙◌, subst, arith, All, AllPairs, Contains, IsTrue, is_some, slice_get, unwrap_or}
+use Rattle.rack_closing.proofs.Basics.{AllByRecursion, AllZip, cases_lt, slice_get_within, get_or_from_slice_get, All-from_recursion}
+use Rattle.rack_closing.proofs.Terms.{Block, State, IsImageOf, after, AreDistinct, Extent, covers_of, with_extents, Shape, writes}
+use Rattle.rack_closing.proofs.Terms.{flight_of, IsCut, Images, image_of, image_size, segment_of, all_segments, Indexed, Listed, listed_in}
+use Rattle.rack_closing.proofs.Terms.{IsLog, extent_of, extents_in, extents_of, Held, IsBacked, extents_held, Noted, entries_of, state_of}
+use Rattle.rack_closing.proofs.Terms.{volume_of, Spun, parts_of, all_held, Keeps, AreListedOf, IsOfExtent, IsOnLogger}
+use Rattle.wol_model.specs.Recovered.{recovered}
 use Rattle.wol_promise.specs.Stands.{place_in, ApartFrom, AreApartPlaces, IsHeldBy, IsWhole, IsSoundOf, AreSoundOf}
 use Rattle.wol_promise.proofs.Choices.{chosen_extents, recovers_from}
 use Rattle.wol_promise.proofs.SoundSegments.{logs_sound}
-use Rattle.spin_model.specs.Spun.{state_of, volume_of}
-use Rattle.spin_model.specs.declared.spun.Spun.{Spun}
-use Rattle.manager.specs.Seen.{parts_of, all_held}
-use Rattle.manager.specs.Stands.{Keeps}
 use Rattle.manager.specs.declared.base.ManagerBase.{ManagerBase}
 use Rattle.manager.specs.declared.manager.Manager.{Manager}
 use Rattle.manager_recovery.proofs.SameNewest.{same_array}
-use Rattle.rack_closing.specs.Closes.{AreListedOf, IsOfExtent, IsOnLogger}
 use Rattle.rack_closing.proofs.ListedLeft.{listed_held, listed_same, of_record}
 use Rattle.rack_parts.proofs.Members.{of_map, of_recursion}
 use Rattle.rack_closing.proofs.SameSegments.{Placed, AreApartPlaced, AreThese, Shuffled, same_extents, shuffled_same, shuffled_distinct, shuffled_to, shuffled_from, once}

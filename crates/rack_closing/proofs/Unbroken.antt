@@ -1,22 +1,14 @@
 -- A history in which no pass made a Broke has none; one whose passes had nothing in flight has nothing in flight; and one in which
 -- no pass wrote has no writes.
-use Rattle.std.proofs.Common.{◌≡◌, ◌≢◌, ◌⊎◌, ◌==◌, inl, inr, ℕ, Bool, true, false, cond, List, [], ◌∷◌, ◌++◌, Option, None, refl, sym, ap, ◌∙◌, subst, arith}
-use Rattle.std.specs.Prelude.{unwrap_or}
-use Rattle.std.proofs.lemmas.Bool.{cases_eq}
+use Rattle.rack_closing.proofs.Basics.{◌≡◌, ◌≢◌, ◌⊎◌, ◌==◌, inl, inr, ℕ, Bool, true, false, cond, List, [], ◌∷◌, ◌++◌, Option, None, refl}
+use Rattle.rack_closing.proofs.Basics.{sym, ap, ◌∙◌, subst, arith, unwrap_or, cases_eq, none-some, All-from_recursion}
+use Rattle.rack_closing.proofs.Terms.{Write, Operation, Broke, Wrote, Read, Kept, worker, helper, keeper, flight_of, flight_from, writes}
+use Rattle.rack_closing.proofs.Terms.{written_by, entries_of, pass_number, pass_mine, AreWhole, notes_of, Station, IsStation, IsUnbroken}
+use Rattle.rack_closing.proofs.Terms.{IsQuiet}
 use Rattle.std.proofs.lemmas.Bool.Decides.{nat_tests}
-use Rattle.std.proofs.lemmas.Option.{none-some}
-use Rattle.std.proofs.lemmas.List.Elements.{All-from_recursion}
-use Rattle.wol_model.specs.Blocks.{Write}
-use Rattle.wol_model.specs.History.{Operation, Broke, Wrote, Read, Kept, worker, helper, keeper, flight_of, flight_from, writes, written_by}
 use Rattle.wol_promise.specs.Code.{noted_of}
-use Rattle.wol_promise.specs.Ruled.{entries_of}
 use Rattle.turn_lock.specs.Histories.{Entry, own}
-use Rattle.turn_lock.specs.Passes.{pass_number, pass_mine, AreWhole}
-use Rattle.manager.specs.Stands.{notes_of}
-use Rattle.manager.specs.declared.station.Station.{Station}
-use Rattle.rack_parts.specs.Racks.{IsStation}
 use Rattle.rack_parts.proofs.SpindlesClosed.{self_equal}
-use Rattle.rack_closing.specs.Closes.{IsUnbroken, IsQuiet}
 
 abbrev flight_in : List Entry → Option (List Write)
 flight_in es = flight_of (entries_of (notes_of es))

@@ -1,33 +1,27 @@
 -- Images go back to their bay, the last first.
-use Rattle.std.proofs.Common.{◌≡◌, ◌≢◌, ◌<◌, ℕ, zero, suc, Bool, true, false, cond, List, [], ◌∷◌, ◌++◌, length, take, Option, Some, None, is_some, refl, ap, subst, arith, append_assoc, ◌≤◌, ◌⊎◌, inl, inr, get_or, sym, ◌∙◌, ◌+◌, ◌-◌, ◌*◌, drop, replicate, map, option_map}
-use Rattle.std.specs.Prelude.{slice_get, Contains, slice_range, IfSome, All}
+use Rattle.rack_parts.proofs.Basics.{◌≡◌, ◌≢◌, ◌<◌, ℕ, zero, suc, Bool, true, false, cond, List, [], ◌∷◌, ◌++◌, length, take, Option, Some}
+use Rattle.rack_parts.proofs.Basics.{None, is_some, refl, ap, subst, arith, append_assoc, ◌≤◌, ◌⊎◌, inl, inr, get_or, sym, ◌∙◌, ◌+◌, ◌-◌}
+use Rattle.rack_parts.proofs.Basics.{◌*◌, drop, replicate, map, option_map, slice_get, Contains, slice_range, IfSome, All, cases_eq}
+use Rattle.rack_parts.proofs.Basics.{cases_lt, append-nil, length-map, get_or-map, drop-drop, length-append, length-drop, take_all}
+use Rattle.rack_parts.proofs.Basics.{Contains-append_left, Contains-append_right, All-contains, none-some, same_Some, slice_get-get_or}
+use Rattle.rack_parts.proofs.Basics.{slice_get_within, get_or_from_slice_get}
+use Rattle.rack_parts.proofs.Terms.{Name, at_name, without, AreNamedApart, Image, Told, stored, each_place, came_back, BayState, outs}
+use Rattle.rack_parts.proofs.Terms.{IsOut, Config, VolumeConf, shape_in, out_names, image_here, segment_here, IsPart, IsImageRest}
+use Rattle.rack_parts.proofs.Terms.{IsImageOut, ImageRest, Block, Values, State, IsDisk, TellsContent, IsImage, IsImageOf, Rose, blocks_of}
+use Rattle.rack_parts.proofs.Terms.{faulty_places, joined, sizes_of, IsTogether, IsStoredAs, GivesBack, IsImageBack, HasFaultHere, Shape}
+use Rattle.rack_parts.proofs.Terms.{Spun}
 use Rattle.std.specs.Str.{bytes_eq}
 use Rattle.std.proofs.lemmas.Slice.Eq.{bytes_eq-Decides}
-use Rattle.wol_bay.specs.Bay.{Name, at_name, without, AreApart, AreNamedApart, Image, Told, stored, each_place, came_back, BayState, outs, IsOut}
-use Rattle.wol_bay.proofs.NameLists.{out_again, is_out}
-use Rattle.wol_config.specs.declared.config.Config.{Config}
-use Rattle.wol_config.specs.declared.config.VolumeConf.{VolumeConf}
-use Rattle.volume_images.specs.Formatted.{part_sizes}
-use Rattle.volume_images.specs.Volumes.{shape_in}
-use Rattle.rack_parts.specs.Rests.{out_names, image_here, segment_here, IsPart, IsImageRest, IsImageOut}
-use Rattle.rack_parts.specs.declared.rack.ImageRest.{ImageRest}
-use Rattle.std.proofs.lemmas.Bool.{cases_eq, cases_lt}
-use Rattle.std.proofs.lemmas.List.{append-nil, length-map, get_or-map, drop-drop, length-append, length-drop, take_all}
-use Rattle.std.proofs.lemmas.List.Elements.{Contains-append_left, Contains-append_right, All-contains}
-use Rattle.std.proofs.lemmas.Option.{none-some, same_Some, slice_get-get_or, slice_get_within, get_or_from_slice_get}
-use Rattle.wol_disk.specs.Disk.{Block, Values, State, IsDisk, TellsContent, IsImage, IsImageOf, Rose}
-use Rattle.wol_bay.specs.Parts.{blocks_of, faulty_places, joined, sizes_of}
-use Rattle.wol_bay.proofs.NamedApart.{other_put, other_gone}
-use Rattle.rack_parts.specs.Parts.{IsTogether}
-use Rattle.rack_parts.specs.Closing.{IsStoredAs, GivesBack, IsImageBack, HasFaultHere}
 use Rattle.std.proofs.Math.Nat.{suc-mul, add-mul}
-use Rattle.wol_model.specs.Heads.{Shape}
+use Rattle.wol_bay.specs.Bay.{AreApart}
+use Rattle.wol_bay.proofs.NameLists.{out_again, is_out}
+use Rattle.wol_bay.proofs.NamedApart.{other_put, other_gone}
 use Rattle.wol_model.specs.Images.{image_size, segment_of}
-use Rattle.spin_model.specs.Spun.{state_of, disk_of}
-use Rattle.spin_model.specs.declared.spun.Spun.{Spun}
-use Rattle.rack_parts.proofs.Members.{first_in, later_in}
 use Rattle.wol_config.specs.Configs.{IsValid}
+use Rattle.spin_model.specs.Spun.{state_of, disk_of}
+use Rattle.volume_images.specs.Formatted.{part_sizes}
 use Rattle.volume_images.specs.Left.{IsTold}
+use Rattle.rack_parts.proofs.Members.{first_in, later_in}
 
 -- ---- The names of images that are out, as the last ones go back
 

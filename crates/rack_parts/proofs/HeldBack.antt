@@ -1,25 +1,14 @@
 -- The segments that came back with lanes go to their places.
-use Rattle.std.proofs.Common.{◌≡◌, ◌≢◌, ◌<◌, ◌+◌, ℕ, List, [], ◌∷◌, ◌++◌, suc, length, map, Option, None, Some, option_and_then, refl, sym, ap, subst, ◌∙◌, arith, ◌≤◌, ◌⊎◌, inl, inr}
-use Rattle.std.specs.Prelude.{All, Contains, slice_get, slice_set, slice_index_or}
-use Rattle.std.specs.List.{AllByRecursion}
-use Rattle.std.specs.declared.alloc.Global.{Global}
-use Rattle.std.specs.declared.vec.Vec.{Vec}
-use Rattle.std.specs.Vec.{with_item}
-use Rattle.std.proofs.lemmas.List.{append_assoc, append-nil, map-append, length-append, length-set}
-use Rattle.std.proofs.lemmas.List.Elements.{All-nil, All-cons, All-head, All-tail, All-pop, All-from_recursion, All-contains}
-use Rattle.wol_model.specs.Blocks.{AreApart}
-use Rattle.spin_model.specs.declared.spun.Spun.{Spun}
-use Rattle.manager.proofs.Lanes.{get_other, get_set}
-use Rattle.rack_parts.specs.Rests.{IsRow, list_of, image_here, segment_here, pool_pass, spindle_pass, held_here, indexes_here, IsImageOut}
-use Rattle.rack_parts.specs.Parts.{KeepsRows, KeepsImage, segment_in, in_image, CanPutHeld, PutsHeld, PopsHeld}
-use Rattle.rack_parts.specs.declared.rack.ImageRest.{ImageRest}
-use Rattle.rack_parts.specs.declared.rack.Rest.{Rest}
-use Rattle.rack_parts.specs.declared.rack.VolumePasses.{VolumePasses}
+use Rattle.rack_parts.proofs.Basics.{◌≡◌, ◌≢◌, ◌<◌, ◌+◌, ℕ, List, [], ◌∷◌, ◌++◌, suc, length, map, Option, None, Some, option_and_then}
+use Rattle.rack_parts.proofs.Basics.{refl, sym, ap, subst, ◌∙◌, arith, ◌≤◌, ◌⊎◌, inl, inr, All, Contains, slice_get, slice_set}
+use Rattle.rack_parts.proofs.Basics.{slice_index_or, AllByRecursion, Global, Vec, with_item, append_assoc, append-nil, map-append}
+use Rattle.rack_parts.proofs.Basics.{length-append, length-set, All-nil, All-cons, All-head, All-tail, All-pop, All-from_recursion}
+use Rattle.rack_parts.proofs.Basics.{All-contains, cases_eq, cases_lt, slice_get_past}
+use Rattle.rack_parts.proofs.Terms.{AreApart, Spun, get_other, get_set, IsRow, list_of, image_here, segment_here, pool_pass, spindle_pass}
+use Rattle.rack_parts.proofs.Terms.{held_here, indexes_here, IsImageOut, KeepsRows, KeepsImage, segment_in, in_image, CanPutHeld, PutsHeld}
+use Rattle.rack_parts.proofs.Terms.{PopsHeld, ImageRest, Rest, VolumePasses, CanPutAllHeld, PutsAllHeld}
 use Rattle.rack_parts.proofs.LanesMoved.{all_both, rows_same, rows_then, place_then, IsRowBut, row_set, at_changed}
 use Rattle.rack_parts.proofs.Returned.{PutsOne, keeps_image_then}
-use Rattle.std.proofs.lemmas.Bool.{cases_eq, cases_lt}
-use Rattle.std.proofs.lemmas.Option.{slice_get_past}
-use Rattle.rack_parts.specs.Closing.{CanPutAllHeld, PutsAllHeld}
 use Rattle.rack_parts.proofs.Members.{a_value, all_member, in_map, none_in, segment_in_image}
 
 -- ---- The segments that came back with a lane go to their places

@@ -1,32 +1,14 @@
 -- A row of passes changes at one place: a lane, or the pass of a home, goes out or comes back.
-use Rattle.std.proofs.Common.{◌≡◌, ◌≢◌, ◌<◌, ℕ, List, length, Option, None, Some, option_and_then, ⊎_elim, sym, ap, subst, ◌∙◌, [], refl, arith, ◌∷◌, ◌++◌}
-use Rattle.std.specs.Prelude.{All, slice_get, slice_set, slice_index_or, AllPairs, option_map}
-use Rattle.std.proofs.lemmas.Bool.{cases_eq}
-use Rattle.std.proofs.lemmas.List.{length-set, get_or-set_same, get_or-set_other, append_assoc, append-nil, get_or_append_left, get_or_push, length_push, get_or_read}
-use Rattle.std.proofs.lemmas.List.Elements.{All-set, All-nil, All-cons, All-head, All-tail, All-pop}
-use Rattle.std.proofs.lemmas.Option.{slice_get_within, get_or_from_slice_get, slice_get-get_or, slice_get-map}
-use Rattle.manager.proofs.Lanes.{get_set, get_other}
-use Rattle.rack_parts.specs.Rests.{IsRow, pool_pass, spindle_pass, held_here, list_of, image_here}
-use Rattle.rack_parts.specs.Parts.{KeepsPlace, KeepsRows, HasPlace, PutsLane, held_parts, IsBarePlace, HasBack, PutsLanes, CanPutLanes, ChangesHome, with_home, TakesPasses, IsSameRest, segments_of, segment_count}
-use Rattle.rack_parts.specs.declared.rack.Rest.{Rest}
-use Rattle.rack_parts.specs.declared.rack.VolumePasses.{VolumePasses}
-use Rattle.std.specs.declared.alloc.Global.{Global}
-use Rattle.std.specs.declared.vec.Vec.{Vec}
-use Rattle.std.specs.Vec.{with_item}
-use Rattle.turn_lock.specs.declared.pass.PassOf.{PassOf}
-use Rattle.spin_model.specs.declared.spindle.Spindle.{Spindle}
-use Rattle.spin_model.specs.declared.spindle.SpindleBase.{SpindleBase}
-use Rattle.spin_model.specs.declared.spun.Spun.{Spun}
-use Rattle.seg_pool.specs.declared.base.PoolBase.{PoolBase}
-use Rattle.seg_pool.specs.declared.pool.Pool.{Pool}
-use Rattle.log_segment.specs.declared.free.FreeSegment.{FreeSegment}
-use Rattle.logger.specs.Lanes.{logger_of, pool_of, spindle_of, IsLane, taken_in}
-use Rattle.logger.specs.declared.lane.Lane.{Lane}
-use Rattle.wol_disk.specs.Disk.{State}
-use Rattle.rack_parts.specs.declared.rack.ImageRest.{ImageRest}
-use Rattle.wol_config.specs.declared.config.Config.{Config}
-use Rattle.wol_config.specs.declared.config.VolumeConf.{VolumeConf}
-use Rattle.volume_images.specs.Volumes.{shape_in}
+use Rattle.rack_parts.proofs.Basics.{◌≡◌, ◌≢◌, ◌<◌, ℕ, List, length, Option, None, Some, option_and_then, ⊎_elim, sym, ap, subst, ◌∙◌, []}
+use Rattle.rack_parts.proofs.Basics.{refl, arith, ◌∷◌, ◌++◌, All, slice_get, slice_set, slice_index_or, AllPairs, option_map, cases_eq}
+use Rattle.rack_parts.proofs.Basics.{length-set, get_or-set_same, get_or-set_other, append_assoc, append-nil, get_or_append_left}
+use Rattle.rack_parts.proofs.Basics.{get_or_push, length_push, get_or_read, All-set, All-nil, All-cons, All-head, All-tail, All-pop}
+use Rattle.rack_parts.proofs.Basics.{slice_get_within, get_or_from_slice_get, slice_get-get_or, slice_get-map, Global, Vec, with_item}
+use Rattle.rack_parts.proofs.Terms.{get_set, get_other, IsRow, pool_pass, spindle_pass, held_here, list_of, image_here, KeepsPlace}
+use Rattle.rack_parts.proofs.Terms.{KeepsRows, HasPlace, PutsLane, held_parts, IsBarePlace, HasBack, PutsLanes, CanPutLanes, ChangesHome}
+use Rattle.rack_parts.proofs.Terms.{with_home, TakesPasses, IsSameRest, segments_of, segment_count, Rest, VolumePasses, PassOf, Spindle}
+use Rattle.rack_parts.proofs.Terms.{SpindleBase, Spun, PoolBase, Pool, FreeSegment, logger_of, pool_of, spindle_of, IsLane, taken_in, Lane}
+use Rattle.rack_parts.proofs.Terms.{State, ImageRest, Config, VolumeConf, shape_in}
 
 -- ---- A row of passes is changed at one place
 

@@ -1,24 +1,14 @@
 -- The lanes of a volume go out one after another.
-use Rattle.std.proofs.Common.{◌≡◌, ◌≢◌, ◌<◌, ◌≤◌, ◌+◌, ◌⊎◌, ⊎_elim, inl, inr, ℕ, zero, suc, Bool, true, false, cond, List, [], ◌∷◌, ◌++◌, length, map, take, Option, None, Some, is_some, refl, sym, ap, subst, ◌∙◌, arith}
-use Rattle.std.specs.Prelude.{All, AllPairs, Contains, slice_index_or}
-use Rattle.std.specs.List.{AllByRecursion}
-use Rattle.std.specs.declared.alloc.Global.{Global}
-use Rattle.std.specs.declared.vec.Vec.{Vec}
-use Rattle.std.proofs.lemmas.Bool.{cases_eq, cases_Bool}
-use Rattle.std.proofs.lemmas.List.{append-nil, length_push, get_or_default, map_push}
-use Rattle.std.proofs.lemmas.List.Elements.{All-nil, All-cons, All-head, All-tail, All-push, All-append, All-map, All-weaker, filter_more, All-contains}
+use Rattle.rack_parts.proofs.Basics.{◌≡◌, ◌≢◌, ◌<◌, ◌≤◌, ◌+◌, ◌⊎◌, ⊎_elim, inl, inr, ℕ, zero, suc, Bool, true, false, cond, List, [], ◌∷◌}
+use Rattle.rack_parts.proofs.Basics.{◌++◌, length, map, take, Option, None, Some, is_some, refl, sym, ap, subst, ◌∙◌, arith, All, AllPairs}
+use Rattle.rack_parts.proofs.Basics.{Contains, slice_index_or, AllByRecursion, Global, Vec, cases_eq, cases_Bool, append-nil, length_push}
+use Rattle.rack_parts.proofs.Basics.{get_or_default, map_push, All-nil, All-cons, All-head, All-tail, All-push, All-append, All-map}
+use Rattle.rack_parts.proofs.Basics.{All-weaker, filter_more, All-contains}
+use Rattle.rack_parts.proofs.Terms.{State, AreApart, Config, IsLane, logger_of, taken_in, pool_of, spindle_of, HeldSegment, Lane, part_of}
+use Rattle.rack_parts.proofs.Terms.{image_here, pool_pass, spindle_pass, held_here, KeepsPlace, KeepsRows, IsBarePlace, HasBack, PutsLanes}
+use Rattle.rack_parts.proofs.Terms.{CanPutLanes, IsUsablePlace, IsNewLane, TakesPasses, TakesOneLane, IsSameRest, segments_of, loggers_out}
+use Rattle.rack_parts.proofs.Terms.{TakesLanes, ImageRest, Rest}
 use Rattle.std.proofs.lemmas.List.Quantifiers.{all_pairs_push}
-use Rattle.wol_disk.specs.Disk.{State}
-use Rattle.wol_model.specs.Blocks.{AreApart}
-use Rattle.wol_config.specs.declared.config.Config.{Config}
-use Rattle.logger.specs.Lanes.{IsLane, logger_of, taken_in, pool_of, spindle_of}
-use Rattle.logger.specs.declared.lane.HeldSegment.{HeldSegment}
-use Rattle.logger.specs.declared.lane.Lane.{Lane}
-use Rattle.log_segment.specs.Segment.{part_of}
-use Rattle.rack_parts.specs.Rests.{image_here, pool_pass, spindle_pass, held_here}
-use Rattle.rack_parts.specs.Parts.{KeepsPlace, KeepsRows, IsBarePlace, HasBack, PutsLanes, CanPutLanes, IsUsablePlace, IsNewLane, TakesPasses, TakesOneLane, IsSameRest, segments_of, loggers_out, TakesLanes}
-use Rattle.rack_parts.specs.declared.rack.ImageRest.{ImageRest}
-use Rattle.rack_parts.specs.declared.rack.Rest.{Rest}
 use Rattle.rack_parts.proofs.LanesMoved.{all_both, bare_then, keeps_same, keeps_then, rows_same, rows_then, place_then}
 
 -- different numbers at different places

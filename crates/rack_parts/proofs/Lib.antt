@@ -1,3 +1,5 @@
+pub mod Basics
+pub mod Terms
 pub mod LocksIssued
 pub mod SpindlesClosed
 pub mod GivenBack

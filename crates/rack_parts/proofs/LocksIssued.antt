@@ -1,41 +1,18 @@
 -- Locks are issued: those of spindles, and those of pools, which get the free segments of an image.
-use Rattle.std.proofs.Common.{◌≡◌, ⊎_elim, ◌<◌, ◌≤◌, ℕ, List, [], ◌∷◌, ◌++◌, sym, ap, subst, arith, ◌≢◌, ◌+◌, Option, None, Some, refl, ◌∙◌, zero, suc, option_map}
-use Rattle.std.proofs.lemmas.Bool.{cases_lt, cases_eq, false≢true}
-use Rattle.std.proofs.lemmas.List.{get_or_append_left, get_or_push, length_push, length-set, get_or-set_same, get_or-set_other, get_or_past}
-use Rattle.std.proofs.lemmas.List.Elements.{All-push}
-use Rattle.turn_lock.specs.Passes.{lock_passes, AreNewPasses, lock_id}
-use Rattle.spin_model.specs.Operations.{has_token}
-use Rattle.spin_model.specs.declared.spindle.Spindle.{Spindle}
-use Rattle.spin_model.specs.declared.spindle.SpindleBase.{SpindleBase}
-use Rattle.logger.specs.Lanes.{AreAccesses}
-use Rattle.std.specs.Prelude.{length, slice_get, slice_index_or, slice_set, IsSome, Result, Ok, Err, OnErr}
-use Rattle.rack_parts.specs.Locks.{IsInOrder, AreSettled, AreSpindlesOf}
-use Rattle.rack_parts.specs.Rests.{IsSpindleLock, segment_here}
-use Rattle.rack_parts.specs.declared.locks.Issued.{Issued}
-use Rattle.std.proofs.lemmas.Option.{none-some, same_Some, slice_get-get_or, slice_get_within, slice_get_past, slice_get-map}
-use Rattle.wol_disk.specs.Disk.{State}
-use Rattle.spin_model.specs.declared.spun.Spun.{Spun}
-use Rattle.seg_pool.specs.Holders.{holder}
-use Rattle.seg_pool.specs.Pools.{IsEmptyPool, IsSamePool, StandsFor, item_at, note_at, room_of, base_of, volume_of, blocks_of}
-use Rattle.seg_pool.specs.declared.pool.Pool.{Pool}
-use Rattle.log_segment.specs.Segment.{IsBlank, free_part}
-use Rattle.log_segment.specs.declared.free.FreeSegment.{FreeSegment}
-use Rattle.log_layout.specs.declared.segment.SegHead.{SegHead}
-use Rattle.log_layout.specs.declared.segment.SegHead.TheVariants.{Free, Owned}
-use Rattle.rack_parts.specs.Parts.{holder_said, left_by, FillsSlot, IsFilledPool, TakesFree, of_head, either_part, item_part, IsBlankPart, IsSameBut, IsRefilled, CanFill, IsRestored, Restores, IsSupplied, CanIssue, IsIssuedPool, Supplies, CanEnd, EndsInto, holder_by}
-use Rattle.wol_model.specs.Heads.{Shape}
-use Rattle.seg_pool.specs.declared.base.Holder.TheVariants.{Elsewhere, InPool, HeldBy}
-use Rattle.rack_parts.specs.declared.heads_said.Said.{Said}
-use Rattle.rack_parts.specs.declared.rack.ImageRest.{ImageRest}
+use Rattle.rack_parts.proofs.Basics.{◌≡◌, ⊎_elim, ◌<◌, ◌≤◌, ℕ, List, [], ◌∷◌, ◌++◌, sym, ap, subst, arith, ◌≢◌, ◌+◌, Option, None, Some}
+use Rattle.rack_parts.proofs.Basics.{refl, ◌∙◌, zero, suc, option_map, cases_lt, cases_eq, false≢true, get_or_append_left, get_or_push}
+use Rattle.rack_parts.proofs.Basics.{length_push, length-set, get_or-set_same, get_or-set_other, get_or_past, All-push, length, slice_get}
+use Rattle.rack_parts.proofs.Basics.{slice_index_or, slice_set, IsSome, Result, Ok, Err, OnErr, none-some, same_Some, slice_get-get_or}
+use Rattle.rack_parts.proofs.Basics.{slice_get_within, slice_get_past, slice_get-map, Global, Vec}
+use Rattle.rack_parts.proofs.Terms.{lock_passes, AreNewPasses, lock_id, has_token, Spindle, SpindleBase, AreAccesses, IsInOrder, AreSettled}
+use Rattle.rack_parts.proofs.Terms.{AreSpindlesOf, IsSpindleLock, segment_here, Issued, State, Spun, holder, IsEmptyPool, IsSamePool}
+use Rattle.rack_parts.proofs.Terms.{StandsFor, item_at, note_at, room_of, base_of, volume_of, Pool, IsBlank, free_part, FreeSegment}
+use Rattle.rack_parts.proofs.Terms.{SegHead, Free, Owned, holder_said, left_by, FillsSlot, IsFilledPool, TakesFree, of_head, either_part}
+use Rattle.rack_parts.proofs.Terms.{item_part, IsBlankPart, IsSameBut, IsRefilled, CanFill, IsRestored, Restores, IsSupplied, CanIssue}
+use Rattle.rack_parts.proofs.Terms.{IsIssuedPool, Supplies, CanEnd, EndsInto, holder_by, Shape, Elsewhere, InPool, HeldBy, Said, ImageRest}
+use Rattle.rack_parts.proofs.Terms.{Config, VolumeConf, PoolBase, shape_in, shapes_of, TurnLock, PassOf}
+use Rattle.seg_pool.specs.Pools.{blocks_of}
 use Rattle.rack_parts.proofs.PoolsEmptied.{holder_of, holder_at}
-use Rattle.wol_config.specs.declared.config.Config.{Config}
-use Rattle.wol_config.specs.declared.config.VolumeConf.{VolumeConf}
-use Rattle.seg_pool.specs.declared.base.PoolBase.{PoolBase}
-use Rattle.volume_images.specs.Volumes.{shape_in, shapes_of}
-use Rattle.std.specs.declared.alloc.Global.{Global}
-use Rattle.std.specs.declared.vec.Vec.{Vec}
-use Rattle.turn_lock.specs.declared.lock.TurnLock.{TurnLock}
-use Rattle.turn_lock.specs.declared.pass.PassOf.{PassOf}
 
 -- ---- The passes of a new lock
 

@@ -1,46 +1,20 @@
 -- A manager comes back to the rest of its rack.
-use Rattle.std.proofs.Common.{◌≡◌, ◌⊎◌, inl, inr, ℕ, List, [], ◌∷◌, ◌++◌, map, sym, ap, ◌∙◌, subst, append_assoc, ◌≢◌, ◌<◌, ◌↔◌, true, length, Option, Some, None, is_some, refl, arith}
-use Rattle.std.specs.Prelude.{Contains, All, AllPairs, IsSome, IfSome, slice_get, slice_index_or, option_and_then}
-use Rattle.std.proofs.lemmas.Bool.{cases_eq}
-use Rattle.std.proofs.lemmas.List.{append-nil, map_push, get_or-map, length-map}
-use Rattle.std.proofs.lemmas.List.Elements.{Contains-append_left, Contains-append_right, Contains-append_cases, Contains-push, Contains-push_cases, All-contains}
-use Rattle.manager.specs.declared.base.ManagerBase.{ManagerBase}
-use Rattle.rack_parts.specs.Rests.{away_with, image_here, segment_here, pool_pass, spindle_pass, held_here, indexes_here, IsImageOut, IsPassAt, IsPart, IsImageRest, IsHolding, IsHeldHere, AreLocks, OnlyAccess, IsRestBut}
-use Rattle.rack_parts.proofs.Members.{first_in, later_in, none_in, in_map, of_map, is_member, map_map, element_at, no_value, a_value, is_there, no_members, all_member, of_recursion, in_cases}
-use Rattle.std.specs.List.{AllByRecursion}
-use Rattle.std.proofs.lemmas.Option.{none-some, same_Some, get_or_from_slice_get}
-use Rattle.wol_disk.specs.Disk.{State}
-use Rattle.wol_model.specs.Blocks.{AreApart}
-use Rattle.wol_model.specs.Heads.{Shape}
+use Rattle.rack_parts.proofs.Basics.{◌≡◌, ◌⊎◌, inl, inr, ℕ, List, [], ◌∷◌, ◌++◌, map, sym, ap, ◌∙◌, subst, append_assoc, ◌≢◌, ◌<◌, ◌↔◌}
+use Rattle.rack_parts.proofs.Basics.{true, length, Option, Some, None, is_some, refl, arith, Contains, All, AllPairs, IsSome, IfSome}
+use Rattle.rack_parts.proofs.Basics.{slice_get, slice_index_or, option_and_then, cases_eq, append-nil, map_push, get_or-map, length-map}
+use Rattle.rack_parts.proofs.Basics.{Contains-append_left, Contains-append_right, Contains-append_cases, Contains-push, Contains-push_cases}
+use Rattle.rack_parts.proofs.Basics.{All-contains, AllByRecursion, none-some, same_Some, get_or_from_slice_get}
+use Rattle.rack_parts.proofs.Terms.{ManagerBase, away_with, image_here, segment_here, pool_pass, spindle_pass, held_here, indexes_here}
+use Rattle.rack_parts.proofs.Terms.{IsImageOut, IsPassAt, IsPart, IsImageRest, IsHolding, IsHeldHere, AreLocks, OnlyAccess, IsRestBut}
+use Rattle.rack_parts.proofs.Terms.{State, AreApart, Shape, Config, lock_id, pass_lock, pass_number, pass_mine, TurnLock, PassOf, has_token}
+use Rattle.rack_parts.proofs.Terms.{Spun, Spindle, SpindleBase, holds, PoolBase, Pool, part_of, FreeSegment, IsLane, IsHeld, logger_of}
+use Rattle.rack_parts.proofs.Terms.{pool_of, spindle_of, held_in, taken_in, indexes_in, HeldSegment, Lane, Shared, Keeps, IsReadyLane}
+use Rattle.rack_parts.proofs.Terms.{IsNamed, AreNamed, IsLaneShared, Manager, ManagerParts, shapes_of, IsOpenBase, HasPlace, IsBarePlace}
+use Rattle.rack_parts.proofs.Terms.{HasBack, KeepsPlace, CanPutLanes, IsHomeAway, PutsManager, held_parts, with_home, KeepsButHome}
+use Rattle.rack_parts.proofs.Terms.{home_here, ImageRest, Rest, Rooms}
 use Rattle.wol_promise.specs.Ruled.{Noted}
-use Rattle.wol_config.specs.declared.config.Config.{Config}
-use Rattle.turn_lock.specs.Passes.{lock_id, pass_lock, pass_number, pass_mine}
-use Rattle.turn_lock.specs.declared.lock.TurnLock.{TurnLock}
-use Rattle.turn_lock.specs.declared.pass.PassOf.{PassOf}
-use Rattle.spin_model.specs.Operations.{has_token}
-use Rattle.spin_model.specs.declared.spun.Spun.{Spun}
-use Rattle.spin_model.specs.declared.spindle.Spindle.{Spindle}
-use Rattle.spin_model.specs.declared.spindle.SpindleBase.{SpindleBase}
-use Rattle.seg_pool.specs.Operations.{holds}
-use Rattle.seg_pool.specs.declared.base.PoolBase.{PoolBase}
-use Rattle.seg_pool.specs.declared.pool.Pool.{Pool}
-use Rattle.log_segment.specs.Segment.{part_of}
-use Rattle.log_segment.specs.declared.free.FreeSegment.{FreeSegment}
-use Rattle.logger.specs.Lanes.{IsLane, IsHeld, logger_of, pool_of, spindle_of, held_in, taken_in, indexes_in}
-use Rattle.logger.specs.declared.lane.HeldSegment.{HeldSegment}
-use Rattle.logger.specs.declared.lane.Lane.{Lane}
-use Rattle.logger.specs.declared.shared.Shared.{Shared}
-use Rattle.manager.specs.Stands.{Keeps, IsReadyLane, IsNamed, AreNamed, IsLaneShared}
 use Rattle.manager.specs.declared.base.LaneBase.{LaneBase}
-use Rattle.manager.specs.declared.manager.Manager.{Manager}
-use Rattle.manager.specs.declared.manager.ManagerParts.{ManagerParts}
-use Rattle.volume_images.specs.Volumes.{shapes_of}
-use Rattle.rack_parts.specs.Racks.{IsOpenBase}
-use Rattle.rack_parts.specs.Parts.{HasPlace, IsBarePlace, HasBack, KeepsPlace, CanPutLanes, IsHomeAway, PutsManager, held_parts, with_home}
-use Rattle.rack_parts.specs.Closing.{KeepsButHome, home_here}
-use Rattle.rack_parts.specs.declared.rack.ImageRest.{ImageRest}
-use Rattle.rack_parts.specs.declared.rack.Rest.{Rest}
-use Rattle.rack_parts.specs.declared.rack.Rooms.{Rooms}
+use Rattle.rack_parts.proofs.Members.{first_in, later_in, none_in, in_map, of_map, is_member, map_map, element_at, no_value, a_value, is_there, no_members, all_member, of_recursion, in_cases}
 
 -- ---- What is away with managers, as the last one comes back
 

@@ -1,11 +1,9 @@
 -- Members of lists, and lists side by side.
-use Rattle.std.proofs.Common.{◌≡◌, ◌<◌, ◌≤◌, ◌+◌, ◌⊎◌, inl, inr, ℕ, zero, suc, List, [], ◌∷◌, ◌++◌, length, take, get_or, map, Option, Some, None, is_some, refl, sym, ap, ◌∙◌, subst, arith, ◌-◌, reverse}
-use Rattle.std.specs.Prelude.{Contains, All, IsSome, slice_get}
-use Rattle.std.specs.List.{AllByRecursion}
-use Rattle.std.proofs.lemmas.Bool.{cases_eq}
-use Rattle.std.proofs.lemmas.Option.{slice_get-get_or}
-use Rattle.std.proofs.lemmas.List.{take-take, take_at, length-take, get_or-take, get_or_at, get_or_append_left, get_or-map, length-map, length_push, append_assoc, map-append, reverse-append, length-reverse, get_or-reverse}
-use Rattle.std.proofs.lemmas.List.Elements.{All-contains, Contains-push, Contains-get_or}
+use Rattle.rack_parts.proofs.Basics.{◌≡◌, ◌<◌, ◌≤◌, ◌+◌, ◌⊎◌, inl, inr, ℕ, zero, suc, List, [], ◌∷◌, ◌++◌, length, take, get_or, map}
+use Rattle.rack_parts.proofs.Basics.{Option, Some, None, is_some, refl, sym, ap, ◌∙◌, subst, arith, ◌-◌, reverse, Contains, All, IsSome}
+use Rattle.rack_parts.proofs.Basics.{slice_get, AllByRecursion, cases_eq, slice_get-get_or, take-take, take_at, length-take, get_or-take}
+use Rattle.rack_parts.proofs.Basics.{get_or_at, get_or_append_left, get_or-map, length-map, length_push, append_assoc, map-append}
+use Rattle.rack_parts.proofs.Basics.{reverse-append, length-reverse, get_or-reverse, All-contains, Contains-push, Contains-get_or}
 
 -- ---- Members of lists, and options that are empty
 

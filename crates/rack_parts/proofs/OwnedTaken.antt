@@ -1,34 +1,20 @@
 -- The owned segments of a volume go out, and all that it is opened of.
-use Rattle.std.proofs.Common.{◌≡◌, ◌<◌, ◌≤◌, ◌+◌, ⊎_elim, inr, ℕ, Bool, true, false, List, [], ◌∷◌, ◌++◌, length, map, take, drop, cond, Option, None, Some, refl, sym, ap, subst, ◌∙◌, arith, zero, suc, option_map, inl, is_some, ◌≢◌, option_and_then}
-use Rattle.std.specs.Prelude.{All, Contains, slice_get, slice_index_or, slice_set, count_by, IsSome, IfSome}
-use Rattle.std.specs.List.{AllByRecursion}
-use Rattle.std.proofs.lemmas.Bool.{cases_eq, cases_Bool, false≢true, eq-eqb, eqb-true}
-use Rattle.std.proofs.lemmas.List.{append_assoc, map-append, length_push, take-append-drop, take_all, get_or-set_same, get_or-set_other, length-set, append-nil, length-append, take_more}
-use Rattle.std.proofs.lemmas.List.Elements.{All-nil, All-push, Contains-append_left, Contains-push, All-head, All-tail, All-append, All-contains, All-from_recursion, Contains-append_right, Contains-append_cases, All-cons}
+use Rattle.rack_parts.proofs.Basics.{◌≡◌, ◌<◌, ◌≤◌, ◌+◌, ⊎_elim, inr, ℕ, Bool, true, false, List, [], ◌∷◌, ◌++◌, length, map, take, drop}
+use Rattle.rack_parts.proofs.Basics.{cond, Option, None, Some, refl, sym, ap, subst, ◌∙◌, arith, zero, suc, option_map, inl, is_some, ◌≢◌}
+use Rattle.rack_parts.proofs.Basics.{option_and_then, All, Contains, slice_get, slice_index_or, slice_set, count_by, IsSome, IfSome}
+use Rattle.rack_parts.proofs.Basics.{AllByRecursion, cases_eq, cases_Bool, false≢true, eq-eqb, eqb-true, append_assoc, map-append}
+use Rattle.rack_parts.proofs.Basics.{length_push, take-append-drop, take_all, get_or-set_same, get_or-set_other, length-set, append-nil}
+use Rattle.rack_parts.proofs.Basics.{length-append, take_more, All-nil, All-push, Contains-append_left, Contains-push, All-head, All-tail}
+use Rattle.rack_parts.proofs.Basics.{All-append, All-contains, All-from_recursion, Contains-append_right, Contains-append_cases, All-cons}
+use Rattle.rack_parts.proofs.Basics.{same_Some, get_or_from_slice_get, slice_get_within, slice_get-map, none-some, with_item, Global, Vec}
+use Rattle.rack_parts.proofs.Terms.{Shape, Spun, SegHead, Free, Owned, AreInOrder, IsBefore, place_of, OwnedPart, segment_here, image_here}
+use Rattle.rack_parts.proofs.Terms.{IsRow, spindle_pass, is_owned_by, count_owners, IsSameBut, TakesOwners, TakesOne, owned_in}
+use Rattle.rack_parts.proofs.Terms.{TakesOwnedIn, owned_total, KeepsImage, segment_in, in_image, IsOwnedPlace, IsTakenOf, TakesOwnedOf}
+use Rattle.rack_parts.proofs.Terms.{CanTakeOwnedOf, AreOwnedHere, TakesOwned, HasPlace, KeepsPlace, TakesLanes, CanTake, loggers_out}
+use Rattle.rack_parts.proofs.Terms.{ImageRest, Config, VolumeConf, shape_in, shapes_of, Said, Rest, State, Lane, VolumePasses}
 use Rattle.std.proofs.lemmas.List.Sums.{sum_by-append, count_by_more_yes, count_by_more_no, sum_by_push}
-use Rattle.std.proofs.lemmas.Option.{same_Some, get_or_from_slice_get, slice_get_within, slice_get-map, none-some}
-use Rattle.wol_model.specs.Heads.{Shape}
-use Rattle.spin_model.specs.declared.spun.Spun.{Spun}
-use Rattle.log_layout.specs.declared.segment.SegHead.{SegHead}
-use Rattle.log_layout.specs.declared.segment.SegHead.TheVariants.{Free, Owned}
-use Rattle.manager_recovery.specs.Opening.{AreInOrder, IsBefore, place_of}
-use Rattle.manager_recovery.specs.declared.opening.OwnedPart.{OwnedPart}
 use Rattle.volume_images.specs.Accepted.{head_place}
-use Rattle.rack_parts.specs.Rests.{segment_here, image_here, IsRow, spindle_pass}
-use Rattle.rack_parts.specs.Parts.{is_owned_by, count_owners, IsSameBut, TakesOwners, TakesOne, owned_in, TakesOwnedIn, owned_total, KeepsImage, segment_in, in_image, IsOwnedPlace, IsTakenOf, TakesOwnedOf, CanTakeOwnedOf, AreOwnedHere, TakesOwned, HasPlace, KeepsPlace, TakesLanes, CanTake, loggers_out}
-use Rattle.rack_parts.specs.declared.rack.ImageRest.{ImageRest}
 use Rattle.rack_parts.proofs.Returned.{same_but_then, keeps_image_then}
-use Rattle.std.specs.Vec.{with_item}
-use Rattle.wol_config.specs.declared.config.Config.{Config}
-use Rattle.wol_config.specs.declared.config.VolumeConf.{VolumeConf}
-use Rattle.volume_images.specs.Volumes.{shape_in, shapes_of}
-use Rattle.rack_parts.specs.declared.heads_said.Said.{Said}
-use Rattle.rack_parts.specs.declared.rack.Rest.{Rest}
-use Rattle.std.specs.declared.alloc.Global.{Global}
-use Rattle.std.specs.declared.vec.Vec.{Vec}
-use Rattle.wol_disk.specs.Disk.{State}
-use Rattle.logger.specs.declared.lane.Lane.{Lane}
-use Rattle.rack_parts.specs.declared.rack.VolumePasses.{VolumePasses}
 use Rattle.rack_parts.proofs.LanesMoved.{place_then}
 
 -- ---- The owned segments of a volume go out of an image

@@ -1,39 +1,22 @@
 -- Pools are closed one after the other.
-use Rattle.std.proofs.Common.{◌≡◌, ◌≢◌, ◌<◌, ◌≤◌, ◌⊎◌, inl, inr, ℕ, zero, suc, true, List, [], ◌∷◌, length, get_or, set, map, Option, Some, None, is_some, refl, sym, ap, ◌∙◌, subst, arith, ◌+◌}
-use Rattle.std.specs.Prelude.{Contains, All, IsSome, slice_get, slice_index_or, option_and_then}
-use Rattle.std.proofs.lemmas.Bool.{cases_eq, cases_lt}
-use Rattle.std.proofs.lemmas.Bool.Decides.{nat_tests}
-use Rattle.std.proofs.lemmas.List.{get_or_past, get_or-set_same, get_or-set_other}
-use Rattle.std.proofs.lemmas.List.Elements.{All-contains}
-use Rattle.std.proofs.lemmas.Option.{none-some, same_Some, slice_get-get_or, slice_get_past, slice_get_within}
-use Rattle.wol_disk.specs.Disk.{State}
-use Rattle.wol_model.specs.Heads.{Shape}
-use Rattle.turn_lock.specs.Histories.{Entry, own}
-use Rattle.turn_lock.specs.Passes.{lock_id, pass_lock, pass_number, pass_mine, AreWhole}
+use Rattle.rack_parts.proofs.Basics.{◌≡◌, ◌≢◌, ◌<◌, ◌≤◌, ◌⊎◌, inl, inr, ℕ, zero, suc, true, List, [], ◌∷◌, length, get_or, set, map, Option}
+use Rattle.rack_parts.proofs.Basics.{Some, None, is_some, refl, sym, ap, ◌∙◌, subst, arith, ◌+◌, Contains, All, IsSome, slice_get}
+use Rattle.rack_parts.proofs.Basics.{slice_index_or, option_and_then, cases_eq, cases_lt, nat_tests, get_or_past, get_or-set_same}
+use Rattle.rack_parts.proofs.Basics.{get_or-set_other, All-contains, none-some, same_Some, slice_get-get_or, slice_get_past}
+use Rattle.rack_parts.proofs.Basics.{slice_get_within}
+use Rattle.rack_parts.proofs.Terms.{State, Shape, Entry, own, lock_id, pass_lock, pass_number, pass_mine, AreWhole, TurnLock, PassOf, Spun}
+use Rattle.rack_parts.proofs.Terms.{PoolUse, Took, Gave, holder, pool_used, pool_after, MayUsePool, ArePoolUses, is_in_pool, is_held_by}
+use Rattle.rack_parts.proofs.Terms.{uses_of, holds, StandsFor, holders_after, item_at, IsEmptyPool, Holder, Elsewhere, InPool, HeldBy}
+use Rattle.rack_parts.proofs.Terms.{PoolBase, Pool, IsBlank, free_part, FreeSegment, image_here, segment_here, pool_pass, held_here}
+use Rattle.rack_parts.proofs.Terms.{indexes_here, IsHolding, IsHeldHere, IsRow, IsPart, HasPlaces, EmptiesInto, IsRefilled, IsBlankPart}
+use Rattle.rack_parts.proofs.Terms.{IsSameBut, KeepsImage, segment_in, item_part, either_part, CanClosePool, IsClosedPool, CanPutAllHeld}
+use Rattle.rack_parts.proofs.Terms.{PutsAllHeld, ArePoolsTaken, RefillsAll, IsRefilledAll, KeepsLogger, KeepsSpindles, ImageRest, Rest}
+use Rattle.rack_parts.proofs.Terms.{VolumePasses, AreApart}
 use Rattle.turn_lock.specs.LockIds.{LockId}
-use Rattle.turn_lock.specs.declared.lock.TurnLock.{TurnLock}
-use Rattle.turn_lock.specs.declared.pass.PassOf.{PassOf}
-use Rattle.spin_model.specs.declared.spun.Spun.{Spun}
-use Rattle.seg_pool.specs.Holders.{PoolUse, Took, Gave, holder, pool_used, pool_after, MayUsePool, ArePoolUses, is_in_pool, is_held_by}
-use Rattle.seg_pool.specs.Operations.{uses_of, holds}
-use Rattle.seg_pool.specs.Pools.{StandsFor, holders_after, item_at, IsEmptyPool}
-use Rattle.seg_pool.specs.declared.base.Holder.{Holder}
-use Rattle.seg_pool.specs.declared.base.Holder.TheVariants.{Elsewhere, InPool, HeldBy}
-use Rattle.seg_pool.specs.declared.base.PoolBase.{PoolBase}
-use Rattle.seg_pool.specs.declared.pool.Pool.{Pool}
 use Rattle.seg_pool.proofs.Holding.{holder_own, is_holder}
 use Rattle.seg_pool.proofs.Using.{has_index}
-use Rattle.log_segment.specs.Segment.{IsBlank, free_part}
-use Rattle.log_segment.specs.declared.free.FreeSegment.{FreeSegment}
-use Rattle.rack_parts.specs.Rests.{image_here, segment_here, pool_pass, held_here, indexes_here, IsHolding, IsHeldHere, IsRow, IsPart}
-use Rattle.rack_parts.specs.Parts.{HasPlaces, EmptiesInto, IsRefilled, IsBlankPart, IsSameBut, KeepsImage, segment_in, item_part, either_part}
-use Rattle.rack_parts.specs.Closing.{CanClosePool, IsClosedPool, CanPutAllHeld, PutsAllHeld, ArePoolsTaken, RefillsAll, IsRefilledAll, KeepsLogger, KeepsSpindles}
-use Rattle.rack_parts.specs.declared.rack.ImageRest.{ImageRest}
-use Rattle.rack_parts.specs.declared.rack.Rest.{Rest}
-use Rattle.rack_parts.specs.declared.rack.VolumePasses.{VolumePasses}
 use Rattle.rack_parts.proofs.SpindlesClosed.{some_element}
 use Rattle.rack_parts.proofs.Members.{no_value, a_value, is_there, in_map, of_map, is_member}
-use Rattle.wol_model.specs.Blocks.{AreApart}
 
 -- ---- The segments of a pool that is closed are all in their places again
 

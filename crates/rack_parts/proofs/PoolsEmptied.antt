@@ -1,31 +1,17 @@
 -- Pools are emptied, and their locks ended: each free segment goes to its place.
-use Rattle.std.proofs.Common.{◌≡◌, ◌≢◌, ◌<◌, ◌+◌, ℕ, zero, suc, cond, List, [], ◌∷◌, length, map, Option, None, Some, is_some, refl, ap, ◌∙◌, arith, ◌⊎◌, ⊎_elim, inl, inr, sym, subst, true, false, ◌≤◌, ◌++◌}
-use Rattle.std.specs.Prelude.{slice_index_or, IsSome, IfSome, MatchOption, slice_set, All, slice_get}
-use Rattle.std.proofs.lemmas.Option.{none-some, same_Some, slice_get_within}
-use Rattle.seg_pool.specs.Holders.{holder, is_in_pool}
-use Rattle.seg_pool.specs.Pools.{item_in, note_in, holder_in, item_at, note_at, base_of, ChangesOnly, IsSamePool, IsEmptyPool, StandsFor, holders_after}
-use Rattle.seg_pool.specs.declared.base.Holder.{Holder}
-use Rattle.seg_pool.specs.declared.base.Holder.TheVariants.{Elsewhere, InPool, HeldBy}
-use Rattle.seg_pool.specs.declared.pool.Pool.{Pool}
+use Rattle.rack_parts.proofs.Basics.{◌≡◌, ◌≢◌, ◌<◌, ◌+◌, ℕ, zero, suc, cond, List, [], ◌∷◌, length, map, Option, None, Some, is_some, refl}
+use Rattle.rack_parts.proofs.Basics.{ap, ◌∙◌, arith, ◌⊎◌, ⊎_elim, inl, inr, sym, subst, true, false, ◌≤◌, ◌++◌, slice_index_or, IsSome}
+use Rattle.rack_parts.proofs.Basics.{IfSome, MatchOption, slice_set, All, slice_get, none-some, same_Some, slice_get_within, cases_eq}
+use Rattle.rack_parts.proofs.Basics.{false≢true, length-set, get_or-set_same, get_or-set_other, nil_from_length, length_push, All-head}
+use Rattle.rack_parts.proofs.Basics.{All-tail}
+use Rattle.rack_parts.proofs.Terms.{holder, is_in_pool, item_in, note_in, holder_in, item_at, note_at, base_of, ChangesOnly, IsSamePool}
+use Rattle.rack_parts.proofs.Terms.{IsEmptyPool, StandsFor, holders_after, Holder, Elsewhere, InPool, HeldBy, Pool, Spun, free_part}
+use Rattle.rack_parts.proofs.Terms.{IsBlank, FreeSegment, segment_here, IsFilled, HasPlaces, IsSameBut, EmptiesInto, item_part, either_part}
+use Rattle.rack_parts.proofs.Terms.{IsBlankPart, IsRefilled, CanEnd, IsEndedInto, EndsInto, ImageRest, State, Entry, lock_id, pass_mine}
+use Rattle.rack_parts.proofs.Terms.{IsPassOf, IsFree, AreNewPasses, AreWhole, TurnLock, PassOf, PoolBase, Issued}
+use Rattle.turn_lock.specs.Views.{total}
 use Rattle.seg_pool.specs.declared.pool.Slot.{Slot}
 use Rattle.seg_pool.specs.declared.pool.Slot.TheVariants.{Empty, Noted, Free}
-use Rattle.std.proofs.lemmas.Bool.{cases_eq, false≢true}
-use Rattle.std.proofs.lemmas.List.{length-set, get_or-set_same, get_or-set_other, nil_from_length, length_push}
-use Rattle.spin_model.specs.declared.spun.Spun.{Spun}
-use Rattle.log_segment.specs.Segment.{free_part, IsBlank}
-use Rattle.log_segment.specs.declared.free.FreeSegment.{FreeSegment}
-use Rattle.rack_parts.specs.Rests.{segment_here}
-use Rattle.rack_parts.specs.Parts.{IsFilled, HasPlaces, IsSameBut, EmptiesInto, item_part, either_part, IsBlankPart, IsRefilled, CanEnd, IsEndedInto, EndsInto}
-use Rattle.rack_parts.specs.declared.rack.ImageRest.{ImageRest}
-use Rattle.std.proofs.lemmas.List.Elements.{All-head, All-tail}
-use Rattle.wol_disk.specs.Disk.{State}
-use Rattle.turn_lock.specs.Histories.{Entry}
-use Rattle.turn_lock.specs.Passes.{lock_id, pass_mine, IsPassOf, IsFree, AreNewPasses, AreWhole}
-use Rattle.turn_lock.specs.Views.{total}
-use Rattle.turn_lock.specs.declared.lock.TurnLock.{TurnLock}
-use Rattle.turn_lock.specs.declared.pass.PassOf.{PassOf}
-use Rattle.seg_pool.specs.declared.base.PoolBase.{PoolBase}
-use Rattle.rack_parts.specs.declared.locks.Issued.{Issued}
 
 -- ---- Slots of a pool that is filled and emptied
 

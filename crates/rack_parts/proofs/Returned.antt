@@ -1,26 +1,11 @@
 -- What a volume was opened with comes back.
-use Rattle.std.proofs.Common.{◌≡◌, ◌≢◌, ◌<◌, ⊎_elim, ℕ, List, [], ◌∷◌, ◌++◌, length, Option, None, Some, is_some, refl, sym, ap, subst, ◌∙◌}
-use Rattle.std.specs.Prelude.{All, IsSome, IfSome, slice_set, slice_index_or}
-use Rattle.std.specs.declared.alloc.Global.{Global}
-use Rattle.std.specs.declared.vec.Vec.{Vec}
-use Rattle.std.proofs.lemmas.Bool.{cases_eq, cases_lt, false≢true}
-use Rattle.std.proofs.lemmas.List.{append_assoc, append-nil, length-set, get_or-set_same, get_or-set_other, get_or_past}
-use Rattle.std.proofs.lemmas.List.Elements.{All-nil, All-cons, All-head, All-tail, All-pop, All-weaker}
-use Rattle.std.proofs.lemmas.Option.{none-some}
-use Rattle.wol_disk.specs.Disk.{State}
-use Rattle.turn_lock.specs.declared.pass.PassOf.{PassOf}
-use Rattle.spin_model.specs.declared.spindle.Spindle.{Spindle}
-use Rattle.spin_model.specs.declared.spindle.SpindleBase.{SpindleBase}
-use Rattle.spin_model.specs.declared.spun.Spun.{Spun}
-use Rattle.logger.specs.Lanes.{logger_of}
-use Rattle.logger.specs.declared.lane.Lane.{Lane}
-use Rattle.manager.specs.declared.manager.ManagerParts.{ManagerParts}
-use Rattle.manager_recovery.specs.Opening.{place_of}
-use Rattle.manager_recovery.specs.declared.opening.OwnedPart.{OwnedPart}
-use Rattle.rack_parts.specs.Rests.{image_here}
-use Rattle.rack_parts.specs.Parts.{IsFilled, IsBarePlace, PutsLanes, CanPutLanes, ChangesHome, with_home, PutsManager, IsSameBut, KeepsImage, segment_in, in_image, IsOwedPlace, PutsOwned, CanPutOwned}
-use Rattle.rack_parts.specs.declared.rack.ImageRest.{ImageRest}
-use Rattle.rack_parts.specs.declared.rack.Rest.{Rest}
+use Rattle.rack_parts.proofs.Basics.{◌≡◌, ◌≢◌, ◌<◌, ⊎_elim, ℕ, List, [], ◌∷◌, ◌++◌, length, Option, None, Some, is_some, refl, sym, ap}
+use Rattle.rack_parts.proofs.Basics.{subst, ◌∙◌, All, IsSome, IfSome, slice_set, slice_index_or, Global, Vec, cases_eq, cases_lt}
+use Rattle.rack_parts.proofs.Basics.{false≢true, append_assoc, append-nil, length-set, get_or-set_same, get_or-set_other, get_or_past}
+use Rattle.rack_parts.proofs.Basics.{All-nil, All-cons, All-head, All-tail, All-pop, All-weaker, none-some}
+use Rattle.rack_parts.proofs.Terms.{State, PassOf, Spindle, SpindleBase, Spun, logger_of, Lane, ManagerParts, place_of, OwnedPart}
+use Rattle.rack_parts.proofs.Terms.{image_here, IsFilled, IsBarePlace, PutsLanes, CanPutLanes, ChangesHome, with_home, PutsManager}
+use Rattle.rack_parts.proofs.Terms.{IsSameBut, KeepsImage, segment_in, in_image, IsOwedPlace, PutsOwned, CanPutOwned, ImageRest, Rest}
 use Rattle.rack_parts.proofs.LanesMoved.{all_both, pairs_last, pairs_front, rows_then, place_then}
 
 module _ {D : Type 0} where

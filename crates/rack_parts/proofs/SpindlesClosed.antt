@@ -1,30 +1,16 @@
 -- Spindles are closed one after the other: their passes are gathered, and stand for all accesses.
-use Rattle.std.proofs.Common.{◌≡◌, ◌<◌, ◌≤◌, ◌+◌, ◌⊎◌, inl, inr, ℕ, List, [], ◌∷◌, ◌++◌, length, get_or, set, Option, Some, None, sym, ap, ◌∙◌, subst, arith, ◌≢◌, ◌==◌, Bool, true, false, cond, map, refl, ◌-◌}
-use Rattle.std.specs.Prelude.{slice_get, option_and_then, slice_index_or, All, Contains, vec_capacity}
-use Rattle.std.proofs.lemmas.Bool.{cases_eq, cases_lt}
-use Rattle.std.proofs.lemmas.List.{get_or-set_same, get_or-set_other, get_or_push, get_or_default, get_or_append_left, get_or_at, length_push}
-use Rattle.std.proofs.lemmas.Option.{slice_get-get_or, slice_get_past, same_Some, slice_get_within}
-use Rattle.turn_lock.specs.Passes.{IsPassOf, IsFree, pass_number, pass_mine, IsPartOf, AreWhole}
-use Rattle.turn_lock.specs.declared.lock.TurnLock.{TurnLock}
-use Rattle.turn_lock.specs.declared.pass.PassOf.{PassOf}
-use Rattle.spin_model.specs.declared.spindle.Spindle.{Spindle}
-use Rattle.spin_model.specs.declared.spindle.SpindleBase.{SpindleBase}
-use Rattle.seg_pool.specs.declared.base.PoolBase.{PoolBase}
-use Rattle.seg_pool.specs.declared.pool.Pool.{Pool}
-use Rattle.log_segment.specs.declared.free.FreeSegment.{FreeSegment}
-use Rattle.rack_parts.specs.Rests.{list_of, IsPassAt, IsRow}
-use Rattle.rack_parts.specs.Closing.{pool_in, spindle_in, IsPoolTaken, ArePoolsTaken, AreSpindlesTaken, IsAccessBut, entries_made, CanCloseSpindles, HasSpindlePasses, StandsClosed, KeepsOtherRows}
-use Rattle.rack_parts.specs.declared.rack.VolumePasses.{VolumePasses}
-use Rattle.std.specs.List.{AllByRecursion}
-use Rattle.std.proofs.lemmas.List.Elements.{All-push, All-contains, Contains-append_left, Contains-get_or}
-use Rattle.turn_lock.specs.Histories.{Entry, own}
-use Rattle.spin_model.specs.Operations.{has_token}
-use Rattle.logger.specs.Lanes.{AreAccesses}
-use Rattle.rack_parts.proofs.Members.{is_member, of_map, in_map, all_member, get_left}
-use Rattle.std.proofs.lemmas.Bool.Decides.{nat_tests}
+use Rattle.rack_parts.proofs.Basics.{◌≡◌, ◌<◌, ◌≤◌, ◌+◌, ◌⊎◌, inl, inr, ℕ, List, [], ◌∷◌, ◌++◌, length, get_or, set, Option, Some, None}
+use Rattle.rack_parts.proofs.Basics.{sym, ap, ◌∙◌, subst, arith, ◌≢◌, ◌==◌, Bool, true, false, cond, map, refl, ◌-◌, slice_get}
+use Rattle.rack_parts.proofs.Basics.{option_and_then, slice_index_or, All, Contains, vec_capacity, cases_eq, cases_lt, get_or-set_same}
+use Rattle.rack_parts.proofs.Basics.{get_or-set_other, get_or_push, get_or_default, get_or_append_left, get_or_at, length_push}
+use Rattle.rack_parts.proofs.Basics.{slice_get-get_or, slice_get_past, same_Some, slice_get_within, AllByRecursion, All-push, All-contains}
+use Rattle.rack_parts.proofs.Basics.{Contains-append_left, Contains-get_or, nat_tests}
+use Rattle.rack_parts.proofs.Terms.{IsPassOf, IsFree, pass_number, pass_mine, IsPartOf, AreWhole, TurnLock, PassOf, Spindle, SpindleBase}
+use Rattle.rack_parts.proofs.Terms.{PoolBase, Pool, FreeSegment, list_of, IsPassAt, IsRow, pool_in, spindle_in, IsPoolTaken, ArePoolsTaken}
+use Rattle.rack_parts.proofs.Terms.{AreSpindlesTaken, IsAccessBut, entries_made, CanCloseSpindles, HasSpindlePasses, StandsClosed}
+use Rattle.rack_parts.proofs.Terms.{KeepsOtherRows, VolumePasses, Entry, own, has_token, AreAccesses, SpindleView, Rest}
 use Rattle.wol_model.specs.History.{keeper}
-use Rattle.spin_model.specs.Spindles.{SpindleView}
-use Rattle.rack_parts.specs.declared.rack.Rest.{Rest}
+use Rattle.rack_parts.proofs.Members.{is_member, of_map, in_map, all_member, get_left}
 
 -- ---- The passes of one lock, gathered from the rows of the volumes
 

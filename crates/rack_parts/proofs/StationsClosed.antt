@@ -1,32 +1,15 @@
 -- Stations are closed one after the other.
-use Rattle.std.proofs.Common.{◌≡◌, ◌≢◌, ◌≤◌, ◌+◌, ℕ, List, [], ◌∷◌, ◌++◌, length, map, Some, refl, sym, ap, ◌∙◌, subst, arith, ◌<◌, ◌-◌, Bool, drop, Option, None}
-use Rattle.std.specs.Prelude.{Contains, All, slice_get, option_map}
-use Rattle.std.proofs.lemmas.List.{get_or_at, get_or_append_left, get_or-map, length-map, length_push, map_push, append-nil, length-drop, get_or-drop, drop_more}
-use Rattle.std.proofs.lemmas.List.Elements.{All-contains, Contains-append_left, Contains-append_right}
-use Rattle.std.proofs.lemmas.Option.{slice_get-get_or, slice_get-map, slice_get_within, get_or_from_slice_get}
-use Rattle.wol_disk.specs.Disk.{State}
-use Rattle.wol_config.specs.declared.config.Config.{Config}
-use Rattle.turn_lock.specs.Histories.{Entry}
-use Rattle.turn_lock.specs.Passes.{AreWhole}
-use Rattle.turn_lock.specs.declared.pass.PassOf.{PassOf}
-use Rattle.logger.specs.Lanes.{logger_of}
-use Rattle.logger.specs.declared.shared.Shared.{Shared}
-use Rattle.manager.specs.Stands.{StandsCoded, Keeps, notes_of}
-use Rattle.manager.specs.declared.base.ManagerBase.{ManagerBase}
-use Rattle.manager.specs.declared.manager.Manager.{Manager}
-use Rattle.manager.specs.declared.manager.ManagerParts.{ManagerParts}
-use Rattle.manager.specs.declared.station.Station.{Station}
-use Rattle.volume_images.specs.Volumes.{shapes_of}
-use Rattle.rack_parts.specs.Rests.{away_with, IsRestBut, AreRooms, image_here}
-use Rattle.rack_parts.specs.Racks.{base_of_station, IsOpenBase, IsStation}
-use Rattle.rack_parts.specs.Parts.{HasBack, CanPutLanes, IsHomeAway, PutsManager}
-use Rattle.rack_parts.specs.Closing.{CanCloseStations, ClosesStation, Closing, IsClosing, KeepsButHome, ClosesStations}
-use Rattle.rack_parts.specs.declared.rack.Rest.{Rest}
-use Rattle.rack_parts.specs.declared.rack.Rooms.{Rooms}
+use Rattle.rack_parts.proofs.Basics.{◌≡◌, ◌≢◌, ◌≤◌, ◌+◌, ℕ, List, [], ◌∷◌, ◌++◌, length, map, Some, refl, sym, ap, ◌∙◌, subst, arith, ◌<◌}
+use Rattle.rack_parts.proofs.Basics.{◌-◌, Bool, drop, Option, None, Contains, All, slice_get, option_map, get_or_at, get_or_append_left}
+use Rattle.rack_parts.proofs.Basics.{get_or-map, length-map, length_push, map_push, append-nil, length-drop, get_or-drop, drop_more}
+use Rattle.rack_parts.proofs.Basics.{All-contains, Contains-append_left, Contains-append_right, slice_get-get_or, slice_get-map}
+use Rattle.rack_parts.proofs.Basics.{slice_get_within, get_or_from_slice_get, AllZip}
+use Rattle.rack_parts.proofs.Terms.{State, Config, Entry, AreWhole, PassOf, logger_of, Shared, StandsCoded, Keeps, notes_of, ManagerBase}
+use Rattle.rack_parts.proofs.Terms.{Manager, ManagerParts, Station, shapes_of, away_with, IsRestBut, AreRooms, image_here, base_of_station}
+use Rattle.rack_parts.proofs.Terms.{IsOpenBase, IsStation, HasBack, CanPutLanes, IsHomeAway, PutsManager, CanCloseStations, ClosesStation}
+use Rattle.rack_parts.proofs.Terms.{Closing, IsClosing, KeepsButHome, ClosesStations, Rest, Rooms, ImageRest}
 use Rattle.rack_parts.proofs.ManagerBack.{lane_came}
 use Rattle.rack_parts.proofs.Members.{get_left, all_last, all_front, all_member, of_map, first_in, later_in}
-use Rattle.std.specs.List.{AllZip}
-use Rattle.rack_parts.specs.declared.rack.ImageRest.{ImageRest}
 use Rattle.rack_parts.proofs.ManagerBack as back
 
 -- ---- The manager of a station that is closed comes back to the rest of its rack

@@ -1,10 +1,6 @@
-use Rattle.std.proofs.Common.{◌≡◌, ◌<◌, length, sym, ◌∙◌, subst, arith, rules}
-use Rattle.std.proofs.lemmas.List.{length-map, length-set}
-use Rattle.std.proofs.lemmas.Option.{slice_get_within, get_or_from_slice_get}
-use Rattle.wol_bay.specs.Bay.{IsHome}
-use Rattle.wol_config.specs.declared.config.VolumeConf.{VolumeConf}
-use Rattle.volume_images.specs.Volumes.{shape_in}
-use Rattle.rack.specs.Opening.{HasSentOut, AreAsked}
+use Rattle.rack.proofs.Basics.{◌≡◌, ◌<◌, length, sym, ◌∙◌, subst, arith, rules, length-map, length-set, slice_get_within}
+use Rattle.rack.proofs.Basics.{get_or_from_slice_get}
+use Rattle.rack.proofs.Terms.{IsHome, VolumeConf, shape_in, HasSentOut, AreAsked}
 use Rattle.rack_closing.proofs.Places.{some_at}
 use Rattle.rack.proofs.Asking.{asked_more, asked_later, none_asked}
 use Rattle.rack_closing.proofs.NewFaults.{same_faulty}

@@ -1,32 +1,21 @@
+use Rattle.rack.proofs.Basics.{◌≡◌, length, refl, sym, subst, arith, inl, inr, ⊎_elim, is_some, ap, Bool, true, Some, with_item, length-map}
+use Rattle.rack.proofs.Terms.{State, Shared, IsHandedBack, Refuses, HandsBackAll, Opening, OpenRefusal, DiskFault, NoMemory, shape_in}
+use Rattle.rack.proofs.Terms.{shapes_of, IsUnopened, NamesVolumes, Refused}
+use Rattle.rack.specs.declared.volumes.Unopened.{Unopened}
 use Rattle.rack_closing.proofs.SameOut.{same_out, out_too, none_too, refuses_too}
 use Rattle.rack.proofs.LockedStation.{opened, one_popped, not_none, popped}
-use Rattle.std.proofs.Common.{◌≡◌, length, refl, sym, subst, arith, inl, inr, ⊎_elim, is_some, ap, Bool, true, Some}
 use Rattle.rack.proofs.Without.{count_without, out_without, nothing_taken, began_still}
 use Rattle.rack.proofs.OpenedBegun.{fault_kept, tried_before, opened_begun}
-use Rattle.std.specs.Vec.{with_item}
-use Rattle.std.proofs.lemmas.List.{length-map}
-use Rattle.wol_disk.specs.Disk.{State}
-use Rattle.logger.specs.declared.shared.Shared.{Shared}
-use Rattle.manager_recovery.specs.Left.{IsHandedBack}
-use Rattle.manager_recovery.specs.Refused.{Refuses, HandsBackAll}
-use Rattle.manager_recovery.specs.declared.opening.Opening.{Opening}
-use Rattle.manager_recovery.specs.declared.refusal.OpenRefusal.{OpenRefusal}
-use Rattle.manager_recovery.specs.declared.refusal.OpenRefusal.TheVariants.{DiskFault, NoMemory}
-use Rattle.volume_images.specs.Volumes.{shape_in, shapes_of}
-use Rattle.rack.specs.Locked.{IsUnopened}
 use Rattle.rack.proofs.Openable.{can_take, can_open, home_away}
 use Rattle.rack_parts.proofs.LocksIssued.{on_err}
 use Rattle.rack.proofs.Unlocked.{lanes_home, lanes_others, out_same, unlocked_stopped, unlocked_began}
-use Rattle.rack_parts.specs.Racks.{NamesVolumes}
-use Rattle.rack_parts.specs.declared.volume_fault.VolumeFault.TheVariants.{Refused}
 use Rattle.rack.proofs.volumes.open_one.Goals.{in_default-via-in-Some+in-Some+in_default, in_default-via-in-Some+in_default, in_default-via-in_default}
-use Rattle.rack.specs.declared.volumes.Unopened.{Unopened}
-use Rattle.rack.specs.declared.volumes.Unopened.TheVariants as unopened
 use Rattle.rack.proofs.Fates.{lanes_return, lanes_of_others, owned_return}
 use Rattle.rack.proofs.BackAgain.{out_back}
 use Rattle.rack.proofs.RefusedAgain.{begun_again, refused_again, faults_again, stopped_again, opening_again}
 use Rattle.rack.proofs.RefusedNames.{names_volumes}
 use Rattle.rack.proofs.volumes.open_one.Given.{Over}
+use Rattle.rack.specs.declared.volumes.Unopened.TheVariants as unopened
 use Rattle.rack.proofs.volumes.open_one.Goals as goal
 
 -- what comes with a refusal

@@ -1,7 +1,5 @@
-use Rattle.std.proofs.Common.{◌≡◌, Some}
-use Rattle.std.specs.Prelude.{IsTrue}
-use Rattle.wol_bay.specs.Bay.{BayState, Told}
-use Rattle.rack.specs.Opening.{IsOpeningRack, HasBegun, AreRefusedBelow, HaveFaults, AreSameOut}
+use Rattle.rack.proofs.Basics.{◌≡◌, Some, IsTrue}
+use Rattle.rack.proofs.Terms.{BayState, Told, IsOpeningRack, HasBegun, AreRefusedBelow, HaveFaults, AreSameOut}
 use Rattle.rack.proofs.volumes.open_volumes.Given as goal
 
 -- the volumes before the one at hand were tried

@@ -1,10 +1,5 @@
-use Rattle.std.proofs.Common.{◌≡◌, ℕ, [], length, Some, ap, ◌∙◌}
-use Rattle.std.specs.Prelude.{All}
-use Rattle.std.specs.declared.alloc.Global.{Global}
-use Rattle.std.specs.declared.vec.Vec.{Vec}
-use Rattle.std.proofs.lemmas.List.Elements.{All-pop}
-use Rattle.spin_model.specs.declared.spun.Spun.{Spun}
-use Rattle.rack_parts.specs.declared.rack.VolumePasses.{VolumePasses}
+use Rattle.rack_parts.proofs.Basics.{◌≡◌, ℕ, [], length, Some, ap, ◌∙◌, All, Global, Vec, All-pop}
+use Rattle.rack_parts.proofs.Terms.{Spun, VolumePasses}
 use Rattle.rack_parts.proofs.closing.end_passes.Goals as goal
 
 pub destroy_empty-requires : goal.destroy_empty-requires

@@ -1,5 +1,4 @@
-use Rattle.std.proofs.Common.{◌≡◌, [], vec_len}
-use Rattle.std.specs.Prelude.{All}
+use Rattle.rack_parts.proofs.Basics.{◌≡◌, [], vec_len, All}
 use Rattle.rack_parts.proofs.closing.end_passes.Given as goal
 
 -- the lists that are left have no segment

@@ -1,8 +1,5 @@
-use Rattle.std.proofs.Common.{◌+◌, ℕ, length, ap, ◌∙◌, sym, subst, refl, arith}
-use Rattle.std.specs.Prelude.{IsSome}
-use Rattle.std.proofs.lemmas.List.{length-set, length_push}
-use Rattle.rack_parts.specs.Closing.{pool_in, IsPoolTaken}
-use Rattle.rack_parts.specs.declared.rack.VolumePasses.{VolumePasses}
+use Rattle.rack_parts.proofs.Basics.{◌+◌, ℕ, length, ap, ◌∙◌, sym, subst, refl, arith, IsSome, length-set, length_push}
+use Rattle.rack_parts.proofs.Terms.{pool_in, IsPoolTaken, VolumePasses}
 use Rattle.rack_parts.proofs.SpindlesClosed.{gathered_more}
 use Rattle.rack_parts.proofs.closing.gather_pools.Goals as goal
 

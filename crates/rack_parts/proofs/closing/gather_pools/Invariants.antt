@@ -1,10 +1,5 @@
-use Rattle.std.proofs.Common.{◌≡◌, ◌≤◌, ◌<◌, ℕ, length, get_or, vec_capacity}
-use Rattle.turn_lock.specs.declared.pass.PassOf.{PassOf}
-use Rattle.seg_pool.specs.declared.pool.Pool.{Pool}
-use Rattle.log_segment.specs.declared.free.FreeSegment.{FreeSegment}
-use Rattle.seg_pool.specs.declared.base.PoolBase.{PoolBase}
-use Rattle.rack_parts.specs.Closing.{IsPoolTaken}
-use Rattle.rack_parts.specs.declared.rack.VolumePasses.{VolumePasses}
+use Rattle.rack_parts.proofs.Basics.{◌≡◌, ◌≤◌, ◌<◌, ℕ, length, get_or, vec_capacity}
+use Rattle.rack_parts.proofs.Terms.{PassOf, Pool, FreeSegment, PoolBase, IsPoolTaken, VolumePasses}
 use Rattle.rack_parts.proofs.closing.gather_pools.Given as goal
 
 -- the rows so far have given theirs, and the others are as they were

@@ -1,9 +1,5 @@
-use Rattle.std.proofs.Common.{◌≡◌, ◌≤◌, ◌<◌, ℕ, length, get_or, vec_capacity}
-use Rattle.turn_lock.specs.declared.pass.PassOf.{PassOf}
-use Rattle.spin_model.specs.declared.spindle.Spindle.{Spindle}
-use Rattle.spin_model.specs.declared.spindle.SpindleBase.{SpindleBase}
-use Rattle.rack_parts.specs.Closing.{IsSpindleTaken}
-use Rattle.rack_parts.specs.declared.rack.VolumePasses.{VolumePasses}
+use Rattle.rack_parts.proofs.Basics.{◌≡◌, ◌≤◌, ◌<◌, ℕ, length, get_or, vec_capacity}
+use Rattle.rack_parts.proofs.Terms.{PassOf, Spindle, SpindleBase, IsSpindleTaken, VolumePasses}
 use Rattle.rack_parts.proofs.closing.gather_spindles.Given as goal
 
 -- the rows so far have given theirs, and the others are as they were

@@ -1,5 +1,5 @@
-use Rattle.std.proofs.Common.{◌≡◌, ◌≤◌, ◌+◌, ◌++◌, map, reverse, Some, vec_len, vec_capacity}
-use Rattle.spin_model.specs.declared.spun.Spun.{Spun}
+use Rattle.rack_parts.proofs.Basics.{◌≡◌, ◌≤◌, ◌+◌, ◌++◌, map, reverse, Some, vec_len, vec_capacity}
+use Rattle.rack_parts.proofs.Terms.{Spun}
 use Rattle.rack_parts.proofs.heads_said.lay_out.Given as goal
 
 -- the segments so far, and those that are left, the last one first

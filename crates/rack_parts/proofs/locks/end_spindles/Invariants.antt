@@ -1,6 +1,5 @@
-use Rattle.std.proofs.Common.{vec_len}
-use Rattle.std.specs.Prelude.{All}
-use Rattle.rack_parts.specs.Locks.{IsWholeLock}
+use Rattle.rack_parts.proofs.Basics.{vec_len, All}
+use Rattle.rack_parts.proofs.Terms.{IsWholeLock}
 use Rattle.rack_parts.proofs.locks.end_spindles.Given as goal
 
 -- each lock that is left has all of its passes

@@ -1,9 +1,5 @@
-use Rattle.std.proofs.Common.{◌∙◌, List, length, sym, ap, subst, arith}
-use Rattle.std.proofs.lemmas.List.{length_push}
-use Rattle.spin_model.specs.declared.spindle.Spindle.{Spindle}
-use Rattle.spin_model.specs.declared.spindle.SpindleBase.{SpindleBase}
-use Rattle.rack_parts.specs.Locks.{AreSpindlesOf}
-use Rattle.rack_parts.specs.declared.locks.Issued.{Issued}
+use Rattle.rack_parts.proofs.Basics.{◌∙◌, List, length, sym, ap, subst, arith, length_push}
+use Rattle.rack_parts.proofs.Terms.{Spindle, SpindleBase, AreSpindlesOf, Issued}
 use Rattle.rack_parts.proofs.LocksIssued.{new_in_order, new_settled, one_more}
 use Rattle.rack_parts.proofs.locks.issue_spindles.Goals as goal
 

@@ -1,6 +1,6 @@
-use Rattle.std.proofs.Common.{◌≡◌, ◌≤◌, length, vec_capacity}
+use Rattle.rack_parts.proofs.Basics.{◌≡◌, ◌≤◌, length, vec_capacity}
+use Rattle.rack_parts.proofs.Terms.{AreSpindlesOf}
 use Rattle.spin_model.specs.Spindles.{base_of}
-use Rattle.rack_parts.specs.Locks.{AreSpindlesOf}
 use Rattle.rack_parts.proofs.locks.issue_spindles.Given as goal
 
 abbrev pub ghost-new : goal.ghost-new

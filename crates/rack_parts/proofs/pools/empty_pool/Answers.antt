@@ -1,8 +1,5 @@
-use Rattle.std.proofs.Common.{refl, subst}
-use Rattle.std.specs.Prelude.{IfSome}
-use Rattle.spin_model.specs.declared.spun.Spun.{Spun}
-use Rattle.rack_parts.specs.Parts.{IsFilled}
-use Rattle.rack_parts.specs.declared.rack.ImageRest.{ImageRest}
+use Rattle.rack_parts.proofs.Basics.{refl, subst, IfSome}
+use Rattle.rack_parts.proofs.Terms.{Spun, IsFilled, ImageRest}
 use Rattle.rack_parts.proofs.PoolsEmptied.{fewer_items, none_moved, place_there, place_empty, moved_next, all_moved}
 use Rattle.rack_parts.proofs.pools.empty_pool.Goals as goal
 

@@ -1,4 +1,4 @@
-use Rattle.std.proofs.Common.{◌∙◌}
+use Rattle.rack_parts.proofs.Basics.{◌∙◌}
 use Rattle.rack_parts.proofs.PoolsEmptied.{no_entries, own_and_free, may_empty, ends_into}
 use Rattle.rack_parts.proofs.pools.end_pool.Goals as goal
 

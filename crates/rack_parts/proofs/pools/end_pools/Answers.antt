@@ -1,8 +1,5 @@
-use Rattle.std.proofs.Common.{◌≡◌, [], length, sym, ap, subst, ◌∙◌, arith, Option, None}
-use Rattle.std.proofs.lemmas.List.{nil_from_length, get_or_default}
-use Rattle.rack_parts.specs.declared.rack.ImageRest.{ImageRest}
-use Rattle.turn_lock.specs.Passes.{lock_id}
-use Rattle.rack_parts.specs.Parts.{CanEnd, EndsInto}
+use Rattle.rack_parts.proofs.Basics.{◌≡◌, [], length, sym, ap, subst, ◌∙◌, arith, Option, None, nil_from_length, get_or_default}
+use Rattle.rack_parts.proofs.Terms.{ImageRest, lock_id, CanEnd, EndsInto}
 use Rattle.rack_parts.proofs.PoolsEmptied.{AreEndedTo, ended_none, end_within, next_can_end, ended_next}
 use Rattle.rack_parts.proofs.pools.end_pools.Goals as goal
 

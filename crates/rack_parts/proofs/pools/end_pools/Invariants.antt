@@ -1,4 +1,4 @@
-use Rattle.std.proofs.Common.{vec_len}
+use Rattle.rack_parts.proofs.Basics.{vec_len}
 use Rattle.rack_parts.proofs.PoolsEmptied.{AreEndedTo}
 use Rattle.rack_parts.proofs.pools.end_pools.Given as goal
 

@@ -1,9 +1,6 @@
-use Rattle.std.proofs.Common.{◌<◌, Option, None, length, sym, subst, ◌∙◌, arith}
-use Rattle.std.specs.Prelude.{IsSome, slice_index_or}
-use Rattle.std.proofs.lemmas.List.{get_or_default}
-use Rattle.std.proofs.lemmas.Option.{slice_get-get_or}
-use Rattle.log_layout.specs.declared.segment.SegHead.TheVariants.{Free}
-use Rattle.spin_model.specs.declared.spun.Spun.{Spun}
+use Rattle.rack_parts.proofs.Basics.{◌<◌, Option, None, length, sym, subst, ◌∙◌, arith, IsSome, slice_index_or, get_or_default}
+use Rattle.rack_parts.proofs.Basics.{slice_get-get_or}
+use Rattle.rack_parts.proofs.Terms.{Free, Spun}
 use Rattle.rack_parts.proofs.LocksIssued.{filled_none, filled_next, filled_all}
 use Rattle.rack_parts.proofs.pools.fill_pool.Goals as goal
 

@@ -1,8 +1,5 @@
-use Rattle.std.proofs.Common.{None, Option, sym, subst}
-use Rattle.std.specs.Prelude.{slice_index_or}
-use Rattle.std.proofs.lemmas.List.{get_or_read, get_or_default}
-use Rattle.rack_parts.specs.Parts.{CanIssue}
-use Rattle.rack_parts.specs.declared.heads_said.Said.{Said}
+use Rattle.rack_parts.proofs.Basics.{None, Option, sym, subst, slice_index_or, get_or_read, get_or_default}
+use Rattle.rack_parts.proofs.Terms.{CanIssue, Said}
 use Rattle.rack_parts.proofs.pools.issue_at.Goals as goal
 
 pub issue_pool-requires-clause-image : goal.issue_pool-requires-clause-image

@@ -1,9 +1,6 @@
-use Rattle.std.proofs.Common.{◌≡◌, ℕ, Some, length, option_map, refl, sym, ap, subst, ◌∙◌, arith}
-use Rattle.std.specs.Prelude.{slice_get}
-use Rattle.std.proofs.lemmas.Option.{slice_get_read, slice_get-map, same_Some}
-use Rattle.wol_model.specs.Heads.{Shape}
-use Rattle.volume_images.specs.Volumes.{shape_in, shapes_of}
-use Rattle.rack_parts.specs.Parts.{CanIssue, Restores}
+use Rattle.rack_parts.proofs.Basics.{◌≡◌, ℕ, Some, length, option_map, refl, sym, ap, subst, ◌∙◌, arith, slice_get, slice_get_read}
+use Rattle.rack_parts.proofs.Basics.{slice_get-map, same_Some}
+use Rattle.rack_parts.proofs.Terms.{Shape, shape_in, shapes_of, CanIssue, Restores}
 use Rattle.rack_parts.proofs.LocksIssued.{unchanged, on_err, issued_one}
 use Rattle.rack_parts.proofs.pools.issue_pool.Goals as goal
 

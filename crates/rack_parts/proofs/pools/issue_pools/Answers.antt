@@ -1,10 +1,6 @@
-use Rattle.std.proofs.Common.{◌<◌, ◌+◌, List, None, Option, length, refl, sym, ap, subst, ◌∙◌, arith}
-use Rattle.std.specs.Prelude.{slice_index_or}
-use Rattle.std.proofs.lemmas.List.{length-map, length-set}
-use Rattle.turn_lock.specs.Passes.{lock_id}
-use Rattle.volume_images.specs.Volumes.{shape_in}
-use Rattle.rack_parts.specs.Parts.{CanEnd, EndsInto}
-use Rattle.rack_parts.specs.declared.rack.ImageRest.{ImageRest}
+use Rattle.rack_parts.proofs.Basics.{◌<◌, ◌+◌, List, None, Option, length, refl, sym, ap, subst, ◌∙◌, arith, slice_index_or, length-map}
+use Rattle.rack_parts.proofs.Basics.{length-set}
+use Rattle.rack_parts.proofs.Terms.{lock_id, shape_in, CanEnd, EndsInto, ImageRest}
 use Rattle.rack_parts.proofs.LocksIssued.{AreIssuedTo, issued_none, may_issue, issued_next, may_end, all_restored, kept_at, supplies_all}
 use Rattle.rack_parts.proofs.pools.issue_pools.Goals as goal
 

@@ -1,4 +1,4 @@
-use Rattle.std.proofs.Common.{◌≡◌, ◌≤◌, length, vec_capacity}
+use Rattle.rack_parts.proofs.Basics.{◌≡◌, ◌≤◌, length, vec_capacity}
 use Rattle.rack_parts.proofs.LocksIssued.{AreIssuedTo}
 use Rattle.rack_parts.proofs.pools.issue_pools.Given as goal
 

@@ -1,4 +1,4 @@
-use Rattle.std.proofs.Common.{ℕ, [], arith}
+use Rattle.rack_parts.proofs.Basics.{ℕ, [], arith}
 use mathlib.Core.List.{Mem, not-mem-nil}
 use base.Meet.{within_both}
 use Rattle.rack_parts.proofs.pools.lock_pool.Goals as goal

@@ -1,4 +1,4 @@
-use Rattle.seg_pool.specs.Pools.{base_of}
+use Rattle.rack_parts.proofs.Terms.{base_of}
 use Rattle.rack_parts.proofs.pools.lock_pool.Given as goal
 
 abbrev pub ghost-new : goal.ghost-new

@@ -1,9 +1,5 @@
-use Rattle.std.proofs.Common.{List, Some, Option, sym, subst}
-use Rattle.log_layout.specs.declared.segment.SegHead.{SegHead}
-use Rattle.rack_parts.specs.Parts.{CanIssue, IsSupplied, IsFilledPool, TakesFree}
-use Rattle.rack_parts.specs.declared.heads_said.Said.{Said}
-use Rattle.rack_parts.specs.declared.rack.ImageRest.{ImageRest}
-use Rattle.seg_pool.specs.Pools.{volume_of}
+use Rattle.rack_parts.proofs.Basics.{List, Some, Option, sym, subst}
+use Rattle.rack_parts.proofs.Terms.{SegHead, CanIssue, IsSupplied, IsFilledPool, TakesFree, Said, ImageRest, volume_of}
 use Rattle.rack_parts.proofs.LocksIssued.{supplied_some}
 use Rattle.rack_parts.proofs.pools.supply.Goals as goal
 

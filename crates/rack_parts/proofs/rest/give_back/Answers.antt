@@ -1,9 +1,6 @@
-use Rattle.std.proofs.Common.{◌≡◌, ◌+◌, ℕ, suc, length, Some, None, sym, ap, ◌∙◌, subst, arith}
-use Rattle.std.specs.Prelude.{slice_get, option_map}
-use Rattle.std.proofs.lemmas.List.{take_all, length_push}
-use Rattle.std.proofs.lemmas.Option.{get_or_from_slice_get, slice_get-map}
-use Rattle.volume_images.specs.Volumes.{shape_in}
-use Rattle.rack_parts.specs.Rests.{image_here}
+use Rattle.rack_parts.proofs.Basics.{◌≡◌, ◌+◌, ℕ, suc, length, Some, None, sym, ap, ◌∙◌, subst, arith, slice_get, option_map, take_all}
+use Rattle.rack_parts.proofs.Basics.{length_push, get_or_from_slice_get, slice_get-map}
+use Rattle.rack_parts.proofs.Terms.{shape_in, image_here}
 use Rattle.rack_parts.proofs.Members.{element_at, front_less, front_last, is_there}
 use Rattle.rack_parts.proofs.GivenBack.{IsBackFrom, none_so_far, one_more_back, all_are_back}
 use Rattle.rack_parts.proofs.rest.give_back.Goals as goal

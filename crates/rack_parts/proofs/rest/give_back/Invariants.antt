@@ -1,4 +1,4 @@
-use Rattle.std.proofs.Common.{◌≡◌, ◌≤◌, length, take, vec_len}
+use Rattle.rack_parts.proofs.Basics.{◌≡◌, ◌≤◌, length, take, vec_len}
 use Rattle.rack_parts.proofs.GivenBack.{IsBackFrom}
 use Rattle.rack_parts.proofs.rest.give_back.Given as goal
 

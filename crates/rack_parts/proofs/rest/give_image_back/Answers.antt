@@ -1,10 +1,5 @@
-use Rattle.std.proofs.Common.{◌≡◌, ℕ, List, sym, ap, ◌∙◌, subst, arith}
-use Rattle.std.specs.Prelude.{option_map}
-use Rattle.std.proofs.lemmas.Option.{get_or_from_slice_get}
-use Rattle.wol_bay.specs.Bay.{Name, IsOut, came_back}
-use Rattle.wol_bay.specs.Parts.{blocks_of, sizes_of, faulty_places}
-use Rattle.volume_images.specs.Volumes.{shape_in}
-use Rattle.rack_parts.specs.Closing.{IsImageBack}
+use Rattle.rack_parts.proofs.Basics.{◌≡◌, ℕ, List, sym, ap, ◌∙◌, subst, arith, option_map, get_or_from_slice_get}
+use Rattle.rack_parts.proofs.Terms.{Name, IsOut, came_back, blocks_of, sizes_of, faulty_places, shape_in, IsImageBack}
 use Rattle.rack_parts.proofs.Members.{element_at}
 use Rattle.rack_parts.proofs.GivenBack.{sizes_together}
 use Rattle.rack_parts.proofs.rest.give_image_back.Goals as goal

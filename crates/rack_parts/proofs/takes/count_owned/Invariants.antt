@@ -1,5 +1,5 @@
-use Rattle.std.proofs.Common.{◌≡◌, ◌≤◌, ◌*◌, take}
-use Rattle.rack_parts.specs.Parts.{owned_total}
+use Rattle.rack_parts.proofs.Basics.{◌≡◌, ◌≤◌, ◌*◌, take}
+use Rattle.rack_parts.proofs.Terms.{owned_total}
 use Rattle.rack_parts.proofs.takes.count_owned.Given as goal
 
 -- those of the images so far

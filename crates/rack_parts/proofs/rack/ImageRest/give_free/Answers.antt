@@ -1,8 +1,6 @@
-use Rattle.std.proofs.Common.{List, Option, length, refl, sym, ap, ◌∙◌, subst}
-use Rattle.std.proofs.lemmas.List.{with_items_is}
-use Rattle.spin_model.specs.declared.spun.Spun.{Spun}
-use Rattle.seg_pool.specs.Pools.{volume_of, blocks_of}
-use Rattle.rack_parts.specs.Parts.{AreFillable, TakesFree, IsFilledPool}
+use Rattle.rack_parts.proofs.Basics.{List, Option, length, refl, sym, ap, ◌∙◌, subst, with_items_is}
+use Rattle.rack_parts.proofs.Terms.{Spun, volume_of, AreFillable, TakesFree, IsFilledPool}
+use Rattle.seg_pool.specs.Pools.{blocks_of}
 use Rattle.rack_parts.proofs.rack.ImageRest.give_free.Goals as goal
 
 pub fill_pool-requires-clause-segments : goal.fill_pool-requires-clause-segments

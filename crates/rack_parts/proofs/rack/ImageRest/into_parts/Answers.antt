@@ -1,9 +1,6 @@
-use Rattle.std.proofs.Common.{◌≡◌, List, [], ◌++◌, length, map, reverse, Option, None, Some, is_some, sym, ap, subst, ◌∙◌, arith}
-use Rattle.std.specs.Prelude.{All, IsSome}
-use Rattle.std.proofs.lemmas.Bool.{false≢true}
-use Rattle.std.proofs.lemmas.List.{append-nil, reverse-reverse, nil_from_length}
-use Rattle.std.proofs.lemmas.List.Elements.{All-from_get_or, All-pop}
-use Rattle.spin_model.specs.declared.spun.Spun.{Spun}
+use Rattle.rack_parts.proofs.Basics.{◌≡◌, List, [], ◌++◌, length, map, reverse, Option, None, Some, is_some, sym, ap, subst, ◌∙◌, arith}
+use Rattle.rack_parts.proofs.Basics.{All, IsSome, false≢true, append-nil, reverse-reverse, nil_from_length, All-from_get_or, All-pop}
+use Rattle.rack_parts.proofs.Terms.{Spun}
 use Rattle.rack_parts.proofs.Members.{all_reverse, together_next}
 use Rattle.rack_parts.proofs.rack.ImageRest.into_parts.Goals as goal
 

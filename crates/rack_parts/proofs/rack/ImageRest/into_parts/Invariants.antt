@@ -1,6 +1,5 @@
-use Rattle.std.proofs.Common.{◌≡◌, ◌≤◌, ◌+◌, ◌++◌, map, reverse, Some, vec_len, vec_capacity}
-use Rattle.std.specs.Prelude.{All, IsSome}
-use Rattle.spin_model.specs.declared.spun.Spun.{Spun}
+use Rattle.rack_parts.proofs.Basics.{◌≡◌, ◌≤◌, ◌+◌, ◌++◌, map, reverse, Some, vec_len, vec_capacity, All, IsSome}
+use Rattle.rack_parts.proofs.Terms.{Spun}
 use Rattle.rack_parts.proofs.rack.ImageRest.into_parts.Given as goal
 
 -- the segments so far, and those that are left, the last one first

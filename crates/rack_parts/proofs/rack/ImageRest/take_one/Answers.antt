@@ -1,12 +1,5 @@
-use Rattle.std.proofs.Common.{◌≡◌, Bool, true, None, Some, refl, sym, ap, subst, ◌∙◌}
-use Rattle.std.specs.Prelude.{slice_set}
-use Rattle.std.specs.Vec.{with_item}
-use Rattle.std.proofs.lemmas.List.{length-set, get_or_read}
-use Rattle.log_layout.specs.Values.{shape_of}
-use Rattle.manager_recovery.specs.declared.opening.OwnedPart.{OwnedPart}
-use Rattle.rack_parts.specs.Rests.{segment_here}
-use Rattle.rack_parts.specs.Parts.{is_owned_by, TakesOne}
-use Rattle.rack_parts.specs.declared.rack.ImageRest.{ImageRest}
+use Rattle.rack_parts.proofs.Basics.{◌≡◌, Bool, true, None, Some, refl, sym, ap, subst, ◌∙◌, slice_set, with_item, length-set, get_or_read}
+use Rattle.rack_parts.proofs.Terms.{shape_of, OwnedPart, segment_here, is_owned_by, TakesOne, ImageRest}
 use Rattle.rack_parts.proofs.rack.ImageRest.take_one.Goals as goal
 
 pub returns-clause-taken : goal.returns-clause-taken

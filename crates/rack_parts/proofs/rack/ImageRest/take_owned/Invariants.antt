@@ -1,6 +1,5 @@
-use Rattle.std.proofs.Common.{◌≡◌, ◌++◌, List, vec_capacity}
-use Rattle.log_layout.specs.Values.{shape_of}
-use Rattle.manager_recovery.specs.declared.opening.OwnedPart.{OwnedPart}
+use Rattle.rack_parts.proofs.Basics.{◌≡◌, ◌++◌, List, vec_capacity}
+use Rattle.rack_parts.proofs.Terms.{shape_of, OwnedPart}
 use Rattle.rack_parts.proofs.OwnedTaken.{AreTakenTo}
 use Rattle.rack_parts.proofs.rack.ImageRest.take_owned.Given as goal
 

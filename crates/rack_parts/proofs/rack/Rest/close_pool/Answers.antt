@@ -1,13 +1,7 @@
-use Rattle.std.proofs.Common.{◌<◌, List, length, get_or, Option, None, refl, sym, ap, ◌∙◌, subst, arith}
-use Rattle.std.specs.Prelude.{MatchOption}
-use Rattle.std.proofs.lemmas.List.{with_items_is, get_or_read, get_or-set_same, get_or-set_other, length-set}
-use Rattle.turn_lock.specs.Passes.{lock_id}
-use Rattle.seg_pool.specs.Pools.{IsEmptyPool}
-use Rattle.rack_parts.specs.Rests.{image_here}
-use Rattle.rack_parts.specs.Parts.{HasPlaces, EmptiesInto}
-use Rattle.rack_parts.specs.Closing.{pool_in, ArePoolsTaken, RefillsAll}
-use Rattle.rack_parts.specs.declared.rack.ImageRest.{ImageRest}
-use Rattle.rack_parts.specs.declared.rack.VolumePasses.{VolumePasses}
+use Rattle.rack_parts.proofs.Basics.{◌<◌, List, length, get_or, Option, None, refl, sym, ap, ◌∙◌, subst, arith, MatchOption, with_items_is}
+use Rattle.rack_parts.proofs.Basics.{get_or_read, get_or-set_same, get_or-set_other, length-set}
+use Rattle.rack_parts.proofs.Terms.{lock_id, IsEmptyPool, image_here, HasPlaces, EmptiesInto, pool_in, ArePoolsTaken, RefillsAll, ImageRest}
+use Rattle.rack_parts.proofs.Terms.{VolumePasses}
 use Rattle.rack_parts.proofs.SpindlesClosed.{pool_at_row, pools_gathered, pools_kept, spindles_stay, lists_stay, rows_stay}
 use Rattle.rack_parts.proofs.Members.{is_there}
 use Rattle.rack_parts.proofs.PoolsClosed.{closed_pool, lists_go, places_empty, all_back}

@@ -1,12 +1,6 @@
-use Rattle.std.proofs.Common.{◌≡◌, ◌≤◌, ◌+◌, ℕ, [], length, take, Some, refl, sym, ap, ◌∙◌, subst, arith}
-use Rattle.std.specs.Prelude.{All, slice_get, vec_capacity}
-use Rattle.std.proofs.lemmas.List.{length_push, length-take-le, take_all}
-use Rattle.std.proofs.lemmas.List.Elements.{All-take}
-use Rattle.turn_lock.specs.Passes.{lock_id}
-use Rattle.volume_images.specs.Volumes.{shapes_of}
-use Rattle.rack_parts.specs.Rests.{image_here}
-use Rattle.rack_parts.specs.declared.rack.Rooms.{Rooms}
-use Rattle.rack_parts.specs.Closing.{CanClosePool}
+use Rattle.rack_parts.proofs.Basics.{◌≡◌, ◌≤◌, ◌+◌, ℕ, [], length, take, Some, refl, sym, ap, ◌∙◌, subst, arith, All, slice_get}
+use Rattle.rack_parts.proofs.Basics.{vec_capacity, length_push, length-take-le, take_all, All-take}
+use Rattle.rack_parts.proofs.Terms.{lock_id, shapes_of, image_here, Rooms, CanClosePool}
 use Rattle.rack_parts.proofs.Members.{element_at, all_last, front_less, front_last}
 use Rattle.rack_parts.proofs.PoolsClosed.{ArePoolsClosed, still_may, refills_same, no_pool_closed, one_pool_more}
 use Rattle.rack_parts.proofs.rack.Rest.close_pools.Goals as goal

@@ -1,4 +1,4 @@
-use Rattle.std.proofs.Common.{◌≡◌, ◌≤◌, length, take, vec_len}
+use Rattle.rack_parts.proofs.Basics.{◌≡◌, ◌≤◌, length, take, vec_len}
 use Rattle.rack_parts.proofs.PoolsClosed.{ArePoolsClosed}
 use Rattle.rack_parts.proofs.rack.Rest.close_pools.Given as goal
 

@@ -1,16 +1,7 @@
-use Rattle.std.proofs.Common.{◌≡◌, false, List, length, get_or, ap, ◌∙◌, sym, subst, arith}
-use Rattle.std.specs.Prelude.{All}
-use Rattle.std.proofs.lemmas.List.{with_items_is}
-use Rattle.std.proofs.lemmas.List.Elements.{All-push, All-contains, Contains-push}
-use Rattle.turn_lock.specs.Passes.{pass_mine, IsPassOf, IsFree, IsPartOf, AreWhole}
-use Rattle.turn_lock.specs.declared.pass.PassOf.{PassOf}
-use Rattle.spin_model.specs.Operations.{has_token}
-use Rattle.spin_model.specs.declared.spindle.Spindle.{Spindle}
-use Rattle.spin_model.specs.declared.spindle.SpindleBase.{SpindleBase}
-use Rattle.logger.specs.Lanes.{AreAccesses}
-use Rattle.rack_parts.specs.Closing.{spindle_in, AreSpindlesTaken}
-use Rattle.rack_parts.specs.Rests.{spindle_pass}
-use Rattle.rack_parts.specs.declared.rack.VolumePasses.{VolumePasses}
+use Rattle.rack_parts.proofs.Basics.{◌≡◌, false, List, length, get_or, ap, ◌∙◌, sym, subst, arith, All, with_items_is, All-push}
+use Rattle.rack_parts.proofs.Basics.{All-contains, Contains-push}
+use Rattle.rack_parts.proofs.Terms.{pass_mine, IsPassOf, IsFree, IsPartOf, AreWhole, PassOf, has_token, Spindle, SpindleBase, AreAccesses}
+use Rattle.rack_parts.proofs.Terms.{spindle_in, AreSpindlesTaken, spindle_pass, VolumePasses}
 use Rattle.rack_parts.proofs.SpindlesClosed.{spindle_at_row, spindles_gathered, spindles_all, spindles_kept, spindles_numbered, no_spindle_past, some_element, others_access, others_ended, others_made}
 use Rattle.rack_parts.proofs.Members.{is_there}
 use Rattle.rack_parts.proofs.rack.Rest.close_spindle.Goals as goal

@@ -1,14 +1,8 @@
-use Rattle.std.proofs.Common.{◌≡◌, ◌<◌, ◌≤◌, ◌+◌, ◌-◌, ℕ, List, [], ◌∷◌, ◌++◌, length, take, reverse, get_or, Some, refl, sym, ap, ◌∙◌, subst, arith}
-use Rattle.std.specs.Prelude.{All, slice_get, vec_capacity}
-use Rattle.std.proofs.lemmas.List.{length_push, get_or-reverse, length-reverse}
-use Rattle.std.proofs.lemmas.Option.{same_Some, slice_get-get_or, slice_get_within}
-use Rattle.turn_lock.specs.declared.lock.TurnLock.{TurnLock}
-use Rattle.turn_lock.specs.declared.pass.PassOf.{PassOf}
-use Rattle.spin_model.specs.Spindles.{SpindleView}
-use Rattle.spin_model.specs.declared.spindle.Spindle.{Spindle}
-use Rattle.spin_model.specs.declared.spindle.SpindleBase.{SpindleBase}
-use Rattle.rack_parts.specs.Closing.{CanCloseSpindles, HasSpindlePasses, StandsClosed, KeepsOtherRows}
-use Rattle.rack_parts.specs.Rests.{spindle_pass}
+use Rattle.rack_parts.proofs.Basics.{◌≡◌, ◌<◌, ◌≤◌, ◌+◌, ◌-◌, ℕ, List, [], ◌∷◌, ◌++◌, length, take, reverse, get_or, Some, refl, sym, ap}
+use Rattle.rack_parts.proofs.Basics.{◌∙◌, subst, arith, All, slice_get, vec_capacity, length_push, get_or-reverse, length-reverse}
+use Rattle.rack_parts.proofs.Basics.{same_Some, slice_get-get_or, slice_get_within}
+use Rattle.rack_parts.proofs.Terms.{TurnLock, PassOf, SpindleView, Spindle, SpindleBase, CanCloseSpindles, HasSpindlePasses, StandsClosed}
+use Rattle.rack_parts.proofs.Terms.{KeepsOtherRows, spindle_pass}
 use Rattle.rack_parts.proofs.Members.{all_front, all_last, front_less, front_last}
 use Rattle.rack_parts.proofs.SpindlesClosed.{same_count, next_passes, others_may, rows_then, made_in, one_more_closed}
 use Rattle.rack_parts.proofs.rack.Rest.close_spindles.Goals as goal

@@ -1,12 +1,6 @@
-use Rattle.std.proofs.Common.{◌≡◌, ◌<◌, ◌≤◌, ◌+◌, ◌-◌, ℕ, length, take, get_or, vec_len, Some}
-use Rattle.std.specs.Prelude.{slice_get}
-use Rattle.turn_lock.specs.declared.lock.TurnLock.{TurnLock}
-use Rattle.turn_lock.specs.declared.pass.PassOf.{PassOf}
-use Rattle.spin_model.specs.Spindles.{SpindleView}
-use Rattle.spin_model.specs.declared.spindle.Spindle.{Spindle}
-use Rattle.spin_model.specs.declared.spindle.SpindleBase.{SpindleBase}
-use Rattle.rack_parts.specs.Closing.{CanCloseSpindles, StandsClosed, KeepsOtherRows}
-use Rattle.rack_parts.specs.Rests.{spindle_pass}
+use Rattle.rack_parts.proofs.Basics.{◌≡◌, ◌<◌, ◌≤◌, ◌+◌, ◌-◌, ℕ, length, take, get_or, vec_len, Some, slice_get}
+use Rattle.rack_parts.proofs.Terms.{TurnLock, PassOf, SpindleView, Spindle, SpindleBase, CanCloseSpindles, StandsClosed, KeepsOtherRows}
+use Rattle.rack_parts.proofs.Terms.{spindle_pass}
 use Rattle.rack_parts.proofs.rack.Rest.close_spindles.Given as goal
 
 -- the spindles behind those that are left are closed, the last first

@@ -1,17 +1,7 @@
-use Rattle.std.proofs.Common.{◌≡◌, ◌≤◌, List, [], ◌∷◌, ◌++◌, length, map, sym, ap, ◌∙◌, subst, arith}
-use Rattle.std.specs.Prelude.{All, vec_capacity}
-use Rattle.std.proofs.lemmas.List.Elements.{All-cons, All-nil}
-use Rattle.turn_lock.specs.Passes.{AreWhole, IsPassOf, IsFree}
-use Rattle.turn_lock.specs.declared.pass.PassOf.{PassOf}
-use Rattle.logger.specs.Lanes.{logger_of}
-use Rattle.logger.specs.declared.lane.Lane.{Lane}
-use Rattle.manager.specs.declared.base.ManagerBase.{ManagerBase}
-use Rattle.manager.specs.declared.manager.Manager.{Manager}
-use Rattle.manager.specs.declared.station.Station.{Station}
-use Rattle.volume_images.specs.Volumes.{shapes_of}
-use Rattle.rack_parts.specs.Rests.{AreRooms}
-use Rattle.rack_parts.specs.Racks.{IsStation, base_of_station}
-use Rattle.rack_parts.specs.Parts.{CanPutLanes}
+use Rattle.rack_parts.proofs.Basics.{◌≡◌, ◌≤◌, List, [], ◌∷◌, ◌++◌, length, map, sym, ap, ◌∙◌, subst, arith, All, vec_capacity, All-cons}
+use Rattle.rack_parts.proofs.Basics.{All-nil}
+use Rattle.rack_parts.proofs.Terms.{AreWhole, IsPassOf, IsFree, PassOf, logger_of, Lane, ManagerBase, Manager, Station, shapes_of, AreRooms}
+use Rattle.rack_parts.proofs.Terms.{IsStation, base_of_station, CanPutLanes}
 use Rattle.rack_parts.proofs.Members.{all_last}
 use Rattle.rack_parts.proofs.StationsClosed.{home_away, lanes_away, lanes_of_others, stations_back, station_closed, rooms_less}
 use Rattle.rack_parts.proofs.rack.Rest.close_station.Goals as goal

@@ -1,9 +1,6 @@
-use Rattle.std.proofs.Common.{◌≡◌, ◌+◌, ℕ, List, [], length, drop, map, sym, ap, ◌∙◌, subst, arith}
-use Rattle.std.proofs.lemmas.List.{length_push, take_all, drop_all, nil_from_length}
-use Rattle.manager.specs.declared.station.Station.{Station}
-use Rattle.rack_parts.specs.Rests.{IsRest}
-use Rattle.rack_parts.specs.Racks.{base_of_station}
-use Rattle.rack_parts.specs.Closing.{CanCloseStations, ClosesStations}
+use Rattle.rack_parts.proofs.Basics.{◌≡◌, ◌+◌, ℕ, List, [], length, drop, map, sym, ap, ◌∙◌, subst, arith, length_push, take_all, drop_all}
+use Rattle.rack_parts.proofs.Basics.{nil_from_length}
+use Rattle.rack_parts.proofs.Terms.{Station, IsRest, base_of_station, CanCloseStations, ClosesStations}
 use Rattle.rack_parts.proofs.Members.{front_less, front_last}
 use Rattle.rack_parts.proofs.StationsClosed.{none_closed, one_closed, apart_behind, next_drop}
 use Rattle.rack_parts.proofs.rack.Rest.close_stations.Goals as goal

@@ -1,7 +1,5 @@
-use Rattle.std.proofs.Common.{◌≡◌, ◌≤◌, length, take, drop, vec_len}
-use Rattle.wol_config.specs.declared.config.Config.{Config}
-use Rattle.logger.specs.declared.shared.Shared.{Shared}
-use Rattle.rack_parts.specs.Closing.{CanCloseStations, ClosesStations}
+use Rattle.rack_parts.proofs.Basics.{◌≡◌, ◌≤◌, length, take, drop, vec_len}
+use Rattle.rack_parts.proofs.Terms.{Config, Shared, CanCloseStations, ClosesStations}
 use Rattle.rack_parts.proofs.rack.Rest.close_stations.Given as goal
 
 -- the stations behind those that are left are closed

@@ -1,8 +1,5 @@
-use Rattle.std.proofs.Common.{◌≡◌, Some, length, refl, arith}
-use Rattle.std.specs.Prelude.{slice_get}
-use Rattle.std.specs.Vec.{with_item}
-use Rattle.std.proofs.lemmas.Option.{slice_get_read}
-use Rattle.rack_parts.specs.declared.rack.Rest.{Rest}
+use Rattle.rack_parts.proofs.Basics.{◌≡◌, Some, length, refl, arith, slice_get, with_item, slice_get_read}
+use Rattle.rack_parts.proofs.Terms.{Rest}
 use Rattle.rack_parts.proofs.HeldBack.{row_held, held_popped}
 use Rattle.rack_parts.proofs.LanesMoved.{size_of}
 use Rattle.rack_parts.proofs.rack.Rest.pop_held.Goals as goal

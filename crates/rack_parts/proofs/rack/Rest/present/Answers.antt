@@ -1,6 +1,6 @@
-use Rattle.std.proofs.Common.{◌≡◌, ◌<◌, ◌++◌, ◌∷◌, [], List, Bool, map, take, length, get_or, Option, is_some, sym, ap, subst, ◌∙◌, arith}
-use Rattle.std.proofs.lemmas.List.{take_all, take_more, map-append, length-map, length-take}
-use Rattle.rack_parts.specs.declared.rack.ImageRest.{ImageRest}
+use Rattle.rack_parts.proofs.Basics.{◌≡◌, ◌<◌, ◌++◌, ◌∷◌, [], List, Bool, map, take, length, get_or, Option, is_some, sym, ap, subst, ◌∙◌}
+use Rattle.rack_parts.proofs.Basics.{arith, take_all, take_more, map-append, length-map, length-take}
+use Rattle.rack_parts.proofs.Terms.{ImageRest}
 use Rattle.rack_parts.proofs.rack.Rest.present.Goals as goal
 
 pub push_reserved-requires : goal.push_reserved-requires

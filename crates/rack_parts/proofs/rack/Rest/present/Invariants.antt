@@ -1,6 +1,5 @@
-use Rattle.std.proofs.Common.{◌≡◌, ◌≤◌, map, take, is_some, length, vec_capacity}
-use Rattle.rack_parts.specs.declared.rack.ImageRest.{ImageRest}
-use Rattle.std.specs.Prelude.{Option}
+use Rattle.rack_parts.proofs.Basics.{◌≡◌, ◌≤◌, map, take, is_some, length, vec_capacity, Option}
+use Rattle.rack_parts.proofs.Terms.{ImageRest}
 use Rattle.rack_parts.proofs.rack.Rest.present.Given as goal
 
 -- those of the images so far

@@ -1,7 +1,6 @@
-use Rattle.std.proofs.Common.{None, is_some, sym, ap, ◌∙◌, arith}
-use Rattle.std.proofs.lemmas.List.{get_or_read}
-use Rattle.rack_parts.proofs.rack.Rest.put_all_held.Goals as goal
+use Rattle.rack_parts.proofs.Basics.{None, is_some, sym, ap, ◌∙◌, arith, get_or_read}
 use Rattle.rack_parts.proofs.HeldBack.{none_yet, next_may, one_more, all_went}
+use Rattle.rack_parts.proofs.rack.Rest.put_all_held.Goals as goal
 
 pub loop-volume-init : goal.loop-volume-init
 loop-volume-init g c = record { back = none_yet c.args.id c.args.self.now }

@@ -1,12 +1,6 @@
-use Rattle.std.proofs.Common.{◌≡◌, ◌<◌, Some, None, Option, is_some, length, refl, sym, ap, subst, ◌∙◌, arith}
-use Rattle.std.specs.Prelude.{IfSome, slice_get}
-use Rattle.std.specs.Vec.{with_item}
-use Rattle.std.proofs.lemmas.List.{nil_from_length, get_or_read}
-use Rattle.std.proofs.lemmas.Option.{slice_get_read}
-use Rattle.rack_parts.specs.Parts.{IsFilled}
-use Rattle.rack_parts.specs.Rests.{held_here, segment_here}
-use Rattle.rack_parts.specs.declared.rack.ImageRest.{ImageRest}
-use Rattle.rack_parts.specs.declared.rack.Rest.{Rest}
+use Rattle.rack_parts.proofs.Basics.{◌≡◌, ◌<◌, Some, None, Option, is_some, length, refl, sym, ap, subst, ◌∙◌, arith, IfSome, slice_get}
+use Rattle.rack_parts.proofs.Basics.{with_item, nil_from_length, get_or_read, slice_get_read}
+use Rattle.rack_parts.proofs.Terms.{IsFilled, held_here, segment_here, ImageRest, Rest}
 use Rattle.rack_parts.proofs.HeldBack.{held_none, held_is, place_within, place_free, mid_out, held_next, one_less, held_all}
 use Rattle.rack_parts.proofs.Returned.{here_within, one_put_at}
 use Rattle.rack_parts.proofs.LanesMoved.{size_of}

@@ -1,5 +1,5 @@
-use Rattle.std.proofs.Common.{◌≡◌, ◌+◌, length}
-use Rattle.rack_parts.specs.Rests.{held_here}
+use Rattle.rack_parts.proofs.Basics.{◌≡◌, ◌+◌, length}
+use Rattle.rack_parts.proofs.Terms.{held_here}
 use Rattle.rack_parts.proofs.HeldBack.{AreHeldSoFar}
 use Rattle.rack_parts.proofs.rack.Rest.put_held.Given as goal
 

@@ -1,9 +1,5 @@
-use Rattle.std.proofs.Common.{◌≡◌, ◌<◌, Some, None, length, refl, ap, ◌∙◌, arith}
-use Rattle.std.specs.Prelude.{slice_get}
-use Rattle.std.proofs.lemmas.List.{get_or_read}
-use Rattle.std.proofs.lemmas.Option.{slice_get_read}
-use Rattle.rack_parts.specs.Parts.{with_home}
-use Rattle.rack_parts.specs.Rests.{image_here}
+use Rattle.rack_parts.proofs.Basics.{◌≡◌, ◌<◌, Some, None, length, refl, ap, ◌∙◌, arith, slice_get, get_or_read, slice_get_read}
+use Rattle.rack_parts.proofs.Terms.{with_home, image_here}
 use Rattle.rack_parts.proofs.LanesMoved.{home_moved, spindle_bare, size_of}
 use Rattle.rack_parts.proofs.Returned.{here_within}
 use Rattle.rack_parts.proofs.rack.Rest.put_home.Goals as goal

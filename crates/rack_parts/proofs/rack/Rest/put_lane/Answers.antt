@@ -1,11 +1,6 @@
-use Rattle.std.proofs.Common.{◌≡◌, ℕ, Some, None, length, refl, ap, subst, ◌∙◌, arith}
-use Rattle.std.specs.Prelude.{slice_get}
-use Rattle.std.specs.declared.alloc.Global.{Global}
-use Rattle.std.specs.declared.vec.Vec.{Vec}
-use Rattle.spin_model.specs.declared.spun.Spun.{Spun}
-use Rattle.std.proofs.lemmas.List.{get_or_read}
-use Rattle.std.proofs.lemmas.Option.{slice_get_read}
-use Rattle.logger.specs.Lanes.{logger_of}
+use Rattle.rack_parts.proofs.Basics.{◌≡◌, ℕ, Some, None, length, refl, ap, subst, ◌∙◌, arith, slice_get, Global, Vec, get_or_read}
+use Rattle.rack_parts.proofs.Basics.{slice_get_read}
+use Rattle.rack_parts.proofs.Terms.{Spun, logger_of}
 use Rattle.rack_parts.proofs.LanesMoved.{lane_put, pool_bare, spindle_bare, held_bare, size_of}
 use Rattle.rack_parts.proofs.rack.Rest.put_lane.Goals as goal
 

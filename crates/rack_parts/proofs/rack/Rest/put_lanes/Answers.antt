@@ -1,5 +1,4 @@
-use Rattle.std.proofs.Common.{◌≡◌, [], subst, arith}
-use Rattle.std.proofs.lemmas.List.{nil_from_length}
+use Rattle.rack_parts.proofs.Basics.{◌≡◌, [], subst, arith, nil_from_length}
 use Rattle.rack_parts.proofs.LanesMoved.{ArePutSoFar, put_none, last_whole, last_bare, put_next, put_all}
 use Rattle.rack_parts.proofs.rack.Rest.put_lanes.Goals as goal
 

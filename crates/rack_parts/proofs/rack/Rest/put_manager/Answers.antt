@@ -1,5 +1,5 @@
+use Rattle.rack_parts.proofs.Basics.{Some}
 use Rattle.rack_parts.proofs.Returned.{lanes_after, manager_put}
-use Rattle.std.proofs.Common.{Some}
 use Rattle.rack_parts.proofs.rack.Rest.put_manager.Goals as goal
 
 pub put_lanes-requires : goal.put_lanes-requires

@@ -1,11 +1,6 @@
-use Rattle.std.proofs.Common.{◌≡◌, ◌<◌, [], Some, None, Option, is_some, length, refl, sym, ap, subst, ◌∙◌, arith}
-use Rattle.std.specs.Prelude.{IfSome}
-use Rattle.std.specs.Vec.{with_item}
-use Rattle.std.proofs.lemmas.List.{nil_from_length, get_or_read}
-use Rattle.rack_parts.specs.Parts.{IsFilled}
-use Rattle.rack_parts.specs.Rests.{segment_here}
-use Rattle.rack_parts.specs.declared.rack.ImageRest.{ImageRest}
-use Rattle.rack_parts.specs.declared.rack.Rest.{Rest}
+use Rattle.rack_parts.proofs.Basics.{◌≡◌, ◌<◌, [], Some, None, Option, is_some, length, refl, sym, ap, subst, ◌∙◌, arith, IfSome, with_item}
+use Rattle.rack_parts.proofs.Basics.{nil_from_length, get_or_read}
+use Rattle.rack_parts.proofs.Terms.{IsFilled, segment_here, ImageRest, Rest}
 use Rattle.rack_parts.proofs.Returned.{lanes_after, owed_after, AreOwnedPutSoFar, owned_none, last_owed, owned_next, owned_all, here_within, one_put_at}
 use Rattle.rack_parts.proofs.rack.Rest.put_opening.Goals as goal
 

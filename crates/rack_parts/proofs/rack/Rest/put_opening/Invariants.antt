@@ -1,4 +1,4 @@
-use Rattle.std.proofs.Common.{vec_len}
+use Rattle.rack_parts.proofs.Basics.{vec_len}
 use Rattle.rack_parts.proofs.Returned.{AreOwnedPutSoFar}
 use Rattle.rack_parts.proofs.rack.Rest.put_opening.Given as goal
 

@@ -1,10 +1,6 @@
-use Rattle.std.proofs.Common.{◌≡◌, ◌<◌, Option, Some, None, length, refl, sym, ap, subst, ◌∙◌, arith}
-use Rattle.std.specs.Prelude.{slice_get, IsSome, IfSome}
-use Rattle.std.proofs.lemmas.List.{get_or_read}
-use Rattle.std.proofs.lemmas.Option.{slice_get_read}
-use Rattle.rack_parts.specs.Parts.{with_home}
-use Rattle.rack_parts.specs.Rests.{image_here}
-use Rattle.rack_parts.specs.declared.rack.ImageRest.{ImageRest}
+use Rattle.rack_parts.proofs.Basics.{◌≡◌, ◌<◌, Option, Some, None, length, refl, sym, ap, subst, ◌∙◌, arith, slice_get, IsSome, IfSome}
+use Rattle.rack_parts.proofs.Basics.{get_or_read, slice_get_read}
+use Rattle.rack_parts.proofs.Terms.{with_home, image_here, ImageRest}
 use Rattle.rack_parts.proofs.LanesMoved.{home_moved, size_of}
 use Rattle.rack_parts.proofs.Returned.{some_within}
 use Rattle.rack_parts.proofs.rack.Rest.take_home.Goals as goal

@@ -1,17 +1,7 @@
-use Rattle.std.proofs.Common.{◌≡◌, ◌<◌, false, Some, None, length, refl, sym, ap, ◌∙◌, subst, arith}
-use Rattle.std.specs.Prelude.{slice_get, slice_index_or}
-use Rattle.std.proofs.lemmas.List.{get_or_read}
-use Rattle.std.proofs.lemmas.Option.{none-some, same_Some, slice_get_read}
-use Rattle.turn_lock.specs.Passes.{pass_lock, pass_mine, IsFree}
-use Rattle.turn_lock.specs.declared.pass.PassOf.{PassOf}
-use Rattle.spin_model.specs.Operations.{has_token}
-use Rattle.spin_model.specs.declared.spindle.Spindle.{Spindle}
-use Rattle.spin_model.specs.declared.spindle.SpindleBase.{SpindleBase}
-use Rattle.seg_pool.specs.declared.base.PoolBase.{PoolBase}
-use Rattle.seg_pool.specs.declared.pool.Pool.{Pool}
-use Rattle.log_segment.specs.declared.free.FreeSegment.{FreeSegment}
-use Rattle.logger.specs.Lanes.{AreAccesses}
-use Rattle.rack_parts.specs.Rests.{pool_pass, spindle_pass}
+use Rattle.rack_parts.proofs.Basics.{◌≡◌, ◌<◌, false, Some, None, length, refl, sym, ap, ◌∙◌, subst, arith, slice_get, slice_index_or}
+use Rattle.rack_parts.proofs.Basics.{get_or_read, none-some, same_Some, slice_get_read}
+use Rattle.rack_parts.proofs.Terms.{pass_lock, pass_mine, IsFree, PassOf, has_token, Spindle, SpindleBase, PoolBase, Pool, FreeSegment}
+use Rattle.rack_parts.proofs.Terms.{AreAccesses, pool_pass, spindle_pass}
 use Rattle.rack_parts.proofs.LanesMoved.{segments_are, lane_gone, lane_back, pool_read, spindle_read, pool_taken, spindle_taken, size_of}
 use Rattle.rack_parts.proofs.rack.Rest.take_lane.Goals as goal
 

@@ -1,6 +1,5 @@
-use Rattle.std.proofs.Common.{◌≡◌, Bool, true, is_some, sym, subst, ◌∙◌}
-use Rattle.rack_parts.specs.Rests.{image_here}
-use Rattle.rack_parts.specs.Parts.{TakesOneLane}
+use Rattle.rack_parts.proofs.Basics.{◌≡◌, Bool, true, is_some, sym, subst, ◌∙◌}
+use Rattle.rack_parts.proofs.Terms.{image_here, TakesOneLane}
 use Rattle.rack_parts.proofs.rack.Rest.take_lane_of.Goals as goal
 
 pub take_lane-requires-clause-place : goal.take_lane-requires-clause-place

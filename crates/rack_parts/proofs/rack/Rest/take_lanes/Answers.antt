@@ -1,8 +1,5 @@
-use Rattle.std.proofs.Common.{◌<◌, ◌≤◌, ℕ, List, length, is_some, sym, ap, subst, ◌∙◌, arith}
-use Rattle.std.specs.Prelude.{slice_index_or}
-use Rattle.std.proofs.lemmas.List.{take_all}
-use Rattle.logger.specs.declared.lane.Lane.{Lane}
-use Rattle.rack_parts.specs.Parts.{CanPutLanes, PutsLanes, TakesLanes, loggers_out}
+use Rattle.rack_parts.proofs.Basics.{◌<◌, ◌≤◌, ℕ, List, length, is_some, sym, ap, subst, ◌∙◌, arith, slice_index_or, take_all}
+use Rattle.rack_parts.proofs.Terms.{Lane, CanPutLanes, PutsLanes, TakesLanes, loggers_out}
 use Rattle.rack_parts.proofs.LanesTaken.{AreLanesTaken, lanes_none, next_usable, same_out, lanes_step, may_put_back, all_back, can_after_same, puts_after_same}
 use Rattle.rack_parts.proofs.rack.Rest.take_lanes.Goals as goal
 

@@ -1,4 +1,4 @@
-use Rattle.std.proofs.Common.{◌≤◌, length, vec_capacity}
+use Rattle.rack_parts.proofs.Basics.{◌≤◌, length, vec_capacity}
 use Rattle.rack_parts.proofs.LanesTaken.{AreLanesTaken}
 use Rattle.rack_parts.proofs.rack.Rest.take_lanes.Given as goal
 

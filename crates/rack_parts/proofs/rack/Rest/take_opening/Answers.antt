@@ -1,9 +1,5 @@
-use Rattle.std.proofs.Common.{◌<◌, length, is_some, refl, sym, ap, subst, ◌∙◌, arith}
-use Rattle.std.proofs.lemmas.List.{length-map}
-use Rattle.log_layout.specs.Values.{shape_of}
-use Rattle.volume_images.specs.Volumes.{shape_in}
-use Rattle.rack_parts.specs.Parts.{CanPutLanes, PutsLanes}
-use Rattle.rack_parts.specs.declared.rack.Rest.{Rest}
+use Rattle.rack_parts.proofs.Basics.{◌<◌, length, is_some, refl, sym, ap, subst, ◌∙◌, arith, length-map}
+use Rattle.rack_parts.proofs.Terms.{shape_of, shape_in, CanPutLanes, PutsLanes, Rest}
 use Rattle.rack_parts.proofs.LanesTaken.{pairs_apart}
 use Rattle.rack_parts.proofs.OwnedTaken.{owned_here_then, home_place, spindle_same, image_there, home_there, home_same, shape_at}
 use Rattle.rack_parts.proofs.Returned.{here_within}

@@ -1,7 +1,5 @@
-use Rattle.std.proofs.Common.{◌≡◌, ◌+◌, List, Some, length, refl, sym, subst, arith}
-use Rattle.std.specs.Prelude.{slice_get}
-use Rattle.std.proofs.lemmas.Option.{slice_get_read}
-use Rattle.manager_recovery.specs.declared.opening.OwnedPart.{OwnedPart}
+use Rattle.rack_parts.proofs.Basics.{◌≡◌, ◌+◌, List, Some, length, refl, sym, subst, arith, slice_get, slice_get_read}
+use Rattle.rack_parts.proofs.Terms.{OwnedPart}
 use Rattle.rack_parts.proofs.OwnedTaken.{AreOwnedTo, owned_to_none, may_take_of, owned_to_next, owned_to_all, total_front, total_next}
 use Rattle.rack_parts.proofs.rack.Rest.take_owned.Goals as goal
 

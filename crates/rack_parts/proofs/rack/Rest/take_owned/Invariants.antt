@@ -1,5 +1,5 @@
-use Rattle.std.proofs.Common.{◌≤◌, vec_capacity}
-use Rattle.rack_parts.specs.Parts.{owned_total}
+use Rattle.rack_parts.proofs.Basics.{◌≤◌, vec_capacity}
+use Rattle.rack_parts.proofs.Terms.{owned_total}
 use Rattle.rack_parts.proofs.OwnedTaken.{AreOwnedTo}
 use Rattle.rack_parts.proofs.rack.Rest.take_owned.Given as goal
 

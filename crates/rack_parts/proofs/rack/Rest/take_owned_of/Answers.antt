@@ -1,13 +1,6 @@
-use Rattle.std.proofs.Common.{◌≡◌, ◌<◌, ◌++◌, ℕ, List, None, Option, is_some, length, sym, ap, subst, ◌∙◌, arith}
-use Rattle.std.specs.Prelude.{IfSome}
-use Rattle.std.specs.Vec.{with_item}
-use Rattle.std.proofs.lemmas.List.{get_or_read}
-use Rattle.log_layout.specs.Values.{shape_of}
-use Rattle.log_layout.specs.declared.segment.SegHead.{SegHead}
-use Rattle.manager_recovery.specs.declared.opening.OwnedPart.{OwnedPart}
-use Rattle.rack_parts.specs.Parts.{owned_in, TakesOwnedOf, CanTakeOwnedOf}
-use Rattle.rack_parts.specs.declared.heads_said.Said.{Said}
-use Rattle.rack_parts.specs.declared.rack.ImageRest.{ImageRest}
+use Rattle.rack_parts.proofs.Basics.{◌≡◌, ◌<◌, ◌++◌, ℕ, List, None, Option, is_some, length, sym, ap, subst, ◌∙◌, arith, IfSome, with_item}
+use Rattle.rack_parts.proofs.Basics.{get_or_read}
+use Rattle.rack_parts.proofs.Terms.{shape_of, SegHead, OwnedPart, owned_in, TakesOwnedOf, CanTakeOwnedOf, Said, ImageRest}
 use Rattle.rack_parts.proofs.OwnedTaken.{Gave, shape_at, took_of}
 use Rattle.rack_parts.proofs.rack.Rest.take_owned_of.Goals as goal
 
