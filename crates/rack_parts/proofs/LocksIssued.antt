@@ -258,13 +258,13 @@ module _ {D : Type 0} (state : D → State) (volumes id : ℕ) (s : Shape) where
   }
 
   -- what an ended lock leaves
-  pub restored : (said : Option Said) (old mid new : Option (ImageRest D)) (i : PoolLock) → CanIssue state volumes id s said old → Supplies said old mid → IsIssuedPool volumes id s said i
+  pub pool_restored : (said : Option Said) (old mid new : Option (ImageRest D)) (i : PoolLock) → CanIssue state volumes id s said old → Supplies said old mid → IsIssuedPool volumes id s said i
       → EndsInto state (lock_id i.lock).base mid new → Restores state id s.segment_blocks said old new
-  restored None None mid new i can supplies issued ends = subst (λ (o : Option (ImageRest D)). EndsInto state (lock_id i.lock).base o new) supplies ends
-  restored None (Some r) mid new i can supplies issued ends = absurd can
-  restored (Some said) None mid new i can supplies issued ends = absurd can
-  restored (Some said) (Some r) None new i can supplies issued ends = absurd supplies
-  restored (Some said) (Some r) (Some n) new i can supplies issued ends =
+  pool_restored None None mid new i can supplies issued ends = subst (λ (o : Option (ImageRest D)). EndsInto state (lock_id i.lock).base o new) supplies ends
+  pool_restored None (Some r) mid new i can supplies issued ends = absurd can
+  pool_restored (Some said) None mid new i can supplies issued ends = absurd can
+  pool_restored (Some said) (Some r) None new i can supplies issued ends = absurd supplies
+  pool_restored (Some said) (Some r) (Some n) new i can supplies issued ends =
       let m = ends.0 in let e = ends.2 in let b = (lock_id i.lock).base in
       subst (Restores state id s.segment_blocks (Some said) (Some r)) (sym ends.1) (record {
         same = record {
@@ -396,7 +396,7 @@ module _ {D : Type 0} (state : D → State) (config : Config) (volumes : ℕ) (s
             let other : k ≢ n = λ e. absurd (omega (arith, e, lt)) in
             let ended = subst (λ (o : Option (ImageRest D)). EndsInto state (lock_id i.0.lock).base o (image_of last k)) (get_or-set_other now n k image None other) (ends k i.0 i.1) in
             subst (λ (b : ℕ). Restores state k b (saying k) (image_of old k) (image_of last k)) (shape_blocks config k shape.0 shape.1)
-            (restored state volumes k shape.0 (saying k) (image_of old k) (image_of now k) (image_of last k) i.0 (can k shape.0 shape.1) (so_far.supplies k lt) (so_far.issued k shape.0 i.0 shape.1 i.1) ended)
+            (pool_restored state volumes k shape.0 (saying k) (image_of old k) (image_of now k) (image_of last k) i.0 (can k shape.0 shape.1) (so_far.supplies k lt) (so_far.issued k shape.0 i.0 shape.1 i.1) ended)
 
         here : k ≡ n → Restores state k config.segment_blocks (saying k) (image_of old k) (image_of last k)
         here e =
