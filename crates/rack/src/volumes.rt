@@ -3,6 +3,7 @@ ghost use Rattle.std.specs.Prelude.{◌≡◌, ◌<◌, ◌+◌, Some, length, I
 ghost use Rattle.wol_config.specs.Configs.{IsValid};
 ghost use Rattle.manager_recovery.specs.Opening.{CanOpen};
 ghost use Rattle.manager_recovery.specs.declared.opening.Opening.{Opening};
+ghost use Rattle.volume_images.specs.Volumes.{shapes_of};
 ghost use Rattle.rack.specs.Locked.{IsLocked, IsUnopened};
 ghost use Rattle.wol_bay.specs.Bay.{BayState, Told};
 ghost use Rattle.rack_parts.specs.Racks.{IsRack, AreUnused, KeepToViews};
@@ -61,7 +62,7 @@ fn open_one<R: Wait, D: Disk>(
     said: &[Option<Said>],
 ) -> Result<(), NoMemory>
     requires config { IsValid config.now }
-    requires within { id < length config.now.volumes.items }
+    requires within { id < length (shapes_of config.now) }
     requires rack { (b : BayState) × IsOpeningRack D.state config.now b said.now id rack.old }
     requires said { (own : Said) × (slice_get said.now id ≡ Some (Some own)) × (own.view ≡ view) }
     ensures rack { (b : BayState) → IsOpeningRack D.state config.now b said.now id rack.old → OnOk result (IsOpeningRack D.state config.now b said.now (id + 1) rack.new) }

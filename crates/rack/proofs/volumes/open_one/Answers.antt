@@ -1,5 +1,5 @@
-use Rattle.rack.proofs.Basics.{◌≡◌, length, refl, sym, subst, arith, inl, inr, ⊎_elim, is_some, ap, Bool, true, Some, with_item, length-map}
-use Rattle.rack.proofs.Terms.{State, Shared, IsHandedBack, Refuses, HandsBackAll, Opening, OpenRefusal, DiskFault, NoMemory, shape_in}
+use Rattle.rack.proofs.Basics.{◌≡◌, length, refl, sym, subst, arith, inl, inr, ⊎_elim, is_some, ap, Bool, true, Some, with_item}
+use Rattle.rack.proofs.Terms.{State, Shared, IsHandedBack, Refuses, HandsBackAll, Opening, OpenRefusal, DiskFault, NoMemory}
 use Rattle.rack.proofs.Terms.{shapes_of, IsUnopened, NamesVolumes, Refused}
 use Rattle.rack.specs.declared.volumes.Unopened.{Unopened}
 use Rattle.rack_closing.proofs.SameOut.{same_out, out_too, none_too, refuses_too}
@@ -25,51 +25,42 @@ handed tells state shared o u refusal n is so = subst (IsUnopened tells state sh
 
 pub take_opening-requires-clause-ready : goal.take_opening-requires-clause-ready
 take_opening-requires-clause-ready g c =
-    let long = length-map c.args.config.now.volumes.items (shape_in c.args.config.now) in
-    can_take g.D.Disk.state c.args.config.now c.requires.config c.requires.rack.0 c.args.said.now c.args.id c.args.rack.now c.requires.said.0 c.requires.rack.1 (omega (arith, c.requires.within, long)) c.requires.said.1 c.args.view c.requires.said.2
+    can_take g.D.Disk.state c.args.config.now c.requires.config c.requires.rack.0 c.args.said.now c.args.id c.args.rack.now c.requires.said.0 c.requires.rack.1 c.requires.within c.requires.said.1 c.args.view c.requires.said.2
 
 pub open_locked-requires : goal.open_locked-requires
 open_locked-requires g c = λ κs within_κ.
-    let long = length-map c.args.config.now.volumes.items (shape_in c.args.config.now) in
-    (within_κ.0, (within_κ.1, (refl, can_open g.D.Disk.state c.args.config.now c.requires.config c.requires.rack.0 c.args.said.now c.args.id c.args.rack.now c.requires.said.0 c.requires.rack.1 (omega (arith, c.requires.within, long)) c.requires.said.1 c.args.view c.take_opening.new.self c.in_ok-opening.opening c.in_ok-opening.ensures.taken)))
+    (within_κ.0, (within_κ.1, (refl, can_open g.D.Disk.state c.args.config.now c.requires.config c.requires.rack.0 c.args.said.now c.args.id c.args.rack.now c.requires.said.0 c.requires.rack.1 c.requires.within c.requires.said.1 c.args.view c.take_opening.new.self c.in_ok-opening.opening c.in_ok-opening.ensures.taken)))
 
 pub put_opening-requires-clause-home : goal.put_opening-requires-clause-home
 put_opening-requires-clause-home g c =
-    let long = length-map c.args.config.now.volumes.items (shape_in c.args.config.now) in
-    home_away g.D.Disk.state c.args.config.now c.requires.config c.requires.rack.0 c.args.said.now c.args.id c.args.rack.now c.requires.said.0 c.requires.rack.1 (omega (arith, c.requires.within, long)) c.requires.said.1 c.args.view c.take_opening.new.self c.in_ok-opening.opening c.in_ok-opening.ensures.taken
+    home_away g.D.Disk.state c.args.config.now c.requires.config c.requires.rack.0 c.args.said.now c.args.id c.args.rack.now c.requires.said.0 c.requires.rack.1 c.requires.within c.requires.said.1 c.args.view c.take_opening.new.self c.in_ok-opening.opening c.in_ok-opening.ensures.taken
 
 pub put_opening-requires-clause-lanes : goal.put_opening-requires-clause-lanes
 put_opening-requires-clause-lanes g c =
-    let long = length-map c.args.config.now.volumes.items (shape_in c.args.config.now) in
-    lanes_return g.D.Disk.state g.D.Disk.tells c.args.config.now c.requires.config c.requires.rack.0 c.args.said.now c.args.id c.args.rack.now c.requires.said.0 c.requires.rack.1 (omega (arith, c.requires.within, long)) c.requires.said.1 c.args.view c.requires.said.2 c.take_opening.new.self c.in_ok-opening.opening c.in_ok-opening.ensures.taken c.in-Err-Refused.opening (handed g.D.Disk.tells g.D.Disk.state c.args.rack.now.shared c.in_ok-opening.opening c.in-Err-Refused.field-0 c.in-Err-Refused.refusal c.in-Err-Refused.opening c.in-Err-Refused.field-0-is c.in-Err-Refused.ensures.unopened).1
+    lanes_return g.D.Disk.state g.D.Disk.tells c.args.config.now c.requires.config c.requires.rack.0 c.args.said.now c.args.id c.args.rack.now c.requires.said.0 c.requires.rack.1 c.requires.within c.requires.said.1 c.args.view c.requires.said.2 c.take_opening.new.self c.in_ok-opening.opening c.in_ok-opening.ensures.taken c.in-Err-Refused.opening (handed g.D.Disk.tells g.D.Disk.state c.args.rack.now.shared c.in_ok-opening.opening c.in-Err-Refused.field-0 c.in-Err-Refused.refusal c.in-Err-Refused.opening c.in-Err-Refused.field-0-is c.in-Err-Refused.ensures.unopened).1
 
 pub put_opening-requires-clause-others : goal.put_opening-requires-clause-others
 put_opening-requires-clause-others g c =
-    let long = length-map c.args.config.now.volumes.items (shape_in c.args.config.now) in
-    lanes_of_others g.D.Disk.state g.D.Disk.tells c.args.config.now c.requires.config c.requires.rack.0 c.args.said.now c.args.id c.args.rack.now c.requires.said.0 c.requires.rack.1 (omega (arith, c.requires.within, long)) c.requires.said.1 c.args.view c.requires.said.2 c.take_opening.new.self c.in_ok-opening.opening c.in_ok-opening.ensures.taken c.in-Err-Refused.opening (handed g.D.Disk.tells g.D.Disk.state c.args.rack.now.shared c.in_ok-opening.opening c.in-Err-Refused.field-0 c.in-Err-Refused.refusal c.in-Err-Refused.opening c.in-Err-Refused.field-0-is c.in-Err-Refused.ensures.unopened).1
+    lanes_of_others g.D.Disk.state g.D.Disk.tells c.args.config.now c.requires.config c.requires.rack.0 c.args.said.now c.args.id c.args.rack.now c.requires.said.0 c.requires.rack.1 c.requires.within c.requires.said.1 c.args.view c.requires.said.2 c.take_opening.new.self c.in_ok-opening.opening c.in_ok-opening.ensures.taken c.in-Err-Refused.opening (handed g.D.Disk.tells g.D.Disk.state c.args.rack.now.shared c.in_ok-opening.opening c.in-Err-Refused.field-0 c.in-Err-Refused.refusal c.in-Err-Refused.opening c.in-Err-Refused.field-0-is c.in-Err-Refused.ensures.unopened).1
 
 pub put_opening-requires-clause-owned : goal.put_opening-requires-clause-owned
 put_opening-requires-clause-owned g c =
-    let long = length-map c.args.config.now.volumes.items (shape_in c.args.config.now) in
-    owned_return g.D.Disk.state g.D.Disk.tells c.args.config.now c.requires.config c.requires.rack.0 c.args.said.now c.args.id c.args.rack.now c.requires.said.0 c.requires.rack.1 (omega (arith, c.requires.within, long)) c.requires.said.1 c.args.view c.requires.said.2 c.take_opening.new.self c.in_ok-opening.opening c.in_ok-opening.ensures.taken c.in-Err-Refused.opening (handed g.D.Disk.tells g.D.Disk.state c.args.rack.now.shared c.in_ok-opening.opening c.in-Err-Refused.field-0 c.in-Err-Refused.refusal c.in-Err-Refused.opening c.in-Err-Refused.field-0-is c.in-Err-Refused.ensures.unopened).1
+    owned_return g.D.Disk.state g.D.Disk.tells c.args.config.now c.requires.config c.requires.rack.0 c.args.said.now c.args.id c.args.rack.now c.requires.said.0 c.requires.rack.1 c.requires.within c.requires.said.1 c.args.view c.requires.said.2 c.take_opening.new.self c.in_ok-opening.opening c.in_ok-opening.ensures.taken c.in-Err-Refused.opening (handed g.D.Disk.tells g.D.Disk.state c.args.rack.now.shared c.in_ok-opening.opening c.in-Err-Refused.field-0 c.in-Err-Refused.refusal c.in-Err-Refused.opening c.in-Err-Refused.field-0-is c.in-Err-Refused.ensures.unopened).1
 
 pub returns-then-eq-clause-same_out : goal.returns-then-eq-clause-same_out
 returns-then-eq-clause-same_out g c =
-    let long = length-map c.args.config.now.volumes.items (shape_in c.args.config.now) in
     let back = (handed g.D.Disk.tells g.D.Disk.state c.args.rack.now.shared c.in_ok-opening.opening c.in-Err-Refused.field-0 c.in-Err-Refused.refusal c.in-Err-Refused.opening c.in-Err-Refused.field-0-is c.in-Err-Refused.ensures.unopened) in
-    out_back g.D.Disk.state g.D.Disk.tells c.args.config.now c.requires.config c.requires.rack.0 c.args.said.now c.args.id c.args.rack.now c.requires.said.0 c.requires.rack.1 (omega (arith, c.requires.within, long)) c.requires.said.1 c.args.view c.requires.said.2 c.take_opening.new.self c.in_ok-opening.opening c.in_ok-opening.ensures.taken c.in-Err-Refused.opening back.1 c.put_opening.new.self c.put_opening.ensures
+    out_back g.D.Disk.state g.D.Disk.tells c.args.config.now c.requires.config c.requires.rack.0 c.args.said.now c.args.id c.args.rack.now c.requires.said.0 c.requires.rack.1 c.requires.within c.requires.said.1 c.args.view c.requires.said.2 c.take_opening.new.self c.in_ok-opening.opening c.in_ok-opening.ensures.taken c.in-Err-Refused.opening back.1 c.put_opening.new.self c.put_opening.ensures
 
 pub returns-then-eq-clause-stopped : goal.returns-then-eq-clause-stopped
 returns-then-eq-clause-stopped g c = λ b ready.
-    let long = length-map c.args.config.now.volumes.items (shape_in c.args.config.now) in
     let back = (handed g.D.Disk.tells g.D.Disk.state c.args.rack.now.shared c.in_ok-opening.opening c.in-Err-Refused.field-0 c.in-Err-Refused.refusal c.in-Err-Refused.opening c.in-Err-Refused.field-0-is c.in-Err-Refused.ensures.unopened) in
-    stopped_again g.D.Disk.state g.met.D.Disk.sound g.D.Disk.tells c.args.config.now c.requires.config b c.args.said.now c.args.id c.args.rack.now c.requires.said.0 ready (omega (arith, c.requires.within, long)) c.requires.said.1 c.args.view c.requires.said.2 c.take_opening.new.self c.in_ok-opening.opening c.in_ok-opening.ensures.taken c.in-Err-Refused.refusal c.in-Err-Refused.opening back.0 back.1 back.2 c.put_opening.new.self c.put_opening.ensures c.args.rack.now.faults
+    stopped_again g.D.Disk.state g.met.D.Disk.sound g.D.Disk.tells c.args.config.now c.requires.config b c.args.said.now c.args.id c.args.rack.now c.requires.said.0 ready c.requires.within c.requires.said.1 c.args.view c.requires.said.2 c.take_opening.new.self c.in_ok-opening.opening c.in_ok-opening.ensures.taken c.in-Err-Refused.refusal c.in-Err-Refused.opening back.0 back.1 back.2 c.put_opening.new.self c.put_opening.ensures c.args.rack.now.faults
 
 pub returns-then-eq-clause-began : goal.returns-then-eq-clause-began
 returns-then-eq-clause-began g c = λ telling t begun.
-    let long = length-map c.args.config.now.volumes.items (shape_in c.args.config.now) in
     let back = (handed g.D.Disk.tells g.D.Disk.state c.args.rack.now.shared c.in_ok-opening.opening c.in-Err-Refused.field-0 c.in-Err-Refused.refusal c.in-Err-Refused.opening c.in-Err-Refused.field-0-is c.in-Err-Refused.ensures.unopened) in
-    (begun_again g.D.Disk.state g.met.D.Disk.sound g.D.Disk.tells c.args.config.now c.requires.config c.requires.rack.0 c.args.said.now c.args.id c.args.rack.now c.requires.said.0 c.requires.rack.1 (omega (arith, c.requires.within, long)) c.requires.said.1 c.args.view c.requires.said.2 c.take_opening.new.self c.in_ok-opening.opening c.in_ok-opening.ensures.taken c.in-Err-Refused.refusal c.in-Err-Refused.opening back.0 back.1 back.2 c.put_opening.new.self c.put_opening.ensures c.args.rack.now.faults (g.met.D.Disk.told telling) t begun).began
+    (begun_again g.D.Disk.state g.met.D.Disk.sound g.D.Disk.tells c.args.config.now c.requires.config c.requires.rack.0 c.args.said.now c.args.id c.args.rack.now c.requires.said.0 c.requires.rack.1 c.requires.within c.requires.said.1 c.args.view c.requires.said.2 c.take_opening.new.self c.in_ok-opening.opening c.in_ok-opening.ensures.taken c.in-Err-Refused.refusal c.in-Err-Refused.opening back.0 back.1 back.2 c.put_opening.new.self c.put_opening.ensures c.args.rack.now.faults (g.met.D.Disk.told telling) t begun).began
 
 -- want of memory is answered otherwise
 not_memory : (g : Over) (c : goal.After-rack-1 g) → c.in-Err-Refused.refusal ≡ NoMemory → ⊥
@@ -80,74 +71,62 @@ not_memory g c e =
 -- the volumes that the fault names are configured
 names : (g : Over) (c : goal.After-rack-1 g) → NamesVolumes (length (shapes_of c.args.config.now)) (Refused c.in-Err-Refused.refusal)
 names g c =
-    let long = length-map c.args.config.now.volumes.items (shape_in c.args.config.now) in
     let back = (handed g.D.Disk.tells g.D.Disk.state c.args.rack.now.shared c.in_ok-opening.opening c.in-Err-Refused.field-0 c.in-Err-Refused.refusal c.in-Err-Refused.opening c.in-Err-Refused.field-0-is c.in-Err-Refused.ensures.unopened) in
-    names_volumes g.D.Disk.state g.D.Disk.tells c.args.config.now c.requires.config c.requires.rack.0 c.args.said.now c.args.id c.args.rack.now c.requires.said.0 c.requires.rack.1 (omega (arith, c.requires.within, long)) c.requires.said.1 c.args.view c.take_opening.new.self c.in_ok-opening.opening c.in_ok-opening.ensures.taken c.in-Err-Refused.opening c.in-Err-Refused.refusal back.0 (not_memory g c)
+    names_volumes g.D.Disk.state g.D.Disk.tells c.args.config.now c.requires.config c.requires.rack.0 c.args.said.now c.args.id c.args.rack.now c.requires.said.0 c.requires.rack.1 c.requires.within c.requires.said.1 c.args.view c.take_opening.new.self c.in_ok-opening.opening c.in_ok-opening.ensures.taken c.in-Err-Refused.opening c.in-Err-Refused.refusal back.0 (not_memory g c)
 
 pub returns-in-Err-Refused-clause-rack : goal.returns-in-Err-Refused-clause-rack
 returns-in-Err-Refused-clause-rack g c = λ b ready.
-    let long = length-map c.args.config.now.volumes.items (shape_in c.args.config.now) in
     let back = (handed g.D.Disk.tells g.D.Disk.state c.args.rack.now.shared c.in_ok-opening.opening c.in-Err-Refused.field-0 c.in-Err-Refused.refusal c.in-Err-Refused.opening c.in-Err-Refused.field-0-is c.in-Err-Refused.ensures.unopened) in
-    opening_again g.D.Disk.state g.met.D.Disk.sound g.D.Disk.tells c.args.config.now c.requires.config b c.args.said.now c.args.id c.args.rack.now c.requires.said.0 ready (omega (arith, c.requires.within, long)) c.requires.said.1 c.args.view c.requires.said.2 c.take_opening.new.self c.in_ok-opening.opening c.in_ok-opening.ensures.taken c.in-Err-Refused.refusal c.in-Err-Refused.opening back.0 back.1 back.2 c.put_opening.new.self c.put_opening.ensures (with_item c.args.rack.now.faults c.args.id (Some (Refused c.in-Err-Refused.refusal))) refl (names g c)
+    opening_again g.D.Disk.state g.met.D.Disk.sound g.D.Disk.tells c.args.config.now c.requires.config b c.args.said.now c.args.id c.args.rack.now c.requires.said.0 ready c.requires.within c.requires.said.1 c.args.view c.requires.said.2 c.take_opening.new.self c.in_ok-opening.opening c.in_ok-opening.ensures.taken c.in-Err-Refused.refusal c.in-Err-Refused.opening back.0 back.1 back.2 c.put_opening.new.self c.put_opening.ensures (with_item c.args.rack.now.faults c.args.id (Some (Refused c.in-Err-Refused.refusal))) refl (names g c)
 
 pub returns-in-Err-Refused-clause-same_out : goal.returns-in-Err-Refused-clause-same_out
 returns-in-Err-Refused-clause-same_out g c =
-    let long = length-map c.args.config.now.volumes.items (shape_in c.args.config.now) in
     let back = (handed g.D.Disk.tells g.D.Disk.state c.args.rack.now.shared c.in_ok-opening.opening c.in-Err-Refused.field-0 c.in-Err-Refused.refusal c.in-Err-Refused.opening c.in-Err-Refused.field-0-is c.in-Err-Refused.ensures.unopened) in
-    out_back g.D.Disk.state g.D.Disk.tells c.args.config.now c.requires.config c.requires.rack.0 c.args.said.now c.args.id c.args.rack.now c.requires.said.0 c.requires.rack.1 (omega (arith, c.requires.within, long)) c.requires.said.1 c.args.view c.requires.said.2 c.take_opening.new.self c.in_ok-opening.opening c.in_ok-opening.ensures.taken c.in-Err-Refused.opening back.1 c.put_opening.new.self c.put_opening.ensures
+    out_back g.D.Disk.state g.D.Disk.tells c.args.config.now c.requires.config c.requires.rack.0 c.args.said.now c.args.id c.args.rack.now c.requires.said.0 c.requires.rack.1 c.requires.within c.requires.said.1 c.args.view c.requires.said.2 c.take_opening.new.self c.in_ok-opening.opening c.in_ok-opening.ensures.taken c.in-Err-Refused.opening back.1 c.put_opening.new.self c.put_opening.ensures
 
 pub returns-in-Err-Refused-clause-begun : goal.returns-in-Err-Refused-clause-begun
 returns-in-Err-Refused-clause-begun g c = λ telling t begun.
-    let long = length-map c.args.config.now.volumes.items (shape_in c.args.config.now) in
     let back = (handed g.D.Disk.tells g.D.Disk.state c.args.rack.now.shared c.in_ok-opening.opening c.in-Err-Refused.field-0 c.in-Err-Refused.refusal c.in-Err-Refused.opening c.in-Err-Refused.field-0-is c.in-Err-Refused.ensures.unopened) in
-    begun_again g.D.Disk.state g.met.D.Disk.sound g.D.Disk.tells c.args.config.now c.requires.config c.requires.rack.0 c.args.said.now c.args.id c.args.rack.now c.requires.said.0 c.requires.rack.1 (omega (arith, c.requires.within, long)) c.requires.said.1 c.args.view c.requires.said.2 c.take_opening.new.self c.in_ok-opening.opening c.in_ok-opening.ensures.taken c.in-Err-Refused.refusal c.in-Err-Refused.opening back.0 back.1 back.2 c.put_opening.new.self c.put_opening.ensures (with_item c.args.rack.now.faults c.args.id (Some (Refused c.in-Err-Refused.refusal))) (g.met.D.Disk.told telling) t begun
+    begun_again g.D.Disk.state g.met.D.Disk.sound g.D.Disk.tells c.args.config.now c.requires.config c.requires.rack.0 c.args.said.now c.args.id c.args.rack.now c.requires.said.0 c.requires.rack.1 c.requires.within c.requires.said.1 c.args.view c.requires.said.2 c.take_opening.new.self c.in_ok-opening.opening c.in_ok-opening.ensures.taken c.in-Err-Refused.refusal c.in-Err-Refused.opening back.0 back.1 back.2 c.put_opening.new.self c.put_opening.ensures (with_item c.args.rack.now.faults c.args.id (Some (Refused c.in-Err-Refused.refusal))) (g.met.D.Disk.told telling) t begun
 
 pub returns-in-Err-Refused-clause-refused : goal.returns-in-Err-Refused-clause-refused
 returns-in-Err-Refused-clause-refused g c = λ entry now begun refused.
-    let long = length-map c.args.config.now.volumes.items (shape_in c.args.config.now) in
     let back = (handed g.D.Disk.tells g.D.Disk.state c.args.rack.now.shared c.in_ok-opening.opening c.in-Err-Refused.field-0 c.in-Err-Refused.refusal c.in-Err-Refused.opening c.in-Err-Refused.field-0-is c.in-Err-Refused.ensures.unopened) in
-    refused_again g.D.Disk.state g.met.D.Disk.sound g.D.Disk.tells c.args.config.now c.requires.config c.requires.rack.0 c.args.said.now c.args.id c.args.rack.now c.requires.said.0 c.requires.rack.1 (omega (arith, c.requires.within, long)) c.requires.said.1 c.args.view c.requires.said.2 c.take_opening.new.self c.in_ok-opening.opening c.in_ok-opening.ensures.taken c.in-Err-Refused.refusal c.in-Err-Refused.opening back.0 back.1 back.2 c.put_opening.new.self c.put_opening.ensures (with_item c.args.rack.now.faults c.args.id (Some (Refused c.in-Err-Refused.refusal))) refl (names g c) entry now begun refused
+    refused_again g.D.Disk.state g.met.D.Disk.sound g.D.Disk.tells c.args.config.now c.requires.config c.requires.rack.0 c.args.said.now c.args.id c.args.rack.now c.requires.said.0 c.requires.rack.1 c.requires.within c.requires.said.1 c.args.view c.requires.said.2 c.take_opening.new.self c.in_ok-opening.opening c.in_ok-opening.ensures.taken c.in-Err-Refused.refusal c.in-Err-Refused.opening back.0 back.1 back.2 c.put_opening.new.self c.put_opening.ensures (with_item c.args.rack.now.faults c.args.id (Some (Refused c.in-Err-Refused.refusal))) refl (names g c) entry now begun refused
 
 pub returns-in-Err-Refused-clause-failed : goal.returns-in-Err-Refused-clause-failed
 returns-in-Err-Refused-clause-failed g c = λ have.
-    let long = length-map c.args.config.now.volumes.items (shape_in c.args.config.now) in
     let back = (handed g.D.Disk.tells g.D.Disk.state c.args.rack.now.shared c.in_ok-opening.opening c.in-Err-Refused.field-0 c.in-Err-Refused.refusal c.in-Err-Refused.opening c.in-Err-Refused.field-0-is c.in-Err-Refused.ensures.unopened) in
-    faults_again g.D.Disk.state g.met.D.Disk.sound g.D.Disk.tells c.args.config.now c.requires.config c.requires.rack.0 c.args.said.now c.args.id c.args.rack.now c.requires.said.0 c.requires.rack.1 (omega (arith, c.requires.within, long)) c.requires.said.1 c.args.view c.requires.said.2 c.take_opening.new.self c.in_ok-opening.opening c.in_ok-opening.ensures.taken c.in-Err-Refused.refusal c.in-Err-Refused.opening back.0 back.1 back.2 c.put_opening.new.self c.put_opening.ensures (with_item c.args.rack.now.faults c.args.id (Some (Refused c.in-Err-Refused.refusal))) refl (names g c) have
+    faults_again g.D.Disk.state g.met.D.Disk.sound g.D.Disk.tells c.args.config.now c.requires.config c.requires.rack.0 c.args.said.now c.args.id c.args.rack.now c.requires.said.0 c.requires.rack.1 c.requires.within c.requires.said.1 c.args.view c.requires.said.2 c.take_opening.new.self c.in_ok-opening.opening c.in_ok-opening.ensures.taken c.in-Err-Refused.refusal c.in-Err-Refused.opening back.0 back.1 back.2 c.put_opening.new.self c.put_opening.ensures (with_item c.args.rack.now.faults c.args.id (Some (Refused c.in-Err-Refused.refusal))) refl (names g c) have
 
 pub put_manager-requires-clause-home : goal.put_manager-requires-clause-home
 put_manager-requires-clause-home g c =
-    let long = length-map c.args.config.now.volumes.items (shape_in c.args.config.now) in
-    home_away g.D.Disk.state c.args.config.now c.requires.config c.requires.rack.0 c.args.said.now c.args.id c.args.rack.now c.requires.said.0 c.requires.rack.1 (omega (arith, c.requires.within, long)) c.requires.said.1 c.args.view c.take_opening.new.self c.in_ok-opening.opening c.in_ok-opening.ensures.taken
+    home_away g.D.Disk.state c.args.config.now c.requires.config c.requires.rack.0 c.args.said.now c.args.id c.args.rack.now c.requires.said.0 c.requires.rack.1 c.requires.within c.requires.said.1 c.args.view c.take_opening.new.self c.in_ok-opening.opening c.in_ok-opening.ensures.taken
 
 pub put_manager-requires-clause-lanes : goal.put_manager-requires-clause-lanes
 put_manager-requires-clause-lanes g c =
-    let long = length-map c.args.config.now.volumes.items (shape_in c.args.config.now) in
     let opens = subst (IsUnopened g.D.Disk.tells g.D.Disk.state c.args.rack.now.shared c.in_ok-opening.opening) c.in-Err-NoRoom.field-0-is c.in-Err-NoRoom.ensures.unopened in
-    lanes_home g.D.Disk.tells g.D.Disk.state c.args.config.now c.requires.config c.requires.rack.0 c.args.said.now c.args.id c.args.rack.now c.requires.said.0 c.requires.rack.1 (omega (arith, c.requires.within, long)) c.requires.said.1 c.args.view c.requires.said.2 c.take_opening.new.self c.in_ok-opening.opening c.in_ok-opening.ensures.taken c.in-Err-NoRoom.manager opens c.release.result c.release.ensures.home c.release.ensures.spindle c.release.ensures.lanes
+    lanes_home g.D.Disk.tells g.D.Disk.state c.args.config.now c.requires.config c.requires.rack.0 c.args.said.now c.args.id c.args.rack.now c.requires.said.0 c.requires.rack.1 c.requires.within c.requires.said.1 c.args.view c.requires.said.2 c.take_opening.new.self c.in_ok-opening.opening c.in_ok-opening.ensures.taken c.in-Err-NoRoom.manager opens c.release.result c.release.ensures.home c.release.ensures.spindle c.release.ensures.lanes
 
 pub put_manager-requires-clause-others : goal.put_manager-requires-clause-others
 put_manager-requires-clause-others g c =
-    let long = length-map c.args.config.now.volumes.items (shape_in c.args.config.now) in
     let opens = subst (IsUnopened g.D.Disk.tells g.D.Disk.state c.args.rack.now.shared c.in_ok-opening.opening) c.in-Err-NoRoom.field-0-is c.in-Err-NoRoom.ensures.unopened in
-    lanes_others g.D.Disk.tells g.D.Disk.state c.args.config.now c.requires.config c.requires.rack.0 c.args.said.now c.args.id c.args.rack.now c.requires.said.0 c.requires.rack.1 (omega (arith, c.requires.within, long)) c.requires.said.1 c.args.view c.requires.said.2 c.take_opening.new.self c.in_ok-opening.opening c.in_ok-opening.ensures.taken c.in-Err-NoRoom.manager opens c.release.result c.release.ensures.home c.release.ensures.spindle c.release.ensures.lanes
+    lanes_others g.D.Disk.tells g.D.Disk.state c.args.config.now c.requires.config c.requires.rack.0 c.args.said.now c.args.id c.args.rack.now c.requires.said.0 c.requires.rack.1 c.requires.within c.requires.said.1 c.args.view c.requires.said.2 c.take_opening.new.self c.in_ok-opening.opening c.in_ok-opening.ensures.taken c.in-Err-NoRoom.manager opens c.release.result c.release.ensures.home c.release.ensures.spindle c.release.ensures.lanes
 
 pub returns-in-Err-NoRoom-clause-same_out : goal.returns-in-Err-NoRoom-clause-same_out
 returns-in-Err-NoRoom-clause-same_out g c =
-    let long = length-map c.args.config.now.volumes.items (shape_in c.args.config.now) in
     let opens = subst (IsUnopened g.D.Disk.tells g.D.Disk.state c.args.rack.now.shared c.in_ok-opening.opening) c.in-Err-NoRoom.field-0-is c.in-Err-NoRoom.ensures.unopened in
-    out_same g.D.Disk.tells g.D.Disk.state c.args.config.now c.requires.config c.requires.rack.0 c.args.said.now c.args.id c.args.rack.now c.requires.said.0 c.requires.rack.1 (omega (arith, c.requires.within, long)) c.requires.said.1 c.args.view c.requires.said.2 c.take_opening.new.self c.in_ok-opening.opening c.in_ok-opening.ensures.taken c.in-Err-NoRoom.manager opens c.release.result c.release.ensures.home c.release.ensures.spindle c.release.ensures.lanes c.put_manager.new.self c.put_manager.ensures
+    out_same g.D.Disk.tells g.D.Disk.state c.args.config.now c.requires.config c.requires.rack.0 c.args.said.now c.args.id c.args.rack.now c.requires.said.0 c.requires.rack.1 c.requires.within c.requires.said.1 c.args.view c.requires.said.2 c.take_opening.new.self c.in_ok-opening.opening c.in_ok-opening.ensures.taken c.in-Err-NoRoom.manager opens c.release.result c.release.ensures.home c.release.ensures.spindle c.release.ensures.lanes c.put_manager.new.self c.put_manager.ensures
 
 pub returns-in-Err-NoRoom-clause-stopped : goal.returns-in-Err-NoRoom-clause-stopped
 returns-in-Err-NoRoom-clause-stopped g c = λ b ready.
-    let long = length-map c.args.config.now.volumes.items (shape_in c.args.config.now) in
     let opens = subst (IsUnopened g.D.Disk.tells g.D.Disk.state c.args.rack.now.shared c.in_ok-opening.opening) c.in-Err-NoRoom.field-0-is c.in-Err-NoRoom.ensures.unopened in
-    unlocked_stopped g.D.Disk.tells g.D.Disk.state c.args.config.now c.requires.config b c.args.said.now c.args.id c.args.rack.now c.requires.said.0 ready (omega (arith, c.requires.within, long)) c.requires.said.1 c.args.view c.requires.said.2 c.take_opening.new.self c.in_ok-opening.opening c.in_ok-opening.ensures.taken c.in-Err-NoRoom.manager opens c.release.result c.release.ensures.home c.release.ensures.spindle c.release.ensures.lanes c.put_manager.new.self c.put_manager.ensures g.met.D.Disk.sound
+    unlocked_stopped g.D.Disk.tells g.D.Disk.state c.args.config.now c.requires.config b c.args.said.now c.args.id c.args.rack.now c.requires.said.0 ready c.requires.within c.requires.said.1 c.args.view c.requires.said.2 c.take_opening.new.self c.in_ok-opening.opening c.in_ok-opening.ensures.taken c.in-Err-NoRoom.manager opens c.release.result c.release.ensures.home c.release.ensures.spindle c.release.ensures.lanes c.put_manager.new.self c.put_manager.ensures g.met.D.Disk.sound
 
 pub returns-in-Err-NoRoom-clause-began : goal.returns-in-Err-NoRoom-clause-began
 returns-in-Err-NoRoom-clause-began g c = λ tells t begun.
-    let long = length-map c.args.config.now.volumes.items (shape_in c.args.config.now) in
     let opens = subst (IsUnopened g.D.Disk.tells g.D.Disk.state c.args.rack.now.shared c.in_ok-opening.opening) c.in-Err-NoRoom.field-0-is c.in-Err-NoRoom.ensures.unopened in
-    unlocked_began g.D.Disk.tells g.D.Disk.state c.args.config.now c.requires.config c.requires.rack.0 c.args.said.now c.args.id c.args.rack.now c.requires.said.0 c.requires.rack.1 (omega (arith, c.requires.within, long)) c.requires.said.1 c.args.view c.requires.said.2 c.take_opening.new.self c.in_ok-opening.opening c.in_ok-opening.ensures.taken c.in-Err-NoRoom.manager opens c.release.result c.release.ensures.home c.release.ensures.spindle c.release.ensures.lanes c.put_manager.new.self c.put_manager.ensures g.met.D.Disk.sound (g.met.D.Disk.told tells) t begun
+    unlocked_began g.D.Disk.tells g.D.Disk.state c.args.config.now c.requires.config c.requires.rack.0 c.args.said.now c.args.id c.args.rack.now c.requires.said.0 c.requires.rack.1 c.requires.within c.requires.said.1 c.args.view c.requires.said.2 c.take_opening.new.self c.in_ok-opening.opening c.in_ok-opening.ensures.taken c.in-Err-NoRoom.manager opens c.release.result c.release.ensures.home c.release.ensures.spindle c.release.ensures.lanes c.put_manager.new.self c.put_manager.ensures g.met.D.Disk.sound (g.met.D.Disk.told tells) t begun
 
 pub unreachable-requires : goal.unreachable-requires
 unreachable-requires g c =
@@ -164,9 +143,8 @@ unreachable-requires g c =
 
 pub returns-clause-rack : goal.returns-clause-rack
 returns-clause-rack g c = λ b ready.
-    let long = length-map c.args.config.now.volumes.items (shape_in c.args.config.now) in
     let pops = popped c.in-Ok.locked.1.items c.pop.new.self.items c.pop-2.new.self.items c.pop-3.new.self.items c.in-Some-Some-Some.worker c.in-Some-Some-Some.helper c.in-Some-Some-Some.keeper c.in-Ok.ensures.locked.count c.in-Some-Some-Some.ensures.items c.in-Some-Some-Some.ensures'.items c.in-Some-Some-Some.ensures''.items in
-    opened g.D.Disk.tells g.D.Disk.state c.args.config.now c.requires.config b c.args.said.now c.args.id c.args.rack.now c.requires.said.0 ready (omega (arith, c.requires.within, long)) c.requires.said.1 c.args.view c.requires.said.2 c.take_opening.new.self
+    opened g.D.Disk.tells g.D.Disk.state c.args.config.now c.requires.config b c.args.said.now c.args.id c.args.rack.now c.requires.said.0 ready c.requires.within c.requires.said.1 c.args.view c.requires.said.2 c.take_opening.new.self
     c.in_ok-opening.opening c.in_ok-opening.ensures.taken c.in-Ok.locked.0 c.in-Ok.locked.1.items c.in-Ok.ensures.locked c.in-Some-Some-Some.worker c.in-Some-Some-Some.helper c.in-Some-Some-Some.keeper
     pops.first pops.second pops.third c.push_reserved-2.new.self c.push_reserved-2.ensures.items c.push_reserved-2.ensures.capacity c.push_reserved.new.self c.pop-3.new.self c.push_reserved.ensures.items c.push_reserved.ensures.capacity pops.empty (omega (arith, c.in-Ok.ensures.locked.count, c.in-Ok.locked.1.ok.0, c.in-Ok.locked.1.ok.1, c.pop.ensures.capacity, c.pop-2.ensures.capacity, c.pop-3.ensures.capacity))
 
@@ -178,26 +156,23 @@ returns-clause-same_out g c =
 
 pub returns-clause-begun : goal.returns-clause-begun
 returns-clause-begun g c = λ telling t begun.
-    let long = length-map c.args.config.now.volumes.items (shape_in c.args.config.now) in
-    opened_begun g.D.Disk.tells g.D.Disk.state c.args.config.now c.requires.config c.requires.rack.0 c.args.said.now c.args.id c.args.rack.now c.requires.said.0 c.requires.rack.1 (omega (arith, c.requires.within, long)) c.requires.said.1 c.args.view c.requires.said.2 c.take_opening.new.self
+    opened_begun g.D.Disk.tells g.D.Disk.state c.args.config.now c.requires.config c.requires.rack.0 c.args.said.now c.args.id c.args.rack.now c.requires.said.0 c.requires.rack.1 c.requires.within c.requires.said.1 c.args.view c.requires.said.2 c.take_opening.new.self
     c.in_ok-opening.opening c.in_ok-opening.ensures.taken c.in-Ok.locked.0 c.in-Ok.locked.1.items c.in-Ok.ensures.locked c.in-Some-Some-Some.worker c.in-Some-Some-Some.helper c.in-Some-Some-Some.keeper
     telling t begun c.push_reserved-2.new.self c.push_reserved-2.ensures.items (record c.take_opening.new.self.rooms { managers = c.push_reserved.new.self })
 
 pub returns-clause-refused : goal.returns-clause-refused
 returns-clause-refused g c = λ b b' premise below k v f or conf is.
-    let long = length-map c.args.config.now.volumes.items (shape_in c.args.config.now) in
     let same = same_out c.take_opening.new.self.images.items c.args.rack.now.rest.images.items
     (count_without g.D.Disk.state c.args.config.now c.args.said.now c.args.id c.args.view c.args.rack.now.rest c.take_opening.new.self c.in_ok-opening.opening c.in_ok-opening.ensures.taken)
     (out_without g.D.Disk.state c.args.config.now c.args.said.now c.args.id c.args.view c.args.rack.now.rest c.take_opening.new.self c.in_ok-opening.opening c.in_ok-opening.ensures.taken) in
     refuses_too c.args.rack.now.rest.images.items c.take_opening.new.self.images.items (sym same) g.D.Disk.tells g.D.Disk.state c.args.config.now b b' k v f
-    (below k v f (tried_before g.D.Disk.state c.args.config.now c.requires.config c.requires.rack.0 c.args.said.now c.args.id c.args.rack.now c.requires.said.0 c.requires.rack.1 (omega (arith, c.requires.within, long)) c.requires.said.1 k f is
+    (below k v f (tried_before g.D.Disk.state c.args.config.now c.requires.config c.requires.rack.0 c.args.said.now c.args.id c.args.rack.now c.requires.said.0 c.requires.rack.1 c.requires.within c.requires.said.1 k f is
     (⊎_elim (λ less. inl less) (λ none. inr (none_too c.take_opening.new.self.images.items c.args.rack.now.rest.images.items same k none)) or)) conf is)
 
 pub returns-clause-failed : goal.returns-clause-failed
 returns-clause-failed g c = λ have k p less out is.
     let said = c.requires.said in
     let within = c.requires.within in
-    let long = length-map c.args.config.now.volumes.items (shape_in c.args.config.now) in
     let takes = c.in_ok-opening.ensures.taken in
     let same = same_out c.take_opening.new.self.images.items c.args.rack.now.rest.images.items
     (count_without g.D.Disk.state c.args.config.now c.args.said.now c.args.id c.args.view c.args.rack.now.rest c.take_opening.new.self c.in_ok-opening.opening takes)
@@ -205,10 +180,10 @@ returns-clause-failed g c = λ have k p less out is.
     let was = out_too c.take_opening.new.self.images.items c.args.rack.now.rest.images.items same k out in
     ⊎_elim
     (λ before.
-    fault_kept g.D.Disk.state c.args.config.now c.requires.config c.requires.rack.0 c.args.said.now c.args.id c.args.rack.now said.0 c.requires.rack.1 (omega (arith, within, long)) said.1 c.args.view c.take_opening.new.self
+    fault_kept g.D.Disk.state c.args.config.now c.requires.config c.requires.rack.0 c.args.said.now c.args.id c.args.rack.now said.0 c.requires.rack.1 within said.1 c.args.view c.take_opening.new.self
     c.in_ok-opening.opening takes (record c.take_opening.new.self.rooms { managers = c.push_reserved.new.self }) k p (λ e. omega (arith, e, before)) (have k p before was is))
     (λ none. absurd (let no = ap is_some none in cc (no, was)))
-    (tried_before g.D.Disk.state c.args.config.now c.requires.config c.requires.rack.0 c.args.said.now c.args.id c.args.rack.now said.0 c.requires.rack.1 (omega (arith, within, long)) said.1 k (Refused (DiskFault p)) is (inl less))
+    (tried_before g.D.Disk.state c.args.config.now c.requires.config c.requires.rack.0 c.args.said.now c.args.id c.args.rack.now said.0 c.requires.rack.1 within said.1 k (Refused (DiskFault p)) is (inl less))
 
 pub returns-in_err-opening-clause-stopped : goal.returns-in_err-opening-clause-stopped
 returns-in_err-opening-clause-stopped g c = λ b ready.

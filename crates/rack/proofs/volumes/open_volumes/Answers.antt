@@ -12,6 +12,11 @@ use Rattle.rack.proofs.volumes.open_volumes.Goals as goal
 said_none : (said : List (Option Said)) (k : ℕ) (x : Option Said) → k < length said → x ≡ get_or said k x → x ≡ None → said_at said k ≡ None
 said_none said k x lt is none = get_or_default said k None x lt ∙ sym is ∙ none
 
+pub open_one-requires-clause-within : goal.open_one-requires-clause-within
+open_one-requires-clause-within g c =
+    let long = length-map c.args.config.now.volumes.items (shape_in c.args.config.now) in
+    omega (arith, c.loop-id-test.true, c.requires.count, long)
+
 pub open_one-requires-clause-said : goal.open_one-requires-clause-said
 open_one-requires-clause-said g c =
     let lt : c.loop-id.id < length c.args.said.now = omega (arith, c.loop-id-test.true) in
