@@ -9,14 +9,14 @@ pub use Rattle.wol_bay.specs.declared.fault.BayFault.{BayFault}
 pub use Rattle.wol_model.proofs.Spellings.{one_segment_head}
 pub use Rattle.wol_model.specs.Blocks.{AreApart}
 pub use Rattle.wol_model.specs.Heads.{owned_block, free_block, SpellsSegment, Shape, IsShape}
-pub use Rattle.wol_model.specs.Images.{Images, image_of, image_size, home_of, segment_of, recovered_from}
+pub use Rattle.wol_model.specs.Images.{Images, image_of, image_size, home_of, segment_of, recovered_from, IsSoundSegment, AreSound}
 pub use Rattle.wol_model.specs.Log.{Record, IsLog, IsIdle}
 pub use Rattle.wol_promise.specs.Manager.{SaysOwnerOrFree, Base}
 pub use Rattle.wol_config.specs.Configs.{IsValid, most_of}
 pub use Rattle.wol_config.specs.declared.config.Config.{Config}
 pub use Rattle.wol_config.specs.declared.config.VolumeConf.{VolumeConf}
 pub use Rattle.turn_lock.specs.Histories.{Entry}
-pub use Rattle.turn_lock.specs.Passes.{IsNewPass, IsSamePass, pass_lock, pass_number, pass_mine, lock_id, pass_seen, IsPassOf, IsFree}
+pub use Rattle.turn_lock.specs.Passes.{IsNewPass, IsSamePass, pass_lock, pass_number, pass_mine, lock_id, pass_seen, IsPassOf, IsFree, lock_passes}
 pub use Rattle.turn_lock.specs.declared.lock.TurnLock.{TurnLock}
 pub use Rattle.turn_lock.specs.declared.pass.PassOf.{PassOf}
 pub use Rattle.log_layout.specs.Values.{shape_of, segment_head}
@@ -38,7 +38,7 @@ pub use Rattle.logger.specs.Lanes.{logger_of, pool_of, IsLane, taken_in, IsAt, s
 pub use Rattle.logger.specs.declared.lane.HeldSegment.{HeldSegment}
 pub use Rattle.logger.specs.declared.lane.Lane.{Lane}
 pub use Rattle.logger.specs.declared.shared.Shared.{Shared}
-pub use Rattle.manager.specs.Stands.{AreNamed, IsLaneShared, takes_in, Stands}
+pub use Rattle.manager.specs.Stands.{AreNamed, IsLaneShared, takes_in, Stands, notes_of}
 pub use Rattle.manager.specs.declared.base.ManagerBase.{ManagerBase}
 pub use Rattle.manager.specs.declared.manager.Manager.{Manager}
 pub use Rattle.manager.specs.declared.part.Part.{Part}
@@ -57,19 +57,21 @@ pub use Rattle.volume_images.specs.Accepted.{HasHead, head_place, IsAccepted, Is
 pub use Rattle.volume_images.specs.Formatted.{part_sizes}
 pub use Rattle.volume_images.specs.Left.{IsTold}
 pub use Rattle.volume_images.specs.Refusals.{IsCutOpenable, SaysSo, GaveBack, IsCallFault, IsFaultAt}
-pub use Rattle.volume_images.specs.Volumes.{shape_in, shapes_of, image_read, images_read, MayLeave, NoneOut}
+pub use Rattle.volume_images.specs.Volumes.{shape_in, shapes_of, image_read, images_read, MayLeave, NoneOut, AreLeft}
+pub use Rattle.volume_images.specs.declared.reading.ImageFault.{ImageFault}
+pub use Rattle.rack_closing.specs.Closes.{AreLeftOfParts, HasFaultAt, IsNamedHere, has_station, is_kept_home, flight_in, IsQuiet, LeavesVolumes, CameBackFaulty, HasFaultIn, HasFaultyPart, IsPartHere, ListsFaulty, part_named, place_in}
 pub use Rattle.rack.specs.Locked.{IsLocked, IsUnopened}
 pub use Rattle.rack.specs.Making.{AreNewImages, PushesImage, AreEmptyPasses, last_of, ArePopped, AreEmptied, CanDeal, Deals, AreLists, PutsSpindles, PutsPools, IsSetUp, image_by}
-pub use Rattle.rack.specs.Opening.{said_at, view_at, fault_at, IsSaidOf, AreTried, IsOpeningRack, IsRefused, WasAtEntry, AreAsked, StayedAs, IsNextOpened, IsNextRefused, HasBegun, AreRefusedBelow, HaveFaults, SaysOf, AreStillCut, HaveHeads, IsCutOf, AreCutOf, AreOwnersHere, IsStopped, HasFaultOf, StayedSo, HasSentOut, IsBackAtOnce, HasAllBack, LeavesNoMore, AreSameOut}
+pub use Rattle.rack.specs.Opening.{said_at, view_at, fault_at, IsSaidOf, AreTried, IsOpeningRack, IsRefused, WasAtEntry, AreAsked, StayedAs, IsNextOpened, IsNextRefused, HasBegun, AreRefusedBelow, HaveFaults, SaysOf, AreStillCut, HaveHeads, IsCutOf, AreCutOf, AreOwnersHere, IsStopped, HasFaultOf, StayedSo, HasSentOut, IsBackAtOnce, HasAllBack, LeavesNoMore, AreSameOut, IsTaken}
 pub use Rattle.rack.specs.declared.lists.Lists.{Lists}
-pub use Rattle.rack_closing.specs.Opens.{HasFaulty, RefusesVolume, RefusesImage, AreRefused, HadBefore, HadSegmentBefore, IsGone, IsAsRead, fault_in_image, fault_of_image, IsFaultAmong, HasNewFault, IsLeftHere, BeganWith, KeepsOthers}
-pub use Rattle.rack_closing.specs.Owners.{images_taken, IsOwnedIn, IsOpeningOf, BeganInPlace, IsBegun, AreOwnedIn}
+pub use Rattle.rack_closing.specs.Opens.{HasFaulty, RefusesVolume, RefusesImage, AreRefused, HadBefore, HadSegmentBefore, IsGone, IsAsRead, fault_in_image, fault_of_image, IsFaultAmong, HasNewFault, IsLeftHere, BeganWith, KeepsOthers, AreViewsAsRead, WereThere, LeavesAll, KeepsAllSound, IsThere}
+pub use Rattle.rack_closing.specs.Owners.{images_taken, IsOwnedIn, IsOpeningOf, BeganInPlace, IsBegun, AreOwnedIn, HadRefused, RecoversSame}
 pub use Rattle.rack_parts.specs.Closing.{IsComplete, KeepsButHome, home_here, GivesBack, LeavesNoneOut}
-pub use Rattle.rack_parts.specs.Foreign.{IsForeign}
-pub use Rattle.rack_parts.specs.Locks.{IsInOrder, AreSettled, AreSpindlesOf}
-pub use Rattle.rack_parts.specs.Parts.{TakesOpening, IsOwnedPlace, loggers_out, IsNewLane, IsBarePlace, CanPutLanes, IsOwedPlace, CanPutOwned, HasPlace, segments_of, IsUsablePlace, CanTake, segment_in, IsTakenOf, holder_by, holder_said, IsHomeAway, IsSameBut, with_home, IsLaidOut, PutsOpening, IsSameRest, PutsManager, IsTogether, HasBack}
-pub use Rattle.rack_parts.specs.Racks.{AreOut, AreRising, IsOpenBase, base_of_station, IsStation, IsUnused, IsClosable, KeepToViews, IsRack, NamesVolumes}
-pub use Rattle.rack_parts.specs.Rests.{image_here, IsImageOut, Away, IsRestBut, segment_here, held_here, away_with, AreRooms, IsRow, list_of, pool_pass, spindle_pass, IsPart, IsSpindleLock, IsImageRest, IsSegmentHere, indexes_here, AreImageRests, IsHolding, IsHeldHere, OnlyAccess, out_names, IsPassAt}
+pub use Rattle.rack_parts.specs.Foreign.{IsForeign, AreForeign}
+pub use Rattle.rack_parts.specs.Locks.{IsInOrder, AreSettled, AreSpindlesOf, IsWholeLock}
+pub use Rattle.rack_parts.specs.Parts.{TakesOpening, IsOwnedPlace, loggers_out, IsNewLane, IsBarePlace, CanPutLanes, IsOwedPlace, CanPutOwned, HasPlace, segments_of, IsUsablePlace, CanTake, segment_in, IsTakenOf, holder_by, holder_said, IsHomeAway, IsSameBut, with_home, IsLaidOut, PutsOpening, IsSameRest, PutsManager, IsTogether, HasBack, of_head, IsIssuedPool, TakesFree, Supplies, in_image, CanIssue, Restores, IsRestored}
+pub use Rattle.rack_parts.specs.Racks.{AreOut, AreRising, IsOpenBase, base_of_station, IsStation, IsUnused, IsClosable, KeepToViews, IsRack, NamesVolumes, AreKeepers, AreUnused}
+pub use Rattle.rack_parts.specs.Rests.{image_here, IsImageOut, Away, IsRestBut, segment_here, held_here, away_with, AreRooms, IsRow, list_of, pool_pass, spindle_pass, IsPart, IsSpindleLock, IsImageRest, IsSegmentHere, indexes_here, AreImageRests, IsHolding, IsHeldHere, OnlyAccess, out_names, IsPassAt, IsPoolLock, ArePoolPasses, AreSpindlePasses, AreHandedBack, ArePlaced, AreLocks, IsRest}
 pub use Rattle.rack_parts.specs.declared.heads_said.Said.{Said}
 pub use Rattle.rack_parts.specs.declared.locks.Issued.{Issued}
 pub use Rattle.rack_parts.specs.declared.rack.ImageRest.{ImageRest}

@@ -1,60 +1,28 @@
 -- The images that a crash leaves of a rack that was closed, by its parts.
-use Rattle.std.proofs.Common.{◌≡◌, ◌≢◌, ◌<◌, ◌≤◌, ◌+◌, ◌^◌, ◌⊎◌, inl, inr, ℕ, zero, suc, Bool, true, false, cond, List, [], ◌∷◌, length, map, Option, Some, None, is_some, not, option_map, refl, sym, ap, ◌∙◌, subst, arith}
-use Rattle.std.specs.Prelude.{Contains, IsTrue, slice_get, unwrap_or}
-use Rattle.std.specs.List.{AllByRecursion}
-use Rattle.std.proofs.lemmas.Bool.{cases_eq, cases_lt}
-use Rattle.std.proofs.lemmas.Option.{none-some, same_Some, slice_get_within, slice_get-map, get_or_from_slice_get}
-use Rattle.std.proofs.lemmas.List.Elements.{All-contains}
-use Rattle.wol_disk.specs.Disk.{Block, State, IsDisk, TellsContent, IsImageOf}
-use Rattle.wol_model.specs.Heads.{Shape}
-use Rattle.wol_model.specs.Images.{Images, image_of, home_in, segment_of, accepted_from, accepted}
-use Rattle.wol_model.specs.Index.{Listed, listed_in}
-use Rattle.wol_model.specs.Log.{Record, IsLog}
-use Rattle.wol_model.specs.Blocks.{after}
-use Rattle.wol_model.specs.Extents.{AreDistinct, covers_of}
-use Rattle.wol_model.specs.History.{writes, flight_of, IsCut}
-use Rattle.wol_model.specs.Recovered.{extents_in, extents_of}
-use Rattle.wol_promise.specs.Policy.{Look}
-use Rattle.wol_promise.specs.Ruled.{entries_of, last_look}
-use Rattle.wol_model.proofs.Images.{idle_none}
-use Rattle.wol_promise.specs.Manager.{Held, SaysOwnerOrFree}
-use Rattle.wol_promise.specs.Stands.{IsHeldBy, IsSoundOf}
-use Rattle.wol_bay.specs.Bay.{Told, BayState}
-use Rattle.wol_config.specs.declared.config.Config.{Config}
-use Rattle.turn_lock.specs.Passes.{lock_id}
-use Rattle.turn_lock.specs.declared.lock.TurnLock.{TurnLock}
-use Rattle.spin_model.specs.Spun.{state_of, volume_of}
-use Rattle.spin_model.specs.declared.spun.Spun.{Spun}
-use Rattle.seg_pool.specs.declared.base.PoolBase.{PoolBase}
-use Rattle.seg_pool.specs.declared.pool.Pool.{Pool}
-use Rattle.log_segment.specs.Kept.{IsFreeInAll}
-use Rattle.log_segment.specs.Segment.{part_of}
-use Rattle.log_segment.specs.declared.free.FreeSegment.{FreeSegment}
-use Rattle.logger.specs.Lanes.{logger_of, held_in}
-use Rattle.logger.specs.declared.lane.HeldSegment.{HeldSegment}
-use Rattle.logger.specs.declared.lane.Lane.{Lane}
-use Rattle.manager.specs.Seen.{parts_of, all_held}
-use Rattle.manager.specs.Stands.{notes_of}
-use Rattle.manager.specs.declared.base.ManagerBase.{ManagerBase}
-use Rattle.manager.specs.declared.station.Station.{Station}
-use Rattle.volume_images.specs.Volumes.{shapes_of, AreLeft}
-use Rattle.rack_parts.specs.Foreign.{IsForeign}
-use Rattle.rack_closing.specs.Closes.{AreListedOf, IsOnLogger, segments_out, recovered_out}
-use Rattle.rack_parts.specs.Rests.{image_here, segment_here, held_here, away_with, IsImageOut, IsSegmentHere, IsRest}
-use Rattle.rack_parts.specs.Racks.{IsClosable, IsOpenBase, base_of_station}
-use Rattle.rack_parts.specs.Parts.{HasBack, held_parts}
-use Rattle.rack_parts.specs.Closing.{Closing, IsClosing, ClosesStations, KeepsButHome, RefillsAll, KeepsSpindles, GivesBack}
-use Rattle.rack_parts.specs.declared.rack.ImageRest.{ImageRest}
-use Rattle.rack_parts.specs.declared.rack.Rack.{Rack}
-use Rattle.rack_parts.specs.declared.rack.Rest.{Rest}
-use Rattle.rack_parts.proofs.Members.{a_value, is_there, here_within, of_map, in_map, none_in}
+use Rattle.rack_closing.proofs.Basics.{◌≡◌, ◌≢◌, ◌<◌, ◌≤◌, ◌+◌, ◌^◌, ◌⊎◌, inl, inr, ℕ, zero, suc, Bool, true, false, cond, List, [], ◌∷◌, length, map, Option, Some, None, is_some}
+use Rattle.rack_closing.proofs.Basics.{not, option_map, refl, sym, ap, ◌∙◌, subst, arith, ⊎_elim, ◌++◌, take, option_and_then, Contains, IsTrue, slice_get, unwrap_or, All}
+use Rattle.rack_closing.proofs.Basics.{AllByRecursion, cases_eq, cases_lt, none-some, same_Some, slice_get_within, slice_get-map, get_or_from_slice_get, slice_get_past}
+use Rattle.rack_closing.proofs.Basics.{slice_get-get_or, All-contains}
+use Rattle.rack_closing.proofs.Terms.{Block, State, IsDisk, TellsContent, IsImageOf, Told, BayState, Shape, Images, image_of, home_in, segment_of, accepted_from, accepted}
+use Rattle.rack_closing.proofs.Terms.{all_segments, Listed, listed_in, Record, IsLog, after, Write, AreDistinct, covers_of, writes, flight_of, IsCut, whole, torn, extents_in}
+use Rattle.rack_closing.proofs.Terms.{extents_of, recovered, idle_none, Look, entries_of, last_look, Held, SaysOwnerOrFree, IsHeldBy, IsSoundOf, Config, lock_id, TurnLock}
+use Rattle.rack_closing.proofs.Terms.{state_of, volume_of, Spun, PoolBase, Pool, IsFreeInAll, part_of, FreeSegment, logger_of, held_in, HeldSegment, Lane, parts_of, all_held}
+use Rattle.rack_closing.proofs.Terms.{notes_of, ManagerBase, Station, shapes_of, AreLeft, images_read, IsForeign, AreListedOf, IsOnLogger, segments_out, recovered_out, IsQuiet}
+use Rattle.rack_closing.proofs.Terms.{LeavesOpen, is_kept_home, image_here, segment_here, held_here, away_with, IsImageOut, IsSegmentHere, IsRest, indexes_here, list_of}
+use Rattle.rack_closing.proofs.Terms.{IsClosable, IsOpenBase, base_of_station, HasBack, held_parts, Closing, IsClosing, ClosesStations, KeepsButHome, RefillsAll, KeepsSpindles}
+use Rattle.rack_closing.proofs.Terms.{GivesBack, ImageRest, Rack, Rest, VolumePasses, IsBegun, images_taken, BeganWith}
+use Rattle.wol_model.specs.Images.{recovered_from}
+use Rattle.wol_model.proofs.Overlay.{after_none}
+use Rattle.rack_parts.proofs.Members.{a_value, is_there, here_within, of_map, in_map, none_in, is_member, all_member}
 use Rattle.rack_parts.proofs.ManagerBack.{is_lane_of}
-pub use Rattle.rack_closing.proofs.LeftImage.{volume_at, IsLeftNow, left_image}
 use Rattle.rack_closing.proofs.Closable.{blocks_at, image_was, images_rest, images_whole}
 use Rattle.rack_closing.proofs.RackClosed.{same_out}
 use Rattle.rack_closing.proofs.StationParts.{zip_at, among, is_base, is_station, image_end, shape_of_image, home_there, lane_there}
 use Rattle.rack_closing.proofs.HeldSegments.{no_log, not_of_other, each_held, of_held}
 use Rattle.rack_closing.proofs.StationRecovers.{blocks_in, IsThereNow, AreLeftNow, cut_now, whole_now, distinct_now, listed_now, on_loggers_now, sound_now}
+use Rattle.rack_closing.proofs.Unbroken.{unflown, unwritten}
+use Rattle.rack_closing.proofs.Cases.{by_option}
+pub use Rattle.rack_closing.proofs.LeftImage.{volume_at, IsLeftNow, left_image}
 
 -- ---- Images without those that were refused
 
@@ -97,14 +65,12 @@ module _ {D : Type 0} (state : D → State) (tells : Bool) (told : IsTrue tells)
 
   -- an image that is taken is that of a volume whose parts went back
   pub taken_is : (k : ℕ) (z : Shape) (c : List Block) → slice_get (shapes_of config) k ≡ Some z → image_of taken k ≡ Some c → (q : ImageRest D) × (image_here second.images.items k ≡ Some q) × IsLeftNow state z q c
-  taken_is k z c at image = go (image_here second.images.items k) refl
-    where
-      go : (o : Option (ImageRest D)) → image_here second.images.items k ≡ o → (q : ImageRest D) × (image_here second.images.items k ≡ Some q) × IsLeftNow state z q c
-      go None e = absurd (none-some c (sym (taken_none k e) ∙ image))
-      go (Some q) e =
-          let x = left_now k z q at e in
-          let same : x.0 ≡ c = same_Some x.0 c (sym x.1 ∙ sym (taken_out k (is_there (image_here second.images.items k) q e)) ∙ image) in
-          (q, e, subst (λ d. IsLeftNow state z q d) same x.2)
+  taken_is k z c at image = by_option (image_here second.images.items k)
+      (λ e. absurd (none-some c (sym (taken_none k e) ∙ image)))
+      (λ q e.
+      let x = left_now k z q at e in
+      let same : x.0 ≡ c = same_Some x.0 c (sym x.1 ∙ sym (taken_out k (is_there (image_here second.images.items k) q e)) ∙ image) in
+      (q, e, subst (λ d. IsLeftNow state z q d) same x.2))
 
   -- ---- Where a segment comes from
 
@@ -362,3 +328,82 @@ module _ {D : Type 0} (state : D → State) (tells : Bool) (told : IsTrue tells)
         0 c.manager.lanes.items ic.stands.keeps.logs (λ g rs. IsTrue tells → c.manager.down ≡ None → Rattle.log_segment.specs.Segment.Holds state g.segment rs) ic.stands.keeps.held
         (sound_now tells state told c.manager base notes ic.stands.keeps open_base.apart (shapes_of config) taken home are_left) l h in_lanes in_held
         (λ i rs broken x. subst (IsSoundOf owner base.volume.began.home_blocks) (same i rs broken) x)
+
+-- Whether a segment of an image that is out is here.
+
+module _ {D : Type 0} (r : Rest D) (k i : ℕ) where
+  listed_or : {n : ℕ} → Contains (indexes_here r n k) i ⊎ (Contains (indexes_here r n k) i → ⊥) → ((w : ℕ) × Contains (indexes_here r w k) i) ⊎ ((w : ℕ) → w < n → Contains (indexes_here r w k) i → ⊥)
+      → ((w : ℕ) × Contains (indexes_here r w k) i) ⊎ ((w : ℕ) → w < suc n → Contains (indexes_here r w k) i → ⊥)
+  listed_or {n} (inl has) rest = inl (n, has)
+  listed_or {n} (inr never) (inl found) = inl found
+  listed_or {n} (inr never) (inr none) =
+      inr (λ w lt has. ⊎_elim (λ (less : w < n). none w less has) (λ (past : n ≤ w). never (subst (λ (x : ℕ). Contains (indexes_here r x k) i) (let e : w ≡ n = omega (arith, lt, past) in e) has)) (cases_lt w n))
+
+  -- among the lists of the first lanes
+  is_listed : (n : ℕ) → ((w : ℕ) × Contains (indexes_here r w k) i) ⊎ ((w : ℕ) → w < n → Contains (indexes_here r w k) i → ⊥)
+  is_listed zero = inr (λ w lt. absurd (omega (arith, lt)))
+  is_listed (suc n) = listed_or {n = n} (is_member (indexes_here r n k) i) (is_listed n)
+
+  -- some segment is here at a place of an image that is out, or none is
+  pub here_or_not : (m : ImageRest D) → image_here r.images.items k ≡ Some m → ((p : Spun D) × IsSegmentHere r k i p) ⊎ ((p : Spun D) → IsSegmentHere r k i p → ⊥)
+  here_or_not m here = by_place (segment_here m i) refl
+    where
+      past : (w : ℕ) (p : Spun D) → length r.passes.items ≤ w → Contains (held_here r w k) (i, p) → ⊥
+      past w p le has =
+          let none : held_here r w k ≡ [] = ap (λ (o : Option (VolumePasses D)). list_of (option_and_then (λ (q : VolumePasses D). slice_get q.held.items k) o)) (slice_get_past r.passes.items w le) in
+          none_in (i, p) (subst (λ (l : List (ℕ × Spun D)). Contains l (i, p)) none has)
+
+      by_list : segment_here m i ≡ None → ((w : ℕ) × Contains (indexes_here r w k) i) ⊎ ((w : ℕ) → w < length r.passes.items → Contains (indexes_here r w k) i → ⊥)
+          → ((p : Spun D) × IsSegmentHere r k i p) ⊎ ((p : Spun D) → IsSegmentHere r k i p → ⊥)
+      by_list empty (inl x) = let h = of_map (λ (y : ℕ × Spun D). y.0) (held_here r x.0 k) i x.1 in inl (h.0.1, inr (x.0, subst (λ (n : ℕ). Contains (held_here r x.0 k) (n, h.0.1)) h.2 h.1))
+      by_list empty (inr never) =
+          inr (λ p is. ⊎_elim
+          (λ x. none-some p (sym empty ∙ ap (λ (y : ImageRest D). segment_here y i) (same_Some m x.0 (sym here ∙ x.1)) ∙ x.2))
+          (λ x. ⊎_elim (λ (less : x.0 < length r.passes.items). never x.0 less (in_map (λ (y : ℕ × Spun D). y.0) (held_here r x.0 k) (i, p) x.1)) (λ (le : length r.passes.items ≤ x.0). past x.0 p le x.1) (cases_lt x.0 (length r.passes.items)))
+          is)
+
+      by_place : (o : Option (Spun D)) → segment_here m i ≡ o → ((p : Spun D) × IsSegmentHere r k i p) ⊎ ((p : Spun D) → IsSegmentHere r k i p → ⊥)
+      by_place (Some p) e = inl (p, inl (m, here, e))
+      by_place None e = by_list e (is_listed (length r.passes.items))
+
+-- What is left of open volumes to which nothing was written.
+
+-- an image that is out isn't refused
+home_taken : (v : ℕ) (refused : ℕ → Bool) (images : Images) → refused v ≡ false → image_of (accepted refused images) v ≡ image_of images v
+home_taken v refused images out =
+    accepted_at 0 refused images v ∙ ap (λ (t : Bool). cond t None (image_of images v)) (ap refused (omega arith) ∙ out)
+
+pub array_out : {D : Type 0} (config : Config) (out : List (Option (ImageRest D))) (images : Images) (v : ℕ) → IsImageOut out v → recovered_from (shapes_of config) (accepted (is_kept_home out) images) v ≡ recovered_out config out images v
+unfolding recovered_from
+array_out config out images v is_out =
+    ap (λ (i : Option (List Block)). recovered v (home_in (slice_get (shapes_of config) v) i) (all_segments (shapes_of config) (accepted (is_kept_home out) images))) (home_taken v (is_kept_home out) images (ap not is_out))
+
+-- the only cut of nothing is the array
+cut_none : (a : List Block) (ws flight : List Write) (x : List Block) → ws ≡ [] → flight ≡ [] → IsCut a ws flight x → x ≡ a
+cut_none a ws flight x none empty (whole k few is) =
+    let first : k ≡ 0 = (let long = ap length empty in omega (arith, few, long)) in
+    is ∙ ap (λ (m : ℕ). after a (ws ++ take m flight)) first ∙ ap (λ (vs : List Write). after a (vs ++ [])) none ∙ after_none a
+cut_none a ws flight x none empty (torn w one version blend) = absurd (cc (sym empty ∙ one))
+
+module _ {D : Type 0} (state : D → State) (tells : Bool) (config : Config) (b : BayState) (r : Rack D) (can : IsClosable state config b r) (first second : Rest D) (is : IsRest state config r.shared [] first)
+    (closed : ClosesStations tells state r.stations.items r.rest first)
+    (filled : (k : ℕ) (f : TurnLock (Pool (FreeSegment D)) PoolBase) → slice_get r.shared.pools.items k ≡ Some f → RefillsAll state (lock_id f).base.blocks first k (image_here first.images.items k) (image_here second.images.items k))
+    (kept : KeepsSpindles first second) where
+  pub left_quiet : (told : IsTrue tells) → ((d : D) → TellsContent (state d)) → ((d : D) → IsDisk (state d)) → length (shapes_of config) ≤ 64 → (entry : Told) → BeganWith state config entry r → All (λ s. IsQuiet s) r.stations.items
+      → (old new : Told) → GivesBack state config second.images.items 0 old new → LeavesOpen config r entry new
+  left_quiet told tell_all sound few entry began quiet old new given images left =
+      all_member (λ s. recovered_out config r.rest.images.items images s.id ≡ recovered_out config r.rest.images.items (images_read config entry) s.id) r.stations.items one
+    where
+      one : (s : Station D) → Contains r.stations.items s → recovered_out config r.rest.images.items images s.id ≡ recovered_out config r.rest.images.items (images_read config entry) s.id
+      one s has =
+          let at : slice_get r.stations.items has.0 ≡ Some s = slice_get-get_or r.stations.items has.0 s has.1 ∙ ap (λ (t : Station D). Some t) has.2 in
+          let c = zip_at (IsClosing tells state first) r.stations.items closed.closings has.0 s closed.each at in
+          let station = is_station state tells config b r can first second is closed filled kept has.0 s at in
+          let base = is_base state tells config b r can first second is closed filled kept has.0 s at in
+          let hush = All-contains (λ t. IsQuiet t) r.stations.items s quiet has in
+          let begun = All-contains (λ t. IsBegun config (images_taken config r.rest.images.items entry) (base_of_station t).volume.began) r.stations.items s began.stations has in
+          let array = (base_of_station s).volume.began.array in
+          let cut = cut_left state tells told tell_all sound config few b r can first second is closed filled kept old new given images left has.0 s c.0 at c.1 c.2 in
+          let end = cut_none array (writes (entries_of (notes_of c.0.entries))) _ (recovered_out config r.rest.images.items images s.id) (unwritten s c.0.entries station c.2.whole hush) (unflown s c.0.entries station c.2.whole hush) cut in
+          let then = begun.array ∙ array_out config r.rest.images.items (images_read config entry) (base_of_station s).volume.began.owner base.out in
+          end ∙ then ∙ ap (λ (v : ℕ). recovered_out config r.rest.images.items (images_read config entry) v) station.id

@@ -1,59 +1,244 @@
--- What every volume recovers to once the rack is closed, where nothing was written since it was opened.
-use Rattle.std.proofs.Common.{◌≡◌, ◌≢◌, ◌⊎◌, inl, inr, ⊎_elim, ℕ, ◌+◌, ◌-◌, ◌*◌, ◌^◌, ◌<◌, ◌≤◌, Bool, true, false, not, cond, eqb, ◌||◌, List, [], ◌∷◌, ◌++◌, length, map, take, drop, Option, None, Some, option_map, is_some, refl, sym, ap, ◌∙◌, subst, arith}
-use Rattle.std.specs.Prelude.{Contains, All, IsTrue, slice_get, slice_index_or, slice_range}
-use Rattle.std.proofs.Math.Seq.{drop-append-add}
-use Rattle.std.specs.List.{AllByRecursion, list_any}
-use Rattle.std.proofs.lemmas.Bool.{cases_eq, eqb-true, eq-eqb}
-use Rattle.std.proofs.lemmas.List.{length-map, length-drop, length-take-le, take_all}
-use Rattle.std.proofs.lemmas.Option.{same_Some, slice_get_within, slice_get-map, slice_get-get_or, get_or_from_slice_get}
-use Rattle.wol_disk.specs.Disk.{Block, Values, State, IsDisk, TellsContent, IsImage, IsImageOf, reads}
-use Rattle.wol_disk.proofs.Images.{image_reads}
-use Rattle.wol_model.specs.Heads.{Shape}
-use Rattle.wol_model.specs.Images.{Images, image_of, image_size, home_in, home_of, recovered_from, segment_of, segments_of}
-use Rattle.wol_model.specs.Log.{Record, IsLog}
-use Rattle.wol_bay.specs.Bay.{Image, Told, BayState, at_name}
+-- What closing a rack leaves: what each part comes from, and what every volume recovers to.
+use Rattle.rack_closing.proofs.Basics.{◌≡◌, ◌<◌, ◌≤◌, ◌+◌, ◌⊎◌, inl, inr, ℕ, Bool, List, [], length, map, Option, Some, None, refl, sym, ap, ◌∙◌, subst, arith, ⊎_elim, ◌∷◌, ◌≢◌}
+use Rattle.rack_closing.proofs.Basics.{◌-◌, ◌^◌, true, false, not, cond, eqb, ◌||◌, ◌++◌, take, drop, option_map, is_some, option_and_then, Contains, slice_get, slice_index_or}
+use Rattle.rack_closing.proofs.Basics.{IsTrue, slice_range, All, cases_lt, cases_eq, eqb-true, eq-eqb, none-some, slice_get_past, slice_get-get_or, same_Some, slice_get_within}
+use Rattle.rack_closing.proofs.Basics.{slice_get-map, get_or_from_slice_get, AllByRecursion, list_any, drop-append-add, length-map, length-drop, length-take-le, take_all}
+use Rattle.rack_closing.proofs.Terms.{State, Block, IsDisk, TellsContent, IsImageOf, Values, IsImage, reads, image_reads, BayState, Told, Image, at_name, faulty_places, Shape}
+use Rattle.rack_closing.proofs.Terms.{Images, image_of, segment_of, image_size, home_in, home_of, recovered_from, segments_of, Record, IsNamed, IsIdle, IsLog, LiesInHome}
+use Rattle.rack_closing.proofs.Terms.{IsSoundOf, Config, VolumeConf, lock_id, TurnLock, state_of, Spun, PoolBase, Pool, FreeSegment, part_of, logger_of, held_in, HeldSegment, Lane}
+use Rattle.rack_closing.proofs.Terms.{ManagerBase, Part, Station, may_be, shapes_of, AreLeft, shape_in, image_read, images_read, MayLeave, head_place, image_here, segment_here}
+use Rattle.rack_closing.proofs.Terms.{held_here, pool_pass, away_with, IsSegmentHere, IsRest, IsImageOut, IsClosable, base_of_station, ClosesStations, GivesBack, KeepsButHome}
+use Rattle.rack_closing.proofs.Terms.{RefillsAll, KeepsSpindles, HasFaultHere, home_here, Closing, IsClosing, HasFaultAt, HasFaultIn, IsFaultyPart, IsNamedHere, IsPartHere}
+use Rattle.rack_closing.proofs.Terms.{ComesFrom, from_here, from_pool, from_manager, IsLogOfStation, IsUnbroken, IsLeftOfParts, IsQuiet, has_station, is_kept_home, recovered_out}
+use Rattle.rack_closing.proofs.Terms.{IsTogether, ImageRest, Rack, Rest, VolumePasses, HadSegmentBefore, BeganWith, WereThere, HadRefused, IsBegun, RecoversSame, WasOpened}
+use Rattle.rack_closing.proofs.Terms.{images_taken}
+use Rattle.wol_promise.specs.Stands.{idle, log}
 use Rattle.wol_config.specs.Configs.{IsValid}
-use Rattle.wol_config.specs.declared.config.Config.{Config}
-use Rattle.wol_config.specs.declared.config.VolumeConf.{VolumeConf}
-use Rattle.turn_lock.specs.Passes.{lock_id}
-use Rattle.turn_lock.specs.declared.lock.TurnLock.{TurnLock}
-use Rattle.spin_model.specs.Spun.{state_of}
-use Rattle.spin_model.specs.declared.spun.Spun.{Spun}
-use Rattle.seg_pool.specs.declared.base.PoolBase.{PoolBase}
-use Rattle.seg_pool.specs.declared.pool.Pool.{Pool}
-use Rattle.log_segment.specs.Segment.{part_of}
-use Rattle.log_segment.specs.declared.free.FreeSegment.{FreeSegment}
-use Rattle.manager.specs.declared.base.ManagerBase.{ManagerBase}
-use Rattle.manager.specs.declared.station.Station.{Station}
-use Rattle.volume_images.specs.Accepted.{head_place}
-use Rattle.volume_images.specs.Volumes.{shape_in, shapes_of, image_read, images_read, MayLeave, AreLeft}
-use Rattle.rack_closing.specs.Closes.{IsQuiet, has_station, is_kept_home, recovered_out}
-use Rattle.rack_parts.specs.Closing.{ClosesStations, RefillsAll, KeepsSpindles, GivesBack}
-use Rattle.rack_closing.specs.Opens.{HadSegmentBefore, BeganWith, WereThere}
-use Rattle.rack_closing.specs.Owners.{HadRefused, IsBegun, RecoversSame, WasOpened, images_taken}
-use Rattle.rack_parts.specs.Racks.{IsClosable, base_of_station}
-use Rattle.rack_parts.specs.Rests.{image_here, segment_here, away_with, IsImageOut, IsSegmentHere, IsRest}
-use Rattle.rack_parts.specs.declared.rack.ImageRest.{ImageRest}
-use Rattle.rack_parts.specs.declared.rack.Rack.{Rack}
-use Rattle.rack_parts.specs.declared.rack.Rest.{Rest}
-use Rattle.rack_closing.proofs.Places.{both_slices}
-use Rattle.rack_closing.proofs.Assembled.{assembled, assembled_size, assembled_front, assembled_segment, assembled_image}
-use Rattle.rack_closing.proofs.Choices.{IsChoice, IsChosen, chosen}
-use Rattle.rack_closing.proofs.Closable.{images_rest, images_whole}
-use Rattle.rack_closing.proofs.CutParts.{reads_range}
-use Rattle.rack_closing.proofs.HereOrNot.{here_or_not}
-use Rattle.rack_closing.proofs.FinalImages.{Origin, was_here, was_pooled, of_station, IsLeftNow, left_now, origin, owner_small}
-use Rattle.rack_closing.proofs.KeepsNothing.{KeepsNothing, nothing_same, idle_keeps, other_keeps, left_keeps, gone_keeps}
-use Rattle.rack_closing.proofs.KeptImages as pieces
-use Rattle.rack_closing.proofs.LeftOfParts.{says_of}
+use Rattle.rack_parts.proofs.Members.{is_there, in_map, of_map, none_in, here_within, a_value, first_in, later_in, of_recursion}
 use Rattle.rack_parts.proofs.GivenBack.{image_length}
-use Rattle.rack_parts.proofs.Members.{a_value, first_in, later_in, of_recursion, of_map}
-use Rattle.rack_closing.proofs.PartsThrough.{IsThrough, image_through}
-use Rattle.rack_closing.proofs.QuietClosed.{left_quiet}
+use Rattle.rack_closing.proofs.Closable.{image_was, images_rest, images_whole}
+use Rattle.rack_closing.proofs.VolumesClosed.{label_fault, home_fault, segment_fault, fault_here, says_owner}
+use Rattle.rack_closing.proofs.FinalImages.{volume_at, Origin, was_here, was_pooled, of_station, IsLeftNow, left_now, origin, sound_left, here_or_not, owner_small, left_quiet}
+use Rattle.rack_closing.proofs.StationParts.{image_end, is_station, shape_of_image, among}
+use Rattle.rack_closing.proofs.HeldSegments.{of_held, not_idle}
+use Rattle.rack_closing.proofs.Unbroken.{unbroken}
+use Rattle.rack_closing.proofs.Places.{both_slices}
+use Rattle.rack_closing.proofs.SameRecovered.{IsChoice, IsChosen, chosen, KeepsNothing, nothing_same, idle_keeps, other_keeps, left_keeps, gone_keeps, SegmentsKeep, recovered_none}
+use Rattle.rack_closing.proofs.CutParts.{reads_range}
 use Rattle.rack_closing.proofs.RackClosed.{same_out}
-use Rattle.rack_closing.proofs.SameRecovered.{SegmentsKeep, recovered_none}
 use Rattle.rack_closing.proofs.Names.{names_differ}
-use Rattle.rack_closing.proofs.StationParts.{among, is_station}
+use Rattle.rack_closing.proofs.Cases.{by_option}
+use Rattle.manager.specs.declared.part.Part.TheVariants as part
+use Rattle.rack_closing.proofs.KeptImages as pieces
+
+-- The parts that were here when a rack was closed, among the images that go back.
+
+module _ {D : Type 0} (state : D → State) (tells : Bool) (config : Config) (b : BayState) (r : Rack D) (can : IsClosable state config b r) (first second : Rest D) (is : IsRest state config r.shared [] first)
+    (closed : ClosesStations tells state r.stations.items r.rest first)
+    (filled : (k : ℕ) (f : TurnLock (Pool (FreeSegment D)) PoolBase) → slice_get r.shared.pools.items k ≡ Some f → RefillsAll state (lock_id f).base.blocks first k (image_here first.images.items k) (image_here second.images.items k))
+    (kept : KeepsSpindles first second) where
+  -- an image that was out: what it is at the end
+  pub record IsThrough (k : ℕ) (m q : ImageRest D) : Type 0 where
+    pub here : image_here second.images.items k ≡ Some q
+    pub label : q.label ≡ m.label
+    pub home : (p : Spun D) → m.home ≡ Some p → q.home ≡ Some p
+    pub places : (i : ℕ) (p : Spun D) → segment_here m i ≡ Some p → segment_here q i ≡ Some p
+    pub held : (v i : ℕ) (p : Spun D) → Contains (held_here r.rest v k) (i, p) → segment_here q i ≡ Some p
+
+  homes_kept : (k : ℕ) (m : ImageRest D) (p : Spun D) → image_here r.rest.images.items k ≡ Some m → m.home ≡ Some p → home_here first k ≡ Some p
+  homes_kept k m p here home = closed.homes k away ∙ ap (λ (o : Option (ImageRest D)). option_and_then (λ j. j.home) o) here ∙ home
+    where
+      away : Contains (map (λ (t : Station D). t.id) r.stations.items) k → ⊥
+      away has =
+          let t = of_map (λ (t : Station D). t.id) r.stations.items k has in
+          let at : slice_get r.stations.items t.1.0 ≡ Some t.0 = slice_get-get_or r.stations.items t.1.0 t.0 t.1.1 ∙ ap (λ (u : Station D). Some u) t.1.2 in
+          let owner = (is_station state tells config b r can first second is closed filled kept t.1.0 t.0 at).id in
+          let base : Contains (map (λ (u : Station D). base_of_station u) r.stations.items) (base_of_station t.0) = in_map (λ (u : Station D). base_of_station u) r.stations.items t.0 t.1 in
+          let gone : Contains (away_with (map (λ (u : Station D). base_of_station u) r.stations.items)).homes k =
+          subst (λ (j : ℕ). Contains (away_with (map (λ (u : Station D). base_of_station u) r.stations.items)).homes j) (owner ∙ t.2) (in_map (λ (d : ManagerBase). d.volume.began.owner) (map (λ (u : Station D). base_of_station u) r.stations.items) (base_of_station t.0) base) in
+          (can.rest.parts.homes k m here).0 (is_there m.home p home) gone
+
+  lists_kept : (k v i : ℕ) (m : ImageRest D) (p : Spun D) → image_here r.rest.images.items k ≡ Some m → Contains (held_here r.rest v k) (i, p) → Contains (held_here first v k) (i, p)
+  lists_kept k v i m p here has = subst (λ (xs : List (ℕ × Spun D)). Contains xs (i, p)) (sym (closed.held v k away)) has
+    where
+      holding : Rattle.rack_parts.specs.Rests.IsHolding r.rest v k i
+      holding = can.rest.parts.returned.held v k i (in_map (λ (h : ℕ × Spun D). h.0) (held_here r.rest v k) (i, p) has)
+
+      row : (v < length r.rest.passes.items) ⊎ (length r.rest.passes.items ≤ v) → v < length r.rest.passes.items
+      row (inl less) = less
+      row (inr past) =
+          let none : slice_get r.rest.passes.items v ≡ None = slice_get_past r.rest.passes.items v past in
+          absurd (none-some holding.0 (sym (ap (λ (o : Option (VolumePasses D)). option_and_then (λ q. slice_index_or q.pools.items k None) o) none) ∙ holding.1))
+
+      away : Contains (away_with (map (λ (u : Station D). base_of_station u) r.stations.items)).lanes (v, k) → ⊥
+      away =
+          let within = here_within r.rest.images.items k m here in
+          (can.rest.parts.pools.here v k (row (cases_lt v (length r.rest.passes.items))) (omega (arith, within, can.rest.parts.images.0, can.locks.pool_count))).0 (is_there (pool_pass r.rest v k) holding.0 holding.1)
+
+  pub image_through : (k : ℕ) (m : ImageRest D) → image_here r.rest.images.items k ≡ Some m → (q : ImageRest D) × IsThrough k m q
+  image_through k m here =
+      let q = image_end state tells config b r can first second is closed filled kept k (is_there (image_here r.rest.images.items k) m here) in
+      let was = image_was state config r.shared first can.locks is second kept.image_count filled k q.0 q.1 in
+      let same : was.0 ≡ record m { home = was.0.home } = subst (λ (o : Option (ImageRest D)). KeepsButHome (Some m) o) was.1 (subst (λ (o : Option (ImageRest D)). KeepsButHome o (image_here first.images.items k)) here (closed.images k)) in (
+        q.0,
+        record {
+          here = q.1;
+          label = was.2.same.label ∙ ap (λ (n : ImageRest D). n.label) same;
+          home = λ p home. was.2.same.home ∙ sym (ap (λ (o : Option (ImageRest D)). option_and_then (λ j. j.home) o) was.1) ∙ homes_kept k m p here home;
+          places = λ i p at. was.2.kept i p (ap (λ (n : ImageRest D). segment_here n i) same ∙ at);
+          held = λ v i p has. was.2.back v i p (lists_kept k v i m p here has);
+        },
+      )
+
+  -- a part with a fault is among those that go back
+  pub fault_through : HasFaultIn state r.rest → HasFaultHere state second.images.items 0
+  fault_through f = go f.here
+    where
+      in_image : (k : ℕ) (m : ImageRest D) → image_here r.rest.images.items k ≡ Some m → (m.label ≡ f.part) ⊎ (m.home ≡ Some f.part) → HasFaultHere state second.images.items 0
+      in_image k m here (inl label) =
+          let q = image_through k m here in
+          fault_here state tells config b r can first second is closed filled kept k 0 q.0 q.1.here (λ disks together. label_fault state q.0 disks together (subst (λ (p : Spun D). 0 < (state_of state p).faults) (sym (q.1.label ∙ label)) f.fault))
+      in_image k m here (inr home) =
+          let q = image_through k m here in
+          fault_here state tells config b r can first second is closed filled kept k 1 q.0 q.1.here (λ disks together. home_fault state q.0 disks together f.part (q.1.home f.part home) f.fault)
+
+      in_segment : (k i : ℕ) → IsSegmentHere r.rest k i f.part → HasFaultHere state second.images.items 0
+      in_segment k i (inl place) =
+          let q = image_through k place.0 place.1 in
+          fault_here state tells config b r can first second is closed filled kept k (2 + i) q.0 q.1.here (λ disks together. segment_fault state q.0 disks together i f.part (q.1.places i f.part place.2) f.fault)
+      in_segment k i (inr list) = out (image_here r.rest.images.items k) refl
+        where
+          out : (o : Option (ImageRest D)) → image_here r.rest.images.items k ≡ o → HasFaultHere state second.images.items 0
+          out None e = absurd (none_in (i, f.part) (subst (λ (xs : List (ℕ × Spun D)). Contains xs (i, f.part)) (can.rest.parts.returned.out list.0 k e) list.1))
+          out (Some m) e =
+              let q = image_through k m e in
+              fault_here state tells config b r can first second is closed filled kept k (2 + i) q.0 q.1.here (λ disks together. segment_fault state q.0 disks together i f.part (q.1.held list.0 i f.part list.1) f.fault)
+
+      go : IsPartHere r.rest f.part → HasFaultHere state second.images.items 0
+      go (inl x) = in_image x.0 x.1 x.2 x.3
+      go (inr x) = in_segment x.0 x.1 x.2
+
+  -- and the bay's list has its name
+  pub listed_through : (old new : Told) (given : GivesBack state config second.images.items 0 old new) (name : Part) → HasFaultAt state r.rest name → IsFaultyPart config name given.more
+  listed_through old new given name f = go name f.here
+    where
+      in_image : (k place : ℕ) (q : ImageRest D) → image_here second.images.items k ≡ Some q → ((disks : List D) → IsTogether q disks → Contains (faulty_places state disks) place)
+          → (v : VolumeConf) × (slice_get config.volumes.items k ≡ Some v) × Contains given.more (v.name, place)
+      in_image k place q here among =
+          let z = shape_of_image state tells config b r can first second is closed filled kept k q here in
+          let v = volume_at config k z.0 z.1 in
+          let back = given.back k v.0 q (omega arith) v.1 here in
+          (v.0, v.1, back.faulty place (among back.disks back.together))
+
+      in_segment : (k i : ℕ) → IsSegmentHere r.rest k i f.part → (v : VolumeConf) × (slice_get config.volumes.items k ≡ Some v) × Contains given.more (v.name, 2 + i)
+      in_segment k i (inl place) =
+          let q = image_through k place.0 place.1 in
+          in_image k (2 + i) q.0 q.1.here (λ disks together. segment_fault state q.0 disks together i f.part (q.1.places i f.part place.2) f.fault)
+      in_segment k i (inr list) = out (image_here r.rest.images.items k) refl
+        where
+          out : (o : Option (ImageRest D)) → image_here r.rest.images.items k ≡ o → (v : VolumeConf) × (slice_get config.volumes.items k ≡ Some v) × Contains given.more (v.name, 2 + i)
+          out None e = absurd (none_in (i, f.part) (subst (λ (xs : List (ℕ × Spun D)). Contains xs (i, f.part)) (can.rest.parts.returned.out list.0 k e) list.1))
+          out (Some m) e =
+              let q = image_through k m e in
+              in_image k (2 + i) q.0 q.1.here (λ disks together. segment_fault state q.0 disks together i f.part (q.1.held list.0 i f.part list.1) f.fault)
+
+      go : (n : Part) → IsNamedHere r.rest n f.part → IsFaultyPart config n given.more
+      go (part.Home volume) x =
+          let q = image_through volume x.0 x.1 in
+          in_image volume 1 q.0 q.1.here (λ disks together. home_fault state q.0 disks together f.part (q.1.home f.part x.2) f.fault)
+      go (part.Segment volume index) x = in_segment volume index x
+
+-- The images that a crash leaves of a rack that was closed: what each of their parts comes from.
+
+-- records that lie in home, by what their heads say
+heads_within : (home_blocks owner : ℕ) (rs : List Record) → AllByRecursion (IsNamed owner) rs → AllByRecursion (LiesInHome home_blocks) rs → AllByRecursion (λ (q : Record). q.head.first + q.head.count ≤ home_blocks) rs
+heads_within home_blocks owner [] named lie = tt
+heads_within home_blocks owner (q ∷ rs) named lie = ((let counted = named.0.counted in let lies = lie.0 in omega (arith, counted, lies)), heads_within home_blocks owner rs named.1 lie.1)
+
+module _ {D : Type 0} (state : D → State) (tells : Bool) (told : IsTrue tells) (tell_all : (d : D) → TellsContent (state d)) (sound : (d : D) → IsDisk (state d)) (config : Config) (few_volumes : length (shapes_of config) ≤ 64)
+    (b : BayState) (r : Rack D) (can : IsClosable state config b r) (first second : Rest D) (is : IsRest state config r.shared [] first)
+    (closed : ClosesStations tells state r.stations.items r.rest first)
+    (filled : (k : ℕ) (f : TurnLock (Pool (FreeSegment D)) PoolBase) → slice_get r.shared.pools.items k ≡ Some f → RefillsAll state (lock_id f).base.blocks first k (image_here first.images.items k) (image_here second.images.items k))
+    (kept : KeepsSpindles first second) (old new : Told) (given : GivesBack state config second.images.items 0 old new) (images : Images) (left : AreLeft config new images) where
+  -- a segment of a manager is sound
+  sound_of : (k i : ℕ) (z : Shape) (c : List Block) → slice_get (shapes_of config) k ≡ Some z → image_of images k ≡ Some c → (j : ℕ) (t : Station D) (d : Closing D) → slice_get r.stations.items j ≡ Some t → slice_get closed.closings j ≡ Some d → IsClosing tells state first t d
+      → (l : Lane D) (h : HeldSegment D) → Contains d.manager.lanes.items l → logger_of l ≡ k → Contains (held_in l) h → h.index ≡ i → IsSoundOf (base_of_station t).volume.began.owner (base_of_station t).volume.began.home_blocks (segment_of z c i)
+  sound_of k i z c at image j t d t_at d_at id l h in_lanes logger in_held index =
+      subst (λ (m : ℕ). IsSoundOf (base_of_station t).volume.began.owner (base_of_station t).volume.began.home_blocks (segment_of z c m)) index
+      (sound_left state tells told tell_all sound config few_volumes b r can first second is closed filled kept old new given images left j t d t_at d_at id l h in_lanes in_held z c
+      (ap (slice_get (shapes_of config)) logger ∙ at) (ap (image_of images) logger ∙ image))
+
+  -- it is idle, or a log of its volume
+  idle_or_log : (k : ℕ) (j : ℕ) (t : Station D) → slice_get r.stations.items j ≡ Some t → (bs : List Block) → IsSoundOf (base_of_station t).volume.began.owner (base_of_station t).volume.began.home_blocks bs → IsIdle bs ⊎ IsLogOfStation t k bs
+  idle_or_log k j t t_at bs (idle is_idle) = inl is_idle
+  idle_or_log k j t t_at bs (log rs is_log lie) = inr (record {
+    records = rs;
+    log = subst (λ (v : ℕ). IsLog bs v rs) (is_station state tells config b r can first second is closed filled kept j t t_at).id is_log;
+    within = heads_within (base_of_station t).volume.began.home_blocks (base_of_station t).volume.began.owner rs is_log.named lie;
+  })
+
+  -- of a manager that never broke it isn't idle
+  log_of : (k : ℕ) (j : ℕ) (t : Station D) (d : Closing D) → slice_get r.stations.items j ≡ Some t → IsClosing tells state first t d → (l : Lane D) (h : HeldSegment D) → Contains d.manager.lanes.items l → Contains (held_in l) h
+      → (bs : List Block) → IsImageOf (state_of state (part_of h.segment)).values bs → IsIdle bs ⊎ IsLogOfStation t k bs → IsUnbroken t → IsLogOfStation t k bs
+  log_of k j t d t_at id l h in_lanes in_held bs is_image (inr it) quiet = it
+  log_of k j t d t_at id l h in_lanes in_held bs is_image (inl free) quiet =
+      let up = unbroken t d.entries (is_station state tells config b r can first second is closed filled kept j t t_at) id.whole quiet in
+      absurd (of_held (λ g. (c : List Block) → IsTrue tells × may_be state g.part c → IsLog c (base_of_station t).volume.began.owner g.records) ⊥ 0 d.manager.lanes.items id.stands.keeps.logs
+      (λ g rs. IsTrue tells → d.manager.down ≡ None → Rattle.log_segment.specs.Segment.Holds state g.segment rs) id.stands.keeps.held ((id.stands.keeps.upholds.calm up).whole told).logs l h in_lanes in_held
+      (λ i rs broken x. not_idle (base_of_station t).volume.began.owner bs rs free (x bs (told, is_image))))
+
+  pub left_parts : (k : ℕ) (z : Shape) (m : ImageRest D) → slice_get (shapes_of config) k ≡ Some z → image_here r.rest.images.items k ≡ Some m → (c : List Block) × (image_of images k ≡ Some c) × IsLeftOfParts state z r k m c
+  left_parts k z m at here = (
+    x.0,
+    x.1,
+    record {
+      sized = x.2.size;
+      label = subst (λ (p : Spun D). IsImageOf (state_of state p).values (slice_range x.0 0 2)) q.1.label x.2.label;
+      home = λ p home. x.2.home p (q.1.home p home);
+      segments = segment;
+    },
+  )
+    where
+      q : (q : ImageRest D) × Rattle.rack_closing.proofs.LeftVolumes.IsThrough state tells config b r can first second is closed filled kept k m q
+      q = image_through state tells config b r can first second is closed filled kept k m here
+
+      x : (c : List Block) × (image_of images k ≡ Some c) × IsLeftNow state z q.0 c
+      x = left_now state tells told tell_all sound config few_volumes b r can first second is closed filled kept old new given images left k z q.0 at q.1.here
+
+      segment : (i : ℕ) → i < z.segments → ComesFrom state r k i (segment_of z x.0 i)
+      segment i within = by_place (here_or_not r.rest k i m here)
+        where
+          p : (p : Spun D) × (segment_here q.0 i ≡ Some p)
+          p =
+              let whole = images_whole state config r.shared first can.locks is second kept.image_count filled k q.0 q.1.here in
+              let rest = (images_rest state config r.shared first can.locks is second kept.image_count filled).1 k z q.0 at q.1.here in
+              a_value (segment_here q.0 i) (whole.segments i (omega (arith, within, rest.count)))
+
+          is_image : IsImageOf (state_of state p.0).values (segment_of z x.0 i)
+          is_image = x.2.segments i p.0 p.1
+
+          -- one that was here stays in its place
+          end_of : (n : Spun D) → IsSegmentHere r.rest k i n → segment_here q.0 i ≡ Some n
+          end_of n place =
+              ⊎_elim
+              (λ y. q.1.places i n (ap (λ (w : ImageRest D). segment_here w i) (same_Some m y.0 (sym here ∙ y.1)) ∙ y.2))
+              (λ y. q.1.held y.0 i n y.1)
+              place
+
+          go : ((n : Spun D) → IsSegmentHere r.rest k i n → ⊥) → Origin state tells told tell_all sound config few_volumes b r can first second is closed filled kept old new given images left k i p.0 → ComesFrom state r k i (segment_of z x.0 i)
+          go never (was_here there foreign) = absurd (never p.0 there)
+          go never (was_pooled free) = from_pool never (free (segment_of z x.0 i) is_image)
+          go never (of_station j t d t_at d_at id l h in_lanes logger in_held index part) =
+              let image : IsImageOf (state_of state (part_of h.segment)).values (segment_of z x.0 i) = subst (λ (n : Spun D). IsImageOf (state_of state n).values (segment_of z x.0 i)) (sym part) is_image in
+              let in_view : Contains (base_of_station t).volume.began.view k = subst (λ xs. Contains xs k) id.stands.keeps.locks.view (subst (λ (n : ℕ). Contains (map logger_of d.manager.lanes.items) n) logger (in_map logger_of d.manager.lanes.items l in_lanes)) in
+              let it = idle_or_log k j t t_at (segment_of z x.0 i) (sound_of k i z x.0 at x.1 j t d t_at d_at id l h in_lanes logger in_held index) in
+              from_manager never t (among state tells config b r can first second is closed filled kept j t t_at) in_view it (log_of k j t d t_at id l h in_lanes in_held (segment_of z x.0 i) image it)
+
+          by_place : ((n : Spun D) × IsSegmentHere r.rest k i n) ⊎ ((n : Spun D) → IsSegmentHere r.rest k i n → ⊥) → ComesFrom state r k i (segment_of z x.0 i)
+          by_place (inl place) = from_here place.0 place.1 (x.2.segments i place.0 (end_of place.0 place.1))
+          by_place (inr never) = go never (origin state tells told tell_all sound config few_volumes b r can first second is closed filled kept old new given images left k i q.0 p.0 q.1.here p.1)
+
+-- What every volume recovers to once the rack is closed, where nothing was written since it was opened.
 
 -- ---- Stations by number
 
@@ -165,7 +350,7 @@ module _ {D : Type 0} (state : D → State) (tells : Bool) (told : IsTrue tells)
               let small = owner_small state tells told tell_all sound config few_volumes b r can first second is closed filled kept old new given images left j t t_at in
               let station = is_station state tells config b r can first second is closed filled kept j t t_at in
               other_keeps v t.id (segment_of z now.0 i) (subst (λ (n : ℕ). n < 2 ^ 32) station.id small) (others t (among state tells config b r can first second is closed filled kept j t t_at))
-              (says_of state tells told tell_all sound config few_volumes b r can first second is closed filled kept old new given images left j t d t_at id l h in_lanes in_held (segment_of z now.0 i) im)
+              (says_owner state tells config b r can first second is closed filled kept j t d t_at d_at id told l h in_lanes in_held (segment_of z now.0 i) im)
 
       -- each segment goes with one that it might have been at entry
       segment_was : (i : ℕ) → i < z.segments → (was : List Block) × (IsImage (slice_range before.blocks (head_place z i) (head_place z (i + 1))) was × SegmentsKeep v (segment_of z now.0 i) was)
@@ -205,83 +390,55 @@ module _ {D : Type 0} (state : D → State) (tells : Bool) (told : IsTrue tells)
           (cases_eq k v)
 
       module _ (rest_is : before.rest ≡ []) (size : length before.blocks ≡ image_size z) where
-        piece_or : (i : ℕ) → (was : List Block) × (i < z.segments → IsImage (slice_range before.blocks (head_place z i) (head_place z (i + 1))) was × SegmentsKeep v (segment_of z now.0 i) was)
-        piece_or = pieces.chosen {P = λ i was. IsImage (slice_range before.blocks (head_place z i) (head_place z (i + 1))) was × SegmentsKeep v (segment_of z now.0 i) was} z.segments segment_was
+        -- its front has the same home as another, if it is the volume's own
+        abbrev OwnHome : (now was : List Block) → Type 0
+        OwnHome now was = k ≡ v → slice_range was 2 (2 + z.home) ≡ slice_range now 2 (2 + z.home)
 
-        piece : ℕ → List Block
-        piece i = (piece_or i).0
-
-        label : List Block
-        label = slice_range (reads before.blocks) 0 2
-
-        label_long : length label ≡ 2
-        unfolding label
-        label_long = image_length (slice_range before.blocks 0 2) label (read_piece before.blocks 0 2) ∙ piece_long before.blocks 0 2 (omega arith) (omega (arith, size))
-
-        label_image : IsImage (slice_range before.blocks 0 2) label
-        unfolding label
-        label_image = read_piece before.blocks 0 2
-
-        home_long : length home_was.0 ≡ z.home
-        home_long = image_length (slice_range before.blocks 2 (2 + z.home)) home_was.0 home_was.1.0 ∙ piece_long before.blocks 2 (2 + z.home) (omega arith) (omega (arith, size)) ∙ (let e : 2 + z.home - 2 ≡ z.home = omega arith in e)
-
-        front : List Block
-        front = label ++ home_was.0
-
-        front_long : length front ≡ 2 + z.home
-        unfolding front
-        front_long = let n = Rattle.std.proofs.lemmas.List.length-append label home_was.0 in omega (arith, n, label_long, home_long)
-
-        front_image : IsImage (slice_range before.blocks 0 (2 + z.home)) front
-        unfolding front
-        front_image = both_slices before.blocks 0 2 (2 + z.home) label home_was.0 (omega arith) (omega arith) label_image home_was.1.0
-
-        sized : (i : ℕ) → i < z.segments → length (piece i) ≡ z.segment_blocks
-        unfolding piece
-        sized i lt = pieces.piece_length z before.blocks i (piece i) size lt ((piece_or i).1 lt).0
-
-        each_image : (i : ℕ) → i < z.segments → IsImage (slice_range before.blocks (2 + z.home + i * z.segment_blocks) (2 + z.home + (i + 1) * z.segment_blocks)) (piece i)
-        unfolding piece
-        each_image i lt = ((piece_or i).1 lt).0
-
-        each_keeps : (i : ℕ) → i < z.segments → SegmentsKeep v (segment_of z now.0 i) (piece i)
-        unfolding piece
-        each_keeps i lt = ((piece_or i).1 lt).1
-
-        whole : List Block
-        whole = assembled z front piece
-
-        whole_home : home_of z whole ≡ home_was.0
-        unfolding whole front
-        whole_home =
-            sym (pieces.front_home z whole (assembled_size z front piece front_long sized)) ∙ ap (λ (l : List Block). slice_range l 2 (2 + z.home)) (assembled_front z front piece front_long sized)
-            ∙ home_behind z label home_was.0 label_long home_long
-
-        out_choice : IsChoice config entry (is_kept_home out) v k conf (image_of images k) (image_of images k) (Some whole)
-        unfolding whole
-        out_choice = record {
-          may = subst (λ (o : Option Image). MayLeave o (Some whole)) (sym there_k) (rest_is, assembled_image z front piece front_long sized before.blocks front_image each_image size);
-          keeps = λ taken. record {
-            now = now.0;
-            was = whole;
-            now_is = now.1;
-            was_is = refl;
-            now_sized = now.2.size;
-            was_sized = assembled_size z front piece front_long sized;
-            segments = λ i lt. subst (λ (c : List Block). SegmentsKeep v (segment_of z now.0 i) c) (sym (assembled_segment z front piece front_long sized i lt)) (each_keeps i lt);
-          };
-          home = λ same. ap (home_in (Some z)) now.1 ∙ home_was.1.1 same ∙ sym whole_home;
-          same = λ home. absurd (let no : is_kept_home out k ≡ false = ap (λ (x : Option (ImageRest D)). not (is_some x)) here in cc (no, home));
+        kept_here : pieces.IsKeptImage OwnHome (λ i c d. SegmentsKeep v c d) z (at_name conf.name entry.images) (image_of images k)
+        kept_here = record {
+          before = before;
+          there = there_k;
+          whole = rest_is;
+          size = size;
+          now = now.0;
+          is = now.1;
+          sized = now.2.size;
+          front = (
+            label ++ home_was.0,
+            both_slices before.blocks 0 2 (2 + z.home) label home_was.0 (omega arith) (omega arith) label_image home_was.1.0,
+            λ same. home_behind z label home_was.0 label_long home_long ∙ sym (home_was.1.1 same) ∙ sym (pieces.front_home z now.0 now.2.size),
+          );
+          segments = λ i lt. let w = segment_was i lt in (w.0, w.1.0, w.1.1);
         }
+          where
+            label : List Block
+            label = slice_range (reads before.blocks) 0 2
+
+            label_image : IsImage (slice_range before.blocks 0 2) label
+            label_image = read_piece before.blocks 0 2
+
+            label_long : length label ≡ 2
+            label_long = image_length (slice_range before.blocks 0 2) label label_image ∙ piece_long before.blocks 0 2 (omega arith) (omega (arith, size))
+
+            home_long : length home_was.0 ≡ z.home
+            home_long = image_length (slice_range before.blocks 2 (2 + z.home)) home_was.0 home_was.1.0 ∙ piece_long before.blocks 2 (2 + z.home) (omega arith) (omega (arith, size)) ∙ (let e : 2 + z.home - 2 ≡ z.home = omega arith in e)
+
+        out_choice : (o : Option (List Block)) × IsChoice config entry (is_kept_home out) v k conf (image_of images k) (image_of images k) o
+        out_choice =
+            let e = pieces.earlier OwnHome (λ i c d. SegmentsKeep v c d) z (at_name conf.name entry.images) (image_of images k) kept_here in (
+              Some e.was,
+              record {
+                may = e.may;
+                keeps = λ taken. pieces.two_keep OwnHome (λ i c d. SegmentsKeep v c d) z v (image_of images k) (Some e.was) (λ i c d keep. keep) e.two;
+                home = λ same. sym (pieces.two_home OwnHome (λ i c d. SegmentsKeep v c d) z (image_of images k) (Some e.was) (λ n w front. front same) e.two);
+                same = λ home. absurd (let no : is_kept_home out k ≡ false = ap (λ (x : Option (ImageRest D)). not (is_some x)) here in cc (no, home));
+              },
+            )
 
     any_choice : (k : ℕ) (conf : VolumeConf) → slice_get config.volumes.items k ≡ Some conf → (o : Option (List Block)) × IsChoice config entry (is_kept_home out) v k conf (image_of images k) (image_of images k) o
-    any_choice k conf at = go (image_here out k) refl
-      where
-        go : (x : Option (ImageRest D)) → image_here out k ≡ x → (o : Option (List Block)) × IsChoice config entry (is_kept_home out) v k conf (image_of images k) (image_of images k) o
-        go None e = (image_of images k, record { may = still k conf at e; keeps = λ taken. absurd (let yes_ : is_kept_home out k ≡ true = ap (λ (x : Option (ImageRest D)). not (is_some x)) e in cc (yes_, taken)); home = λ same. refl; same = λ home. refl })
-        go (Some m) e =
-            let t = there k conf at (ap is_some e) in
-            (Some (whole k conf at m e t.0 t.1 t.2 t.3), out_choice k conf at m e t.0 t.1 t.2 t.3)
+    any_choice k conf at = by_option (image_here out k)
+        (λ e. (image_of images k, record { may = still k conf at e; keeps = λ taken. absurd (let yes_ : is_kept_home out k ≡ true = ap (λ (x : Option (ImageRest D)). not (is_some x)) e in cc (yes_, taken)); home = λ same. refl; same = λ home. refl }))
+        (λ m e. let t = there k conf at (ap is_some e) in out_choice k conf at m e t.0 t.1 t.2 t.3)
 
     -- a volume without a station
     closed_choice : (before : Images) × IsChosen config entry (is_kept_home out) v images images left.count any_choice before

@@ -1,23 +1,15 @@
 -- The segments that a volume owns give all of what it recovers to.
-use Rattle.std.proofs.Common.{◌≡◌, ◌⊎◌, inl, inr, ⊎_elim, ◌<◌, ◌≤◌, ◌+◌, ◌^◌, ◌&&◌, ℕ, zero, suc, Bool, true, false, cond, ltb, List, [], ◌∷◌, ◌++◌, map, Option, None, Some, refl, sym, ap, subst, ◌∙◌, length, arith}
-use Rattle.std.specs.Prelude.{slice_get, unwrap_or, All, ⊤}
-use Rattle.std.specs.List.{AllByRecursion, range_with_len}
+use Rattle.rack_closing.proofs.Basics.{◌≡◌, ◌⊎◌, inl, inr, ⊎_elim, ◌<◌, ◌≤◌, ◌+◌, ◌^◌, ◌&&◌, ℕ, zero, suc, Bool, true, false, cond, ltb, List, [], ◌∷◌, ◌++◌, map, Option, None}
+use Rattle.rack_closing.proofs.Basics.{Some, refl, sym, ap, subst, ◌∙◌, length, arith, slice_get, unwrap_or, All, ⊤, AllByRecursion, range_with_len, eq-eqb, same_Some, none-some}
+use Rattle.rack_closing.proofs.Basics.{flat_map-append}
+use Rattle.rack_closing.proofs.Terms.{Block, IsAmong, Shape, owned_block, Extent, with_extents, Images, image_of, image_size, home_of, home_in, segment_of, segments_of}
+use Rattle.rack_closing.proofs.Terms.{all_segments, extent_of, extents_of, read_records, AreInOrder, IsBefore, head_place, AreOwnedIn, IsOwnedIn}
 use Rattle.std.specs.Str.{bytes_eq}
-use Rattle.std.proofs.lemmas.Bool.{eq-eqb}
-use Rattle.std.proofs.lemmas.Option.{same_Some, none-some}
-use Rattle.std.proofs.lemmas.Grind.{flat_map-append}
-use Rattle.wol_disk.specs.Disk.{Block, IsAmong}
-use Rattle.wol_model.specs.Heads.{Shape, owned_block}
-use Rattle.wol_model.specs.Extents.{Extent, with_extents}
-use Rattle.wol_model.specs.Images.{Images, image_of, image_size, home_of, home_in, segment_of, segments_of, all_segments, recovered_from}
-use Rattle.wol_model.specs.Log.{extent_of}
-use Rattle.wol_model.specs.Recovered.{extents_in, extents_of, read_log, read_records, recovered}
+use Rattle.wol_model.specs.Images.{recovered_from}
+use Rattle.wol_model.specs.Recovered.{extents_in, read_log, recovered}
 use Rattle.wol_model.proofs.ReadHeads.{same_bytes, same_from}
-use Rattle.manager_recovery.specs.Opening.{AreInOrder, IsBefore}
 use Rattle.manager_recovery.specs.Owned.{Owned}
 use Rattle.manager_recovery.proofs.ByLogger.{among_contains, among_left, among_right, contains_among}
-use Rattle.volume_images.specs.Accepted.{head_place}
-use Rattle.rack_closing.specs.Owners.{AreOwnedIn, IsOwnedIn}
 
 -- ---- Lists in order
 
@@ -34,6 +26,14 @@ never_both : (p q : ℕ × ℕ) → IsBefore p q → IsBefore q p → ⊥
 never_both p q a b = ⊎_elim
     (λ less. ⊎_elim (λ more. omega (arith, less, more)) (λ same. let e = same.0 in omega (arith, less, e)) b)
     (λ same. ⊎_elim (λ more. let e = same.0 in omega (arith, e, more)) (λ other. let x = same.1 in let y = other.1 in omega (arith, x, y)) b) a
+
+-- what holds of all holds of one among them
+pub all_among : {X : Type 0} (P : X → Type 0) (xs : List X) (x : X) → AllByRecursion P xs → IsAmong xs x → P x
+all_among P [] x all has = absurd has
+all_among P (y ∷ xs) x all has = ⊎_elim (λ same. subst P (sym same) all.0) (λ more. all_among P xs x all.1 more) has
+
+pub each_among : {X : Type 0} (P : X → Type 0) (xs : List X) → All P xs → (x : X) → IsAmong xs x → P x
+each_among P xs all x has = let at = contains_among xs x has in subst P at.2 (all at.0 x at.1)
 
 -- what holds of each place holds of the place of each element
 behind : (p : ℕ × ℕ) (os : List Owned) (o : Owned) → AllByRecursion (IsBefore p) (map (λ (x : Owned). (x.logger, x.index)) os) → IsAmong os o → IsBefore p (o.logger, o.index)
@@ -64,11 +64,8 @@ abbrev says : (v : ℕ) → List Block → Bool
 says v [] = false
 says v (b ∷ bs) = bytes_eq b (owned_block v)
 
-no_true : {X : Type 0} → false ≡ true → X
-no_true e = absurd (subst (λ (t : Bool). cond t ⊥ ⊤) e tt)
-
 says_so : (v : ℕ) (bs : List Block) → says v bs ≡ true → (rest : List Block) × (bs ≡ owned_block v ∷ rest)
-says_so v [] is = no_true is
+says_so v [] is = absurd (cc is)
 says_so v (b ∷ bs) is = (bs, λ i. same_from b (owned_block v) is i ∷ bs)
 
 says_of : (v : ℕ) (bs rest : List Block) → bs ≡ owned_block v ∷ rest → says v bs ≡ true
@@ -302,7 +299,7 @@ module _ (keeps : List Block → Bool) where
     where
       at : (t : Bool) → t ≡ true → IsAmong (cond t (segment_at k s image i ∷ listed_of k s image (range_with_len (i + 1) n)) (listed_of k s image (range_with_len (i + 1) n))) (segment_at k s image i)
       at true yes_ = inl refl
-      at false yes_ = no_true yes_
+      at false yes_ = absurd (cc yes_)
   found_of k s image i (suc n) (suc j) is lt =
       let e : i + suc j ≡ i + 1 + j = omega arith in
       let further = found_of k s image (i + 1) n j (subst (λ (m : ℕ). keeps (segment_of s image m) ≡ true) e is) (omega (arith, lt)) in
@@ -357,12 +354,9 @@ module _ (v : ℕ) where
       let same : segment_at (says v) (0 + o.logger) is.shape is.image o.index ≡ o = λ i. record { logger = z i; index = o.index; first = sym is.first_is i; blocks = sym is.blocks_are i } in
       subst (λ (x : Owned). IsAmong (listed (says v) 0 shapes images) x) same there
 
-  each_so : (P : Owned → Type 0) (os : List Owned) → All P os → (o : Owned) → IsAmong os o → P o
-  each_so P os all o has = let at = contains_among os o has in subst P at.2 (all at.0 o at.1)
-
   are_listed : (shapes : List Shape) (images : Images) (os : List Owned) → AreOwnedIn shapes images v os → os ≡ listed (says v) 0 shapes images
   are_listed shapes images os are = same_sorted os (listed (says v) 0 shapes images) are.in_order (ordered (says v) 0 shapes images)
-      (λ o has. listed_so shapes images o (each_so (IsOwnedIn shapes images v) os are.each o has))
+      (λ o has. listed_so shapes images o (each_among (IsOwnedIn shapes images v) os are.each o has))
       (λ o has. among_contains os o (are.all o (owned_so shapes images o (stands (says v) 0 shapes images o has))))
 
 pub fits : (keeps : List Block → Bool) (shapes : List Shape) (images : Images) → ((k : ℕ) (t : Shape) (i : List Block) → slice_get shapes k ≡ Some t → image_of images k ≡ Some i → length i ≡ image_size t) → Fits keeps shapes images

@@ -1,19 +1,21 @@
+-- Images whose segments keep the same records, or nothing of a volume, recover to the same array.
+use Rattle.rack_closing.proofs.Basics.{◌≡◌, ◌⊎◌, inl, inr, ⊎_elim, ℕ, zero, suc, ◌+◌, ◌<◌, ◌≤◌, Bool, true, false, cond, List, [], ◌∷◌, ◌++◌, map, length, Option, None, Some, refl}
+use Rattle.rack_closing.proofs.Basics.{sym, ap, ◌∙◌, arith, get_or, subst, ◌≢◌, ◌^◌, option_and_then, slice_get, unwrap_or, slice_index_or, AllByRecursion, range_with_len, eq-eqb}
+use Rattle.rack_closing.proofs.Basics.{cases_eq, flat_map-append, length-map-range_with_len, get_or-map-range_with_len, none-some, same_Some, slice_get_within, slice_get-get_or}
+use Rattle.rack_closing.proofs.Terms.{Block, Values, IsImageOf, Told, at_name, block_of, overlaid, Extent, Cover, newer_of, newest, CoversNothing, Shape, owned_block, Images}
+use Rattle.rack_closing.proofs.Terms.{image_of, image_size, home_in, segment_of, segments_of, accepted, accepted_from, all_segments, Record, IsLog, extent_of, IsIdle, extents_of}
+use Rattle.rack_closing.proofs.Terms.{read_log, log_from, log_read, idle_none, SaysOwnerOrFree, Config, VolumeConf, Station, HasNothing, IsLeftOf, shape_in, shapes_of, MayLeave}
+use Rattle.rack_closing.proofs.Terms.{AreLeft, HasHead, recovered_but, HasNoLogIn}
+use Rattle.wol_model.specs.Extents.{newest_block, with_extents}
+use Rattle.wol_model.specs.Images.{recovered_from}
+use Rattle.wol_model.specs.Recovered.{extents_in, recovered}
+use Rattle.manager_recovery.proofs.Leaves.{all_bare}
+use Rattle.rack_closing.proofs.LeftImage.{volume_at}
+use Rattle.rack_closing.proofs.HeldSegments.{not_of_other}
+use Rattle.rack_closing.proofs.Cases.{by_option}
+use Rattle.wol_model.specs.Heads as head
+
 -- Images whose segments keep the same records recover to the same array.
-use Rattle.std.proofs.Common.{◌≡◌, ◌⊎◌, inl, inr, ⊎_elim, ℕ, zero, suc, ◌+◌, ◌<◌, ◌≤◌, Bool, true, false, cond, List, [], ◌∷◌, ◌++◌, map, length, Option, None, Some, refl, sym, ap, ◌∙◌, arith}
-use Rattle.std.specs.Prelude.{slice_get, unwrap_or}
-use Rattle.std.specs.List.{AllByRecursion, range_with_len}
-use Rattle.std.specs.Option.{option_and_then}
-use Rattle.std.proofs.lemmas.Bool.{eq-eqb}
-use Rattle.std.proofs.lemmas.Grind.{flat_map-append}
-use Rattle.wol_disk.specs.Disk.{Block}
-use Rattle.wol_model.specs.Blocks.{block_of, overlaid}
-use Rattle.wol_model.specs.Extents.{Extent, Cover, newer_of, newest, newest_block, with_extents}
-use Rattle.wol_model.specs.Heads.{Shape}
-use Rattle.wol_model.specs.Images.{Images, image_of, image_size, home_in, segment_of, segments_of, accepted, accepted_from, all_segments, recovered_from}
-use Rattle.wol_model.specs.Log.{Record, IsLog, extent_of}
-use Rattle.wol_model.specs.Recovered.{extents_in, extents_of, read_log, recovered}
-use Rattle.wol_model.proofs.ReadLogs.{log_from}
-use Rattle.rack_closing.specs.Owners.{recovered_but, HasNoLogIn}
 
 -- ---- Extents
 
@@ -209,3 +211,167 @@ module _ (v : ℕ) where
       ap (λ (l : Images). extents_of v (all_segments shapes l)) (sym (accepted_all 0 images))
       ∙ all_say (λ es. es) (λ es fs. refl) v none_refused 0 shapes images before count (λ k s is lt not. inr (each k s is lt))
       ∙ ap (λ (l : Images). extents_of v (all_segments shapes l)) (accepted_all 0 before)
+
+-- Choices of images, one volume at a time.
+
+pub image_or : (images : Images) (k : ℕ) → image_of images k ≡ get_or images k None
+image_or [] k = refl
+image_or (i ∷ images) zero = refl
+image_or (i ∷ images) (suc k) = image_or images k
+
+-- one image of each volume of the configuration
+module _ (config : Config) (P : ℕ → VolumeConf → Option (List Block) → Type 0)
+    (choose : (k : ℕ) (conf : VolumeConf) → slice_get config.volumes.items k ≡ Some conf → (o : Option (List Block)) × P k conf o) where
+  pub record ArePicked (images : Images) : Type 0 where
+    pub count : length images ≡ length config.volumes.items
+    pub each : (k : ℕ) (conf : VolumeConf) → slice_get config.volumes.items k ≡ Some conf → P k conf (image_of images k)
+
+  pick : (k : ℕ) → (o : Option (List Block)) × ((conf : VolumeConf) → slice_get config.volumes.items k ≡ Some conf → P k conf o)
+  pick k = by_option (slice_get config.volumes.items k)
+      (λ e. (None, λ conf is. absurd (none-some conf (sym e ∙ is))))
+      (λ conf e. let x = choose k conf e in (x.0, λ other is. subst (λ (c : VolumeConf). P k c x.0) (same_Some conf other (sym e ∙ is)) x.1))
+
+  pub picked : (images : Images) × ArePicked images
+  picked = (
+    map one (range_with_len 0 (length config.volumes.items)),
+    record {
+      count = length-map-range_with_len one 0 (length config.volumes.items);
+      each = λ k conf is. subst (P k conf) (sym (at k (slice_get_within config.volumes.items k conf is))) ((pick k).1 conf is);
+    },
+  )
+    where
+      one : ℕ → Option (List Block)
+      one k = (pick k).0
+
+      at : (k : ℕ) → k < length config.volumes.items → image_of (map one (range_with_len 0 (length config.volumes.items))) k ≡ one k
+      at k lt = image_or (map one (range_with_len 0 (length config.volumes.items))) k ∙ get_or-map-range_with_len one 0 (length config.volumes.items) k k None lt (omega arith)
+
+-- images that keep the same of one volume, image by image
+module _ (config : Config) (refused : ℕ → Bool) (v : ℕ) (images before : Images) (count : length images ≡ length before)
+    (keeps : (k : ℕ) (conf : VolumeConf) → slice_get config.volumes.items k ≡ Some conf → refused k ≡ false → ImagesKeep v (shape_in config conf) (image_of images k) (image_of before k))
+    (home : (conf : VolumeConf) → slice_get config.volumes.items v ≡ Some conf → home_in (Some (shape_in config conf)) (image_of images v) ≡ home_in (Some (shape_in config conf)) (image_of before v)) where
+  same_home : home_in (slice_get (shapes_of config) v) (image_of images v) ≡ home_in (slice_get (shapes_of config) v) (image_of before v)
+  same_home = go (slice_get (shapes_of config) v) refl
+    where
+      go : (o : Option Shape) → slice_get (shapes_of config) v ≡ o → home_in o (image_of images v) ≡ home_in o (image_of before v)
+      go None e = refl
+      go (Some s) e = let conf = volume_at config v s e in subst (λ (t : Shape). home_in (Some t) (image_of images v) ≡ home_in (Some t) (image_of before v)) conf.2 (home conf.0 conf.1)
+
+  keeps_at : (k : ℕ) (s : Shape) → slice_get (shapes_of config) k ≡ Some s → refused k ≡ false → ImagesKeep v s (image_of images k) (image_of before k)
+  keeps_at k s at not = let conf = volume_at config k s at in subst (λ (t : Shape). ImagesKeep v t (image_of images k) (image_of before k)) conf.2 (keeps k conf.0 conf.1 not)
+
+  pub but_same : recovered_but (shapes_of config) refused images v ≡ recovered_but (shapes_of config) refused before v
+  but_same = recovered_same v refused (shapes_of config) images before count same_home (λ k s at lt not. inr (keeps_at k s at not))
+
+  -- and where no image is refused, if those that were to be are the same
+  pub all_same : ((k : ℕ) (conf : VolumeConf) → slice_get config.volumes.items k ≡ Some conf → refused k ≡ true → image_of before k ≡ image_of images k)
+      → recovered_from (shapes_of config) images v ≡ recovered_from (shapes_of config) before v
+  all_same same = recovered_all v (shapes_of config) images before count same_home (λ k s at lt. by_test k s at (refused k) refl)
+    where
+      by_test : (k : ℕ) (s : Shape) → slice_get (shapes_of config) k ≡ Some s → (t : Bool) → refused k ≡ t → (image_of images k ≡ image_of before k) ⊎ ImagesKeep v s (image_of images k) (image_of before k)
+      by_test k s at true e = let conf = volume_at config k s at in inl (sym (same k conf.0 conf.1 e))
+      by_test k s at false e = inr (keeps_at k s at e)
+
+-- an image of volume k that might have been left at entry, which keeps the same of volume v as another does; of v's own also the home;
+-- a refused one is this
+pub record IsChoice (config : Config) (entry : Told) (refused : ℕ → Bool) (v k : ℕ) (conf : VolumeConf) (image this o : Option (List Block)) : Type 0 where
+  pub may : MayLeave (at_name conf.name entry.images) o
+  pub keeps : refused k ≡ false → ImagesKeep v (shape_in config conf) image o
+  pub home : k ≡ v → home_in (Some (shape_in config conf)) image ≡ home_in (Some (shape_in config conf)) o
+  pub same : refused k ≡ true → o ≡ this
+
+module _ (config : Config) (entry : Told) (refused : ℕ → Bool) (v : ℕ) (images these : Images) (count : length images ≡ length config.volumes.items)
+    (choice : (k : ℕ) (conf : VolumeConf) → slice_get config.volumes.items k ≡ Some conf → (o : Option (List Block)) × IsChoice config entry refused v k conf (image_of images k) (image_of these k) o) where
+  -- all of these together recover to the same
+  pub record IsChosen (before : Images) : Type 0 where
+    pub left : AreLeft config entry before
+    pub but : recovered_but (shapes_of config) refused images v ≡ recovered_but (shapes_of config) refused before v
+    -- refused images are these
+    pub stay : (k : ℕ) (s : Shape) → slice_get (shapes_of config) k ≡ Some s → refused k ≡ true → image_of before k ≡ image_of these k
+    pub all : ((k : ℕ) → image_of these k ≡ image_of images k) → recovered_from (shapes_of config) images v ≡ recovered_from (shapes_of config) before v
+
+  pub chosen : (before : Images) × IsChosen before
+  chosen =
+      let p = picked config (λ k conf o. IsChoice config entry refused v k conf (image_of images k) (image_of these k) o) choice in (
+        p.0,
+        record {
+          left = record { count = p.1.count; each = λ k d lt. (p.1.each k (slice_index_or config.volumes.items k d) (slice_get-get_or config.volumes.items k d lt)).may };
+          but = but_same config refused v images p.0 (count ∙ sym p.1.count)
+              (λ k conf at not. (p.1.each k conf at).keeps not) (λ conf at. (p.1.each v conf at).home refl);
+          stay = λ k s at yes_. let conf = volume_at config k s at in (p.1.each k conf.0 conf.1).same yes_;
+          all = λ are. all_same config refused v images p.0 (count ∙ sym p.1.count)
+              (λ k conf at not. (p.1.each k conf at).keeps not) (λ conf at. (p.1.each v conf at).home refl) (λ k conf at yes_. (p.1.each k conf at).same yes_ ∙ are k);
+        },
+      )
+
+-- Segments that keep nothing of a volume.
+
+abbrev pub KeepsNothing : (v : ℕ) → List Block → Type 0
+KeepsNothing v bs = (n : ℕ) → keeping n (extents_in v bs) ≡ []
+
+pub nothing_same : (v : ℕ) (bs cs : List Block) → KeepsNothing v bs → KeepsNothing v cs → SegmentsKeep v bs cs
+nothing_same v bs cs first second n = first n ∙ sym (second n)
+
+none_keeps : (v : ℕ) (bs : List Block) → extents_in v bs ≡ [] → KeepsNothing v bs
+none_keeps v bs none n = ap (keeping n) none ∙ keeping_none n [] tt
+
+-- a free one
+pub idle_keeps : (v : ℕ) (bs : List Block) → IsIdle bs → KeepsNothing v bs
+idle_keeps v bs idle = none_keeps v bs (idle_none v bs idle)
+
+-- one that says another owner
+pub other_keeps : (v w : ℕ) (bs : List Block) → w < 2 ^ 32 → v ≢ w → SaysOwnerOrFree w bs → KeepsNothing v bs
+other_keeps v w bs small differs says = none_keeps v bs (not_of_other v w bs small differs says)
+
+log_says : (owner : ℕ) (bs : List Block) (rs : List Record) → IsLog bs owner rs → SaysOwnerOrFree owner bs
+log_says owner [] rs log = absurd (let joined = log.joined in cc joined)
+log_says owner (b ∷ bs) rs log = inl (first b bs (owned_block owner) _ log.joined)
+  where
+    first : (x : Block) (xs : List Block) (y : Block) (ys : List Block) → x ∷ xs ≡ y ∷ ys → x ≡ y
+    first x xs y ys e = cc e
+
+read_extents : (v : ℕ) (bs : List Block) (rs : List Record) → IsLog bs v rs → extents_in v bs ≡ map extent_of rs
+unfolding extents_in
+read_extents v bs rs log = ap (λ (o : Option (List Record)). map extent_of (unwrap_or o [])) (log_read bs v rs log)
+
+-- a log of records none of which keeps a block
+pub bare_keeps : (v owner : ℕ) (bs : List Block) (rs : List Record) → HasNothing owner rs bs → KeepsNothing v bs
+bare_keeps v owner bs rs has =
+    ⊎_elim
+    (λ (e : v ≡ owner). λ n.
+    let es = map extent_of rs in
+    ap (keeping n) (read_extents v bs rs (subst (λ (w : ℕ). IsLog bs w rs) (sym e) has.log)) ∙ keeping_none n es (all_at n es (all_bare rs has.nothing)))
+    (λ (differs : v ≡ owner → ⊥). other_keeps v owner bs has.log.known differs (log_says owner bs rs has.log))
+    (cases_eq v owner)
+  where
+    all_at : (n : ℕ) (es : List Extent) → AllByRecursion CoversNothing es → AllByRecursion (λ (e : Extent). e.cover.covers n ≡ Rattle.std.proofs.Common.false) es
+    all_at n [] all = tt
+    all_at n (e ∷ es) all = (all.0 n, all_at n es all.1)
+
+-- a segment keeps the same as the one that it is left of
+pub left_keeps : (v owner : ℕ) (values : Option (List (Values Block))) (c : List Block) → IsLeftOf owner values c → (was : List Block) × IsImageOf values was × SegmentsKeep v c was
+left_keeps v owner values c left =
+    ⊎_elim
+    (λ same. (c, same, λ n. refl))
+    (λ x. (x.0, x.2, nothing_same v c x.0 (now x.1 x.3 x.4) (bare_keeps v owner x.0 x.1 x.3)))
+    left
+  where
+    now : {bs : List Block} (rs : List Record) → HasNothing owner rs bs → IsLog c owner rs ⊎ IsIdle c → KeepsNothing v c
+    now rs has or = ⊎_elim (λ log. bare_keeps v owner c rs (record { log = log; nothing = has.nothing })) (λ idle. idle_keeps v c idle) or
+
+-- one whose head is free, or another's, or whose records keep nothing
+pub gone_keeps : {D : Type 0} (v volumes : ℕ) (stations : List (Station D)) (was : List Block) → volumes ≤ 2 ^ 32 → ((s : Station D) → Rattle.std.specs.Prelude.Contains stations s → v ≢ s.id)
+    → (HasHead volumes was head.Free ⊎ ((station : Station D) × Rattle.std.specs.Prelude.Contains stations station × HasHead volumes was (head.Owned station.id)) ⊎ ((owner : ℕ) × (rs : List Record) × HasNothing owner rs was)) → KeepsNothing v was
+gone_keeps {D} v volumes stations was few others or =
+    ⊎_elim
+    (λ free. idle_keeps v was (idle_by was free))
+    (λ rest. ⊎_elim (λ x. other_keeps v x.0.id was (let c = x.2.configured in omega (arith, c, few)) (others x.0 x.1) (owner_by x.0.id was x.2)) (λ x. bare_keeps v x.0 was x.1 x.2) rest)
+    or
+  where
+    idle_by : (c : List Block) → HasHead volumes c head.Free → IsIdle c
+    idle_by [] h = absurd (Rattle.std.proofs.lemmas.Option.none-some h.block h.first)
+    idle_by (x ∷ c) h = Rattle.std.proofs.lemmas.Option.same_Some x h.block h.first ∙ h.spelled.bytes
+
+    owner_by : (w : ℕ) (c : List Block) → HasHead volumes c (head.Owned w) → SaysOwnerOrFree w c
+    owner_by w [] h = absurd (Rattle.std.proofs.lemmas.Option.none-some h.block h.first)
+    owner_by w (x ∷ c) h = inl (Rattle.std.proofs.lemmas.Option.same_Some x h.block h.first ∙ h.spelled.bytes)

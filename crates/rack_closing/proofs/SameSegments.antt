@@ -1,19 +1,11 @@
 -- The segments that a volume has, in any order, give the same extents as all segments in theirs.
-use Rattle.std.proofs.Common.{◌≡◌, ◌≢◌, ◌⊎◌, inl, inr, ⊎_elim, ◌<◌, ◌+◌, ℕ, Bool, true, false, List, [], ◌∷◌, ◌++◌, map, Some, refl, sym, ap, subst, ◌∙◌, length, cond, arith}
-use Rattle.std.specs.Prelude.{slice_get, All, ⊤}
-use Rattle.std.specs.List.{AllByRecursion, flat_map}
-use Rattle.std.proofs.lemmas.Grind.{flat_map-append}
-use Rattle.std.proofs.lemmas.List.Elements.{All-from_recursion}
-use Rattle.wol_disk.specs.Disk.{Block, IsAmong}
-use Rattle.wol_model.specs.Heads.{Shape}
-use Rattle.wol_model.specs.Extents.{AreDistinct, Cover, Extent, IsValid, covers_of, with_extents}
-use Rattle.wol_model.specs.Images.{Images, image_of, image_size, segment_of, all_segments}
-use Rattle.wol_model.specs.Recovered.{extents_in, extents_of}
-use Rattle.manager_recovery.specs.Opening.{AreInOrder, IsBefore}
+use Rattle.rack_closing.proofs.Basics.{◌≡◌, ◌≢◌, ◌⊎◌, inl, inr, ⊎_elim, ◌<◌, ◌+◌, ℕ, Bool, true, List, [], ◌∷◌, ◌++◌, map, Some, refl, sym, ap, subst, ◌∙◌, length, arith}
+use Rattle.rack_closing.proofs.Basics.{slice_get, All, ⊤, AllByRecursion, flat_map, flat_map-append, All-from_recursion}
+use Rattle.rack_closing.proofs.Terms.{Block, IsAmong, Shape, AreDistinct, Cover, Extent, covers_of, with_extents, IsValid, Images, image_of, image_size, segment_of, all_segments}
+use Rattle.rack_closing.proofs.Terms.{extents_in, extents_of, AreInOrder, IsBefore}
 use Rattle.manager_recovery.specs.Owned.{Owned}
-use Rattle.manager_recovery.proofs.ByLogger.{contains_among}
 use Rattle.manager_recovery.proofs.SameNewest.{same_array}
-use Rattle.rack_closing.proofs.OwnedSegments.{fits, found, listed, never_itself, ordered, same_all, segment_at, stands}
+use Rattle.rack_closing.proofs.OwnedSegments.{fits, found, listed, never_itself, ordered, same_all, segment_at, stands, all_among, each_among}
 
 -- ---- The same elements in another order
 
@@ -86,19 +78,15 @@ shuffled_distinct (r ∷ rs) ss (insert _ _ front back rest) distinct =
     (shuffled_distinct rs (front ++ back) rest distinct.1)
 
 -- of distinct ones two valid ones with one version are one
-one_of : (P : Extent → Type 0) (rs : List Extent) (x : Extent) → AllByRecursion P rs → IsAmong rs x → P x
-one_of P [] x all has = absurd has
-one_of P (r ∷ rs) x all has = ⊎_elim (λ same. subst P (sym same) all.0) (λ more. one_of P rs x all.1 more) has
-
 pub once : (rs : List Extent) → AreDistinct (covers_of rs) → (x y : Extent) → IsAmong rs x → IsAmong rs y → IsValid x.cover → IsValid y.cover → x.cover.version ≡ y.cover.version → x ≡ y
 once [] distinct x y has other vx vy same = absurd has
 once (r ∷ rs) distinct x y has other vx vy same =
     let apart = unmapped (λ (d : Cover). IsValid r.cover → IsValid d → r.cover.version ≢ d.version) (λ (e : Extent). e.cover) rs distinct.0 in
     ⊎_elim
     (λ (is_x : x ≡ r). ⊎_elim (λ (is_y : y ≡ r). is_x ∙ sym is_y)
-    (λ more. absurd (one_of (λ (e : Extent). IsValid r.cover → IsValid e.cover → r.cover.version ≢ e.cover.version) rs y apart more (subst (λ (e : Extent). IsValid e.cover) is_x vx) vy (ap (λ (e : Extent). e.cover.version) (sym is_x) ∙ same))) other)
+    (λ more. absurd (all_among (λ (e : Extent). IsValid r.cover → IsValid e.cover → r.cover.version ≢ e.cover.version) rs y apart more (subst (λ (e : Extent). IsValid e.cover) is_x vx) vy (ap (λ (e : Extent). e.cover.version) (sym is_x) ∙ same))) other)
     (λ more. ⊎_elim
-    (λ (is_y : y ≡ r). absurd (one_of (λ (e : Extent). IsValid r.cover → IsValid e.cover → r.cover.version ≢ e.cover.version) rs x apart more (subst (λ (e : Extent). IsValid e.cover) is_y vy) vx (ap (λ (e : Extent). e.cover.version) (sym is_y) ∙ sym same)))
+    (λ (is_y : y ≡ r). absurd (all_among (λ (e : Extent). IsValid r.cover → IsValid e.cover → r.cover.version ≢ e.cover.version) rs x apart more (subst (λ (e : Extent). IsValid e.cover) is_y vy) vx (ap (λ (e : Extent). e.cover.version) (sym is_y) ∙ sym same)))
     (λ too. once rs distinct.1 x y more too vx vy same) other) has
 
 -- where no two valid ones have one version the order doesn't matter to the array
@@ -146,18 +134,10 @@ module _ (v : ℕ) where
 
   -- the places of the others, where one stands in the middle
   others_apart : (front : List Placed) (h : Placed) (back : List Placed) → AreApartPlaced (front ++ h ∷ back) → (e : Placed) → IsAmong (front ++ back) e → e.0 ≢ h.0
-  others_apart [] h back apart e has same = one h.0 back e apart.0 has same
-    where
-      one : (p : ℕ × ℕ) (es : List Placed) (d : Placed) → AllByRecursion (λ (g : Placed). p ≢ g.0) es → IsAmong es d → d.0 ≢ p
-      one p [] d all has same = absurd has
-      one p (x ∷ es) d all has same = ⊎_elim (λ is. all.0 (sym same ∙ ap (λ (g : Placed). g.0) is)) (λ more. one p es d all.1 more same) has
+  others_apart [] h back apart e has same = all_among (λ (g : Placed). h.0 ≢ g.0) back e apart.0 has (sym same)
   others_apart (f ∷ front) h back apart e has same = ⊎_elim
-      (λ is. at f.0 front h back apart.0 (ap (λ (g : Placed). g.0) (sym is) ∙ same))
+      (λ is. all_among (λ (g : Placed). f.0 ≢ g.0) (front ++ h ∷ back) h apart.0 (among_middle front h back) (ap (λ (g : Placed). g.0) (sym is) ∙ same))
       (λ more. others_apart front h back apart.1 e more same) has
-    where
-      at : (p : ℕ × ℕ) (xs : List Placed) (d : Placed) (ys : List Placed) → AllByRecursion (λ (g : Placed). p ≢ g.0) (xs ++ d ∷ ys) → p ≢ d.0
-      at p [] d ys all = all.0
-      at p (x ∷ xs) d ys all = at p xs d ys all.1
 
   without : (front : List Placed) (h : Placed) (back : List Placed) → AreApartPlaced (front ++ h ∷ back) → AreApartPlaced (front ++ back)
   without [] h back apart = apart.1
@@ -182,19 +162,12 @@ module _ (v : ℕ) where
       (insert_row (extents_in v h.1) (extents_at hs) (extents_at at.front) (extents_at at.back) (subst (λ (l : List Extent). Shuffled (extents_at hs) l) (joined at.front at.back) rest))
     where
       first_apart : (g : Placed) → IsAmong hs g → h.0 ≢ g.0
-      first_apart g has = among_all hs g apart.0 has
-        where
-          among_all : (xs : List Placed) (d : Placed) → AllByRecursion (λ (x : Placed). h.0 ≢ x.0) xs → IsAmong xs d → h.0 ≢ d.0
-          among_all [] d all has' = absurd has'
-          among_all (x ∷ xs) d all has' = ⊎_elim (λ same. subst (λ (y : Placed). h.0 ≢ y.0) (sym same) all.0) (λ more. among_all xs d all.1 more) has'
+      first_apart g has = all_among (λ (x : Placed). h.0 ≢ x.0) hs g apart.0 has
 
 -- ---- All segments of images
 
 every : List Block → Bool
 every bs = true
-
-placed_of : Owned → Placed
-placed_of o = ((o.logger, o.index), o.blocks)
 
 abbrev placed_all : List Owned → List Placed
 placed_all os = map (λ (o : Owned). ((o.logger, o.index), o.blocks)) os
@@ -220,12 +193,6 @@ order_apart (x ∷ os) order = (at os order.0, order_apart os order.1)
     at [] all = tt
     at (y ∷ ys) all = ((λ same. never_itself (x.logger, x.index) (subst (IsBefore (x.logger, x.index)) (sym same) all.0)), at ys all.1)
 
-all_at : (P : Placed → Type 0) (hs : List Placed) → All P hs → (h : Placed) → IsAmong hs h → P h
-all_at P hs all h has = let at = contains_among hs h has in subst P at.2 (all at.0 h at.1)
-
-from_recursion : (P : Placed → Type 0) (hs : List Placed) → AllByRecursion P hs → All P hs
-from_recursion P hs all = All-from_recursion P hs all
-
 blocks_placed : (v : ℕ) (os : List Owned) → extents_of v (map (λ (o : Owned). o.blocks) os) ≡ flat_map (λ (h : Placed). extents_in v h.1) (placed_all os)
 blocks_placed v [] = refl
 blocks_placed v (o ∷ os) = ap (λ (l : List Extent). extents_in v o.blocks ++ l) (blocks_placed v os)
@@ -241,17 +208,14 @@ unfolding every
 same_extents shapes images v held are =
     let os = listed every 0 shapes images in
     let all : extents_of v (all_segments shapes images) ≡ flat_map (λ (h : Placed). extents_in v h.1) (placed_all os)
-    = same_all every v (λ bs e. absurd (true_false e)) 0 shapes images (fits every shapes images are.sized) ∙ blocks_placed v os in
+    = same_all every v (λ bs e. absurd (cc e)) 0 shapes images (fits every shapes images are.sized) ∙ blocks_placed v os in
     subst (λ (l : List Extent). Shuffled l (extents_of v (all_segments shapes images))) (sym (placed_blocks v held))
     (subst (λ (l : List Extent). Shuffled (flat_map (λ (h : Placed). extents_in v h.1) held) l) (sym all)
     (gathered v held (placed_all os) within are.apart (order_apart os (ordered every 0 shapes images)) rest))
   where
-    true_false : true ≡ false → ⊥
-    true_false e = subst (λ (t : Bool). cond t ⊤ ⊥) e tt
-
     within : (h : Placed) → IsAmong held h → IsAmong (placed_all (listed every 0 shapes images)) h
     within h has =
-        let w = all_at (λ (g : Placed). (s : Shape) × (c : List Block) × (slice_get shapes g.0.0 ≡ Some s) × (image_of images g.0.0 ≡ Some c) × (g.0.1 < s.segments) × (g.1 ≡ segment_of s c g.0.1)) held are.there h has in
+        let w = each_among (λ (g : Placed). (s : Shape) × (c : List Block) × (slice_get shapes g.0.0 ≡ Some s) × (image_of images g.0.0 ≡ Some c) × (g.0.1 < s.segments) × (g.1 ≡ segment_of s c g.0.1)) held are.there h has in
         let here = among_placed (listed every 0 shapes images) (segment_at every (0 + h.0.0) w.0 w.1 h.0.1) (found every 0 h.0.0 h.0.1 shapes images w.0 w.1 w.2 w.3 w.4 refl) in
         let z : 0 + h.0.0 ≡ h.0.0 = omega arith in
         let same : ((0 + h.0.0, h.0.1), segment_of w.0 w.1 h.0.1) ≡ h = λ i. ((z i, h.0.1), sym w.5 i) in
@@ -264,5 +228,5 @@ same_extents shapes images v held are =
         let k : from.owned.logger ≡ is.at = (let l = is.logger_is in omega (arith, l)) in
         let there = ap (image_of images) k ∙ is.there in
         let shape_is = ap (slice_get shapes) k ∙ is.shape_is in
-        let none_here : All (λ (h : Placed). h.0 ≢ (from.owned.logger, from.owned.index)) held = subst (λ (g : Placed). All (λ (h : Placed). h.0 ≢ g.0) held) from.is (from_recursion (λ (h : Placed). h.0 ≢ e.0) held apart) in
+        let none_here : All (λ (h : Placed). h.0 ≢ (from.owned.logger, from.owned.index)) held = subst (λ (g : Placed). All (λ (h : Placed). h.0 ≢ g.0) held) from.is (All-from_recursion (λ (h : Placed). h.0 ≢ e.0) held apart) in
         ap (λ (g : Placed). extents_in v g.1) from.is ∙ ap (extents_in v) is.blocks_are ∙ are.others from.owned.logger from.owned.index is.shape is.image shape_is there is.within none_here

@@ -1,39 +1,33 @@
--- The images that a crash leaves of a rack that was closed are sound where all that it might have left at the rack's opening were.
-use Rattle.std.proofs.Common.{◌≡◌, ◌≢◌, ◌⊎◌, inl, inr, ⊎_elim, ℕ, ◌+◌, ◌<◌, Bool, true, false, cond, not, List, [], ◌∷◌, map, length, Option, None, Some, is_some, option_map, refl, sym, ap, ◌∙◌, subst, arith}
-use Rattle.std.specs.Prelude.{Contains, All, slice_get, slice_range, unwrap_or}
-use Rattle.std.specs.List.{AllByRecursion, range_with_len}
-use Rattle.std.proofs.lemmas.Bool.{cases_eq}
-use Rattle.std.proofs.lemmas.List.{length-map}
-use Rattle.std.proofs.lemmas.List.Elements.{All-contains}
-use Rattle.std.proofs.lemmas.List.FromFn.{get_or-map-range_with_len}
-use Rattle.std.proofs.lemmas.Option.{same_Some, slice_get_within, slice_get-map}
-use Rattle.wol_disk.specs.Disk.{Block, State, Values, reads}
-use Rattle.wol_model.specs.Extents.{AreDistinct, covers_of}
-use Rattle.wol_model.specs.Heads.{Shape, SpellsView}
-use Rattle.wol_model.specs.Images.{Images, image_of, image_size, segment_of, segments_of, all_segments, accepted, IsSoundSegment, IsSoundImage, AreSound, idle, log}
-use Rattle.wol_model.specs.Recovered.{extents_in, extents_of}
-use Rattle.wol_model.proofs.Images.{idle_none}
-use Rattle.wol_model.proofs.Spellings.{one_view}
-use Rattle.wol_bay.specs.Bay.{Image, Told, BayState, at_name}
-use Rattle.wol_config.specs.declared.config.Config.{Config}
-use Rattle.wol_config.specs.declared.config.VolumeConf.{VolumeConf}
-use Rattle.logger_view.specs.Stored.{HasView}
-use Rattle.manager.specs.declared.station.Station.{Station}
-use Rattle.volume_images.specs.Volumes.{shape_in, shapes_of, image_read, images_read, MayLeave, AreLeft}
-use Rattle.rack_closing.specs.Closes.{AreLeftOfParts, segments_out}
-use Rattle.rack_closing.specs.Opens.{BeganWith, WereThere}
-use Rattle.rack_closing.specs.Owners.{IsBegun, images_taken}
-use Rattle.rack_parts.specs.Racks.{IsClosable, IsOpenBase, IsStation, base_of_station}
-use Rattle.rack_parts.specs.Rests.{image_here, IsImageOut}
-use Rattle.rack_parts.specs.declared.rack.ImageRest.{ImageRest}
-use Rattle.rack_parts.specs.declared.rack.Rack.{Rack}
-use Rattle.rack_closing.proofs.FewerExtents.{Fewer, none, fewer_same, fewer_distinct, fewer_image, fewer_images, none_of}
-use Rattle.rack_closing.proofs.FinalImages.{accepted_at}
-use Rattle.rack_closing.proofs.KeptImages.{IsKeptImage, IsBefore, kept_before, image_or}
+-- What closing a rack leaves is sound where all was at its opening, and recovers to the same when it is opened again.
+use Rattle.rack_closing.proofs.Basics.{◌≡◌, ◌≢◌, ◌⊎◌, inl, inr, ⊎_elim, ℕ, ◌+◌, ◌<◌, Bool, true, false, cond, not, List, [], ◌∷◌, map, length, Option, None, Some, is_some}
+use Rattle.rack_closing.proofs.Basics.{option_map, refl, sym, ap, ◌∙◌, subst, arith, ◌≤◌, zero, suc, ◌++◌, eqb, Contains, All, slice_get, slice_range, unwrap_or, IsTrue}
+use Rattle.rack_closing.proofs.Basics.{slice_index_or, AllByRecursion, range_with_len, cases_eq, cases_lt, ne_eqb, length-map, All-contains, get_or-map-range_with_len, same_Some}
+use Rattle.rack_closing.proofs.Basics.{slice_get_within, slice_get-map, slice_get-get_or, flat_map-append}
+use Rattle.rack_closing.proofs.Terms.{Block, State, Values, reads, IsDisk, TellsContent, image_reads, Image, Told, BayState, at_name, AreDistinct, covers_of, Extent, with_extents}
+use Rattle.rack_closing.proofs.Terms.{Shape, SpellsView, Images, image_of, image_size, segment_of, segments_of, all_segments, accepted, IsSoundSegment, IsSoundImage, AreSound}
+use Rattle.rack_closing.proofs.Terms.{idle, log, home_in, accepted_from, recovered_from, extents_in, extents_of, idle_none, one_view, IsLog, IsIdle, after, writes, flight_of}
+use Rattle.rack_closing.proofs.Terms.{IsCut, entries_of, Config, VolumeConf, lock_id, TurnLock, HasView, PoolBase, Pool, FreeSegment, Station, notes_of, shape_in, shapes_of}
+use Rattle.rack_closing.proofs.Terms.{image_read, images_read, MayLeave, AreLeft, IsTold, AreLeftOfParts, segments_out, is_kept_home, recovered_out, ComesFrom, from_here}
+use Rattle.rack_closing.proofs.Terms.{from_pool, from_manager, IsLogOfStation, IsClosedVolume, RecoversTo, BeganWith, WereThere, KeepsAllSound, IsBegun, images_taken, HadRefused}
+use Rattle.rack_closing.proofs.Terms.{IsClosable, IsOpenBase, IsStation, base_of_station, image_here, IsImageOut, IsRest, IsSegmentHere, ImageRest, Rack, IsClosing, ClosesStations}
+use Rattle.rack_closing.proofs.Terms.{RefillsAll, KeepsSpindles, GivesBack, Rest, AreForeign, IsForeign, ReadsAreLeft, FollowsOn, OpensAgain, OpensCut}
+use Rattle.wol_model.specs.Recovered.{recovered}
+use Rattle.wol_config.specs.Configs.{IsValid}
+use Rattle.rack_parts.specs.Racks.{AreRising}
+use Rattle.rack_parts.proofs.Members.{a_value, is_there, is_member, of_map, of_recursion, element_at, here_within, all_member, in_map}
+use Rattle.rack_parts.proofs.GivenBack.{names_apart}
+use Rattle.rack_closing.proofs.SoundBefore.{Fewer, none, fewer_same, fewer_distinct, fewer_image, fewer_images, none_of, Came, IsOpen, other_log, reads_among, sound_came, fewer_came, has_come, rows_pass, segments_are, at_front, image_some, some_image}
+use Rattle.rack_closing.proofs.FinalImages.{accepted_at, distinct_left, array_out}
+use Rattle.rack_closing.proofs.KeptImages.{IsKeptImage, IsBefore, kept_before}
 use Rattle.rack_closing.proofs.LeftImage.{volume_at}
-use Rattle.rack_parts.proofs.Members.{a_value, is_there, is_member, of_map, of_recursion, element_at, here_within}
-use Rattle.rack_closing.proofs.SegmentsCame.{Came, IsOpen, other_log, reads_among, sound_came, fewer_came, has_come}
-use Rattle.rack_closing.proofs.SoundBefore.{rows_pass, segments_are, at_front, image_some, some_image}
+use Rattle.rack_closing.proofs.SameRecovered.{image_or}
+use Rattle.rack_closing.proofs.LeftVolumes.{left_parts}
+use Rattle.rack_closing.proofs.RackClosed.{same_out}
+use Rattle.rack_closing.proofs.StationParts.{zip_at}
+use Rattle.rack_closing.proofs.HeldSegments.{no_log}
+use Rattle.rack_closing.proofs.Cases.{none_or, some_or}
+
+-- The images that a crash leaves of a rack that was closed are sound where all that it might have left at the rack's opening were.
 
 read_whole : (o : Option Image) (i : Image) → o ≡ Some i → i.rest ≡ [] → image_read o ≡ Some (reads i.blocks)
 read_whole o i is whole = ap image_read is ∙ at i.rest whole
@@ -79,18 +73,10 @@ module _ {D : Type 0} (state : D → State) (config : Config) (b : BayState) (r 
       ∙ read_whole (at_name v.name entry.images) i is whole
 
   out_of : (k : ℕ) → refused k ≡ false → (m : ImageRest D) × (image_here r.rest.images.items k ≡ Some m)
-  out_of k is = go (image_here r.rest.images.items k) refl
-    where
-      go : (o : Option (ImageRest D)) → image_here r.rest.images.items k ≡ o → (m : ImageRest D) × (image_here r.rest.images.items k ≡ Some m)
-      go None e = absurd (cc (sym is ∙ ap (λ (x : Option (ImageRest D)). not (is_some x)) e))
-      go (Some m) e = (m, e)
+  out_of k is = some_or (image_here r.rest.images.items k) (λ e. cc (sym is ∙ ap (λ (x : Option (ImageRest D)). not (is_some x)) e))
 
   none_of_out : (k : ℕ) → refused k ≡ true → image_here r.rest.images.items k ≡ None
-  none_of_out k is = go (image_here r.rest.images.items k) refl
-    where
-      go : (o : Option (ImageRest D)) → image_here r.rest.images.items k ≡ o → image_here r.rest.images.items k ≡ None
-      go None e = e
-      go (Some m) e = absurd (cc (sym is ∙ ap (λ (x : Option (ImageRest D)). not (is_some x)) e))
+  none_of_out k is = none_or (image_here r.rest.images.items k) (λ m e. cc (sym is ∙ ap (λ (x : Option (ImageRest D)). not (is_some x)) e))
 
   shape_at : (k : ℕ) (v : VolumeConf) → slice_get config.volumes.items k ≡ Some v → slice_get shapes k ≡ Some (shape_in config v)
   shape_at k v at = slice_get-map (shape_in config) config.volumes.items k ∙ ap (option_map (shape_in config)) at
@@ -308,3 +294,202 @@ module _ {D : Type 0} (state : D → State) (config : Config) (b : BayState) (r 
 
   pub sound_closed : ((choice : Images) → AreLeft config entry choice → AreSound (shapes_of config) choice) → AreSound (shapes_of config) images
   sound_closed sound = sound_images (sound before chosen.1.left)
+
+-- What closing leaves of a rack is sound where all was at its opening.
+
+-- what stands under the name of an image that isn't out stays
+others_stay : {D : Type 0} (state : D → State) (config : Config) → IsValid config → (images : List (Option (ImageRest D))) (old new : Told) → GivesBack state config images 0 old new
+    → (k : ℕ) (v : VolumeConf) → slice_get config.volumes.items k ≡ Some v → image_here images k ≡ None → at_name v.name new.images ≡ at_name v.name old.images
+others_stay state config valid images old new given k v at not_out = given.others v.name (λ j w le j_at out. go j w j_at out (cases_eq k j))
+  where
+    go : (j : ℕ) (w : VolumeConf) → slice_get config.volumes.items j ≡ Some w → IsImageOut images j → (k ≡ j) ⊎ (k ≢ j) → v.name ≢ w.name
+    go j w j_at out (inl same) named = absurd (cc (sym out ∙ ap (λ (i : ℕ). is_some (image_here images i)) (sym same) ∙ ap is_some not_out))
+    go j w j_at out (inr differs) named = names_apart config valid k j v w differs at j_at named
+
+module _ {D : Type 0} (state : D → State) (tells : Bool) (config : Config) (b : BayState) (r : Rack D) (can : IsClosable state config b r) (first second : Rest D) (is : IsRest state config r.shared [] first)
+    (closed : ClosesStations tells state r.stations.items r.rest first)
+    (filled : (k : ℕ) (f : TurnLock (Pool (FreeSegment D)) PoolBase) → slice_get r.shared.pools.items k ≡ Some f → RefillsAll state (lock_id f).base.blocks first k (image_here first.images.items k) (image_here second.images.items k))
+    (kept : KeepsSpindles first second) where
+  still_none : (k : ℕ) → image_here r.rest.images.items k ≡ None → image_here second.images.items k ≡ None
+  still_none k not_out = none_or (image_here second.images.items k)
+      (λ q e. cc (sym (ap is_some e) ∙ same_out state tells config b r can first second is closed filled kept k ∙ ap is_some not_out))
+
+  pub left_kept : IsValid config → (old new : Told) → GivesBack state config second.images.items 0 old new → HadRefused config r.rest.images.items old new
+  left_kept valid old new given k v at not_out c may = subst (λ o. MayLeave o c) (others_stay state config valid second.images.items old new given k v at (still_none k not_out)) may
+
+  pub left_sound : (told : IsTrue tells) → ((d : D) → TellsContent (state d)) → ((d : D) → IsDisk (state d)) → length (shapes_of config) ≤ 64 → IsValid config → (entry : Told) → BeganWith state config entry r → WereThere config r.rest.images.items entry
+      → (old new : Told) → GivesBack state config second.images.items 0 old new → HadRefused config r.rest.images.items entry old → KeepsAllSound config entry new
+  left_sound told tell_all sound few valid entry began there old new given had all_sound images left =
+      sound_closed state config b r can entry new began there
+      (λ k v at none c may. had k v at none c (subst (λ o. MayLeave o c) (others_stay state config valid second.images.items old new given k v at (still_none k none)) may))
+      (λ choice choice_left k z m at here. left_parts state tells told tell_all sound config few b r can first second is closed filled kept old new given choice choice_left k z m at here)
+      (all_member (λ s. (choice : Images) → AreLeft config new choice → AreDistinct (covers_of (extents_of s.id (segments_out config r.rest.images.items choice)))) r.stations.items one)
+      images left all_sound
+    where
+      one : (s : Station D) → Contains r.stations.items s → (choice : Images) → AreLeft config new choice → AreDistinct (covers_of (extents_of s.id (segments_out config r.rest.images.items choice)))
+      one s has choice choice_left =
+          let at : slice_get r.stations.items has.0 ≡ Some s = slice_get-get_or r.stations.items has.0 s has.1 ∙ ap (λ (t : Station D). Some t) has.2 in
+          let c = zip_at (IsClosing tells state first) r.stations.items closed.closings has.0 s closed.each at in
+          distinct_left state tells told tell_all sound config few b r can first second is closed filled kept old new given choice choice_left has.0 s c.0 at c.1 c.2
+
+-- Images of which some aren't out again: a volume recovers to the same where its own and those of the loggers of its view are.
+
+-- ---- Lists of images
+
+accepted_count : (from : ℕ) (refused : ℕ → Bool) (images : Images) → length (accepted_from from refused images) ≡ length images
+accepted_count from refused [] = refl
+accepted_count from refused (c ∷ images) = ap suc (accepted_count (from + 1) refused images)
+
+each_row : (P : List Block → Type 0) (f : ℕ → List Block) (from count : ℕ) → ((i : ℕ) → from ≤ i → i < from + count → P (f i)) → AllByRecursion P (map f (range_with_len from count))
+each_row P f from zero each = tt
+each_row P f from (suc count) each = (each from (omega arith) (omega arith), each_row P f (from + 1) count (λ i le lt. each i (omega (arith, le)) (omega (arith, lt))))
+
+-- those of all, where those of each are the same
+same_rows : (v : ℕ) (shapes : List Shape) (images others : Images) → length images ≡ length others
+    → ((k : ℕ) (s : Shape) → slice_get shapes k ≡ Some s → extents_of v (segments_of s (image_of images k)) ≡ extents_of v (segments_of s (image_of others k)))
+    → extents_of v (all_segments shapes images) ≡ extents_of v (all_segments shapes others)
+same_rows v [] images others count each = refl
+same_rows v (s ∷ shapes) [] [] count each = refl
+same_rows v (s ∷ shapes) [] (d ∷ others) count each = absurd (cc count)
+same_rows v (s ∷ shapes) (c ∷ images) [] count each = absurd (cc count)
+same_rows v (s ∷ shapes) (c ∷ images) (d ∷ others) count each =
+    flat_map-append (extents_in v) (segments_of s c) (all_segments shapes images)
+    ∙ ap (λ (l : List Extent). l ++ extents_of v (all_segments shapes images)) (each 0 s refl)
+    ∙ ap (λ (l : List Extent). extents_of v (segments_of s d) ++ l) (same_rows v shapes images others (omega (arith, count)) (λ k t at. each (suc k) t at))
+    ∙ sym (flat_map-append (extents_in v) (segments_of s d) (all_segments shapes others))
+
+module _ {D : Type 0} (state : D → State) (tell_all : (d : D) → TellsContent (state d)) (config : Config) (t : Told) (r : Rack D) (stations : All (λ u. IsStation u) r.stations.items)
+    (rising : AreRising (map (λ (u : Station D). u.id) r.stations.items)) (foreign : AreForeign state (map (λ (u : Station D). base_of_station u) r.stations.items) r.rest) (parts : AreLeftOfParts state config r t)
+    (s : Station D) (has : Contains r.stations.items s) (images : Images) (left : AreLeft config t images) where
+  at_place : (u : Station D) → (x : Contains r.stations.items u) → slice_get r.stations.items x.0 ≡ Some u
+  at_place u x = slice_get-get_or r.stations.items x.0 u x.1 ∙ ap (λ (w : Station D). Some w) x.2
+
+  id_at : (u : Station D) → (x : Contains r.stations.items u) → slice_get (map (λ (w : Station D). w.id) r.stations.items) x.0 ≡ Some u.id
+  id_at u x = slice_get-map (λ (w : Station D). w.id) r.stations.items x.0 ∙ ap (option_map (λ (w : Station D). w.id)) (at_place u x)
+
+  -- a station with its number is this one
+  same_station : (u : Station D) → Contains r.stations.items u → u.id ≡ s.id → u ≡ s
+  same_station u x e = go (cases_lt x.0 has.0) (cases_lt has.0 x.0)
+    where
+      go : (x.0 < has.0) ⊎ (has.0 ≤ x.0) → (has.0 < x.0) ⊎ (x.0 ≤ has.0) → u ≡ s
+      go (inl less) other = let rise = rising x.0 has.0 u.id s.id less (id_at u x) (id_at s has) in absurd (omega (arith, rise, e))
+      go (inr le) (inl less) = let rise = rising has.0 x.0 s.id u.id less (id_at s has) (id_at u x) in absurd (omega (arith, rise, e))
+      go (inr le) (inr also) =
+          let same : x.0 ≡ has.0 = omega (arith, le, also) in
+          same_Some u s (sym (at_place u x) ∙ ap (slice_get r.stations.items) same ∙ at_place s has)
+
+  -- on another logger it has no log
+  none_at : (k i : ℕ) (bs : List Block) → (Contains (base_of_station s).volume.began.view k → ⊥) → ComesFrom state r k i bs → extents_in s.id bs ≡ []
+  none_at k i bs away (from_here p there im) = no_log s.id bs (λ rs log. is_foreign there tell_all bs (base_of_station s) rs im (in_map (λ (u : Station D). base_of_station u) r.stations.items s has)
+      (subst (λ (w : ℕ). IsLog bs w rs) (sym (All-contains (λ u. IsStation u) r.stations.items s stations has).id) log))
+    where
+      is_foreign : IsSegmentHere r.rest k i p → IsForeign state (map (λ (u : Station D). base_of_station u) r.stations.items) p
+      is_foreign (inl x) = foreign.places k i x.0 p x.1 x.2
+      is_foreign (inr x) = foreign.held x.0 k i p x.1
+  none_at k i bs away (from_pool never empty) = idle_none s.id bs empty
+  none_at k i bs away (from_manager never u among view its whole) = go (cases_eq u.id s.id) its
+    where
+      go : (u.id ≡ s.id) ⊎ (u.id ≢ s.id) → IsIdle bs ⊎ IsLogOfStation u k bs → extents_in s.id bs ≡ []
+      go (inl e) its_log = absurd (away (subst (λ (w : Station D). Contains (base_of_station w).volume.began.view k) (same_station u among e) view))
+      go (inr differs) (inl empty) = idle_none s.id bs empty
+      go (inr differs) (inr its_log) = other_log bs s.id u.id its_log.records its_log.log (λ e. differs (sym e))
+
+  none_in_image : (k : ℕ) (z : Shape) (image : ImageRest D) → slice_get (shapes_of config) k ≡ Some z → image_here r.rest.images.items k ≡ Some image → (Contains (base_of_station s).volume.began.view k → ⊥)
+      → extents_of s.id (segments_of z (image_of images k)) ≡ []
+  none_in_image k z image at here away =
+      let x = parts images left k z image at here in
+      ap (λ (o : Option (List Block)). extents_of s.id (segments_of z o)) x.1
+      ∙ ap (extents_of s.id) (segments_are z x.0 x.2.sized)
+      ∙ none_of s.id (map (segment_of z x.0) (range_with_len 0 z.segments)) (each_row (λ bs. extents_in s.id bs ≡ []) (segment_of z x.0) 0 z.segments (λ i le lt. none_at k i (segment_of z x.0 i) away (x.2.segments i (omega (arith, lt)))))
+
+  -- it recovers to the same of images some of which aren't out again
+  module _ (out : List (Option (ImageRest D))) (no_more : (k : ℕ) → IsImageOut out k → IsImageOut r.rest.images.items k)
+      (loggers : AllByRecursion (IsImageOut out) (base_of_station s).volume.began.view) where
+    abbrev of_shape : Shape → Option (List Block) → List Extent
+    of_shape z o = extents_of s.id (segments_of z o)
+
+    taken : (k : ℕ) (z : Shape) → slice_get (shapes_of config) k ≡ Some z
+        → extents_of s.id (segments_of z (image_of (accepted (is_kept_home out) images) k)) ≡ extents_of s.id (segments_of z (image_of (accepted (is_kept_home r.rest.images.items) images) k))
+    taken k z at = go (image_here out k) refl (image_here r.rest.images.items k) refl
+      where
+        now : (o : Option (ImageRest D)) → image_here out k ≡ o → image_of (accepted (is_kept_home out) images) k ≡ cond (not (is_some o)) None (image_of images k)
+        now o e = accepted_at 0 (is_kept_home out) images k ∙ ap (λ (n : ℕ). cond (is_kept_home out n) None (image_of images k)) (omega arith) ∙ ap (λ (x : Option (ImageRest D)). cond (not (is_some x)) None (image_of images k)) e
+
+        before : (o : Option (ImageRest D)) → image_here r.rest.images.items k ≡ o → image_of (accepted (is_kept_home r.rest.images.items) images) k ≡ cond (not (is_some o)) None (image_of images k)
+        before o e =
+            accepted_at 0 (is_kept_home r.rest.images.items) images k ∙ ap (λ (n : ℕ). cond (is_kept_home r.rest.images.items n) None (image_of images k)) (omega arith)
+            ∙ ap (λ (x : Option (ImageRest D)). cond (not (is_some x)) None (image_of images k)) e
+
+        go : (a : Option (ImageRest D)) → image_here out k ≡ a → (b : Option (ImageRest D)) → image_here r.rest.images.items k ≡ b
+            → of_shape z (image_of (accepted (is_kept_home out) images) k) ≡ of_shape z (image_of (accepted (is_kept_home r.rest.images.items) images) k)
+        go (Some a) e (Some b) f = ap (of_shape z) (now (Some a) e ∙ sym (before (Some b) f))
+        go None e None f = ap (of_shape z) (now None e ∙ sym (before None f))
+        go (Some a) e None f = let was = no_more k (ap is_some e) in absurd (let never = ap is_some f in cc (was, never))
+        go None e (Some b) f =
+            ap (of_shape z) (now None e)
+            ∙ sym (none_in_image k z b at f (λ view. let there = of_recursion (IsImageOut out) (base_of_station s).volume.began.view k loggers view in let never = ap is_some e in cc (there, never)))
+            ∙ sym (ap (of_shape z) (before (Some b) f))
+
+    pub recovered_again : recovered_out config out images s.id ≡ recovered_out config r.rest.images.items images s.id
+    unfolding recovered
+    recovered_again = ap (with_extents (home_in (slice_get (shapes_of config) s.id) (image_of images s.id)))
+        (same_rows s.id (shapes_of config) (accepted (is_kept_home out) images) (accepted (is_kept_home r.rest.images.items) images)
+        (accepted_count 0 (is_kept_home out) images ∙ sym (accepted_count 0 (is_kept_home r.rest.images.items) images)) taken)
+
+-- What a volume is opened with again, once its rack was closed.
+
+-- an image as it reads is one that may be left of it
+read_may : (o : Option Image) → MayLeave o (image_read o)
+read_may None = tt
+read_may (Some i) = go i.rest refl
+  where
+    go : (l : List ℕ) → i.rest ≡ l → MayLeave (Some i) (cond (eqb (length i.rest) 0) (Some (reads i.blocks)) None)
+    go [] e = subst (λ (n : Bool). MayLeave (Some i) (cond n (Some (reads i.blocks)) None)) (sym (ap (λ (l : List ℕ). eqb (length l) 0) e)) (e, image_reads i.blocks)
+    go (x ∷ l) e =
+        let some : length i.rest ≡ length (x ∷ l) = ap (λ (y : List ℕ). length y) e in
+        let other : eqb (length i.rest) 0 ≡ false = ne_eqb (length i.rest) 0 (λ none. omega (arith, none, some)) in
+        subst (λ (n : Bool). MayLeave (Some i) (cond n (Some (reads i.blocks)) None)) (sym other) (λ none. let both : [] ≡ x ∷ l = sym none ∙ e in cc both)
+
+pub reads_are_left : ReadsAreLeft
+reads_are_left config t = record {
+  count = length-map config.volumes.items (λ (v : VolumeConf). image_read (at_name v.name t.images));
+  each = λ k d lt. subst (λ (o : Option (List Block)). MayLeave (at_name (slice_index_or config.volumes.items k d).name t.images) o)
+      (sym (ap (λ (o : Option (Option (List Block))). unwrap_or o None)
+      (slice_get-map (λ (v : VolumeConf). image_read (at_name v.name t.images)) config.volumes.items k ∙ ap (option_map (λ (v : VolumeConf). image_read (at_name v.name t.images))) (slice_get-get_or config.volumes.items k d lt))))
+      (read_may (at_name (slice_index_or config.volumes.items k d).name t.images));
+}
+
+module _ {D : Type 0} (tells : Bool) (state : D → State) (telling : IsTrue tells) (tell_all : (d : D) → TellsContent (state d)) (config : Config) (opened closed last : BayState) (t : Told) (r q : Rack D) (follows : FollowsOn state config opened closed last t r q)
+    (s n : Station D) (has : Contains r.stations.items s) (has_next : Contains q.stations.items n) (same : n.id ≡ s.id) (loggers : AllByRecursion (IsImageOut q.rest.images.items) (base_of_station s).volume.began.view) (c : IsClosedVolume tells config r.rest.images.items opened closed s) where
+  -- what closing said of the volume
+  recovers : RecoversTo config r.rest.images.items s c.entries t
+  recovers =
+      let told = c.recovers telling in
+      let R : Told → Told → Type 0 = λ o m. RecoversTo config r.rest.images.items s c.entries m in
+      let one : IsTold R (Some follows.entry) closed.told = subst (λ o. IsTold R o closed.told) follows.entry_is told in
+      let two : IsTold R (Some follows.entry) (Some t) = subst (λ o. IsTold R (Some follows.entry) o) follows.left_is one in
+      two
+
+  -- the array that it begins with again is what the images recover to as they read
+  array_again : (base_of_station n).volume.began.array ≡ recovered_out config r.rest.images.items (images_read config t) s.id
+  array_again =
+      let begun = All-contains (λ (x : Station D). IsBegun config (images_taken config q.rest.images.items t) (base_of_station x).volume.began) q.stations.items n follows.began.stations has_next in
+      let owner_next = (All-contains (λ (x : Station D). IsStation x) q.stations.items n follows.next.stations has_next).id in
+      let base = All-contains (λ (x : Station D). IsOpenBase config q.shared q.rest.images.items (base_of_station x)) q.stations.items n follows.next.bases has_next in
+      let out : IsImageOut q.rest.images.items s.id = subst (λ (k : ℕ). IsImageOut q.rest.images.items k) (owner_next ∙ same) base.out in
+      begun.array
+      ∙ ap (λ (k : ℕ). recovered_from (shapes_of config) (images_taken config q.rest.images.items t) k) (owner_next ∙ same)
+      ∙ array_out config q.rest.images.items (images_read config t) s.id out
+      ∙ recovered_again state tell_all config t r follows.rack.stations follows.rack.rising follows.rack.foreign follows.parts s has (images_read config t) (reads_are_left config t) q.rest.images.items follows.no_more loggers
+
+  pub again : flight_of (entries_of (notes_of c.entries)) ≡ None → (base_of_station n).volume.began.array ≡ after (base_of_station s).volume.began.array (writes (entries_of (notes_of c.entries)))
+  again up = array_again ∙ recovers.whole (images_read config t) (reads_are_left config t) up
+
+  pub again_cut : IsCut (base_of_station s).volume.began.array (writes (entries_of (notes_of c.entries))) (unwrap_or (flight_of (entries_of (notes_of c.entries))) []) (base_of_station n).volume.began.array
+  again_cut = subst (IsCut (base_of_station s).volume.began.array (writes (entries_of (notes_of c.entries))) (unwrap_or (flight_of (entries_of (notes_of c.entries))) [])) (sym array_again) (recovers.cut (images_read config t) (reads_are_left config t))
+
+pub opens_again : {D : Type 0} (tells : Bool) (state : D → State) → (IsTrue tells → (d : D) → TellsContent (state d)) → OpensAgain tells state
+opens_again tells state told telling config opened closed last t r q follows s n has has_next same loggers c up = again tells state telling (told telling) config opened closed last t r q follows s n has has_next same loggers c up
+
+pub opens_cut : {D : Type 0} (tells : Bool) (state : D → State) → (IsTrue tells → (d : D) → TellsContent (state d)) → OpensCut tells state
+opens_cut tells state told telling config opened closed last t r q follows s n has has_next same loggers c = again_cut tells state telling (told telling) config opened closed last t r q follows s n has has_next same loggers c

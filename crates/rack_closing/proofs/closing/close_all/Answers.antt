@@ -1,19 +1,11 @@
-use Rattle.std.proofs.Common.{◌≡◌, ◌≢◌, ◌≤◌, ℕ, false, length, sym, ap, ◌∙◌, subst, arith}
-use Rattle.std.specs.List.{AllByRecursion}
-use Rattle.turn_lock.specs.declared.pass.PassOf.{PassOf}
-use Rattle.spin_model.specs.declared.spindle.Spindle.{Spindle}
-use Rattle.spin_model.specs.declared.spindle.SpindleBase.{SpindleBase}
-use Rattle.volume_images.specs.Volumes.{shapes_of}
+use Rattle.rack_closing.proofs.Basics.{◌≡◌, ◌≢◌, ℕ, false, length, sym, ap, ◌∙◌, subst, arith, AllByRecursion}
+use Rattle.rack_closing.proofs.Terms.{PassOf, Spindle, SpindleBase, shapes_of}
 use Rattle.rack_closing.proofs.Closable.{stations_may, pools_may, spindles_may, images_rest, images_whole}
 use Rattle.rack_closing.proofs.RackClosed.{none_out, few, out_there, lists_ended}
-use Rattle.rack_closing.proofs.OwnDisks.{none_made}
-use Rattle.rack_closing.proofs.PoolsShared.{volumes_closed}
-use Rattle.rack_closing.proofs.StationClosed.{told_map}
-use Rattle.rack_closing.proofs.PartsThrough.{fault_through, listed_through}
-use Rattle.rack_closing.proofs.LeftOfParts.{left_parts}
-use Rattle.rack_closing.proofs.QuietClosed.{left_quiet}
-use Rattle.rack_closing.proofs.LeftSound.{left_sound, left_kept}
-use Rattle.rack_closing.proofs.LeftVolumes.{closed_recovers, station_opened, volume_recovers}
+use Rattle.rack_closing.proofs.VolumesClosed.{none_made, volumes_closed, few_volumes, told_end}
+use Rattle.rack_closing.proofs.LeftVolumes.{fault_through, listed_through, left_parts, closed_recovers, station_opened, volume_recovers}
+use Rattle.rack_closing.proofs.FinalImages.{left_quiet}
+use Rattle.rack_closing.proofs.SoundClosed.{left_sound, left_kept}
 use Rattle.rack_closing.proofs.closing.close_all.Goals as goal
 
 pub close_stations-requires : goal.close_stations-requires
@@ -98,11 +90,11 @@ returns-clause-spindles g c = λ k s at.
 pub returns-clause-stations : goal.returns-clause-stations
 returns-clause-stations g c =
     let is1 = c.close_stations.ensures.rest c.args.config.now c.args.rack.shared (stations_may g.B.Part.Disk.state c.args.config.now (g.B.Bay.state c.args.bay.now) c.args.rack c.requires.rack) in
-    let few : length (shapes_of c.args.config.now) ≤ 64 = let n = Rattle.std.proofs.lemmas.List.length-map c.args.config.now.volumes.items (Rattle.volume_images.specs.Volumes.shape_in c.args.config.now) in omega (arith, n, c.requires.config.count) in
-    let given = subst (λ w. Rattle.volume_images.specs.Left.IsTold (Rattle.rack_parts.specs.Closing.GivesBack g.B.Part.Disk.state c.args.config.now w.items 0) (g.B.Bay.state c.args.bay.now).told (g.B.Bay.state c.give_back.new.bay).told) c.close_spindles.ensures.images c.give_back.ensures.back in
     let cause = subst (λ w. Rattle.rack_parts.specs.Closing.HasFaultHere g.B.Part.Disk.state w.items 0 → Rattle.wol_disk.specs.Disk.Rose (g.B.Bay.state c.args.bay.now).faults (g.B.Bay.state c.give_back.new.bay).faults) c.close_spindles.ensures.images c.give_back.ensures.cause in
     volumes_closed g.B.Part.Disk.state g.B.Part.Disk.tells c.args.config.now (g.B.Bay.state c.args.bay.now) c.args.rack c.requires.rack c.close_stations.new.self c.close_pools.new.self is1 c.close_stations.ensures.closed c.close_pools.ensures.images c.close_pools.ensures.spindles c.close_pools.ensures.uses
-    (λ told d. g.met.B.Part.Disk.told told d) g.met.B.Part.Disk.sound few (g.B.Bay.state c.args.bay.now) (g.B.Bay.state c.give_back.new.bay) given cause
+    (λ told d. g.met.B.Part.Disk.told told d) g.met.B.Part.Disk.sound (few_volumes c.args.config.now c.requires.config.count.1) (g.B.Bay.state c.args.bay.now) (g.B.Bay.state c.give_back.new.bay)
+    (told_end g.B.Part.Disk.state c.args.config.now c.close_pools.new.self c.close_spindles.new.self (g.B.Bay.state c.args.bay.now).told (g.B.Bay.state c.give_back.new.bay).told
+    c.close_spindles.ensures.images c.give_back.ensures.back (Rattle.rack_parts.specs.Closing.GivesBack g.B.Part.Disk.state c.args.config.now c.close_pools.new.self.images.items 0) (λ o n back. back)) cause
 
 pub returns-clause-cause : goal.returns-clause-cause
 returns-clause-cause g c = λ fault.
@@ -113,64 +105,59 @@ returns-clause-cause g c = λ fault.
 pub returns-clause-parts : goal.returns-clause-parts
 returns-clause-parts g c = λ told.
     let is1 = c.close_stations.ensures.rest c.args.config.now c.args.rack.shared (stations_may g.B.Part.Disk.state c.args.config.now (g.B.Bay.state c.args.bay.now) c.args.rack c.requires.rack) in
-    let few : length (shapes_of c.args.config.now) ≤ 64 = let n = Rattle.std.proofs.lemmas.List.length-map c.args.config.now.volumes.items (Rattle.volume_images.specs.Volumes.shape_in c.args.config.now) in omega (arith, n, c.requires.config.count) in
-    let given = subst (λ w. Rattle.volume_images.specs.Left.IsTold (Rattle.rack_parts.specs.Closing.GivesBack g.B.Part.Disk.state c.args.config.now w.items 0) (g.B.Bay.state c.args.bay.now).told (g.B.Bay.state c.give_back.new.bay).told) c.close_spindles.ensures.images c.give_back.ensures.back in
-    told_map (Rattle.rack_parts.specs.Closing.GivesBack g.B.Part.Disk.state c.args.config.now c.close_pools.new.self.images.items 0) (λ o n. Rattle.rack_closing.specs.Closes.AreLeftOfParts g.B.Part.Disk.state c.args.config.now c.args.rack n) (g.B.Bay.state c.args.bay.now).told (g.B.Bay.state c.give_back.new.bay).told given
-    (λ o n back images left k z m at here. left_parts g.B.Part.Disk.state g.B.Part.Disk.tells told (g.met.B.Part.Disk.told told) g.met.B.Part.Disk.sound c.args.config.now few (g.B.Bay.state c.args.bay.now) c.args.rack c.requires.rack c.close_stations.new.self c.close_pools.new.self is1 c.close_stations.ensures.closed c.close_pools.ensures.images c.close_pools.ensures.spindles o n back images left k z m at here)
+    told_end g.B.Part.Disk.state c.args.config.now c.close_pools.new.self c.close_spindles.new.self (g.B.Bay.state c.args.bay.now).told (g.B.Bay.state c.give_back.new.bay).told
+    c.close_spindles.ensures.images c.give_back.ensures.back (λ o n. Rattle.rack_closing.specs.Closes.AreLeftOfParts g.B.Part.Disk.state c.args.config.now c.args.rack n)
+    (λ o n back images left k z m at here. left_parts g.B.Part.Disk.state g.B.Part.Disk.tells told (g.met.B.Part.Disk.told told) g.met.B.Part.Disk.sound c.args.config.now (few_volumes c.args.config.now c.requires.config.count.1) (g.B.Bay.state c.args.bay.now) c.args.rack c.requires.rack c.close_stations.new.self c.close_pools.new.self is1 c.close_stations.ensures.closed c.close_pools.ensures.images c.close_pools.ensures.spindles o n back images left k z m at here)
 
 pub returns-clause-left : goal.returns-clause-left
 returns-clause-left g c = λ entry told began quiet.
     let is1 = c.close_stations.ensures.rest c.args.config.now c.args.rack.shared (stations_may g.B.Part.Disk.state c.args.config.now (g.B.Bay.state c.args.bay.now) c.args.rack c.requires.rack) in
-    let few : length (shapes_of c.args.config.now) ≤ 64 = let n = Rattle.std.proofs.lemmas.List.length-map c.args.config.now.volumes.items (Rattle.volume_images.specs.Volumes.shape_in c.args.config.now) in omega (arith, n, c.requires.config.count) in
-    let given = subst (λ w. Rattle.volume_images.specs.Left.IsTold (Rattle.rack_parts.specs.Closing.GivesBack g.B.Part.Disk.state c.args.config.now w.items 0) (g.B.Bay.state c.args.bay.now).told (g.B.Bay.state c.give_back.new.bay).told) c.close_spindles.ensures.images c.give_back.ensures.back in
-    told_map (Rattle.rack_parts.specs.Closing.GivesBack g.B.Part.Disk.state c.args.config.now c.close_pools.new.self.images.items 0) (λ o n. Rattle.rack_closing.specs.Closes.LeavesOpen c.args.config.now c.args.rack entry n) (g.B.Bay.state c.args.bay.now).told (g.B.Bay.state c.give_back.new.bay).told given
-    (λ o n back. left_quiet g.B.Part.Disk.state g.B.Part.Disk.tells c.args.config.now (g.B.Bay.state c.args.bay.now) c.args.rack c.requires.rack c.close_stations.new.self c.close_pools.new.self is1 c.close_stations.ensures.closed c.close_pools.ensures.images c.close_pools.ensures.spindles told (g.met.B.Part.Disk.told told) g.met.B.Part.Disk.sound few entry began quiet o n back)
+    told_end g.B.Part.Disk.state c.args.config.now c.close_pools.new.self c.close_spindles.new.self (g.B.Bay.state c.args.bay.now).told (g.B.Bay.state c.give_back.new.bay).told
+    c.close_spindles.ensures.images c.give_back.ensures.back (λ o n. Rattle.rack_closing.specs.Closes.LeavesOpen c.args.config.now c.args.rack entry n)
+    (λ o n back. left_quiet g.B.Part.Disk.state g.B.Part.Disk.tells c.args.config.now (g.B.Bay.state c.args.bay.now) c.args.rack c.requires.rack c.close_stations.new.self c.close_pools.new.self is1 c.close_stations.ensures.closed c.close_pools.ensures.images c.close_pools.ensures.spindles told (g.met.B.Part.Disk.told told) g.met.B.Part.Disk.sound (few_volumes c.args.config.now c.requires.config.count.1) entry began quiet o n back)
 
 pub returns-clause-sound : goal.returns-clause-sound
 returns-clause-sound g c = λ entry told began there.
     let is1 = c.close_stations.ensures.rest c.args.config.now c.args.rack.shared (stations_may g.B.Part.Disk.state c.args.config.now (g.B.Bay.state c.args.bay.now) c.args.rack c.requires.rack) in
-    let few : length (shapes_of c.args.config.now) ≤ 64 = let n = Rattle.std.proofs.lemmas.List.length-map c.args.config.now.volumes.items (Rattle.volume_images.specs.Volumes.shape_in c.args.config.now) in omega (arith, n, c.requires.config.count) in
-    let given = subst (λ w. Rattle.volume_images.specs.Left.IsTold (Rattle.rack_parts.specs.Closing.GivesBack g.B.Part.Disk.state c.args.config.now w.items 0) (g.B.Bay.state c.args.bay.now).told (g.B.Bay.state c.give_back.new.bay).told) c.close_spindles.ensures.images c.give_back.ensures.back in
-    told_map (Rattle.rack_parts.specs.Closing.GivesBack g.B.Part.Disk.state c.args.config.now c.close_pools.new.self.images.items 0) (λ o n. Rattle.rack_closing.specs.Owners.HadRefused c.args.config.now c.args.rack.rest.images.items entry o → Rattle.rack_closing.specs.Opens.KeepsAllSound c.args.config.now entry n) (g.B.Bay.state c.args.bay.now).told (g.B.Bay.state c.give_back.new.bay).told given
-    (λ o n back. left_sound g.B.Part.Disk.state g.B.Part.Disk.tells c.args.config.now (g.B.Bay.state c.args.bay.now) c.args.rack c.requires.rack c.close_stations.new.self c.close_pools.new.self is1 c.close_stations.ensures.closed c.close_pools.ensures.images c.close_pools.ensures.spindles told (g.met.B.Part.Disk.told told) g.met.B.Part.Disk.sound few
+    told_end g.B.Part.Disk.state c.args.config.now c.close_pools.new.self c.close_spindles.new.self (g.B.Bay.state c.args.bay.now).told (g.B.Bay.state c.give_back.new.bay).told
+    c.close_spindles.ensures.images c.give_back.ensures.back (λ o n. Rattle.rack_closing.specs.Owners.HadRefused c.args.config.now c.args.rack.rest.images.items entry o → Rattle.rack_closing.specs.Opens.KeepsAllSound c.args.config.now entry n)
+    (λ o n back. left_sound g.B.Part.Disk.state g.B.Part.Disk.tells c.args.config.now (g.B.Bay.state c.args.bay.now) c.args.rack c.requires.rack c.close_stations.new.self c.close_pools.new.self is1 c.close_stations.ensures.closed c.close_pools.ensures.images c.close_pools.ensures.spindles told (g.met.B.Part.Disk.told told) g.met.B.Part.Disk.sound (few_volumes c.args.config.now c.requires.config.count.1)
     c.requires.config entry began there o n back)
 
 pub returns-clause-volumes : goal.returns-clause-volumes
 returns-clause-volumes g c = λ entry told began there quiet.
     let is1 = c.close_stations.ensures.rest c.args.config.now c.args.rack.shared (stations_may g.B.Part.Disk.state c.args.config.now (g.B.Bay.state c.args.bay.now) c.args.rack c.requires.rack) in
-    let few : length (shapes_of c.args.config.now) ≤ 64 = let n = Rattle.std.proofs.lemmas.List.length-map c.args.config.now.volumes.items (Rattle.volume_images.specs.Volumes.shape_in c.args.config.now) in omega (arith, n, c.requires.config.count) in
-    let given = subst (λ w. Rattle.volume_images.specs.Left.IsTold (Rattle.rack_parts.specs.Closing.GivesBack g.B.Part.Disk.state c.args.config.now w.items 0) (g.B.Bay.state c.args.bay.now).told (g.B.Bay.state c.give_back.new.bay).told) c.close_spindles.ensures.images c.give_back.ensures.back in
-    told_map (Rattle.rack_parts.specs.Closing.GivesBack g.B.Part.Disk.state c.args.config.now c.close_pools.new.self.images.items 0) (λ o n. Rattle.rack_closing.specs.Owners.HadRefused c.args.config.now c.args.rack.rest.images.items entry o → Rattle.rack_closing.specs.Closes.LeavesVolumes c.args.config.now c.args.rack entry n) (g.B.Bay.state c.args.bay.now).told (g.B.Bay.state c.give_back.new.bay).told given
+    told_end g.B.Part.Disk.state c.args.config.now c.close_pools.new.self c.close_spindles.new.self (g.B.Bay.state c.args.bay.now).told (g.B.Bay.state c.give_back.new.bay).told
+    c.close_spindles.ensures.images c.give_back.ensures.back (λ o n. Rattle.rack_closing.specs.Owners.HadRefused c.args.config.now c.args.rack.rest.images.items entry o → Rattle.rack_closing.specs.Closes.LeavesVolumes c.args.config.now c.args.rack entry n)
     (λ o n back had. record {
       are_opened = station_opened g.B.Part.Disk.state g.B.Part.Disk.tells c.args.config.now (g.B.Bay.state c.args.bay.now) c.args.rack c.requires.rack c.close_stations.new.self c.close_pools.new.self is1 c.close_stations.ensures.closed c.close_pools.ensures.images c.close_pools.ensures.spindles entry began;
-      each = λ images left v. volume_recovers g.B.Part.Disk.state g.B.Part.Disk.tells told (g.met.B.Part.Disk.told told) g.met.B.Part.Disk.sound c.args.config.now c.requires.config few (g.B.Bay.state c.args.bay.now) c.args.rack c.requires.rack c.close_stations.new.self c.close_pools.new.self is1 c.close_stations.ensures.closed c.close_pools.ensures.images c.close_pools.ensures.spindles o n back entry began there had images left quiet v;
+      each = λ images left v. volume_recovers g.B.Part.Disk.state g.B.Part.Disk.tells told (g.met.B.Part.Disk.told told) g.met.B.Part.Disk.sound c.args.config.now c.requires.config (few_volumes c.args.config.now c.requires.config.count.1) (g.B.Bay.state c.args.bay.now) c.args.rack c.requires.rack c.close_stations.new.self c.close_pools.new.self is1 c.close_stations.ensures.closed c.close_pools.ensures.images c.close_pools.ensures.spindles o n back entry began there had images left quiet v;
     })
 
 pub returns-clause-unopened : goal.returns-clause-unopened
 returns-clause-unopened g c = λ entry told began there.
     let is1 = c.close_stations.ensures.rest c.args.config.now c.args.rack.shared (stations_may g.B.Part.Disk.state c.args.config.now (g.B.Bay.state c.args.bay.now) c.args.rack c.requires.rack) in
-    let few : length (shapes_of c.args.config.now) ≤ 64 = let n = Rattle.std.proofs.lemmas.List.length-map c.args.config.now.volumes.items (Rattle.volume_images.specs.Volumes.shape_in c.args.config.now) in omega (arith, n, c.requires.config.count) in
-    let given = subst (λ w. Rattle.volume_images.specs.Left.IsTold (Rattle.rack_parts.specs.Closing.GivesBack g.B.Part.Disk.state c.args.config.now w.items 0) (g.B.Bay.state c.args.bay.now).told (g.B.Bay.state c.give_back.new.bay).told) c.close_spindles.ensures.images c.give_back.ensures.back in
-    told_map (Rattle.rack_parts.specs.Closing.GivesBack g.B.Part.Disk.state c.args.config.now c.close_pools.new.self.images.items 0) (λ o n. Rattle.rack_closing.specs.Owners.HadRefused c.args.config.now c.args.rack.rest.images.items entry o → Rattle.rack_closing.specs.Closes.LeavesUnopened c.args.config.now c.args.rack entry n) (g.B.Bay.state c.args.bay.now).told (g.B.Bay.state c.give_back.new.bay).told given
-    (λ o n back had images left v others. closed_recovers g.B.Part.Disk.state g.B.Part.Disk.tells told (g.met.B.Part.Disk.told told) g.met.B.Part.Disk.sound c.args.config.now c.requires.config few (g.B.Bay.state c.args.bay.now) c.args.rack c.requires.rack c.close_stations.new.self c.close_pools.new.self is1 c.close_stations.ensures.closed c.close_pools.ensures.images c.close_pools.ensures.spindles o n back entry began there had images left v (λ s has. others s has))
+    told_end g.B.Part.Disk.state c.args.config.now c.close_pools.new.self c.close_spindles.new.self (g.B.Bay.state c.args.bay.now).told (g.B.Bay.state c.give_back.new.bay).told
+    c.close_spindles.ensures.images c.give_back.ensures.back (λ o n. Rattle.rack_closing.specs.Owners.HadRefused c.args.config.now c.args.rack.rest.images.items entry o → Rattle.rack_closing.specs.Closes.LeavesUnopened c.args.config.now c.args.rack entry n)
+    (λ o n back had images left v others. closed_recovers g.B.Part.Disk.state g.B.Part.Disk.tells told (g.met.B.Part.Disk.told told) g.met.B.Part.Disk.sound c.args.config.now c.requires.config (few_volumes c.args.config.now c.requires.config.count.1) (g.B.Bay.state c.args.bay.now) c.args.rack c.requires.rack c.close_stations.new.self c.close_pools.new.self is1 c.close_stations.ensures.closed c.close_pools.ensures.images c.close_pools.ensures.spindles o n back entry began there had images left v (λ s has. others s has))
 
 pub returns-clause-kept : goal.returns-clause-kept
 returns-clause-kept g c = λ told.
     let is1 = c.close_stations.ensures.rest c.args.config.now c.args.rack.shared (stations_may g.B.Part.Disk.state c.args.config.now (g.B.Bay.state c.args.bay.now) c.args.rack c.requires.rack) in
-    let given = subst (λ w. Rattle.volume_images.specs.Left.IsTold (Rattle.rack_parts.specs.Closing.GivesBack g.B.Part.Disk.state c.args.config.now w.items 0) (g.B.Bay.state c.args.bay.now).told (g.B.Bay.state c.give_back.new.bay).told) c.close_spindles.ensures.images c.give_back.ensures.back in
-    told_map (Rattle.rack_parts.specs.Closing.GivesBack g.B.Part.Disk.state c.args.config.now c.close_pools.new.self.images.items 0) (Rattle.rack_closing.specs.Owners.HadRefused c.args.config.now c.args.rack.rest.images.items) (g.B.Bay.state c.args.bay.now).told (g.B.Bay.state c.give_back.new.bay).told given
+    told_end g.B.Part.Disk.state c.args.config.now c.close_pools.new.self c.close_spindles.new.self (g.B.Bay.state c.args.bay.now).told (g.B.Bay.state c.give_back.new.bay).told
+    c.close_spindles.ensures.images c.give_back.ensures.back (Rattle.rack_closing.specs.Owners.HadRefused c.args.config.now c.args.rack.rest.images.items)
     (λ o n back. left_kept g.B.Part.Disk.state g.B.Part.Disk.tells c.args.config.now (g.B.Bay.state c.args.bay.now) c.args.rack c.requires.rack c.close_stations.new.self c.close_pools.new.self is1 c.close_stations.ensures.closed c.close_pools.ensures.images c.close_pools.ensures.spindles c.requires.config o n back)
 
 pub returns-clause-others : goal.returns-clause-others
 returns-clause-others g c =
-    let given = subst (λ w. Rattle.volume_images.specs.Left.IsTold (Rattle.rack_parts.specs.Closing.GivesBack g.B.Part.Disk.state c.args.config.now w.items 0) (g.B.Bay.state c.args.bay.now).told (g.B.Bay.state c.give_back.new.bay).told) c.close_spindles.ensures.images c.give_back.ensures.back in
-    told_map (Rattle.rack_parts.specs.Closing.GivesBack g.B.Part.Disk.state c.args.config.now c.close_pools.new.self.images.items 0) (Rattle.rack_closing.specs.Opens.KeepsOthers c.args.config.now) (g.B.Bay.state c.args.bay.now).told (g.B.Bay.state c.give_back.new.bay).told given (λ o n back name not. back.others name (λ k v le at there. not k v at))
+    told_end g.B.Part.Disk.state c.args.config.now c.close_pools.new.self c.close_spindles.new.self (g.B.Bay.state c.args.bay.now).told (g.B.Bay.state c.give_back.new.bay).told
+    c.close_spindles.ensures.images c.give_back.ensures.back (Rattle.rack_closing.specs.Opens.KeepsOthers c.args.config.now) (λ o n back name not. back.others name (λ k v le at there. not k v at))
 
 pub returns-clause-faulty : goal.returns-clause-faulty
 returns-clause-faulty g c =
     let is1 = c.close_stations.ensures.rest c.args.config.now c.args.rack.shared (stations_may g.B.Part.Disk.state c.args.config.now (g.B.Bay.state c.args.bay.now) c.args.rack c.requires.rack) in
-    let given = subst (λ w. Rattle.volume_images.specs.Left.IsTold (Rattle.rack_parts.specs.Closing.GivesBack g.B.Part.Disk.state c.args.config.now w.items 0) (g.B.Bay.state c.args.bay.now).told (g.B.Bay.state c.give_back.new.bay).told) c.close_spindles.ensures.images c.give_back.ensures.back in
-    told_map (Rattle.rack_parts.specs.Closing.GivesBack g.B.Part.Disk.state c.args.config.now c.close_pools.new.self.images.items 0) (Rattle.rack_closing.specs.Closes.ListsFaulty g.B.Part.Disk.state c.args.config.now c.args.rack.rest) (g.B.Bay.state c.args.bay.now).told (g.B.Bay.state c.give_back.new.bay).told given (λ o n back. record {
+    told_end g.B.Part.Disk.state c.args.config.now c.close_pools.new.self c.close_spindles.new.self (g.B.Bay.state c.args.bay.now).told (g.B.Bay.state c.give_back.new.bay).told
+    c.close_spindles.ensures.images c.give_back.ensures.back (Rattle.rack_closing.specs.Closes.ListsFaulty g.B.Part.Disk.state c.args.config.now c.args.rack.rest) (λ o n back. record {
       more = back.more;
       more_is = back.faulty;
       each = listed_through g.B.Part.Disk.state g.B.Part.Disk.tells c.args.config.now (g.B.Bay.state c.args.bay.now) c.args.rack c.requires.rack c.close_stations.new.self c.close_pools.new.self is1 c.close_stations.ensures.closed c.close_pools.ensures.images c.close_pools.ensures.spindles o n back;

@@ -1,5 +1,5 @@
-use Rattle.rack_closing.proofs.Reopening.{reads_are_left, opens_again, opens_cut}
-use Rattle.rack_closing.proofs.SoundAgain.{opens_all_again}
+use Rattle.rack_closing.proofs.SoundClosed.{reads_are_left, opens_again, opens_cut}
+use Rattle.rack_closing.proofs.SoundVolumes.{opens_all_again}
 use Rattle.rack_closing.proofs.laws.reopening_laws.Goals as goal
 
 pub returns : goal.returns

@@ -1,4 +1,4 @@
-use Rattle.rack_closing.proofs.SoundRefusals.{refuses_sound}
+use Rattle.rack_closing.proofs.SoundVolumes.{refuses_sound}
 use Rattle.rack_closing.proofs.laws.sound_images_laws.Goals as goal
 
 pub returns : goal.returns
