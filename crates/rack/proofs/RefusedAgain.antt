@@ -320,7 +320,7 @@ module _ {D : Type 0} (state : D → State) (sound : (d : D) → IsDisk (state d
           (sym (segment_in_image r.rest k w.0 w.1 j) ∙ sym (back_again.segment_other state tells config valid b said id r own ready lt at view own_view away o takes n back last puts k j never) ∙ segment_in_image last k y now j ∙ here);
     }
 
-    pub begun_again : HasBegun state config t said (id + 1) (next state sound tells config valid b said id r own ready lt at view own_view away o takes refusal n refuses back all last puts faults)
+    pub begun_again : HasBegun state config t said (id + 1) (next faults)
     begun_again = record {
       began = record {
         stations = subst (λ (images : Images). All (λ (s : Station D). IsBegun config images (base_of_station s).volume.began) r.stations.items) (sym (taken_same last.images.items r.rest.images.items same_out config t)) begun.began.stations;
@@ -338,10 +338,10 @@ module _ {D : Type 0} (state : D → State) (sound : (d : D) → IsDisk (state d
   -- each fault has its cause
   pub refused_again : (faults : Vec (Option VolumeFault) Global) → faults.items ≡ set r.faults.items id (Some (volume_fault.Refused refusal)) → NamesVolumes (length (shapes_of config)) (volume_fault.Refused refusal)
       → (entry now : BayState) → (IsTrue tells → (t : Told) → entry.told ≡ Some t → HasBegun state config t said id r) → AreRefusedBelow tells state config entry now id r
-      → AreRefusedBelow tells state config entry now (id + 1) (next state sound tells config valid b said id r own ready lt at view own_view away o takes refusal n refuses back all last puts faults)
+      → AreRefusedBelow tells state config entry now (id + 1) (next faults)
   refused_again faults faults_are names entry now begun refused k v f or conf is = ⊎_elim
       (λ (e : k ≡ id).
-      let same : volume_fault.Refused refusal ≡ f = same_Some (volume_fault.Refused refusal) f (sym (fault_own state sound tells config valid b said id r own ready lt at view own_view away o takes refusal n refuses back all last puts faults faults_are names) ∙ ap (fault_at faults.items) (sym e) ∙ is) in
+      let same : volume_fault.Refused refusal ≡ f = same_Some (volume_fault.Refused refusal) f (sym (fault_own faults faults_are names) ∙ ap (fault_at faults.items) (sym e) ∙ is) in
       subst (λ (g : VolumeFault). RefusesVolume tells state config last.images.items entry now k v g) same (inr (record {
         is_out = ap (λ (j : ℕ). is_some (image_here last.images.items j)) e ∙ ap is_some (back_again.image_back state tells config valid b said id r own ready lt at view own_view away o takes n back last puts id own_image.0 own_image.1).1;
         before = o;
@@ -355,7 +355,7 @@ module _ {D : Type 0} (state : D → State) (sound : (d : D) → IsDisk (state d
       (λ (other : k ≡ id → ⊥).
       refuses_too r.rest.images.items last.images.items (sym same_out) tells state config entry now k v f
       (refused k v f (⊎_elim (λ (less : k < id + 1). ⊎_elim (λ (before : k < id). inl before) (λ (past : id ≤ k). absurd (other (omega (arith, past, less)))) (cases_lt k id)) (λ none. inr (back_again.none_was state tells config valid b said id r own ready lt at view own_view away o takes n back last puts k none)) or)
-      conf (sym (fault_other state sound tells config valid b said id r own ready lt at view own_view away o takes refusal n refuses back all last puts faults faults_are names k other) ∙ is)))
+      conf (sym (fault_other faults faults_are names k other) ∙ is)))
       (cases_eq k id)
     where
       own_image : (image : ImageRest D) × (image_here r.rest.images.items id ≡ Some image)
@@ -404,13 +404,13 @@ module _ {D : Type 0} (state : D → State) (sound : (d : D) → IsDisk (state d
   }
 
   pub faults_again : (faults : Vec (Option VolumeFault) Global) → faults.items ≡ set r.faults.items id (Some (volume_fault.Refused refusal)) → NamesVolumes (length (shapes_of config)) (volume_fault.Refused refusal)
-      → HaveFaults state said id r → HaveFaults state said (id + 1) (next state sound tells config valid b said id r own ready lt at view own_view away o takes refusal n refuses back all last puts faults)
+      → HaveFaults state said id r → HaveFaults state said (id + 1) (next faults)
   faults_again faults faults_are names have k p less out is = ⊎_elim
       (λ (e : k ≡ id).
-      let same : volume_fault.Refused refusal ≡ volume_fault.Refused (DiskFault p) = same_Some (volume_fault.Refused refusal) (volume_fault.Refused (DiskFault p)) (sym (fault_own state sound tells config valid b said id r own ready lt at view own_view away o takes refusal n refuses back all last puts faults faults_are names) ∙ ap (fault_at faults.items) (sym e) ∙ is) in
+      let same : volume_fault.Refused refusal ≡ volume_fault.Refused (DiskFault p) = same_Some (volume_fault.Refused refusal) (volume_fault.Refused (DiskFault p)) (sym (fault_own faults faults_are names) ∙ ap (fault_at faults.items) (sym e) ∙ is) in
       let why : refusal ≡ DiskFault p = cc same in
       subst (λ (j : ℕ). HasFaultOf state said j p last) (sym e) (own_fault p why))
       (λ (other : k ≡ id → ⊥).
       let before : k < id = ⊎_elim (λ (less : k < id). less) (λ (past : id ≤ k). absurd (other (omega (arith, past, less)))) (cases_lt k id) in
-      other_fault k p other (have k p before (out_too last.images.items r.rest.images.items (back_again.out_back state tells config valid b said id r own ready lt at view own_view away o takes n back last puts) k out) (sym (fault_other state sound tells config valid b said id r own ready lt at view own_view away o takes refusal n refuses back all last puts faults faults_are names k other) ∙ is)))
+      other_fault k p other (have k p before (out_too last.images.items r.rest.images.items (back_again.out_back state tells config valid b said id r own ready lt at view own_view away o takes n back last puts) k out) (sym (fault_other faults faults_are names k other) ∙ is)))
       (cases_eq k id)
