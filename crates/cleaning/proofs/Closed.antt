@@ -7,8 +7,8 @@ use Rattle.wol_config.specs.declared.config.Config.{Config}
 use Rattle.report.specs.declared.fault.Fault.{Fault}
 use Rattle.report.specs.declared.fault.Fault.TheVariants.{Volume}
 use Rattle.troubles.specs.Troubles.{trouble_of}
-use Rattle.rack.specs.declared.rack.Rack.{Rack}
-use Rattle.rack.specs.declared.volume_fault.VolumeFault.{VolumeFault}
+use Rattle.rack_parts.specs.declared.rack.Rack.{Rack}
+use Rattle.rack_parts.specs.declared.volume_fault.VolumeFault.{VolumeFault}
 use Rattle.spin_model.specs.Spindles.{SpindleView}
 use Rattle.open_rack.specs.NotOpened.{IsFirstClosed, first_closed}
 use Rattle.open_rack.specs.Sessions.{OpensAndCloses}

@@ -13,7 +13,7 @@ use Rattle.manager.specs.declared.station.Station.{Station}
 use Rattle.manager.proofs.ReadThrough.{zip_back}
 use Rattle.report.specs.Names.{name_at}
 use Rattle.report.specs.declared.fault.Fault.TheVariants.{Memory}
-use Rattle.rack.specs.declared.rack.Rack.{Rack}
+use Rattle.rack_parts.specs.declared.rack.Rack.{Rack}
 use Rattle.replay.specs.declared.stop.Stop.TheVariants as stop
 use Rattle.log_cleaner.specs.declared.answer.Cleaned.{Cleaned}
 use Rattle.log_cleaner.specs.declared.answer.CleanFault.{CleanFault}

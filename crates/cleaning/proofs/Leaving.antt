@@ -18,7 +18,7 @@ use Rattle.rack.specs.Opens.{LeavesAll, WereThere}
 use Rattle.rack.specs.Owners.{HadRefused}
 use Rattle.rack.specs.Racks.{IsRack}
 use Rattle.rack.specs.Rests.{IsImageOut}
-use Rattle.rack.specs.declared.rack.Rack.{Rack}
+use Rattle.rack_parts.specs.declared.rack.Rack.{Rack}
 use Rattle.rack.proofs.StillThere.{there_left}
 use Rattle.open_rack.specs.Sessions.{OpensAndCloses}
 use Rattle.spin_model.specs.Spindles.{SpindleView}
@@ -45,7 +45,7 @@ can_clean_all state config b r is open_ = record {
 }
 
 module _ {D : Type 0} (tells : Bool) (state : D → State) (config : Config) (did : Rack D → Rack D → Type 0) (old new : BayState) (spindles : List SpindleView) (session : OpensAndCloses tells state config did old new spindles) where
-  abbrev out : List (Option (Rattle.rack.specs.declared.rack.ImageRest.ImageRest D))
+  abbrev out : List (Option (Rattle.rack_parts.specs.declared.rack.ImageRest.ImageRest D))
   out = session.before.rest.images.items
 
   module _ (open_ : first_closed 0 session.before.faults.items ≡ None) where

@@ -17,7 +17,7 @@ use Rattle.manager.proofs.Lanes.{get_set, get_other}
 use Rattle.manager.proofs.Touched.{zip_all}
 use Rattle.manager.proofs.ReadThrough.{zip_self, zip_set, zip_then}
 use Rattle.rack.specs.Racks.{IsStation, base_of_station}
-use Rattle.rack.specs.declared.rack.Rack.{Rack}
+use Rattle.rack_parts.specs.declared.rack.Rack.{Rack}
 use Rattle.open_rack.specs.Again.{IsPassAgain, IsRackAgain, IsStationAgain}
 use Rattle.open_rack.proofs.RacksAgain.{zip_weaker}
 use Rattle.log_cleaner.specs.declared.answer.Cleaned.{Cleaned}

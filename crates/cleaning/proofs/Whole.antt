@@ -26,7 +26,7 @@ use Rattle.rack.specs.Closes.{AreLeftOfParts, RecoversTo}
 use Rattle.rack.proofs.FailedParts.{faulty_since}
 use Rattle.rack.specs.Opens.{BeganWith, HasFaulty}
 use Rattle.rack.specs.Owners.{IsBegun}
-use Rattle.rack.specs.declared.rack.Rack.{Rack}
+use Rattle.rack_parts.specs.declared.rack.Rack.{Rack}
 use Rattle.open_rack.specs.Sessions.{LeavesRecords, OpensAndCloses}
 use Rattle.spin_model.specs.Spindles.{SpindleView}
 use Rattle.open_rack.specs.NotOpened.{first_closed}

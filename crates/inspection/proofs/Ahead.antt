@@ -9,7 +9,7 @@ use Rattle.wol_config.specs.declared.config.Config.{Config}
 use Rattle.logger.specs.declared.shared.Shared.{Shared}
 use Rattle.manager.specs.declared.station.Station.{Station}
 use Rattle.rack.specs.Racks.{IsStation, base_of_station}
-use Rattle.rack.specs.declared.rack.Rack.{Rack}
+use Rattle.rack_parts.specs.declared.rack.Rack.{Rack}
 use Rattle.inspection.specs.Looks.{IsConfiguredBase}
 use Rattle.inspection.specs.Racks.{IsSameRack, IsSameStation, IsStationAt}
 use Rattle.inspection.specs.Findings.{AreEmpty, AreFoundTo, CanAllBeLookedAt, HasFound, HaveFound, KeepsFound}

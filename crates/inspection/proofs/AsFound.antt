@@ -12,8 +12,8 @@ use Rattle.manager.specs.declared.station.Station.{Station}
 use Rattle.log_dump.specs.declared.fault.DumpFault.TheVariants as dump
 use Rattle.report.specs.declared.trouble.Trouble.{Trouble}
 use Rattle.troubles.specs.Troubles.{trouble_of}
-use Rattle.rack.specs.declared.rack.Rack.{Rack}
-use Rattle.rack.specs.declared.volume_fault.VolumeFault.{VolumeFault}
+use Rattle.rack_parts.specs.declared.rack.Rack.{Rack}
+use Rattle.rack_parts.specs.declared.volume_fault.VolumeFault.{VolumeFault}
 use Rattle.inspection.specs.Looks.{LooksAt}
 use Rattle.inspection.specs.Racks.{IsStationAt}
 use Rattle.inspection.specs.Lines.{PrintsVolumes, Telling, IsTelling, AreTellings, LooksAtVolume, text_of, first_of, first_trouble, trouble_line, trouble_told}

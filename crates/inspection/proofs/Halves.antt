@@ -9,7 +9,7 @@ use Rattle.wol_disk.specs.Disk.{State}
 use Rattle.wol_config.specs.declared.config.Config.{Config}
 use Rattle.logger.specs.declared.shared.Shared.{Shared}
 use Rattle.manager.specs.declared.station.Station.{Station}
-use Rattle.rack.specs.declared.rack.Rack.{Rack}
+use Rattle.rack_parts.specs.declared.rack.Rack.{Rack}
 use Rattle.inspection.specs.Racks.{CanLook, IsSameRack, IsSameStation}
 use Rattle.inspection.specs.Findings.{CanAllBeLookedAt, AreEmpty, HasFound, HaveFound, CanBeLookedAt}
 use Rattle.inspection.specs.declared.beside.Finding.{Finding}

@@ -7,7 +7,7 @@ use Rattle.log_dump.specs.declared.fault.DumpFault.{DumpFault}
 use Rattle.log_dump.specs.declared.fault.DumpFault.TheVariants.{DiskFault, Down, NoMemory}
 use Rattle.report.specs.declared.trouble.Trouble.{Trouble}
 use Rattle.troubles.specs.Troubles.{trouble_of_part}
-use Rattle.rack.specs.declared.rack.Rack.{Rack}
+use Rattle.rack_parts.specs.declared.rack.Rack.{Rack}
 use Rattle.inspection.specs.Lines.{IsTelling, LooksAtVolume, trouble_line, trouble_told}
 use Rattle.inspection.specs.declared.asked.Asked.{Asked}
 

@@ -11,7 +11,7 @@ use Rattle.manager.specs.declared.station.Station.{Station}
 use Rattle.manager.proofs.ReadThrough.{zip_back}
 use Rattle.log_dump.specs.declared.fault.DumpFault.{DumpFault}
 use Rattle.report.specs.declared.trouble.Trouble.{Trouble}
-use Rattle.rack.specs.declared.rack.Rack.{Rack}
+use Rattle.rack_parts.specs.declared.rack.Rack.{Rack}
 use Rattle.inspection.specs.Racks.{IsSameStation, IsSameRack}
 use Rattle.inspection.specs.Lines.{Telling, IsTelling, AreTellings, LooksAtVolume, text_of, first_of, first_trouble}
 use Rattle.inspection.specs.declared.asked.Asked.{Asked}

@@ -46,8 +46,8 @@ use Rattle.rack.specs.Opens.{BeganWith}
 use Rattle.rack.specs.Owners.{BeganInPlace, IsBegun, StandAsRead, images_taken}
 use Rattle.rack.specs.Rests.{IsImageOut}
 use Rattle.rack.specs.Racks.{IsOpenBase, IsStation, IsUnused, NamesVolumes, base_of_station}
-use Rattle.rack.specs.declared.rack.Rack.{Rack}
-use Rattle.rack.specs.declared.volume_fault.VolumeFault.{VolumeFault}
+use Rattle.rack_parts.specs.declared.rack.Rack.{Rack}
+use Rattle.rack_parts.specs.declared.volume_fault.VolumeFault.{VolumeFault}
 use Rattle.open_rack.specs.Sessions.{OpensAndCloses}
 use Rattle.open_rack.proofs.Since.{rose_before}
 use Rattle.spin_model.specs.Spindles.{SpindleView}

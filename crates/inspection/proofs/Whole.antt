@@ -9,7 +9,7 @@ use Rattle.wol_io.proofs.Appending.{appends_none, keeps_same}
 use Rattle.report.specs.declared.trouble.Trouble.{Trouble}
 use Rattle.spin_model.specs.Spindles.{SpindleView}
 use Rattle.volume_images.specs.Volumes.{shape_in}
-use Rattle.rack.specs.declared.rack.Rack.{Rack}
+use Rattle.rack_parts.specs.declared.rack.Rack.{Rack}
 use Rattle.open_rack.specs.Sessions.{OpensAndCloses}
 use Rattle.inspection.specs.Lines.{PrintsVolumes}
 use Rattle.inspection.specs.Runs.{Inspects}

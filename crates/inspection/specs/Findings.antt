@@ -11,7 +11,7 @@ use Rattle.report.specs.Troubles.{IsAmong}
 use Rattle.report.specs.declared.trouble.Trouble.{Trouble}
 use Rattle.troubles.specs.Troubles.{trouble_of_part}
 use Rattle.rack.specs.Racks.{IsStation, base_of_station}
-use Rattle.rack.specs.declared.rack.Rack.{Rack}
+use Rattle.rack_parts.specs.declared.rack.Rack.{Rack}
 use Rattle.inspection.specs.Looks.{IsConfiguredBase, LooksAt}
 use Rattle.inspection.specs.Racks.{IsSameStation, IsStationAt}
 use Rattle.inspection.specs.Lines.{Telling, TellsFault, trouble_line, trouble_told}

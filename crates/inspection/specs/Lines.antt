@@ -15,8 +15,8 @@ use Rattle.report.specs.Troubles.{trouble_text}
 use Rattle.report.specs.Words.{line_of}
 use Rattle.report.specs.declared.trouble.Trouble.{Trouble}
 use Rattle.troubles.specs.Troubles.{trouble_of, trouble_of_part}
-use Rattle.rack.specs.declared.rack.Rack.{Rack}
-use Rattle.rack.specs.declared.volume_fault.VolumeFault.{VolumeFault}
+use Rattle.rack_parts.specs.declared.rack.Rack.{Rack}
+use Rattle.rack_parts.specs.declared.volume_fault.VolumeFault.{VolumeFault}
 use Rattle.inspection.specs.Looks.{LooksAt}
 use Rattle.inspection.specs.Racks.{IsStationAt}
 use Rattle.inspection.specs.declared.asked.Asked.{Asked}

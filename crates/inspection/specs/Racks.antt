@@ -10,8 +10,8 @@ use Rattle.report.specs.Names.{printed_names}
 use Rattle.report.specs.Troubles.{IsAmong}
 use Rattle.troubles.specs.Troubles.{trouble_of}
 use Rattle.rack.specs.Racks.{IsStation, base_of_station}
-use Rattle.rack.specs.declared.rack.Rack.{Rack}
-use Rattle.rack.specs.declared.volume_fault.VolumeFault.{VolumeFault}
+use Rattle.rack_parts.specs.declared.rack.Rack.{Rack}
+use Rattle.rack_parts.specs.declared.volume_fault.VolumeFault.{VolumeFault}
 use Rattle.inspection.specs.Looks.{IsConfiguredBase}
 
 -- the numbers of the volumes with a station

@@ -2,7 +2,7 @@
 ghost use Rattle.std.specs.Prelude.{◌≡◌, ◌++◌, ◌<◌, ◌≤◌, List, [], length, Err, IfOk};
 ghost use Rattle.wol_config.specs.Configs.{IsValid};
 ghost use Rattle.manager.specs.declared.station.Station.{Station};
-ghost use Rattle.rack.specs.declared.rack.Rack.{Rack};
+ghost use Rattle.rack_parts.specs.declared.rack.Rack.{Rack};
 ghost use Rattle.log_dump.specs.declared.fault.DumpFault.TheVariants.{NoMemory as no_memory};
 ghost use Rattle.inspection.specs.Racks.{CanLook};
 ghost use Rattle.inspection.specs.Lines.{trouble_told};

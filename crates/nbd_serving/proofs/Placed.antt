@@ -14,7 +14,7 @@ use Rattle.manager.specs.declared.base.ManagerBase.{ManagerBase}
 use Rattle.manager.specs.declared.station.Station.{Station}
 use Rattle.manager.proofs.ReadThrough.{zip_self, zip_set}
 use Rattle.rack.specs.Racks.{IsStation, base_of_station}
-use Rattle.rack.specs.declared.rack.Rack.{Rack}
+use Rattle.rack_parts.specs.declared.rack.Rack.{Rack}
 use Rattle.open_rack.specs.Again.{IsPassAgain, IsRackAgain, IsStationAgain}
 use Rattle.open_rack.specs.NotOpened.{first_closed}
 use Rattle.open_rack.proofs.FirstClosed.{none_closed}

@@ -31,9 +31,9 @@ use Rattle.rack.specs.Owners.{IsBegun, images_taken}
 use Rattle.rack.specs.PoolUses.{ArePools, PassesEmpty}
 use Rattle.rack.specs.Racks.{IsStation, IsUnused, base_of_station}
 use Rattle.rack.specs.Rests.{IsImageOut, image_here}
-use Rattle.rack.specs.declared.rack.ImageRest.{ImageRest}
-use Rattle.rack.specs.declared.rack.Rack.{Rack}
-use Rattle.rack.proofs.Asking.{some_at}
+use Rattle.rack_parts.specs.declared.rack.ImageRest.{ImageRest}
+use Rattle.rack_parts.specs.declared.rack.Rack.{Rack}
+use Rattle.rack_closing.proofs.Places.{some_at}
 use Rattle.open_rack.specs.Sessions.{LeavesRecords, OpensAndCloses}
 use Rattle.open_rack.proofs.RacksAgain.{rest_again}
 use Rattle.open_rack.proofs.Since.{all_at, rose_before, unmapped}
@@ -111,7 +111,7 @@ module _ {D : Type 0} (tells : Bool) (state : D → State) (config : Config) (di
   outs k lt = opened_out state config session.bay before session.opened.rack k lt (none_at k lt)
 
   same_images : after_.rest.images.items ≡ before.rest.images.items
-  same_images = ap (λ (r : Rattle.rack.specs.declared.rack.Rest.Rest D). r.images.items) (rest_again state config before after_ session.again)
+  same_images = ap (λ (r : Rattle.rack_parts.specs.declared.rack.Rest.Rest D). r.images.items) (rest_again state config before after_ session.again)
 
   outs_after : (k : ℕ) → k < length (shapes_of config) → IsImageOut after_.rest.images.items k
   outs_after k lt = subst (λ (images : List (Option (ImageRest D))). IsImageOut images k) (sym same_images) (outs k lt)

@@ -12,7 +12,7 @@ use Rattle.spin_model.specs.Spindles.{SpindleView}
 use Rattle.volume_images.specs.Left.{IsTold}
 use Rattle.volume_images.specs.Volumes.{images_read, shapes_of}
 use Rattle.rack.specs.Opens.{KeepsAllSound, KeepsOthers, LeavesAll}
-use Rattle.rack.specs.declared.rack.Rack.{Rack}
+use Rattle.rack_parts.specs.declared.rack.Rack.{Rack}
 use Rattle.open_rack.specs.Sessions.{OpensAndCloses}
 use Rattle.open_rack.specs.NotOpened.{first_closed}
 use Rattle.open_rack.proofs.FirstClosed.{first_is, first_refused}

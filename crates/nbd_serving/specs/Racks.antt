@@ -6,7 +6,7 @@ use Rattle.turn_lock.specs.Passes.{IsSamePass}
 use Rattle.manager.specs.declared.station.Station.{Station}
 use Rattle.request_turns.specs.Turns.{ManagerPass}
 use Rattle.report.specs.declared.fault.Fault.{Fault}
-use Rattle.rack.specs.declared.rack.Rack.{Rack}
+use Rattle.rack_parts.specs.declared.rack.Rack.{Rack}
 use Rattle.inspection.specs.Racks.{IsStationAt}
 use Rattle.open_rack.specs.NotOpened.{first_closed}
 use Rattle.nbd_handshake.specs.Shakes.{IsShake}

@@ -11,7 +11,7 @@ use Rattle.volume_images.specs.Volumes.{image_read, images_read, shape_in, shape
 use Rattle.rack.specs.Closes.{is_kept_home, recovered_out}
 use Rattle.rack.specs.Owners.{images_taken}
 use Rattle.rack.specs.Rests.{IsImageOut}
-use Rattle.rack.specs.declared.rack.ImageRest.{ImageRest}
+use Rattle.rack_parts.specs.declared.rack.ImageRest.{ImageRest}
 
 accepted_all_from : (n : ℕ) (refused : ℕ → Bool) (images : Images) → ((k : ℕ) → k < length images → refused (n + k) ≡ false) → accepted_from n refused images ≡ images
 accepted_all_from n refused [] none = refl

@@ -24,11 +24,11 @@ use Rattle.rack.specs.Opens.{AreRefused, BeganWith, RefusesVolume, WereThere, fa
 use Rattle.rack.specs.Owners.{IsBegun, images_taken}
 use Rattle.rack.specs.Racks.{IsOpenBase, IsRack, IsStation, NamesVolumes, base_of_station}
 use Rattle.rack.specs.Rests.{IsImageOut}
-use Rattle.rack.specs.declared.rack.ImageRest.{ImageRest}
-use Rattle.rack.specs.declared.rack.Rack.{Rack}
-use Rattle.rack.specs.declared.volume_fault.VolumeFault.{VolumeFault}
-use Rattle.rack.specs.declared.volume_fault.VolumeFault.TheVariants as fault
-use Rattle.rack.proofs.Asking.{some_at}
+use Rattle.rack_parts.specs.declared.rack.ImageRest.{ImageRest}
+use Rattle.rack_parts.specs.declared.rack.Rack.{Rack}
+use Rattle.rack_parts.specs.declared.volume_fault.VolumeFault.{VolumeFault}
+use Rattle.rack_parts.specs.declared.volume_fault.VolumeFault.TheVariants as fault
+use Rattle.rack_closing.proofs.Places.{some_at}
 use Rattle.open_rack.specs.NotOpened.{IsFirstClosed, IsOfCall, IsOpened, first_closed}
 use Rattle.open_rack.proofs.Since.{all_at, out_of, refused_missing, unmapped}
 

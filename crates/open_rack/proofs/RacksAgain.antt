@@ -27,7 +27,7 @@ use Rattle.rack.specs.Opens.{BeganWith, IsGone}
 use Rattle.rack.specs.Owners.{BeganInPlace, IsBegun, images_taken}
 use Rattle.rack.specs.Racks.{AreRising, IsClosable, IsOpenBase, IsRack, IsStation, KeepToViews, base_of_station}
 use Rattle.rack.specs.Rests.{IsPassAt, IsRest}
-use Rattle.rack.specs.declared.rack.Rack.{Rack}
+use Rattle.rack_parts.specs.declared.rack.Rack.{Rack}
 use Rattle.open_rack.specs.Again.{IsPassAgain, IsRackAgain, IsStationAgain}
 
 -- ---- Lists whose elements are related one by one

@@ -17,20 +17,20 @@ use Rattle.volume_images.specs.Left.{IsTold}
 use Rattle.volume_images.specs.Volumes.{NoneOut, images_read, shape_in, shapes_of}
 use Rattle.rack.specs.Closes.{AreLeftOfParts, CameBackFaulty, HasFaultAt, HasFaultIn, IsQuiet, LeavesOpen, LeavesUnopened, LeavesVolumes, ListsFaulty, has_station, is_kept_home}
 use Rattle.rack.specs.Closing.{LeavesNoneOut}
-use Rattle.rack.specs.Opens.{AreRefused, BeganWith, HasFaulty, KeepsAllSound, LeavesAll, RefusesVolume, WereThere, out_names}
+use Rattle.rack.specs.Opens.{AreRefused, BeganWith, HasFaulty, KeepsAllSound, LeavesAll, RefusesVolume, WereThere}
+use Rattle.rack.specs.Rests.{out_names, IsImageOut, image_here}
 use Rattle.rack.specs.Owners.{HadRefused}
 use Rattle.rack.specs.Racks.{IsOpenBase, IsRack, IsStation, base_of_station}
-use Rattle.rack.specs.Rests.{IsImageOut, image_here}
-use Rattle.rack.specs.declared.rack.ImageRest.{ImageRest}
-use Rattle.rack.specs.declared.rack.Rack.{Rack}
-use Rattle.rack.specs.declared.rack.Rest.{Rest}
-use Rattle.rack.specs.declared.volume_fault.VolumeFault.{VolumeFault}
-use Rattle.rack.specs.declared.volume_fault.VolumeFault.TheVariants as fault
+use Rattle.rack_parts.specs.declared.rack.ImageRest.{ImageRest}
+use Rattle.rack_parts.specs.declared.rack.Rack.{Rack}
+use Rattle.rack_parts.specs.declared.rack.Rest.{Rest}
+use Rattle.rack_parts.specs.declared.volume_fault.VolumeFault.{VolumeFault}
+use Rattle.rack_parts.specs.declared.volume_fault.VolumeFault.TheVariants as fault
 use Rattle.rack.proofs.Asking.{refuses_later, rose_on}
 use Rattle.rack.proofs.FailedParts.{part_came_back, part_failed}
-use Rattle.rack.proofs.NewFaults.{told_each, told_with}
+use Rattle.rack_closing.proofs.NewFaults.{told_each, told_with}
 use Rattle.rack.proofs.StillThere.{there_left}
-use Rattle.rack.proofs.SentNames.{none_named}
+use Rattle.rack.proofs.ImagesSent.{none_named}
 use Rattle.open_rack.specs.Again.{IsRackAgain}
 use Rattle.open_rack.specs.Sessions.{IsClosed, IsOpened, OpensAndCloses}
 use Rattle.open_rack.proofs.RacksAgain.{began_again, rest_again, views_again}

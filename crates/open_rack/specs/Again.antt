@@ -5,7 +5,7 @@ use Rattle.turn_lock.specs.Passes.{IsFree, IsSamePass}
 use Rattle.turn_lock.specs.declared.pass.PassOf.{PassOf}
 use Rattle.manager.specs.declared.station.Station.{Station}
 use Rattle.rack.specs.Racks.{IsStation}
-use Rattle.rack.specs.declared.rack.Rack.{Rack}
+use Rattle.rack_parts.specs.declared.rack.Rack.{Rack}
 
 -- a pass again: of the same lock, with the same number, and in no turn if it was in none
 pub record IsPassAgain {T B : Type 0} (p q : PassOf T B) : Type 0 where

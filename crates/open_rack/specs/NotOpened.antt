@@ -17,9 +17,9 @@ use Rattle.rack.specs.Opens.{KeepsAllSound, LeavesAll, RefusesVolume, WereThere}
 use Rattle.rack.specs.Owners.{IsBegun, images_taken}
 use Rattle.rack.specs.Racks.{NamesVolumes}
 use Rattle.rack.specs.Rests.{IsImageOut, image_here}
-use Rattle.rack.specs.declared.rack.ImageRest.{ImageRest}
-use Rattle.rack.specs.declared.volume_fault.VolumeFault.{VolumeFault}
-use Rattle.rack.specs.declared.volume_fault.VolumeFault.TheVariants as fault
+use Rattle.rack_parts.specs.declared.rack.ImageRest.{ImageRest}
+use Rattle.rack_parts.specs.declared.volume_fault.VolumeFault.{VolumeFault}
+use Rattle.rack_parts.specs.declared.volume_fault.VolumeFault.TheVariants as fault
 
 -- what is told of the first of these volumes, from number k on, that has a fault
 abbrev pub first_closed : (k : ℕ) → List (Option VolumeFault) → Option Fault

@@ -18,9 +18,9 @@ use Rattle.rack.specs.Opens.{AreRefused, BeganWith, LeavesAll, RefusesVolume, We
 use Rattle.rack.specs.Owners.{HadRefused}
 use Rattle.rack.specs.Racks.{AreUnused, IsRack, IsUnused, KeepToViews}
 use Rattle.rack.specs.Rests.{IsImageOut, image_here}
-use Rattle.rack.specs.declared.rack.Rack.{Rack}
-use Rattle.rack.specs.declared.volume_fault.VolumeFault.{VolumeFault}
-use Rattle.rack.specs.declared.volume_fault.VolumeFault.TheVariants.{Refused}
+use Rattle.rack_parts.specs.declared.rack.Rack.{Rack}
+use Rattle.rack_parts.specs.declared.volume_fault.VolumeFault.{VolumeFault}
+use Rattle.rack_parts.specs.declared.volume_fault.VolumeFault.TheVariants.{Refused}
 use Rattle.open_rack.specs.Again.{IsRackAgain}
 
 -- whatever images a crash leaves, the records of volume v that keep a block in them are these

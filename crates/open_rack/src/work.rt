@@ -12,7 +12,7 @@ pub trait Work<R, D: Disk, S, K>: Drop {
     ghost use Rattle.wol_config.specs.Configs.{IsValid};
     ghost use Rattle.wol_config.specs.declared.config.Config.{Config};
     ghost use Rattle.rack.specs.Racks.{IsRack};
-    ghost use Rattle.rack.specs.declared.rack.Rack.{Rack};
+    ghost use Rattle.rack_parts.specs.declared.rack.Rack.{Rack};
     ghost use Rattle.open_rack.specs.Again.{IsRackAgain};
 
     /// What it answers.

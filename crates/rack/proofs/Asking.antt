@@ -1,67 +1,16 @@
 -- The images of a configuration that are asked for one after the other.
-use Rattle.std.proofs.Common.{◌≡◌, ◌⊎◌, inl, inr, ⊎_elim, ℕ, zero, suc, ◌+◌, ◌-◌, ◌^◌, ◌<◌, ◌≤◌, Bool, true, false, List, [], ◌∷◌, ◌++◌, length, get_or, Option, None, Some, option_map, IfSome, Result, Ok, Err, IfOk, IfErr, refl, sym, ap, ◌∙◌, subst, arith}
-use Rattle.std.specs.Prelude.{slice_get, IsSome, is_some}
-use Rattle.std.proofs.lemmas.Bool.{cases_lt}
-use Rattle.std.proofs.lemmas.List.{get_or_append_left, get_or_push, get_or_past, length_push}
-use Rattle.std.proofs.lemmas.Option.{none-some, same_Some, slice_get-map}
-use Rattle.wol_disk.specs.Disk.{State, Rose, reads}
-use Rattle.wol_model.specs.Heads.{Shape}
-use Rattle.wol_bay.specs.Bay.{Image, Name, Told, BayState, at_name}
-use Rattle.wol_bay.specs.Refusals.{refusal, refusal_of}
-use Rattle.wol_bay.specs.declared.fault.BayFault.{BayFault}
-use Rattle.wol_config.specs.declared.config.Config.{Config}
-use Rattle.wol_config.specs.declared.config.VolumeConf.{VolumeConf}
-use Rattle.volume_images.specs.Accepted.{IsImageFault}
-use Rattle.volume_images.specs.Formatted.{part_sizes}
-use Rattle.volume_images.specs.Left.{IsTold}
-use Rattle.volume_images.specs.Volumes.{shape_in, shapes_of}
+use Rattle.rack.proofs.Basics.{◌≡◌, ◌⊎◌, inl, inr, ⊎_elim, ℕ, zero, suc, ◌+◌, ◌-◌, ◌^◌, ◌<◌, ◌≤◌, Bool, true, false, List, [], ◌∷◌, ◌++◌}
+use Rattle.rack.proofs.Basics.{length, get_or, Option, None, Some, option_map, IfSome, Result, Ok, Err, IfOk, IfErr, refl, sym, ap, ◌∙◌}
+use Rattle.rack.proofs.Basics.{subst, arith, slice_get, cases_lt, length_push, none-some, same_Some, slice_get-map}
+use Rattle.rack.proofs.Terms.{State, Rose, Shape, Name, Told, BayState, at_name, refusal, refusal_of, BayFault, Config, VolumeConf}
+use Rattle.rack.proofs.Terms.{part_sizes, IsTold, shape_in, shapes_of, image_here, AreNewImages, PushesImage, HasFaulty, RefusesVolume}
+use Rattle.rack.proofs.Terms.{RefusesImage, said_at, fault_at, IsRefused, WasAtEntry, AreAsked, StayedAs, IsNextOpened, IsNextRefused, Said}
+use Rattle.rack.proofs.Terms.{ImageRest, VolumeFault, Absent, WrongLength, Refused, LabelFault, BayFailed}
 use Rattle.volume_images.proofs.Refused.{rose_since}
-use Rattle.rack.specs.Rests.{image_here}
-use Rattle.rack.specs.Making.{AreNewImages, PushesImage}
-use Rattle.rack.specs.Opens.{HasFaulty, RefusesVolume, RefusesImage}
-use Rattle.rack.specs.Opening.{said_at, fault_at, IsRefused, IsOut, WasAtEntry, AreAsked, StayedAs, IsNextOpened, IsNextRefused}
-use Rattle.rack.specs.declared.heads_said.Said.{Said}
+use Rattle.rack.specs.Opening.{IsOut}
 use Rattle.rack.specs.declared.images.Images.{Images}
-use Rattle.rack.specs.declared.rack.ImageRest.{ImageRest}
-use Rattle.rack.specs.declared.volume_fault.VolumeFault.{VolumeFault}
-use Rattle.rack.specs.declared.volume_fault.VolumeFault.TheVariants.{Absent, WrongLength, Refused, LabelFault, BayFailed}
-use Rattle.rack.proofs.NewFaults.{told_each, sent_faulty, fault_since, fault_later}
-
--- ---- One more at the end of a list
-
-module _ {A : Type 0} (xs : List (Option A)) (y : Option A) (n : ℕ) (count : length xs ≡ n) where
-  pub at_less : (k : ℕ) → k < n → get_or (xs ++ y ∷ []) k None ≡ get_or xs k None
-  at_less k lt = get_or_append_left xs (y ∷ []) None k (omega (arith, lt, count))
-
-  pub at_new : get_or (xs ++ y ∷ []) n None ≡ y
-  at_new = get_or_push xs y None n count
-
-  -- what is there now was there, or is the new one
-  pub push_cases : (k : ℕ) (x : A) → get_or (xs ++ y ∷ []) k None ≡ Some x → ((k < n) × (get_or xs k None ≡ Some x)) ⊎ ((k ≡ n) × (y ≡ Some x))
-  push_cases k x at =
-      ⊎_elim
-      (λ (less : k < n). inl (less, sym (at_less k less) ∙ at))
-      (λ (more : n ≤ k).
-      ⊎_elim
-      (λ (here : k < n + 1).
-      let e : k ≡ n = omega (arith, more, here) in
-      inr (e, sym at_new ∙ sym (ap (λ (j : ℕ). get_or (xs ++ y ∷ []) j None) e) ∙ at))
-      (λ (past : n + 1 ≤ k). absurd (none-some x (sym (get_or_past (xs ++ y ∷ []) k None (omega (arith, past, count, length_push xs y))) ∙ at)))
-      (cases_lt k (n + 1)))
-      (cases_lt k n)
-
-pub some_at : {A : Type 0} (xs : List A) (k : ℕ) → k < length xs → (x : A) × (slice_get xs k ≡ Some x)
-some_at [] k lt = absurd (omega (arith, lt))
-some_at (x ∷ xs) zero lt = (x, refl)
-some_at (x ∷ xs) (suc k) lt = some_at xs k (omega (arith, lt))
-
--- what is there stays there
-pub still_there : {A : Type 0} (xs : List (Option A)) (y : Option A) (k : ℕ) → IsSome (get_or xs k None) → IsSome (get_or (xs ++ y ∷ []) k None)
-still_there xs y k there =
-    ⊎_elim
-    (λ (less : k < length xs). ap is_some (at_less xs y (length xs) refl k less) ∙ there)
-    (λ (past : length xs ≤ k). let none : is_some (get_or xs k None) ≡ false = ap is_some (get_or_past xs k None past) in absurd (cc (there, none)))
-    (cases_lt k (length xs))
+use Rattle.rack_closing.proofs.NewFaults.{told_each, sent_faulty, fault_since, fault_later}
+use Rattle.rack_closing.proofs.Places.{at_less, at_new, push_cases}
 
 -- ---- Faults that rise
 
@@ -71,13 +20,6 @@ rose_on a b c rose le = ⊎_elim (λ (lt : a < b). inl (omega (arith, lt, le))) 
 -- the name has the image that it had
 abbrev pub SameAt : Name → Told → Told → Type 0
 SameAt name old new = (at_name name new.images ≡ at_name name old.images) × HasFaulty old new
-
--- what the image that is told said
-pub image_said : {D : Type 0} (config : Config) (old new : BayState) (out : List (Option (ImageRest D))) (k : ℕ) (v : VolumeConf) (f : VolumeFault) (t : Told) → old.told ≡ Some t
-    → (r : RefusesImage config out old new k v f) → (i : Image) → at_name v.name t.images ≡ Some i → IsImageFault (length (shapes_of config)) k (shape_in config v) (reads i.blocks) r.image_fault
-image_said config old new out k v f t told r i at =
-    let was = r.said t told in
-    subst (λ (x : Image). IsImageFault (length (shapes_of config)) k (shape_in config v) (reads x.blocks) r.image_fault) (same_Some was.0 i (sym was.1 ∙ at)) was.4
 
 module _ {D : Type 0} (tells : Bool) (state : D → State) (config : Config) where
   image_later : (out : List (Option (ImageRest D))) (b b1 b2 : BayState) (k : ℕ) (v : VolumeConf) (f : VolumeFault) → b1.faults ≤ b2.faults → IsTold HasFaulty b1.told b2.told

@@ -1,31 +1,14 @@
 -- The part that refuses a volume: it is here with a fault, or it came back with one.
-use Rattle.std.proofs.Common.{◌≡◌, ◌⊎◌, inl, inr, ⊎_elim, ℕ, ◌+◌, List, ◌++◌, length, Option, None, Some, refl, sym, ap, subst, ◌∙◌, append_assoc, arith}
-use Rattle.std.specs.Prelude.{Bool, slice_get, Contains}
-use Rattle.std.proofs.lemmas.List.{length-map}
-use Rattle.std.proofs.lemmas.List.Elements.{Contains-append_right}
-use Rattle.std.proofs.lemmas.Option.{slice_get_within}
-use Rattle.wol_disk.specs.Disk.{State, Rose}
+use Rattle.rack.proofs.Basics.{◌≡◌, ◌⊎◌, inl, inr, ⊎_elim, ℕ, ◌+◌, List, ◌++◌, length, Option, None, Some, sym, ap, subst, ◌∙◌, append_assoc, arith, Bool, slice_get, length-map}
+use Rattle.rack.proofs.Basics.{Contains-append_right, slice_get_within}
+use Rattle.rack.proofs.Terms.{State, Rose, BayState, Name, Told, Config, VolumeConf, Part, DiskFault, IsTold, shape_in, shapes_of, ImageFault, CameBackFaulty, HasFaultAt}
+use Rattle.rack.proofs.Terms.{HasFaultIn, HasFaultyPart, IsNamedHere, IsPartHere, ListsFaulty, part_named, place_in, AreRefused, HasFaulty, HasNewFault, fault_in_image, IsImageOut}
+use Rattle.rack.proofs.Terms.{Rack, Rest, Refused, IsCallFault}
 use Rattle.wol_promise.specs.Policy.{PartName}
-use Rattle.wol_bay.specs.Bay.{BayState, Name, Told}
-use Rattle.wol_config.specs.declared.config.Config.{Config}
-use Rattle.wol_config.specs.declared.config.VolumeConf.{VolumeConf}
-use Rattle.spin_model.specs.declared.spun.Spun.{Spun}
-use Rattle.manager.specs.declared.part.Part.{Part}
+use Rattle.rack_closing.proofs.Places.{some_at}
+use Rattle.rack_closing.proofs.NewFaults.{told_each}
 use Rattle.manager.specs.declared.part.Part.TheVariants as part
-use Rattle.manager_recovery.specs.declared.refusal.OpenRefusal.TheVariants.{DiskFault}
-use Rattle.volume_images.specs.Left.{IsTold}
-use Rattle.volume_images.specs.Refusals.{IsCallFault}
-use Rattle.volume_images.specs.Volumes.{shape_in, shapes_of}
-use Rattle.volume_images.specs.declared.reading.ImageFault.{ImageFault}
 use Rattle.volume_images.specs.declared.reading.ImageFault.TheVariants as fault
-use Rattle.rack.specs.Closes.{CameBackFaulty, HasFaultAt, HasFaultIn, HasFaultyPart, IsNamedHere, IsPartHere, ListsFaulty, part_named, place_in}
-use Rattle.rack.specs.Opens.{AreRefused, HasFaulty, HasNewFault, RefusesImage, fault_in_image}
-use Rattle.rack.specs.Rests.{IsImageOut}
-use Rattle.rack.specs.declared.rack.Rack.{Rack}
-use Rattle.rack.specs.declared.rack.Rest.{Rest}
-use Rattle.rack.specs.declared.volume_fault.VolumeFault.TheVariants.{Refused}
-use Rattle.rack.proofs.Asking.{some_at}
-use Rattle.rack.proofs.NewFaults.{told_each}
 
 -- a fault of a disk that refuses an image comes of a call that failed
 pub call_failed : (k : ℕ) (p : Part) (f : ImageFault) → Refused (DiskFault p) ≡ fault_in_image k f → IsCallFault f

@@ -1,37 +1,28 @@
--- What became of each segment that a volume owned when it was opened.
-use Rattle.std.proofs.Common.{◌≡◌, ◌≢◌, ◌⊎◌, inl, inr, ⊎_elim, ℕ, zero, suc, ◌+◌, ◌<◌, ◌≤◌, Bool, true, false, cond, eqb, List, [], ◌∷◌, ◌++◌, length, map, reverse, get_or, Option, Some, refl, sym, ap, ◌∙◌, subst, arith}
-use Rattle.std.specs.Prelude.{slice_get, AllPairs, Contains}
-use Rattle.std.proofs.lemmas.Bool.{cases_lt, eq-eqb, ne_eqb, eqb-true}
-use Rattle.std.proofs.lemmas.Grind.{reverse_onto}
-use Rattle.std.proofs.lemmas.List.{append_assoc, append-nil, get_or-map, get_or_default, length-map}
-use Rattle.std.proofs.lemmas.List.Elements.{Contains-append_left, Contains-push}
-use Rattle.std.proofs.lemmas.Option.{none-some, same_Some, slice_get-get_or}
-use Rattle.wol_disk.specs.Disk.{Block, Values, State, IsDisk, TellsContent, IsImageOf, reads}
-use Rattle.wol_disk.proofs.Calls.{now_leaves}
-use Rattle.wol_disk.proofs.Images.{image_reads}
-use Rattle.wol_model.specs.Heads.{Shape, owned_block}
-use Rattle.wol_model.specs.Heads as head
-use Rattle.wol_model.specs.Log.{IsIdle, IsLog}
-use Rattle.wol_promise.specs.Manager.{SaysOwnerOrFree}
-use Rattle.wol_bay.specs.Bay.{Image}
-use Rattle.turn_lock.specs.Histories.{Entry}
-use Rattle.turn_lock.specs.Passes.{IsSamePass, pass_lock, pass_number, pass_mine}
-use Rattle.spin_model.specs.Spun.{state_of}
-use Rattle.seg_pool.specs.Holders.{Gave}
-use Rattle.seg_pool.specs.Operations.{holds, operation_of}
-use Rattle.seg_pool.specs.declared.base.PoolBase.{PoolBase}
+-- What became of the segments of an opening that was handed back, and that they may return.
+use Rattle.rack.proofs.Basics.{◌≡◌, ◌≢◌, ◌⊎◌, inl, inr, ⊎_elim, ℕ, zero, suc, ◌+◌, ◌<◌, ◌≤◌, Bool, true, false, cond, eqb, List, [], ◌∷◌}
+use Rattle.rack.proofs.Basics.{◌++◌, length, map, reverse, get_or, Option, Some, refl, sym, ap, ◌∙◌, subst, arith, None, slice_get}
+use Rattle.rack.proofs.Basics.{AllPairs, Contains, is_some, All, cases_lt, eq-eqb, ne_eqb, eqb-true, reverse_onto, append_assoc, append-nil}
+use Rattle.rack.proofs.Basics.{get_or-map, get_or_default, length-map, Contains-append_left, Contains-push, All-contains}
+use Rattle.rack.proofs.Basics.{All-contains_itself, All-filter, none-some, same_Some, slice_get-get_or, AllByRecursion, AllZip}
+use Rattle.rack.proofs.Terms.{Block, Values, State, IsDisk, TellsContent, IsImageOf, reads, now_leaves, image_reads, Shape, owned_block}
+use Rattle.rack.proofs.Terms.{IsIdle, IsLog, SaysOwnerOrFree, Image, BayState, Entry, IsSamePass, pass_lock, pass_number, pass_mine}
+use Rattle.rack.proofs.Terms.{state_of, Gave, holds, PoolBase, free_disk, FreeSegment, logger_of, pool_of, IsLane, taken_in, Lane, Station}
+use Rattle.rack.proofs.Terms.{Fate, Kept, Freed, IsFateOf, AreFates, HasGiven, freed_on, kept_of, IsHandedBack, IsUsedLane, OwnedPart}
+use Rattle.rack.proofs.Terms.{HasHead, head_place, HadBefore, HadSegmentBefore, IsGone, AreInOrder, IsBefore, place_of, IsValid, Config}
+use Rattle.rack.proofs.Terms.{Opening, shapes_of, IsOpeningRack, TakesOpening, IsNewLane, IsBarePlace, CanPutLanes, IsOwedPlace}
+use Rattle.rack.proofs.Terms.{CanPutOwned, HasPlace, loggers_out, segments_of, image_here, segment_here, IsRow, Said, Rack, Rest}
+use Rattle.std.proofs.lemmas.Bool.Decides.{eqb_tells}
+use Rattle.std.proofs.lemmas.List.Kept.{AllPairs-cons, AllPairs-filter}
+use Rattle.seg_pool.specs.Operations.{operation_of}
 use Rattle.seg_pool.proofs.Holding.{holds-push}
-use Rattle.log_segment.specs.Segment.{free_disk}
-use Rattle.log_segment.specs.declared.free.FreeSegment.{FreeSegment}
-use Rattle.logger.specs.Lanes.{logger_of, pool_of}
-use Rattle.logger.specs.declared.lane.Lane.{Lane}
-use Rattle.manager.specs.declared.station.Station.{Station}
-use Rattle.manager_recovery.specs.Left.{Fate, Kept, Freed, IsFateOf, AreFates, HasGiven, freed_on, kept_of}
-use Rattle.manager_recovery.specs.declared.opening.OwnedPart.{OwnedPart}
-use Rattle.volume_images.specs.Accepted.{HasHead, head_place}
-use Rattle.rack.specs.Opens.{HadBefore, HadSegmentBefore, IsGone}
-use Rattle.rack.proofs.Members.{first_in, later_in, in_cases, none_in}
-use Rattle.rack.proofs.StationParts.{zip_at}
+use Rattle.rack_parts.proofs.Members.{first_in, later_in, in_cases, none_in, of_recursion, all_member, in_map, of_map, segment_in_image, here_within}
+use Rattle.rack_closing.proofs.StationParts.{zip_at}
+use Rattle.rack_closing.proofs.OwnedSegments.{never_itself}
+use Rattle.rack.proofs.Openable.{IsInImage, parts_in_images, parts, can_take}
+use Rattle.wol_model.specs.Heads as head
+use Rattle.rack.proofs.Without as without
+
+-- ---- What became of each segment that a volume owned when it was opened
 
 -- two elements of a list are the same where their numbers are, of which no two are
 pub same_by : {X : Type 0} (f : X → ℕ) (xs : List X) (x y : X) → AllPairs (λ (j k : ℕ). j ≢ k) (map f xs) → Contains xs x → Contains xs y → f x ≡ f y → x ≡ y
@@ -216,3 +207,267 @@ module _ {D : Type 0} (state : D → State) (sound : (d : D) → IsDisk (state d
       free_head : (c : List Block) → IsIdle c → HasHead volumes c head.Free
       free_head [] idle = absurd idle
       free_head (x ∷ c) idle = record { block = x; first = refl; spelled = record { in_range = tt; bytes = idle }; configured = tt }
+
+-- ---- What became of an owned segment of an opening, by its place
+
+module _ {D : Type 0} (state : D → State) (id : ℕ) where
+  -- what became of the segment at a place
+  pub data FateAt (os : List (OwnedPart D)) (fates : List (Fate D)) (k i : ℕ) : Type 0 where
+    stayed : (o n : OwnedPart D) → Contains os o → place_of o ≡ (k, i) → Contains (kept_of fates) n → place_of n ≡ (k, i) → IsFateOf state id o (Kept n) → (Contains (freed_on k os fates) i → ⊥) → FateAt os fates k i
+    went : (o : OwnedPart D) (f : FreeSegment D) → Contains os o → place_of o ≡ (k, i) → IsFateOf state id o (Freed f) → Contains (freed_on k os fates) i
+        → ((n : OwnedPart D) → Contains (kept_of fates) n → place_of n ≡ (k, i) → ⊥) → FateAt os fates k i
+
+  -- a segment that was handed on stands where it stood
+  same_place : (o n : OwnedPart D) → IsFateOf state id o (Kept n) → place_of n ≡ place_of o
+  same_place o n fate = ap place_of fate.same.0
+
+  freed_cases : (o : OwnedPart D) (os : List (OwnedPart D)) (f : FreeSegment D) (fates : List (Fate D)) (k i : ℕ) → Contains (freed_on k (o ∷ os) (Freed f ∷ fates)) i → (place_of o ≡ (k, i)) ⊎ Contains (freed_on k os fates) i
+  freed_cases o os f fates k i has = ⊎_elim
+      (λ e. ⊎_elim (λ (same : o.index ≡ i). inl (λ j. (e.1 j, same j))) (λ more. inr more)
+      (in_cases o.index i (freed_on k os fates) (subst (λ (t : Bool). Contains (cond t (o.index ∷ freed_on k os fates) (freed_on k os fates)) i) e.0 has)))
+      (λ e. inr (subst (λ (t : Bool). Contains (cond t (o.index ∷ freed_on k os fates) (freed_on k os fates)) i) e.0 has))
+      (eqb_tells o.logger k)
+
+  freed_here : (o : OwnedPart D) (os : List (OwnedPart D)) (f : FreeSegment D) (fates : List (Fate D)) (k i : ℕ) → place_of o ≡ (k, i) → Contains (freed_on k (o ∷ os) (Freed f ∷ fates)) i
+  freed_here o os f fates k i is = ⊎_elim
+      (λ e. subst (λ (t : Bool). Contains (cond t (o.index ∷ freed_on k os fates) (freed_on k os fates)) i) (sym e.0) (first_in o.index i (freed_on k os fates) (ap (λ (p : ℕ × ℕ). p.1) is)))
+      (λ e. absurd (e.1 (ap (λ (p : ℕ × ℕ). p.0) is)))
+      (eqb_tells o.logger k)
+
+  freed_later : (o : OwnedPart D) (os : List (OwnedPart D)) (f : Fate D) (fates : List (Fate D)) (k i : ℕ) → Contains (freed_on k os fates) i → Contains (freed_on k (o ∷ os) (f ∷ fates)) i
+  freed_later o os (Kept n) fates k i has = has
+  freed_later o os (Freed f) fates k i has = at (eqb o.logger k)
+    where
+      at : (t : Bool) → Contains (cond t (o.index ∷ freed_on k os fates) (freed_on k os fates)) i
+      at true = later_in o.index i (freed_on k os fates) has
+      at false = has
+
+  -- what was freed was owned
+  pub freed_owned : (os : List (OwnedPart D)) (fates : List (Fate D)) (k i : ℕ) → Contains (freed_on k os fates) i → Contains (map place_of os) (k, i)
+  freed_owned [] fates k i has = absurd (none_in i has)
+  freed_owned (o ∷ os) [] k i has = absurd (none_in i has)
+  freed_owned (o ∷ os) (Kept n ∷ fates) k i has = later_in (place_of o) (k, i) (map place_of os) (freed_owned os fates k i has)
+  freed_owned (o ∷ os) (Freed f ∷ fates) k i has = ⊎_elim
+      (λ is. first_in (place_of o) (k, i) (map place_of os) is)
+      (λ more. later_in (place_of o) (k, i) (map place_of os) (freed_owned os fates k i more))
+      (freed_cases o os f fates k i has)
+
+  -- what was handed on was owned
+  pub kept_owned : (os : List (OwnedPart D)) (fates : List (Fate D)) → AreFates state id os fates → (n : OwnedPart D) → Contains (kept_of fates) n → Contains (map place_of os) (place_of n)
+  kept_owned [] [] zip n has = absurd (none_in n has)
+  kept_owned [] (f ∷ fates) zip n has = absurd zip
+  kept_owned (o ∷ os) [] zip n has = absurd zip
+  kept_owned (o ∷ os) (Kept m ∷ fates) zip n has = ⊎_elim
+      (λ (e : m ≡ n). first_in (place_of o) (place_of n) (map place_of os) (sym (same_place o m zip.0) ∙ ap place_of e))
+      (λ more. later_in (place_of o) (place_of n) (map place_of os) (kept_owned os fates zip.1 n more))
+      (in_cases m n (kept_of fates) has)
+  kept_owned (o ∷ os) (Freed f ∷ fates) zip n has = later_in (place_of o) (place_of n) (map place_of os) (kept_owned os fates zip.1 n has)
+
+  before_kept : (p : ℕ × ℕ) (os : List (OwnedPart D)) (fates : List (Fate D)) → AreFates state id os fates → AllByRecursion (IsBefore p) (map place_of os) → AllByRecursion (IsBefore p) (map place_of (kept_of fates))
+  before_kept p [] [] zip all = tt
+  before_kept p [] (f ∷ fates) zip all = absurd zip
+  before_kept p (o ∷ os) [] zip all = absurd zip
+  before_kept p (o ∷ os) (Kept n ∷ fates) zip all = (subst (IsBefore p) (sym (same_place o n zip.0)) all.0, before_kept p os fates zip.1 all.1)
+  before_kept p (o ∷ os) (Freed f ∷ fates) zip all = before_kept p os fates zip.1 all.1
+
+  -- and those that were handed on are in order
+  pub kept_in_order : (os : List (OwnedPart D)) (fates : List (Fate D)) → AreFates state id os fates → AreInOrder (map place_of os) → AreInOrder (map place_of (kept_of fates))
+  kept_in_order [] [] zip order = tt
+  kept_in_order [] (f ∷ fates) zip order = absurd zip
+  kept_in_order (o ∷ os) [] zip order = absurd zip
+  kept_in_order (o ∷ os) (Kept n ∷ fates) zip order =
+      (subst (λ (p : ℕ × ℕ). AllByRecursion (IsBefore p) (map place_of (kept_of fates))) (sym (same_place o n zip.0)) (before_kept (place_of o) os fates zip.1 order.0), kept_in_order os fates zip.1 order.1)
+  kept_in_order (o ∷ os) (Freed f ∷ fates) zip order = kept_in_order os fates zip.1 order.1
+
+  -- the first place stands nowhere behind it
+  not_behind : (o : OwnedPart D) (os : List (OwnedPart D)) (k i : ℕ) → AreInOrder (map place_of (o ∷ os)) → place_of o ≡ (k, i) → Contains (map place_of os) (k, i) → ⊥
+  not_behind o os k i order is has = never_itself (k, i) (subst (λ (p : ℕ × ℕ). IsBefore p (k, i)) is (of_recursion (IsBefore (place_of o)) (map place_of os) (k, i) order.0 has))
+
+  -- each place of an owned segment has its fate
+  pub fate_at : (os : List (OwnedPart D)) (fates : List (Fate D)) → AreInOrder (map place_of os) → AreFates state id os fates → (k i : ℕ) → Contains (map place_of os) (k, i) → FateAt os fates k i
+  fate_at [] fates order zip k i has = absurd (none_in (k, i) has)
+  fate_at (o ∷ os) [] order zip k i has = absurd zip
+  fate_at (o ∷ os) (f ∷ fates) order zip k i has = go (λ more. fate_at os fates order.1 zip.1 k i more) (in_cases (place_of o) (k, i) (map place_of os) has)
+    where
+      first : (f : Fate D) → IsFateOf state id o f → place_of o ≡ (k, i) → FateAt (o ∷ os) (f ∷ fates) k i
+      first (Kept n) fate is =
+          stayed o n (first_in o o os refl) is (first_in n n (kept_of fates) refl) (same_place o n fate ∙ is) fate (λ freed. not_behind o os k i order is (freed_owned os fates k i freed))
+      first (Freed f) fate is =
+          went o f (first_in o o os refl) is fate (freed_here o os f fates k i is)
+          (λ n kept at. not_behind o os k i order is (subst (λ (p : ℕ × ℕ). Contains (map place_of os) p) at (kept_owned os fates zip.1 n kept)))
+
+      later : (f : Fate D) → IsFateOf state id o f → Contains (map place_of os) (k, i) → FateAt os fates k i → FateAt (o ∷ os) (f ∷ fates) k i
+      later (Kept m) fate behind (stayed p n in_os is in_kept at own never) = stayed p n (later_in o p os in_os) is (later_in m n (kept_of fates) in_kept) at own never
+      later (Freed m) fate behind (stayed p n in_os is in_kept at own never) =
+          stayed p n (later_in o p os in_os) is in_kept at own (λ freed. ⊎_elim (λ same. not_behind o os k i order same behind) never (freed_cases o os m fates k i freed))
+      later (Kept m) fate behind (went p g in_os is own freed none) =
+          went p g (later_in o p os in_os) is own (freed_later o os (Kept m) fates k i freed)
+          (λ n kept at. ⊎_elim (λ (e : m ≡ n). not_behind o os k i order (sym (same_place o m fate) ∙ ap place_of e ∙ at) behind) (λ more. none n more at) (in_cases m n (kept_of fates) kept))
+      later (Freed m) fate behind (went p g in_os is own freed none) = went p g (later_in o p os in_os) is own (freed_later o os (Freed m) fates k i freed) none
+
+      go : (Contains (map place_of os) (k, i) → FateAt os fates k i) → (place_of o ≡ (k, i)) ⊎ Contains (map place_of os) (k, i) → FateAt (o ∷ os) (f ∷ fates) k i
+      go rest (inl is) = first f zip.0 is
+      go rest (inr more) = later f zip.0 more (rest more)
+
+  -- ---- Where as many were handed on as there were, none was freed
+
+  few : (os : List (OwnedPart D)) (fates : List (Fate D)) → AreFates state id os fates → length (kept_of fates) ≤ length os
+  few [] [] zip = omega arith
+  few [] (f ∷ fates) zip = absurd zip
+  few (o ∷ os) [] zip = absurd zip
+  few (o ∷ os) (Kept n ∷ fates) zip = let rest = few os fates zip.1 in omega (arith, rest)
+  few (o ∷ os) (Freed f ∷ fates) zip = let rest = few os fates zip.1 in omega (arith, rest)
+
+  fewer : (os : List (OwnedPart D)) (fates : List (Fate D)) (k i : ℕ) → AreFates state id os fates → Contains (freed_on k os fates) i → length (kept_of fates) < length os
+  fewer [] fates k i zip has = absurd (none_in i has)
+  fewer (o ∷ os) [] k i zip has = absurd (none_in i has)
+  fewer (o ∷ os) (Kept n ∷ fates) k i zip has = let rest = fewer os fates k i zip.1 has in omega (arith, rest)
+  fewer (o ∷ os) (Freed f ∷ fates) k i zip has = let rest = few os fates zip.1 in omega (arith, rest)
+
+  pub none_freed : (os ns : List (OwnedPart D)) (fates : List (Fate D)) (k i : ℕ) → AreFates state id os fates → ns ≡ kept_of fates → length os ≡ length ns → Contains (freed_on k os fates) i → ⊥
+  none_freed os ns fates k i zip are same has =
+      let less = fewer os fates k i zip has in
+      let long : length ns ≡ length (kept_of fates) = ap (λ (l : List (OwnedPart D)). length l) are in
+      omega (arith, less, same, long)
+
+-- ---- What opening a volume hands back may come back to the rest that it was taken out of
+
+-- the partners of an element in lists that two relations hold of
+module _ {X Y : Type 0} (P Q : X → Y → Type 0) where
+  pub partner_of : (xs : List X) (ys : List Y) (y : Y) → AllZip P xs ys → AllZip Q xs ys → Contains ys y → (x : X) × Contains xs x × P x y × Q x y
+  partner_of [] [] y p q has = absurd (none_in y has)
+  partner_of [] (b ∷ ys) y p q has = absurd p
+  partner_of (x ∷ xs) [] y p q has = absurd p
+  partner_of (x ∷ xs) (b ∷ ys) y p q has = ⊎_elim
+      (λ (e : b ≡ y). (x, first_in x x xs refl, subst (λ (z : Y). P x z) e p.0, subst (λ (z : Y). Q x z) e q.0))
+      (λ more. let rest = partner_of xs ys y p.1 q.1 more in (rest.0, later_in x rest.0 xs rest.1, rest.2, rest.3))
+      (in_cases b y ys has)
+
+-- places in order are apart
+pub order_apart : {D : Type 0} (os : List (OwnedPart D)) → AreInOrder (map place_of os) → AllPairs (λ (o p : OwnedPart D). place_of o ≢ place_of p) os
+order_apart [] order = λ i j d lt within. absurd (omega (arith, within))
+order_apart {D} (o ∷ os) order = AllPairs-cons (λ (x y : OwnedPart D). place_of x ≢ place_of y) o os (all_member (λ (p : OwnedPart D). place_of o ≢ place_of p) os (λ p has same. never_itself (place_of p) (subst (λ (q : ℕ × ℕ). IsBefore q (place_of p)) same (behind p has)))) (order_apart os order.1)
+  where
+    behind : (p : OwnedPart D) → Contains os p → IsBefore (place_of o) (place_of p)
+    behind p has = Rattle.rack_parts.proofs.Members.of_recursion (IsBefore (place_of o)) (map place_of os) (place_of p) order.0 (in_map place_of os p has)
+
+module _ {D : Type 0} (state : D → State) (tells : Bool) (config : Config) (valid : IsValid config) (b : BayState) (said : List (Option Said)) (id : ℕ) (r : Rack D) (own : Said)
+    (ready : IsOpeningRack state config b said id r) (lt : id < length (shapes_of config)) (at : slice_get said id ≡ Some (Some own)) (view : List ℕ) (own_view : own.view ≡ view)
+    (away : Rest D) (o : Opening D) (takes : TakesOpening state config r.rest away said id view o) (n : Opening D) (back : IsHandedBack tells state r.shared o n) where
+  abbrev pub loggers : List ℕ
+  loggers = loggers_out r.rest view
+
+  pub not_own : Contains view id → ⊥
+  not_own = (can_take state config valid b said id r own ready lt at view own_view).others
+
+  pub in_view : (k : ℕ) → Contains loggers k → Contains view k
+  in_view k has = All-contains (Contains view) loggers k (All-filter (λ j. is_some (image_here r.rest.images.items j)) (Contains view) view (All-contains_itself view)) has
+
+  -- ---- Lanes
+
+  -- a lane that was taken out, and as it is handed back
+  pub record IsBackLane (l m : Lane D) : Type 0 where
+    pub before : Contains o.lanes.items l
+    pub after : Contains n.lanes.items m
+    pub taken : IsNewLane state r.rest id (segments_of config (logger_of l)) l
+    pub used : IsUsedLane state r.shared o.want.id o.most l m
+    pub given : HasGiven o.owned.items back.fates l m
+
+  new_lane : (l : Lane D) → Contains o.lanes.items l → IsNewLane state r.rest id (segments_of config (logger_of l)) l
+  new_lane l has = All-contains (λ (x : Lane D). IsNewLane state r.rest id (segments_of config (logger_of x)) x) o.lanes.items l takes.lanes.each has
+
+  pub lane_to : (m : Lane D) → Contains n.lanes.items m → (l : Lane D) × IsBackLane l m
+  lane_to m has =
+      let p = partner_of (IsUsedLane state r.shared o.want.id o.most) (HasGiven o.owned.items back.fates) o.lanes.items n.lanes.items m back.lanes back.pools has in
+      (p.0, record { before = p.1; after = has; taken = new_lane p.0 p.1; used = p.2; given = p.3 })
+
+  same_loggers : map logger_of n.lanes.items ≡ loggers
+  same_loggers = go o.lanes.items n.lanes.items back.lanes ∙ takes.lanes.loggers_are
+    where
+      go : (xs ys : List (Lane D)) → AllZip (IsUsedLane state r.shared o.want.id o.most) xs ys → map logger_of ys ≡ map logger_of xs
+      go [] [] all = refl
+      go [] (y ∷ ys) all = absurd all
+      go (x ∷ xs) [] all = absurd all
+      go (x ∷ xs) (y ∷ ys) all = let rest = go xs ys all.1 in λ i. all.0.same.logger i ∷ rest i
+
+  pub logger_seen : (m : Lane D) → Contains n.lanes.items m → Contains loggers (logger_of m)
+  logger_seen m has = subst (λ (l : List ℕ). Contains l (logger_of m)) same_loggers (in_map logger_of n.lanes.items m has)
+
+  -- the lane of a logger
+  pub lane_at : (k : ℕ) → Contains loggers k → (l m : Lane D) × IsBackLane l m × (logger_of l ≡ k) × (logger_of m ≡ k)
+  lane_at k has =
+      let from = of_map logger_of n.lanes.items k (subst (λ (l : List ℕ). Contains l k) (sym same_loggers) has) in
+      let before = lane_to from.0 from.1 in
+      (before.0, from.0, before.1, sym before.1.used.same.logger ∙ from.2, from.2)
+
+  pub away_rows : All (λ p. IsRow (length (shapes_of config)) p) away.passes.items
+  away_rows = takes.home.rows.rows (length (shapes_of config)) (subst (λ x. All (λ p. IsRow (length (shapes_of config)) p) x.items) (sym takes.owned.passes) (takes.lanes.passes.rows.rows (length (shapes_of config)) (parts state config valid b said id r own ready lt at).rows))
+
+  place : (k : ℕ) → k < length (shapes_of config) → HasPlace away id k
+  place k within = record {
+    row = let c = without.rows_without state config said id view r.rest away o takes in let d = (parts state config valid b said id r own ready lt at).count in omega (arith, lt, c, d);
+    volumes = length (shapes_of config);
+    rows = away_rows;
+    within = within;
+  }
+
+  bare : (m : Lane D) → Contains n.lanes.items m → IsBarePlace away id (logger_of m)
+  bare m has =
+      let seen = logger_seen m has in
+      let below = (lane_to m has).1.used.lane.at.pool_in in
+      let long = r.shared.pools.ok.0 in
+      let count = ready.closable.locks.pool_count in
+      record {
+        place = place (logger_of m) (omega (arith, below, long, count));
+        pool = without.pool_gone state config said id view r.rest away o takes (logger_of m) seen;
+        spindle = without.spindle_gone state config said id view r.rest away o takes (logger_of m) (λ e. not_own (subst (λ (k : ℕ). Contains view k) e (in_view (logger_of m) seen))) seen;
+        held = without.held_gone state config said id view r.rest away o takes (logger_of m) seen;
+      }
+
+  pub lanes_return : CanPutLanes state away id n.lanes.items
+  lanes_return = record {
+    whole = all_member (λ (m : Lane D). IsLane state m × (taken_in m ≡ None)) n.lanes.items (λ m has. let l = lane_to m has in (l.1.used.lane.lane, l.1.used.lane.untaken));
+    bare = all_member (λ (m : Lane D). IsBarePlace away id (logger_of m)) n.lanes.items bare;
+    apart = apart;
+  }
+    where
+      apart : AllPairs (λ (l k : Lane D). logger_of l ≢ logger_of k) n.lanes.items
+      apart i j d before_ within same =
+          let long : length (map logger_of n.lanes.items) ≡ length n.lanes.items = length-map n.lanes.items logger_of in
+          let pairs : AllPairs (λ (x y : ℕ). x ≢ y) (map logger_of n.lanes.items) = subst (λ (xs : List ℕ). AllPairs (λ (x y : ℕ). x ≢ y) xs) (sym same_loggers) (AllPairs-filter (λ (x y : ℕ). x ≢ y) (λ k. is_some (image_here r.rest.images.items k)) view takes.distinct) in
+          pairs i j 0 before_ (omega (arith, within, long))
+          (get_or-map logger_of n.lanes.items i d 0 (omega (arith, before_, within)) ∙ same ∙ sym (get_or-map logger_of n.lanes.items j d 0 within))
+
+  pub lanes_of_others : All (λ (m : Lane D). id ≢ logger_of m) n.lanes.items
+  lanes_of_others = all_member (λ (m : Lane D). id ≢ logger_of m) n.lanes.items (λ m has same. not_own (subst (λ (k : ℕ). Contains view k) (sym same) (in_view (logger_of m) (logger_seen m has))))
+
+  -- ---- Owned segments
+
+  pub owned_at : (k i : ℕ) → Contains (map place_of o.owned.items) (k, i) → (p : OwnedPart D) × IsInImage state config valid b said id r own ready lt at view away o takes p × (p.logger ≡ k) × (p.index ≡ i)
+  owned_at k i has =
+      let from = of_map place_of o.owned.items (k, i) has in (
+        from.0,
+        All-contains (λ (q : OwnedPart D). IsInImage state config valid b said id r own ready lt at view away o takes q) o.owned.items from.0
+            (parts_in_images state config valid b said id r own ready lt at view away o takes) from.1,
+        ap (λ (p : ℕ × ℕ). p.0) from.2,
+        ap (λ (p : ℕ × ℕ). p.1) from.2,
+      )
+
+  owed : (p : OwnedPart D) → Contains (map place_of o.owned.items) (place_of p) → IsOwedPlace away p
+  owed p has =
+      let at_p = owned_at p.logger p.index has in
+      let here : image_here r.rest.images.items p.logger ≡ Some at_p.1.image = ap (λ (k : ℕ). image_here r.rest.images.items k) (sym at_p.2) ∙ at_p.1.out in
+      let there : segment_here at_p.1.image p.index ≡ Some at_p.0.part = ap (λ (i : ℕ). segment_here at_p.1.image i) (sym at_p.3) ∙ at_p.1.there in
+      let now = without.image_without state config said id view r.rest away o takes p.logger at_p.1.image here in
+      record {
+        image = now.0;
+        out = now.1;
+        within = let l = here_within at_p.1.image.segments.items p.index at_p.0.part there in let c = now.2.count in omega (arith, l, c);
+        empty = sym (segment_in_image away p.logger now.0 now.1 p.index) ∙ without.segment_gone state config said id view r.rest away o takes p.logger p.index has;
+      }
+
+  pub owned_return : CanPutOwned away n.owned.items
+  owned_return = subst (CanPutOwned away) (sym back.owned) (record {
+    places = all_member (IsOwedPlace away) (kept_of back.fates) (λ p has. owed p (kept_owned state o.want.id o.owned.items back.fates back.parts.each p has));
+    apart = order_apart (kept_of back.fates) (kept_in_order state o.want.id o.owned.items back.fates back.parts.each takes.owned.in_order);
+  })

@@ -1,40 +1,23 @@
 -- The rest once the opening of one volume is away, where its manager has it.
-use Rattle.std.proofs.Common.{◌≡◌, ◌≢◌, ◌⊎◌, inl, inr, ⊎_elim, ℕ, ◌+◌, ◌<◌, ◌≤◌, List, [], ◌∷◌, ◌++◌, length, map, Option, None, Some, IfSome, refl, sym, ap, ◌∙◌, subst, arith}
-use Rattle.std.specs.Prelude.{◌↔◌, slice_get, IsSome, is_some, All, Contains, false}
-use Rattle.std.proofs.lemmas.Bool.{cases_eq}
-use Rattle.std.proofs.lemmas.List.Elements.{All-contains, All-nil}
-use Rattle.std.proofs.lemmas.Option.{none-some, same_Some}
-use Rattle.wol_disk.specs.Disk.{State}
-use Rattle.wol_model.specs.Heads.{Shape}
-use Rattle.wol_bay.specs.Bay.{BayState}
-use Rattle.wol_config.specs.Configs.{IsValid}
-use Rattle.wol_config.specs.declared.config.Config.{Config}
-use Rattle.turn_lock.specs.declared.pass.PassOf.{PassOf}
-use Rattle.log_segment.specs.declared.free.FreeSegment.{FreeSegment}
-use Rattle.log_layout.specs.declared.segment.SegHead.TheVariants.{Owned}
-use Rattle.seg_pool.specs.declared.base.PoolBase.{PoolBase}
-use Rattle.seg_pool.specs.declared.pool.Pool.{Pool}
-use Rattle.spin_model.specs.declared.spun.Spun.{Spun}
-use Rattle.spin_model.specs.declared.spindle.Spindle.{Spindle}
-use Rattle.spin_model.specs.declared.spindle.SpindleBase.{SpindleBase}
-use Rattle.wol_model.specs.Blocks.{AreApart}
-use Rattle.manager.specs.declared.base.ManagerBase.{ManagerBase}
-use Rattle.manager.specs.declared.station.Station.{Station}
-use Rattle.manager_recovery.specs.Opening.{place_of}
-use Rattle.manager_recovery.specs.declared.opening.Opening.{Opening}
-use Rattle.volume_images.specs.Volumes.{shapes_of}
-use Rattle.rack.specs.Rests.{image_here, segment_here, pool_pass, spindle_pass, held_here, indexes_here, away_with, IsRestBut, IsImageRest, IsPart, IsRow, IsHeldHere}
-use Rattle.rack.specs.Racks.{base_of_station}
-use Rattle.rack.specs.Parts.{TakesOpening, IsTakenOf, IsOwnedPlace, loggers_out, segment_in}
-use Rattle.rack.specs.Opening.{IsOpeningRack}
-use Rattle.rack.specs.declared.heads_said.Said.{Said}
-use Rattle.rack.specs.declared.rack.ImageRest.{ImageRest}
-use Rattle.rack.specs.declared.rack.Rack.{Rack}
-use Rattle.rack.specs.declared.rack.Rest.{Rest}
-use Rattle.rack.proofs.LanesAway.{lane_stays, lane_came, lane_cases, home_stays, home_came, home_cases, is_lane_of}
-use Rattle.rack.proofs.Members.{segment_in_image, a_value, in_cases, first_in, later_in}
-use Rattle.rack.proofs.Takes.{parts, contains_map}
+use Rattle.rack.proofs.Basics.{◌≡◌, ◌≢◌, ◌⊎◌, inl, inr, ⊎_elim, ℕ, ◌+◌, ◌<◌, ◌≤◌, List, [], ◌∷◌, ◌++◌, length, map, Option, None, Some}
+use Rattle.rack.proofs.Basics.{IfSome, refl, sym, ap, ◌∙◌, subst, arith, Bool, get_or, ◌↔◌, slice_get, IsSome, is_some, All, Contains}
+use Rattle.rack.proofs.Basics.{false, vec_len, AllPairs, cases_eq, All-contains, All-nil, recursion_from_All, filter_passes, none-some}
+use Rattle.rack.proofs.Basics.{same_Some, AllByRecursion, AllZip}
+use Rattle.rack.proofs.Terms.{State, Shape, BayState, IsValid, most_of, Config, PassOf, FreeSegment, Owned, PoolBase, Pool, Spun, Spindle}
+use Rattle.rack.proofs.Terms.{SpindleBase, AreApart, ManagerBase, Station, place_of, CanOpen, Opening, shapes_of, image_here, segment_here}
+use Rattle.rack.proofs.Terms.{pool_pass, spindle_pass, held_here, indexes_here, away_with, IsRestBut, IsImageRest, IsPart, IsRow}
+use Rattle.rack.proofs.Terms.{IsHeldHere, IsImageOut, OnlyAccess, base_of_station, IsOpenBase, TakesOpening, IsTakenOf, IsOwnedPlace}
+use Rattle.rack.proofs.Terms.{loggers_out, segment_in, IsNewLane, segments_of, IsOpeningRack, Said, ImageRest, Rack, Rest, lock_id}
+use Rattle.rack.proofs.Terms.{pass_mine, pass_number, shape_of, IsAt, IsSameLane, logger_of, pool_of, spindle_of, Lane, Shared, AreNamed}
+use Rattle.rack.proofs.Terms.{IsLaneShared, takes_in, Manager, Opens, CountsTakes}
+use Rattle.manager.specs.declared.base.LaneBase.{LaneBase}
+use Rattle.rack_parts.proofs.ManagerBack.{lane_stays, lane_came, lane_cases, home_stays, home_came, home_cases, is_lane_of}
+use Rattle.rack_parts.proofs.Members.{segment_in_image, a_value, in_cases, first_in, later_in}
+use Rattle.rack.proofs.Openable.{parts, contains_map, all_out, all_inside, can_open, lane_out, image_id, no_home, can_take}
+use Rattle.rack_closing.proofs.Places.{some_at}
 use Rattle.rack.proofs.Without as without
+
+-- ---- The rest once the opening of one volume is away, where its manager has it
 
 -- two numbers are among these pairs, or aren't
 pub is_pair : (xs : List (ℕ × ℕ)) (k i : ℕ) → Contains xs (k, i) ⊎ (Contains xs (k, i) → ⊥)
@@ -316,3 +299,147 @@ module _ {D : Type 0} (state : D → State) (config : Config) (valid : IsValid c
           go : (x : Option (ImageRest D)) → image_here r.rest.images.items k ≡ x → image_here r.rest.images.items k ≡ None
           go None e = e
           go (Some x) e = let y = without.image_without state config said id view r.rest new o takes k x e in absurd (none-some y.0 (sym none ∙ y.1))
+
+-- ---- What the manager of a volume that was opened begins with, among the locks of its rack
+
+module _ {D : Type 0} where
+  -- the locks of the lanes are those of the shared ones
+  lanes_shared : (shared : Shared D) (ls : List (Lane D)) (bs : List LaneBase) → AreNamed ls bs → AllByRecursion (IsAt shared) ls → AllByRecursion (IsLaneShared shared) bs
+  lanes_shared shared [] [] named at = tt
+  lanes_shared shared [] (b ∷ bs) named at = absurd named
+  lanes_shared shared (l ∷ ls) [] named at = absurd named
+  lanes_shared shared (l ∷ ls) (b ∷ bs) named at =
+      let one = named.0 in
+      let place = at.0 in (
+        record {
+          pool_in = subst (λ (k : ℕ). k < vec_len shared.pools) one.logger place.pool_in;
+          spindle_in = subst (λ (k : ℕ). k < vec_len shared.spindles) one.logger place.spindle_in;
+          pool = λ d. sym one.pool ∙ place.pool d ∙ ap (λ (k : ℕ). lock_id (Rattle.std.specs.Prelude.slice_index_or shared.pools.items k d)) one.logger;
+          spindle = λ d. sym one.spindle ∙ place.spindle d ∙ ap (λ (k : ℕ). lock_id (Rattle.std.specs.Prelude.slice_index_or shared.spindles.items k d)) one.logger;
+        },
+        lanes_shared shared ls bs named.1 at.1,
+      )
+
+  lanes_named : (ls : List (Lane D)) (bs : List LaneBase) → AreNamed ls bs → map (λ (b : LaneBase). b.logger) bs ≡ map logger_of ls
+  lanes_named [] [] named = refl
+  lanes_named [] (b ∷ bs) named = absurd named
+  lanes_named (l ∷ ls) [] named = absurd named
+  lanes_named (l ∷ ls) (b ∷ bs) named = λ i. sym named.0.logger i ∷ lanes_named ls bs named.1 i
+
+  -- their passes had taken nothing
+  none_taken : (os : List (Lane D)) (bs : List LaneBase) → AllZip CountsTakes os bs → AllByRecursion (λ (l : Lane D). pass_mine (pool_of l) ≡ []) os → AllByRecursion (λ (b : LaneBase). b.takes ≡ 0) bs
+  none_taken [] [] counts fresh = tt
+  none_taken [] (b ∷ bs) counts fresh = absurd counts
+  none_taken (o ∷ os) [] counts fresh = absurd counts
+  none_taken (o ∷ os) (b ∷ bs) counts fresh = (counts.0 ∙ ap takes_in fresh.0, none_taken os bs counts.1 fresh.1)
+
+  -- their passes have the volume's number
+  own_numbers : (id : ℕ) (os ls : List (Lane D)) (bs : List LaneBase) → AllZip IsSameLane os ls → AreNamed ls bs → AllByRecursion (λ (l : Lane D). (pass_number (pool_of l) ≡ id) × (pass_number (spindle_of l) ≡ id)) os
+      → AllByRecursion (λ (b : LaneBase). (b.pool_number ≡ id) × (b.spindle_number ≡ id)) bs
+  own_numbers id [] [] [] same named numbers = tt
+  own_numbers id [] [] (b ∷ bs) same named numbers = absurd named
+  own_numbers id [] (l ∷ ls) bs same named numbers = absurd same
+  own_numbers id (o ∷ os) [] bs same named numbers = absurd same
+  own_numbers id (o ∷ os) (l ∷ ls) [] same named numbers = absurd named
+  own_numbers id (o ∷ os) (l ∷ ls) (b ∷ bs) same named numbers =
+      ((sym named.0.pool_number ∙ same.0.pool.1 ∙ numbers.0.0, sym named.0.spindle_number ∙ same.0.spindle.1 ∙ numbers.0.1), own_numbers id os ls bs same.1 named.1 numbers.1)
+
+module _ {D : Type 0} (tells : Bool) (state : D → State) (config : Config) (shared : Shared D) (images : List (Option (ImageRest D))) (o : Opening D) (m : Manager D) (opens : Opens tells state shared o m) (id : ℕ) (id_is : o.want.id ≡ id)
+    (shape : slice_get (shapes_of config) id ≡ Some (shape_of o.want)) (most : o.most ≡ most_of config) (out : IsImageOut images id) (outs : All (IsImageOut images) o.view) (other : Contains o.view id → ⊥) (distinct : AllPairs (λ j k. j ≢ k) o.view)
+    (spindle : pass_number o.spindle ≡ id) (numbers : All (λ (l : Lane D). (pass_number (pool_of l) ≡ id) × (pass_number (spindle_of l) ≡ id)) o.lanes.items) (fresh : All (λ (l : Lane D). pass_mine (pool_of l) ≡ []) o.lanes.items) where
+  pub open_base : IsOpenBase config shared images opens.base
+  open_base =
+      let locks = opens.stands.keeps.locks in
+      let begins = opens.begins in
+      let owner : opens.base.volume.began.owner ≡ id = begins.owner ∙ id_is in
+      record {
+        out = subst (λ (k : ℕ). IsImageOut images k) (sym owner) out;
+        home_blocks = λ s is. begins.home_blocks ∙ ap (λ (t : Shape). t.home) (same_Some (shape_of o.want) s (sym shape ∙ sym (ap (λ (k : ℕ). slice_get (shapes_of config) k) owner) ∙ is));
+        at = record {
+          spindle_in = subst (λ (k : ℕ). k < vec_len shared.spindles) locks.owner opens.at.spindle_in;
+          spindle = λ d. sym locks.pass ∙ opens.at.spindle_is d ∙ ap (λ (k : ℕ). lock_id (Rattle.std.specs.Prelude.slice_index_or shared.spindles.items k d)) locks.owner;
+          lanes = lanes_shared shared m.lanes.items opens.base.lanes locks.each opens.at.lanes_;
+        };
+        loggers = lanes_named m.lanes.items opens.base.lanes locks.each ∙ locks.view;
+        loggers_out = subst (λ (l : List ℕ). AllByRecursion (IsImageOut images) l) (sym begins.view) (recursion_from_All (IsImageOut images) o.view outs);
+        others = λ c. other (subst (λ (k : ℕ). Contains o.view k) owner (subst (λ (l : List ℕ). Contains l opens.base.volume.began.owner) begins.view c));
+        apart = subst (λ (l : List ℕ). AllPairs (λ j k. j ≢ k) l) (sym begins.view) distinct;
+        most = begins.most ∙ most;
+        own_spindle = sym locks.number ∙ opens.spindle.1 ∙ spindle ∙ sym owner;
+        own_lanes = subst (λ (k : ℕ). AllByRecursion (λ (b : LaneBase). (b.pool_number ≡ k) × (b.spindle_number ≡ k)) opens.base.lanes) (sym owner)
+            (own_numbers id o.lanes.items m.lanes.items opens.base.lanes opens.lanes locks.each (recursion_from_All (λ (l : Lane D). (pass_number (pool_of l) ≡ id) × (pass_number (spindle_of l) ≡ id)) o.lanes.items numbers));
+        untaken = none_taken o.lanes.items opens.base.lanes opens.takes (recursion_from_All (λ (l : Lane D). pass_mine (pool_of l) ≡ []) o.lanes.items fresh);
+      }
+
+-- ---- The manager of a volume that was opened: what it has of the rest is away, and all else is there
+
+module _ {D : Type 0} (tells : Bool) (state : D → State) (config : Config) (valid : IsValid config) (b : BayState) (said : List (Option Said)) (id : ℕ) (r : Rack D) (own : Said)
+    (ready : IsOpeningRack state config b said id r) (lt : id < length (shapes_of config)) (at : slice_get said id ≡ Some (Some own)) (view : List ℕ) (view_said : own.view ≡ view)
+    (new : Rest D) (o : Opening D) (takes : TakesOpening state config r.rest new said id view o) (m : Manager D) (opens : Opens tells state r.shared o m) where
+  abbrev bases_before : List ManagerBase
+  bases_before = map (λ (s : Station D). base_of_station s) r.stations.items
+
+  can : CanOpen state r.shared o
+  can = can_open state config valid b said id r own ready lt at view new o takes
+
+  parts_before : IsRestBut state config r.shared (away_with bases_before) r.rest
+  parts_before = parts state config valid b said id r own ready lt at
+
+  -- its names
+  pub owner_new : opens.base.volume.began.owner ≡ id
+  owner_new = opens.begins.owner ∙ takes.id
+
+  pub view_new : opens.base.volume.began.view ≡ view
+  view_new = opens.begins.view ∙ takes.view_is
+
+  pub others_new : Contains view id → ⊥
+  others_new = (can_take state config valid b said id r own ready lt at view view_said).others
+
+  pub all_new : loggers_out r.rest view ≡ view
+  all_new = all_out state config r.shared said id view r.rest new o takes can opens.named
+
+  pub inside_new : (k i : ℕ) → Contains (map place_of o.owned.items) (k, i) → Contains view k
+  inside_new = all_inside state config r.shared said id view r.rest new o takes can opens.named
+
+  -- an image that was out is
+  pub still_out : (k : ℕ) → IsImageOut r.rest.images.items k → IsImageOut new.images.items k
+  still_out k out = let x = a_value (image_here r.rest.images.items k) out in ap is_some (without.image_without state config said id view r.rest new o takes k x.0 x.1).1
+
+  outs : All (IsImageOut new.images.items) o.view
+  outs = subst (All (IsImageOut new.images.items)) (all_new ∙ sym takes.view_is)
+      (λ k d below. still_out (get_or (loggers_out r.rest view) k d) (filter_passes (λ j. is_some (image_here r.rest.images.items j)) view k d below))
+
+  number_of : (l : Lane D) → logger_of l < length (shapes_of config) → IsNewLane state r.rest id (segments_of config (logger_of l)) l → (pass_number (pool_of l) ≡ id) × (pass_number (spindle_of l) ≡ id)
+  number_of l within is =
+      let locks = ready.closable.locks in
+      let p = some_at r.shared.pools.items (logger_of l) (let c = locks.pool_count in omega (arith, within, c)) in
+      let q = some_at r.shared.spindles.items (logger_of l) (let c = locks.spindle_count in omega (arith, within, c)) in
+      ((parts_before.pools.each id (logger_of l) p.0 (pool_of l) p.1 is.pool).number_is, (parts_before.spindles.each id (logger_of l) q.0 (spindle_of l) q.1 is.spindle).number_is)
+
+  numbers : All (λ (l : Lane D). (pass_number (pool_of l) ≡ id) × (pass_number (spindle_of l) ≡ id)) o.lanes.items
+  numbers = λ j d below. number_of (get_or o.lanes.items j d) (lane_out state config valid b said id r own ready lt at view new o takes j d below) (takes.lanes.each j d below)
+
+  fresh : All (λ (l : Lane D). pass_mine (pool_of l) ≡ []) o.lanes.items
+  fresh = λ j d below. (let l = get_or o.lanes.items j d in ready.untouched.passes id (logger_of l) (pool_of l) (omega arith) (takes.lanes.each j d below).pool)
+
+  own_number : pass_number o.spindle ≡ id
+  own_number =
+      let q = some_at r.shared.spindles.items id (let c = ready.closable.locks.spindle_count in omega (arith, lt, c)) in
+      (parts_before.spindles.each id id q.0 o.spindle q.1 takes.spindle_was).number_is
+
+  -- its base is one over the images that are out
+  pub base_new : IsOpenBase config r.shared new.images.items opens.base
+  base_new =
+      open_base tells state config r.shared new.images.items o m opens id takes.id takes.shape takes.most (still_out id (ap is_some (image_id state config valid b said id r own ready lt at).1)) outs
+      (λ has. others_new (subst (λ (l : List ℕ). Contains l id) takes.view_is has)) (subst (λ (l : List ℕ). Rattle.std.specs.Prelude.AllPairs (λ j k. j ≢ k) l) (sym takes.view_is) takes.distinct) own_number numbers fresh
+
+  -- what it has is away
+  pub rest_new : IsRestBut state config r.shared (away_with (bases_before ++ opens.base ∷ [])) new
+  rest_new = open_away state config valid b said id r own ready lt at view new o takes opens.base owner_new view_new others_new all_new inside_new
+
+  pub accesses_new : OnlyAccess new
+  accesses_new v k p here = ready.closable.accesses v k p (spindle_was state config valid b said id r own ready lt at view new o takes opens.base owner_new view_new others_new all_new inside_new v k p here)
+
+  -- and the volume had no manager
+  pub unmanaged : Contains (away_with bases_before).homes opens.base.volume.began.owner → ⊥
+  unmanaged has = no_home state config valid b said id r own ready lt at (subst (λ (n : ℕ). Contains (away_with bases_before).homes n) owner_new has)

@@ -1,46 +1,204 @@
--- The opening that was taken out may be opened.
-use Rattle.std.proofs.Common.{◌≡◌, ⊎_elim, ℕ, zero, suc, ◌-◌, ◌*◌, ◌<◌, ◌≤◌, true, false, List, [], ◌∷◌, length, map, filter, get_or, Option, None, Some, refl, sym, ap, ◌∙◌, subst, arith}
-use Rattle.std.specs.Prelude.{slice_get, is_some, All}
-use Rattle.std.proofs.lemmas.Bool.{cases_lt, eq-eqb, eqb-true}
-use Rattle.std.proofs.lemmas.List.{length-map, get_or-map, get_or_past}
-use Rattle.std.proofs.lemmas.List.Elements.{recursion_from_All, filter_agree}
-use Rattle.std.proofs.lemmas.Option.{MatchOption-at_some, none-some, same_Some, slice_get_within, slice_get-get_or, get_or_from_slice_get}
-use Rattle.std.proofs.Math.Nat.{mul-le-mul}
-use Rattle.wol_disk.specs.Disk.{Block, Values, State, IsImageOf, reads}
-use Rattle.wol_disk.proofs.Images.{image_reads}
-use Rattle.wol_model.specs.Heads.{Shape, IsShape, owned_block}
-use Rattle.wol_bay.specs.Bay.{BayState}
-use Rattle.wol_config.specs.Configs.{IsValid}
-use Rattle.wol_config.specs.declared.config.Config.{Config}
-use Rattle.turn_lock.specs.Passes.{lock_id, pass_lock, pass_number, pass_mine}
-use Rattle.log_layout.specs.Values.{shape_of}
-use Rattle.log_layout.specs.declared.segment.SegHead.TheVariants.{Free, Owned}
-use Rattle.log_layout.specs.declared.segment.SegHead.{SegHead}
-use Rattle.seg_pool.specs.Holders.{holder, is_held_by}
-use Rattle.seg_pool.specs.Operations.{holds}
+-- What a volume is opened of can be taken out, and may be opened.
+use Rattle.rack.proofs.Basics.{◌≡◌, ◌≢◌, ⊎_elim, ℕ, zero, suc, ◌<◌, ◌≤◌, Bool, true, false, List, [], ◌∷◌, length, map, filter, get_or}
+use Rattle.rack.proofs.Basics.{Option, None, Some, refl, sym, ap, ◌∙◌, subst, arith, ◌-◌, ◌*◌, slice_get, IsSome, is_some, Contains, All}
+use Rattle.rack.proofs.Basics.{◌==◌, position, flat_map, cases_lt, eq-eqb, eqb-true, get_or_past, length-map, get_or-map, All-filter}
+use Rattle.rack.proofs.Basics.{filter_passes, Contains-append_cases, recursion_from_All, filter_agree, none-some, same_Some}
+use Rattle.rack.proofs.Basics.{get_or_from_slice_get, MatchOption-at_some, slice_get_within, slice_get-get_or, mul-le-mul}
+use Rattle.rack.proofs.Terms.{State, Block, Values, IsImageOf, reads, Shape, IsShape, owned_block, BayState, IsValid, Config, pass_lock}
+use Rattle.rack.proofs.Terms.{lock_id, pass_number, pass_mine, Spun, ManagerBase, Station, shapes_of, image_here, segment_here, pool_pass}
+use Rattle.rack.proofs.Terms.{spindle_pass, away_with, IsRestBut, IsPart, IsRow, base_of_station, HasPlace, IsUsablePlace, CanTake}
+use Rattle.rack.proofs.Terms.{IsOwnedPlace, segments_of, segment_in, TakesOpening, IsNewLane, IsTakenOf, loggers_out, holder_by}
+use Rattle.rack.proofs.Terms.{holder_said, IsHomeAway, IsSameBut, with_home, said_at, IsOpeningRack, Said, ImageRest, Rack, image_reads}
+use Rattle.rack.proofs.Terms.{shape_of, Free, Owned, SegHead, holder, is_held_by, holds, state_of, IsAt, logger_of, pool_of, spindle_of}
+use Rattle.rack.proofs.Terms.{segments_in, pool_blocks, Lane, IsOpeningLane, IsHeldIn, IsOwned, SaysOwner, HoldsOwned, CanOpen, place_of}
+use Rattle.rack.proofs.Terms.{Opening, OwnedPart, head_place, Rest, Shared, IsNamesAnswer, is_named}
 use Rattle.seg_pool.specs.declared.base.Holder.{Holder}
 use Rattle.seg_pool.specs.declared.base.Holder.TheVariants.{Elsewhere, HeldBy}
-use Rattle.spin_model.specs.Spun.{state_of}
-use Rattle.spin_model.specs.declared.spun.Spun.{Spun}
-use Rattle.logger.specs.Lanes.{IsAt, logger_of, pool_of, spindle_of, segments_in, pool_blocks}
-use Rattle.logger.specs.declared.lane.Lane.{Lane}
-use Rattle.manager_recovery.specs.Opening.{IsOpeningLane, IsHeldIn, IsOwned, SaysOwner, HoldsOwned, CanOpen}
-use Rattle.manager_recovery.specs.declared.opening.Opening.{Opening}
-use Rattle.manager_recovery.specs.declared.opening.OwnedPart.{OwnedPart}
-use Rattle.volume_images.specs.Accepted.{head_place}
-use Rattle.volume_images.specs.Volumes.{shapes_of}
-use Rattle.rack.specs.Rests.{image_here, segment_here, away_with, IsRestBut, IsPart, IsRow}
-use Rattle.rack.specs.Racks.{base_of_station}
-use Rattle.manager.specs.declared.station.Station.{Station}
-use Rattle.rack.specs.Parts.{TakesOpening, IsNewLane, IsTakenOf, loggers_out, segments_of, holder_by, holder_said, IsOwnedPlace, IsHomeAway, IsSameBut, with_home}
-use Rattle.rack.specs.Opening.{said_at, IsOpeningRack}
-use Rattle.rack.specs.declared.heads_said.Said.{Said}
-use Rattle.rack.specs.declared.rack.ImageRest.{ImageRest}
-use Rattle.rack.specs.declared.rack.Rack.{Rack}
-use Rattle.rack.specs.declared.rack.Rest.{Rest}
-use Rattle.rack.proofs.Asking.{some_at}
-use Rattle.rack.proofs.Shapes.{valid_shape}
-use Rattle.rack.proofs.Takes.{parts, image_id}
+use Rattle.manager_recovery.proofs.Indexing.{all_named}
+use Rattle.manager_recovery.proofs.Places.{at_position, loggers_are}
+use Rattle.rack_closing.proofs.Names.{valid_shape}
+use Rattle.rack_closing.proofs.Places.{some_at}
+use Rattle.rack_parts.proofs.Members.{a_value, of_recursion}
+
+-- ---- What a volume is opened of may be taken out
+
+-- an element of a list that was mapped comes from one
+pub contains_map : {A B : Type 0} (f : A → B) (xs : List A) (y : B) → Contains (map f xs) y → (x : A) × Contains xs x × (f x ≡ y)
+contains_map {A} {B} f xs y c = go xs c.0 c.1 c.2
+  where
+    go : (xs : List A) (k : ℕ) → k < length (map f xs) → get_or (map f xs) k y ≡ y → (x : A) × Contains xs x × (f x ≡ y)
+    go [] k lt e = absurd (omega (arith, lt))
+    go (x ∷ xs) zero lt e = (x, (0, omega arith, refl), e)
+    go (x ∷ xs) (suc k) lt e = let more = go xs k (omega (arith, lt)) e in (more.0, (suc more.1.0, let l = more.1.1 in omega (arith, l), more.1.2), more.2)
+
+-- the same of lists behind one another
+pub contains_flat : {A B : Type 0} (f : A → List B) (xs : List A) (y : B) → Contains (flat_map f xs) y → (x : A) × Contains xs x × Contains (f x) y
+contains_flat f [] y c = let l = c.1 in absurd (omega (arith, l))
+contains_flat f (x ∷ xs) y c =
+    ⊎_elim
+    (λ here. (x, (0, omega arith, refl), here))
+    (λ behind. let more = contains_flat f xs y behind in (more.0, (suc more.1.0, let l = more.1.1 in omega (arith, l), more.1.2), more.2))
+    (Contains-append_cases (f x) (flat_map f xs) y c)
+
+module _ {D : Type 0} (state : D → State) (config : Config) (valid : IsValid config) (b : BayState) (said : List (Option Said)) (id : ℕ) (r : Rack D) (own : Said)
+    (ready : IsOpeningRack state config b said id r) (lt : id < length (shapes_of config)) (at : slice_get said id ≡ Some (Some own)) where
+  abbrev bases : List ManagerBase
+  bases = map (λ (s : Station D). base_of_station s) r.stations.items
+
+  pub parts : IsRestBut state config r.shared (away_with bases) r.rest
+  parts = ready.closable.rest.parts
+
+  pub said_id : said_at said id ≡ Some own
+  said_id = get_or_from_slice_get said id (Some own) None at
+
+  pub image_id : (image : ImageRest D) × (image_here r.rest.images.items id ≡ Some image)
+  image_id = go (image_here r.rest.images.items id) refl
+    where
+      go : (o : Option (ImageRest D)) → image_here r.rest.images.items id ≡ o → (image : ImageRest D) × (image_here r.rest.images.items id ≡ Some image)
+      go None e = absurd (none-some own (sym (ready.silent id e) ∙ said_id))
+      go (Some image) e = (image, e)
+
+  -- the volume has no manager yet
+  pub no_base : (m : ManagerBase) → Contains bases m → m.volume.began.owner ≢ id
+  no_base m c is =
+      let s = contains_map (λ (s : Station D). base_of_station s) r.stations.items m c in
+      let owner : m.volume.began.owner ≡ s.0.id = ap (λ (x : ManagerBase). x.volume.began.owner) (sym s.2) ∙ ap (λ (x : Station D). (base_of_station x).volume.began.owner) (sym s.1.2) ∙ (ready.closable.stations s.1.0 s.0 s.1.1).id ∙ ap (λ (x : Station D). x.id) s.1.2 in
+      let below : (get_or r.stations.items s.1.0 s.0).id < id = ready.tried.below s.1.0 s.0 s.1.1 in
+      let same : (get_or r.stations.items s.1.0 s.0).id ≡ s.0.id = ap (λ (x : Station D). x.id) s.1.2 in
+      omega (arith, owner, below, same, is)
+
+  pub no_home : Contains (away_with bases).homes id → ⊥
+  no_home c = let m = contains_map (λ (x : ManagerBase). x.volume.began.owner) bases id c in no_base m.0 m.1 m.2
+
+  pub no_lane : (k : ℕ) → Contains (away_with bases).lanes (id, k) → ⊥
+  no_lane k c =
+      let m = contains_flat _ bases (id, k) c in
+      let l = contains_map (λ (j : ℕ). (m.0.volume.began.owner, j)) m.0.volume.began.view (id, k) m.2 in
+      no_base m.0 m.1 (ap (λ (x : ℕ × ℕ). x.0) l.2)
+
+  place : (k : ℕ) → k < length (shapes_of config) → HasPlace r.rest id k
+  place k within = record { row = omega (arith, lt, parts.count); volumes = length (shapes_of config); rows = parts.rows; within = within }
+
+  -- a pass of the volume is here
+  some_of : {A : Type 0} (o : Option A) → IsSome o → (x : A) × (o ≡ Some x)
+  some_of None s = absurd (cc s)
+  some_of (Some x) s = (x, refl)
+
+  pub usable : (k : ℕ) → k < length (shapes_of config) → k ≢ id → IsUsablePlace r.rest id k (segments_of config k)
+  usable k within other =
+      let locks = ready.closable.locks in
+      let row : id < length r.rest.passes.items = omega (arith, lt, parts.count) in
+      let pool_in : k < length r.shared.pools.items = omega (arith, within, locks.pool_count) in
+      let spindle_in : k < length r.shared.spindles.items = omega (arith, within, locks.spindle_count) in
+      let p = some_of (pool_pass r.rest id k) ((parts.pools.here id k row pool_in).1 (no_lane k)) in
+      let q = some_of (spindle_pass r.rest id k) ((parts.spindles.here id k row spindle_in).1 (λ c. ⊎_elim (no_lane k) (λ h. other (sym h.0)) c)) in
+      let l = some_at r.shared.pools.items k pool_in in
+      let m = some_at r.shared.spindles.items k spindle_in in
+      let s = some_at (shapes_of config) k within in
+      let pool_lock = locks.pools k s.0 l.0 s.1 l.1 in
+      let spindle_lock = locks.spindles k m.0 m.1 in
+      let pool_at = parts.pools.each id k l.0 p.0 l.1 p.1 in
+      let spindle_at = parts.spindles.each id k m.0 q.0 m.1 q.1 in
+      let segments : segments_of config k ≡ s.0.segments = ap count_of s.1 in
+      let holders : length (pass_lock p.0).base.holders ≡ s.0.segments = ap (λ i. length i.base.holders) pool_at.own ∙ pool_lock.room in
+      record {
+        place = place k within;
+        pool = p.0;
+        pool_here = p.1;
+        pool_volume = ap (λ i. i.base.volume) pool_at.own ∙ pool_lock.volume;
+        room = omega (arith, holders, segments);
+        pool_free = pool_at.free;
+        spindle = q.0;
+        spindle_here = q.1;
+        spindle_volume = ap (λ i. i.base.volume) spindle_at.own ∙ spindle_lock.volume;
+        spindle_free = spindle_at.free;
+        settled = parts.spindles.settled id k q.0 q.1;
+        accesses = ready.closable.accesses id k q.0 q.1;
+        held = ready.unheld id k;
+      }
+    where
+      some_at : {A : Type 0} (xs : List A) (k : ℕ) → k < length xs → (x : A) × (slice_get xs k ≡ Some x)
+      some_at [] k lt = absurd (omega (arith, lt))
+      some_at (x ∷ xs) zero lt = (x, refl)
+      some_at (x ∷ xs) (suc k) lt = some_at xs k (omega (arith, lt))
+
+      count_of : Option Shape → ℕ
+      count_of None = 0
+      count_of (Some s) = s.segments
+
+  out_within : (k : ℕ) → is_some (image_here r.rest.images.items k) ≡ true → k < length (shapes_of config)
+  out_within k there =
+      ⊎_elim
+      (λ (below : k < length r.rest.images.items). let count = parts.images.0 in omega (arith, below, count))
+      (λ (past : length r.rest.images.items ≤ k). let none : is_some (image_here r.rest.images.items k) ≡ false = ap is_some (get_or_past r.rest.images.items k None past) in absurd (cc (none, there)))
+      (cases_lt k (length r.rest.images.items))
+
+  -- a segment with the owner is in its place
+  owned_here : (k i : ℕ) → IsOwnedPlace said id k i → IsSome (segment_in r.rest k i)
+  owned_here k i c = go (image_here r.rest.images.items k) refl
+    where
+      says : said_at said k ≡ Some c.0
+      says = get_or_from_slice_get said k (Some c.0) None c.1
+
+      go : (o : Option (ImageRest D)) → image_here r.rest.images.items k ≡ o → IsSome (segment_in r.rest k i)
+      go None e = absurd (none-some c.0 (sym (ready.silent k e) ∙ says))
+      go (Some image) e =
+          let here = ready.untouched.here id k i c.0 image (omega arith) says c.2 e in
+          ap (λ (o : Option (ImageRest D)). is_some (segment_of o i)) e ∙ ap is_some here.1
+        where
+          segment_of : Option (ImageRest D) → ℕ → Option (Spun D)
+          segment_of None i = None
+          segment_of (Some image) i = segment_here image i
+
+  pub can_take : (view : List ℕ) → own.view ≡ view → CanTake config r.rest said id view
+  can_take view is =
+      let image = image_id in
+      let s_at : (s : Shape) × (slice_get (shapes_of config) id ≡ Some s) = some_shape (shapes_of config) id lt in
+      let says = ready.says id s_at.0 s_at.1 (ap is_some image.1) in
+      let same : says.0 ≡ own = same_Some says.0 own (sym says.1 ∙ said_id) in
+      let others : Contains own.view id → ⊥ = subst (λ (o : Said). Contains o.view id → ⊥) same says.2.others in
+      let others_view : Contains view id → ⊥ = subst (λ (ids : List ℕ). Contains ids id → ⊥) is others in
+      let out : ℕ → Bool = λ k. is_some (image_here r.rest.images.items k) in
+      let passes = filter_passes out view in
+      let not_id : All (λ k. k ≢ id) (filter out view) = All-filter out (λ k. k ≢ id) view (λ k d below e. others_view (k, below, let same_default : get_or view k id ≡ get_or view k d = default view k id d below in same_default ∙ e)) in
+      record {
+        images = parts.images.0;
+        own = place id lt;
+        image = image.0;
+        out = image.1;
+        home = (parts.homes id image.0 image.1).1 no_home;
+        spindle = (parts.spindles.here id id (omega (arith, lt, parts.count)) (let c = ready.closable.locks.spindle_count in omega (arith, lt, c))).1 (λ c. ⊎_elim (no_lane id) (λ h. no_home h.1) c);
+        others = others_view;
+        lanes = λ k d below. usable (get_or (filter out view) k d) (out_within (get_or (filter out view) k d) (passes k d below)) (not_id k d below);
+        owned = record {
+          count = let a = ready.said_count in let c = parts.images.0 in omega (arith, a, c);
+          out = λ k s found. go_out k s (get_or_from_slice_get said k (Some s) None found);
+          here = λ k i c. owned_here k i c;
+        };
+      }
+    where
+      default : (xs : List ℕ) (k d e : ℕ) → k < length xs → get_or xs k d ≡ get_or xs k e
+      default xs k d e below = Rattle.std.proofs.lemmas.List.get_or_default xs k d e below
+
+      some_shape : (xs : List Shape) (k : ℕ) → k < length xs → (s : Shape) × (slice_get xs k ≡ Some s)
+      some_shape [] k lt = absurd (omega (arith, lt))
+      some_shape (x ∷ xs) zero lt = (x, refl)
+      some_shape (x ∷ xs) (suc k) lt = some_shape xs k (omega (arith, lt))
+
+      go_out : (k : ℕ) (s : Said) → said_at said k ≡ Some s → (image : ImageRest D) × (image_here r.rest.images.items k ≡ Some image) × (length s.heads.items ≡ length image.segments.items) × (length s.heads.items ≤ 1024)
+      go_out k s says = go (image_here r.rest.images.items k) refl
+        where
+          go : (o : Option (ImageRest D)) → image_here r.rest.images.items k ≡ o → (image : ImageRest D) × (image_here r.rest.images.items k ≡ Some image) × (length s.heads.items ≡ length image.segments.items) × (length s.heads.items ≤ 1024)
+          go None e = absurd (none-some s (sym (ready.silent k e) ∙ says))
+          go (Some image) e =
+              let within = out_within k (ap is_some e) in
+              let shape = some_shape (shapes_of config) k within in
+              let of = ready.says k shape.0 shape.1 (ap is_some e) in
+              let same : of.0 ≡ s = same_Some of.0 s (sym of.1 ∙ says) in
+              let count : length s.heads.items ≡ shape.0.segments = subst (λ (o : Said). length o.heads.items ≡ shape.0.segments) same of.2.count in
+              (image, e, count ∙ sym (parts.images.1 k shape.0 image shape.1 e).count, (let few = (valid_shape config valid k shape.0 shape.1).0.segments in omega (arith, few, count)))
+
+-- ---- The opening that was taken out may be opened
 
 module _ {D : Type 0} (state : D → State) (config : Config) (valid : IsValid config) (b : BayState) (said : List (Option Said)) (id : ℕ) (r : Rack D) (own : Said)
     (ready : IsOpeningRack state config b said id r) (lt : id < length (shapes_of config)) (at : slice_get said id ≡ Some (Some own)) (view : List ℕ)
@@ -60,13 +218,6 @@ module _ {D : Type 0} (state : D → State) (config : Config) (valid : IsValid c
     pub spindle_number : pass_number (spindle_of l) ≡ id
     pub unused : pass_mine (pool_of l) ≡ []
     pub holders : (i : ℕ) → holder (pass_lock (pool_of l)).base.holders i ≡ holder_by (said_at said (logger_of l)) i
-
-  out_within : (k : ℕ) → is_some (image_here r.rest.images.items k) ≡ true → k < length (shapes_of config)
-  out_within k there =
-      ⊎_elim
-      (λ (below : k < length r.rest.images.items). let count = here.images.0 in omega (arith, below, count))
-      (λ (past : length r.rest.images.items ≤ k). let none : is_some (image_here r.rest.images.items k) ≡ false = ap is_some (get_or_past r.rest.images.items k None past) in absurd (cc (none, there)))
-      (cases_lt k (length r.rest.images.items))
 
   taken_lane : (l : Lane D) → logger_of l < length (shapes_of config) → IsNewLane state r.rest id (segments_of config (logger_of l)) l → IsTakenLane l
   taken_lane l within is =
@@ -108,7 +259,7 @@ module _ {D : Type 0} (state : D → State) (config : Config) (valid : IsValid c
       let loggers = takes.lanes.loggers_are in
       let long : length (loggers_out r.rest view) ≡ length o.lanes.items = sym (ap (λ (l : List ℕ). length l) loggers) ∙ length-map o.lanes.items logger_of in
       let same : get_or (loggers_out r.rest view) j 0 ≡ logger_of (get_or o.lanes.items j d) = sym (ap (λ (l : List ℕ). get_or l j 0) loggers) ∙ get_or-map logger_of o.lanes.items j d 0 below in
-      subst (λ (k : ℕ). k < length (shapes_of config)) same (out_within (get_or (loggers_out r.rest view) j 0) (Rattle.std.proofs.lemmas.List.Elements.filter_passes (λ k. is_some (image_here r.rest.images.items k)) view j 0 (omega (arith, below, long))))
+      subst (λ (k : ℕ). k < length (shapes_of config)) same (out_within state config valid b said id r own ready lt at (get_or (loggers_out r.rest view) j 0) (Rattle.std.proofs.lemmas.List.Elements.filter_passes (λ k. is_some (image_here r.rest.images.items k)) view j 0 (omega (arith, below, long))))
 
   pub lanes_taken : All IsTakenLane o.lanes.items
   lanes_taken = λ j d below. taken_lane (get_or o.lanes.items j d) (lane_out j d below) (takes.lanes.each j d below)
@@ -165,7 +316,7 @@ module _ {D : Type 0} (state : D → State) (config : Config) (valid : IsValid c
       go : (x : Option (ImageRest D)) → image_here r.rest.images.items p.logger ≡ x → segment_of x p.index ≡ Some p.part → IsInImage p
       go None e there = absurd (none-some p.part there)
       go (Some image) e there =
-          let within = out_within p.logger (ap is_some e) in
+          let within = out_within state config valid b said id r own ready lt at p.logger (ap is_some e) in
           let shape = some_at (shapes_of config) p.logger within in
           let says = get_or_from_slice_get said p.logger (Some is.saying) None is.said_is in
           let of = ready.says p.logger shape.0 shape.1 (ap is_some e) in
@@ -203,7 +354,7 @@ module _ {D : Type 0} (state : D → State) (config : Config) (valid : IsValid c
     where
       of_head : Option Rattle.log_layout.specs.declared.segment.SegHead.SegHead → Holder
       of_head None = Rattle.seg_pool.specs.declared.base.Holder.TheVariants.Elsewhere
-      of_head (Some h) = Rattle.rack.specs.Parts.holder_said h
+      of_head (Some h) = Rattle.rack_parts.specs.Parts.holder_said h
 
   owned_part : (p : OwnedPart D) → IsInImage p → IsOwned state o.lanes.items p
   owned_part p is =
@@ -326,3 +477,24 @@ module _ {D : Type 0} (state : D → State) (config : Config) (valid : IsValid c
         home = refl;
         spindle = takes.home.spindle_here;
       }
+
+-- ---- The names of a volume that was opened: all loggers of its view are out, and its segments lie on them
+
+logger_named : (view : List ℕ) (logger : ℕ) → is_named view logger ≡ true → Contains view logger
+logger_named view logger named =
+    let place = a_value (position (λ id. id == logger) view) named in
+    let found = at_position (λ id. id == logger) view place.0 place.1 in
+    let same : found.0 ≡ logger = eqb-true found.0 logger found.2 in
+    (place.0, slice_get_within view place.0 found.0 found.1, get_or_from_slice_get view place.0 found.0 logger found.1 ∙ same)
+
+module _ {D : Type 0} (state : D → State) (config : Config) (shared : Shared D) (said : List (Option Said)) (id : ℕ) (view : List ℕ) (old new : Rest D) (o : Opening D) (takes : TakesOpening state config old new said id view o)
+    (can : CanOpen state shared o) (named : IsNamesAnswer o None) where
+  pub all_out : loggers_out old view ≡ view
+  all_out = sym takes.lanes.loggers_are ∙ loggers_are state shared o can named.1 ∙ takes.view_is
+
+  pub all_inside : (k i : ℕ) → Contains (map place_of o.owned.items) (k, i) → Contains view k
+  all_inside k i c =
+      let from = contains_map place_of o.owned.items (k, i) c in
+      let is = of_recursion (λ (x : OwnedPart D). is_named o.view x.logger ≡ true) o.owned.items from.0 (all_named o.view o.owned.items named.2) from.1 in
+      let logger : from.0.logger ≡ k = ap (λ (x : ℕ × ℕ). x.0) from.2 in
+      subst (λ (l : List ℕ). Contains l k) takes.view_is (subst (λ (n : ℕ). Contains o.view n) logger (logger_named o.view from.0.logger is))

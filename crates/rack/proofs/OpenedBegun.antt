@@ -1,63 +1,67 @@
--- What a rack began with once one volume more is open.
-use Rattle.std.proofs.Common.{◌≡◌, ◌≢◌, ◌⊎◌, inl, inr, ⊎_elim, ℕ, ◌+◌, ◌<◌, ◌≤◌, Bool, List, [], ◌∷◌, ◌++◌, length, map, Option, None, Some, option_map, refl, sym, ap, ◌∙◌, subst, arith}
-use Rattle.std.specs.Prelude.{slice_get, slice_range, is_some, IsTrue, All, Contains}
-use Rattle.std.specs.List.{AllByRecursion}
-use Rattle.std.specs.declared.alloc.Global.{Global}
-use Rattle.std.specs.declared.vec.Vec.{Vec}
-use Rattle.std.proofs.lemmas.Bool.{cases_lt, cases_eq}
-use Rattle.std.proofs.lemmas.List.Elements.{All-push, Contains-append_left, Contains-push}
-use Rattle.std.proofs.lemmas.Option.{none-some, same_Some, slice_get-map}
-use Rattle.wol_disk.specs.Disk.{Block, State, IsImageOf, reads}
-use Rattle.wol_disk.proofs.Images.{image_reads}
-use Rattle.wol_model.specs.Heads.{Shape}
-use Rattle.wol_model.specs.Heads as head
-use Rattle.wol_model.specs.Images.{Images, image_of, recovered_from}
-use Rattle.wol_bay.specs.Bay.{Image, Told, BayState, at_name}
-use Rattle.wol_config.specs.Configs.{IsValid}
-use Rattle.wol_config.specs.declared.config.Config.{Config}
-use Rattle.wol_config.specs.declared.config.VolumeConf.{VolumeConf}
-use Rattle.wol_promise.specs.Manager.{Base}
+-- A station more began as the images at entry say, and the faults stay.
+use Rattle.rack.proofs.Basics.{◌≡◌, ◌≢◌, inl, inr, ⊎_elim, ℕ, ◌<◌, List, length, map, Option, None, Some, sym, ap, ◌∙◌, ◌⊎◌, ◌+◌, ◌≤◌, Bool}
+use Rattle.rack.proofs.Basics.{[], ◌∷◌, ◌++◌, option_map, refl, subst, arith, slice_get, Contains, slice_range, is_some, IsTrue, All}
+use Rattle.rack.proofs.Basics.{All-contains, All-push, Contains-append_left, Contains-push, same_Some, get_or_from_slice_get, none-some}
+use Rattle.rack.proofs.Basics.{slice_get-map, AllByRecursion, Global, Vec, cases_lt, cases_eq}
+use Rattle.rack.proofs.Terms.{State, Block, IsImageOf, reads, BayState, Image, Told, at_name, IsValid, Config, SegHead, Owned, Part}
+use Rattle.rack.proofs.Terms.{place_of, Opening, OwnedPart, shapes_of, shape_in, said_at, HasFaultOf, IsOpeningRack, HasBegun, fault_at}
+use Rattle.rack.proofs.Terms.{TakesOpening, IsOwnedPlace, loggers_out, segment_in, Said, Rack, Rest, Rooms, image_reads, Shape, Images}
+use Rattle.rack.proofs.Terms.{image_of, recovered_from, VolumeConf, Base, TurnLock, PassOf, shape_of, segment_head, HasView, state_of, Spun}
+use Rattle.rack.proofs.Terms.{ManagerBase, Manager, Station, Shared, Begins, IsPlaceOf, Opens, IsListedOf, read_of, all_owned, records_in}
+use Rattle.rack.proofs.Terms.{writes_in, heads_in, recovered_of, AreIntact, HaveNoTwins, IsRecoverable, head_place, IsLocked, IsLeftHere}
+use Rattle.rack.proofs.Terms.{IsGone, images_taken, AreOwnedIn, BeganInPlace, IsBegun, IsOpeningOf, base_of_station, image_here}
+use Rattle.rack.proofs.Terms.{segment_here, held_here, IsSegmentHere, ImageRest, VolumeFault}
 use Rattle.wol_promise.specs.Stands.{next_version}
-use Rattle.turn_lock.specs.declared.lock.TurnLock.{TurnLock}
-use Rattle.turn_lock.specs.declared.pass.PassOf.{PassOf}
-use Rattle.log_layout.specs.Values.{shape_of, segment_head}
-use Rattle.log_layout.specs.declared.segment.SegHead.TheVariants.{Owned}
-use Rattle.logger_view.specs.Stored.{HasView}
-use Rattle.spin_model.specs.Spun.{state_of}
-use Rattle.spin_model.specs.declared.spun.Spun.{Spun}
-use Rattle.manager.specs.declared.base.ManagerBase.{ManagerBase}
-use Rattle.manager.specs.declared.manager.Manager.{Manager}
-use Rattle.manager.specs.declared.station.Station.{Station}
-use Rattle.logger.specs.declared.shared.Shared.{Shared}
-use Rattle.manager_recovery.specs.Opened.{Begins, IsPlaceOf, Opens}
-use Rattle.manager_recovery.specs.Opening.{place_of}
-use Rattle.manager_recovery.specs.Owned.{IsListedOf, read_of, all_owned, records_in, writes_in, heads_in, recovered_of, AreIntact, HaveNoTwins}
-use Rattle.manager_recovery.specs.Refused.{IsRecoverable}
-use Rattle.manager_recovery.specs.declared.opening.Opening.{Opening}
-use Rattle.volume_images.specs.Accepted.{head_place}
-use Rattle.volume_images.specs.Volumes.{shape_in, shapes_of}
-use Rattle.rack.specs.Locked.{IsLocked}
-use Rattle.rack.specs.Opening.{HasBegun, IsOpeningRack, said_at, fault_at}
-use Rattle.rack.specs.Opens.{IsLeftHere, IsGone}
-use Rattle.rack.specs.Owners.{images_taken, AreOwnedIn, BeganInPlace, IsBegun, IsOpeningOf}
-use Rattle.rack.specs.Parts.{TakesOpening, loggers_out, segment_in}
-use Rattle.rack.specs.Racks.{base_of_station}
-use Rattle.rack.specs.Rests.{image_here, segment_here, held_here, IsSegmentHere}
-use Rattle.rack.specs.declared.heads_said.Said.{Said}
-use Rattle.rack.specs.declared.rack.ImageRest.{ImageRest}
-use Rattle.rack.specs.declared.rack.Rack.{Rack}
-use Rattle.rack.specs.declared.rack.Rest.{Rest}
-use Rattle.rack.specs.declared.rack.Rooms.{Rooms}
-use Rattle.rack.specs.declared.volume_fault.VolumeFault.{VolumeFault}
-use Rattle.rack.proofs.CutParts.{reads_range}
-use Rattle.rack.proofs.Members.{segment_in_image, none_in, of_map, is_member}
+use Rattle.rack_parts.proofs.Members.{of_map, segment_in_image, none_in, is_member}
+use Rattle.rack.proofs.Openable.{IsInImage, parts_in_images, image_id}
+use Rattle.rack_closing.proofs.CutParts.{reads_range}
 use Rattle.rack.proofs.OpenAway.{is_pair}
-use Rattle.rack.proofs.Openable.{IsInImage, parts_in_images}
 use Rattle.rack.proofs.OpeningOf.{sized, opening_of, read_at}
-use Rattle.rack.proofs.OwnedSegments.{recovered_owned}
-use Rattle.rack.proofs.SameOut.{same_out, taken_same}
-use Rattle.rack.proofs.Takes.{image_id}
+use Rattle.rack_closing.proofs.OwnedSegments.{recovered_owned}
+use Rattle.rack_closing.proofs.SameOut.{same_out, taken_same}
 use Rattle.rack.proofs.Without as without
+use Rattle.wol_model.specs.Heads as head
+
+-- ---- The faults of other volumes stay while the opening of one is away
+
+module _ {D : Type 0} (state : D → State) (config : Config) (valid : IsValid config) (b : BayState) (said : List (Option Said)) (id : ℕ) (r : Rack D) (own : Said)
+    (ready : IsOpeningRack state config b said id r) (lt : id < length (shapes_of config)) (at : slice_get said id ≡ Some (Some own)) (view : List ℕ)
+    (new : Rest D) (o : Opening D) (takes : TakesOpening state config r.rest new said id view o) where
+  -- whose a segment of the opening is
+  pub taken_owner : (w k i : ℕ) → IsOwnedPlace said w k i → Contains (map place_of o.owned.items) (k, i) → w ≡ id
+  taken_owner w k i place taken =
+      let from = of_map place_of o.owned.items (k, i) taken in
+      let part = All-contains (λ (p : OwnedPart D). IsInImage state config valid b said id r own ready lt at view new o takes p) o.owned.items from.0
+      (parts_in_images state config valid b said id r own ready lt at view new o takes) from.1 in
+      let logger : from.0.logger ≡ k = ap (λ (p : ℕ × ℕ). p.0) from.2 in
+      let index : from.0.index ≡ i = ap (λ (p : ℕ × ℕ). p.1) from.2 in
+      let saying : part.saying ≡ place.0 = same_Some part.saying place.0 (sym part.said_is ∙ ap (said_at said) logger ∙ get_or_from_slice_get said k (Some place.0) None place.1) in
+      let heads : Some (Owned id) ≡ Some (Owned w) = sym part.head ∙ (λ j. slice_get (saying j).heads.items (index j)) ∙ place.2 in
+      sym (owned_same (Owned id) (Owned w) (same_Some (Owned id) (Owned w) heads))
+    where
+      number : SegHead → ℕ
+      number Rattle.log_layout.specs.declared.segment.SegHead.TheVariants.Free = 0
+      number (Owned n) = n
+
+      owned_same : (g h : SegHead) → g ≡ h → number g ≡ number h
+      owned_same g h e = ap number e
+
+  -- a part of another volume that had a fault is here
+  pub fault_kept : (rooms : Rooms D) (k : ℕ) (p : Part) → k ≢ id → HasFaultOf state said k p r.rest → HasFaultOf state said k p (record new { rooms = rooms })
+  fault_kept rooms k p other had = record {
+    part = had.part;
+    here = ⊎_elim
+        (λ home.
+        let image = without.image_without state config said id view r.rest new o takes k home.0 home.1 in
+        inl (image.0, image.1, image.2.others other ∙ home.2, home.3))
+        (λ segment.
+        let never : Contains (map place_of o.owned.items) (segment.0, segment.1) → ⊥ = λ taken. other (taken_owner k segment.0 segment.1 segment.2 taken) in
+        inr (segment.0, segment.1, segment.2, without.segment_kept state config said id view r.rest new o takes segment.0 segment.1 never ∙ segment.3, segment.4))
+        had.here;
+    fault = had.fault;
+  }
+
+-- ---- What a rack began with once one volume more is open
 
 -- what a volume begins with that was opened of what the images say
 pub begun_of : {D : Type 0} (tells : Bool) (state : D → State) (telling : IsTrue tells) (config : Config) (out : List (Option (ImageRest D))) (images : Images) (id : ℕ) (o : Opening D) (b : Base)
@@ -147,7 +151,7 @@ module _ {D : Type 0} (tells : Bool) (state : D → State) (config : Config) (va
   -- ---- What is left here
 
   abbrev others : Contains view id → ⊥
-  others = (Rattle.rack.proofs.Takes.can_take state config valid b said id r own ready lt at view own_view).others
+  others = (Rattle.rack.proofs.Openable.can_take state config valid b said id r own ready lt at view own_view).others
 
   -- what is here of an image, against what was
   record IsLess (k : ℕ) (y : ImageRest D) : Type 0 where

@@ -1,41 +1,20 @@
--- The opening that was taken out is that of its volume in the images as they read at entry.
-use Rattle.std.proofs.Common.{◌≡◌, ℕ, ◌<◌, ◌==◌, ◌^◌, not, cond, List, [], ◌∷◌, length, Option, None, Some, option_map, refl, sym, ap, ◌∙◌, subst, arith}
-use Rattle.std.specs.Prelude.{slice_get, unwrap_or, is_some, All, Contains}
-use Rattle.std.proofs.lemmas.List.{length-map}
-use Rattle.std.proofs.lemmas.Option.{none-some, same_Some, slice_get-map, slice_get-get_or}
-use Rattle.wol_disk.specs.Disk.{Block, State, reads}
-use Rattle.wol_model.specs.Heads.{Shape, owned_block}
+-- The opening of a volume is one of the images as they read.
+use Rattle.rack.proofs.Basics.{◌≡◌, ℕ, ◌^◌, ◌<◌, length, Some, option_map, refl, sym, ap, ◌∙◌, subst, arith, ◌==◌, not, cond, List, [], ◌∷◌}
+use Rattle.rack.proofs.Basics.{Option, None, slice_get, unwrap_or, is_some, All, Contains, length-map, same_Some, slice_get-map}
+use Rattle.rack.proofs.Basics.{get_or_from_slice_get, none-some, slice_get-get_or}
+use Rattle.rack.proofs.Terms.{Shape, owned_block, IsValid, Config, VolumeConf, shape_in, shapes_of, image_read, images_read, Block, State}
+use Rattle.rack.proofs.Terms.{reads, Images, image_of, image_size, home_of, segment_of, one_segment_head, Image, Told, BayState, at_name}
+use Rattle.rack.proofs.Terms.{shape_of, segment_head, SegHead, Free, Owned, HasView, state_of, AreInOrder, place_of, read_of, owned_of}
+use Rattle.rack.proofs.Terms.{all_owned, Opening, OwnedPart, said_at, SaysOf, AreStillCut, IsOpeningRack, images_taken, IsOwnedIn}
+use Rattle.rack.proofs.Terms.{IsOpeningOf, TakesOpening, IsOwnedPlace, image_here, Said, ImageRest, Rack, Rest}
+use Rattle.rack_closing.proofs.Places.{some_at}
+use Rattle.rack_closing.proofs.FinalImages.{accepted_at, volume_at}
+use Rattle.rack_parts.proofs.Members.{all_member, of_map, in_map, map_map, here_within}
+use Rattle.rack.proofs.Openable.{IsInImage, parts_in_images, image_id}
 use Rattle.wol_model.specs.Heads as head
-use Rattle.wol_model.specs.Images.{Images, image_of, image_size, home_of, segment_of}
-use Rattle.wol_model.proofs.Spellings.{one_segment_head}
-use Rattle.wol_bay.specs.Bay.{Image, Told, BayState, at_name}
-use Rattle.wol_config.specs.Configs.{IsValid}
-use Rattle.wol_config.specs.declared.config.Config.{Config}
-use Rattle.wol_config.specs.declared.config.VolumeConf.{VolumeConf}
-use Rattle.log_layout.specs.Values.{shape_of, segment_head}
-use Rattle.log_layout.specs.declared.segment.SegHead.{SegHead}
-use Rattle.log_layout.specs.declared.segment.SegHead.TheVariants.{Free, Owned}
-use Rattle.logger_view.specs.Stored.{HasView}
-use Rattle.spin_model.specs.Spun.{state_of}
-use Rattle.manager_recovery.specs.Opening.{AreInOrder, place_of}
-use Rattle.manager_recovery.specs.Owned.{read_of, owned_of, all_owned}
 use Rattle.manager_recovery.specs.Owned as owned
-use Rattle.manager_recovery.specs.declared.opening.Opening.{Opening}
-use Rattle.manager_recovery.specs.declared.opening.OwnedPart.{OwnedPart}
-use Rattle.volume_images.specs.Volumes.{shape_in, shapes_of, image_read, images_read}
-use Rattle.rack.specs.Opening.{said_at, SaysOf, AreStillCut, IsOpeningRack}
-use Rattle.rack.specs.Owners.{images_taken, IsOwnedIn, IsOpeningOf}
-use Rattle.rack.specs.Parts.{TakesOpening, IsOwnedPlace}
-use Rattle.rack.specs.Rests.{image_here}
-use Rattle.rack.specs.declared.heads_said.Said.{Said}
-use Rattle.rack.specs.declared.rack.ImageRest.{ImageRest}
-use Rattle.rack.specs.declared.rack.Rack.{Rack}
-use Rattle.rack.specs.declared.rack.Rest.{Rest}
-use Rattle.rack.proofs.Asking.{some_at}
-use Rattle.rack.proofs.FinalImages.{accepted_at, volume_at}
-use Rattle.rack.proofs.Members.{all_member, of_map, in_map, map_map, here_within}
-use Rattle.rack.proofs.Openable.{IsInImage, parts_in_images}
-use Rattle.rack.proofs.Takes.{image_id}
+
+-- ---- The opening that was taken out is that of its volume in the images as they read at entry
 
 -- one of the segments of these images, by its place
 same_owned : (shapes : List Shape) (images : Images) (v : ℕ) (a b : owned.Owned) → IsOwnedIn shapes images v a → IsOwnedIn shapes images v b → a.logger ≡ b.logger → a.index ≡ b.index → a ≡ b

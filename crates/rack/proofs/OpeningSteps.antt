@@ -1,22 +1,11 @@
 -- The volumes of a rack that are opened in order.
-use Rattle.std.proofs.Common.{◌≡◌, ◌≢◌, inl, inr, ⊎_elim, ℕ, suc, ◌+◌, ◌<◌, ◌≤◌, Bool, List, [], ◌∷◌, length, map, Option, None, Some, refl, sym, ap, ◌∙◌, subst, arith}
-use Rattle.std.specs.Prelude.{slice_get, is_some, Contains}
-use Rattle.std.proofs.lemmas.Bool.{cases_lt}
-use Rattle.std.proofs.lemmas.Option.{none-some, slice_get_within, get_or_from_slice_get}
-use Rattle.wol_disk.specs.Disk.{State}
-use Rattle.wol_bay.specs.Bay.{BayState, Told}
-use Rattle.wol_config.specs.declared.config.Config.{Config}
-use Rattle.manager.specs.declared.station.Station.{Station}
-use Rattle.volume_images.specs.Volumes.{shapes_of}
-use Rattle.rack.specs.Opening.{said_at, view_at, fault_at, IsOpeningRack, HasBegun, AreRefusedBelow, HaveFaults}
-use Rattle.rack.specs.Opens.{AreRefused}
-use Rattle.rack.specs.Racks.{IsRack}
-use Rattle.rack.specs.Rests.{image_here}
-use Rattle.rack.specs.declared.heads_said.Said.{Said}
-use Rattle.rack.specs.declared.rack.ImageRest.{ImageRest}
-use Rattle.rack.specs.declared.rack.Rack.{Rack}
-use Rattle.rack.proofs.Asking.{some_at}
-use Rattle.rack.proofs.Members.{of_map, none_in, in_cases}
+use Rattle.rack.proofs.Basics.{◌≡◌, ◌≢◌, inl, inr, ⊎_elim, ℕ, suc, ◌+◌, ◌<◌, ◌≤◌, Bool, List, [], ◌∷◌, length, map, Option, None, Some}
+use Rattle.rack.proofs.Basics.{refl, sym, ap, ◌∙◌, subst, arith, slice_get, is_some, Contains, cases_lt, none-some, slice_get_within}
+use Rattle.rack.proofs.Basics.{get_or_from_slice_get}
+use Rattle.rack.proofs.Terms.{State, BayState, Told, Config, Station, shapes_of, said_at, view_at, fault_at, IsOpeningRack, HasBegun}
+use Rattle.rack.proofs.Terms.{AreRefusedBelow, HaveFaults, AreRefused, IsRack, image_here, Said, ImageRest, Rack}
+use Rattle.rack_closing.proofs.Places.{some_at}
+use Rattle.rack_parts.proofs.Members.{of_map, none_in, in_cases}
 
 -- a member has a place
 place_of : {X : Type 0} (xs : List X) (x : X) → Contains xs x → (k : ℕ) × (slice_get xs k ≡ Some x)

@@ -1,27 +1,10 @@
 -- The volumes that a refusal names are among those of the configuration.
-use Rattle.std.proofs.Common.{◌≡◌, ◌<◌, ℕ, Bool, true, false, cond, not, List, [], ◌∷◌, length, map, Option, Some, refl, sym, subst}
-use Rattle.std.specs.Prelude.{slice_get, find, Contains}
-use Rattle.std.proofs.lemmas.List.Elements.{All-contains}
-use Rattle.std.proofs.lemmas.Option.{none-some, same_Some, slice_get_within, get_or_from_slice_get}
-use Rattle.wol_disk.specs.Disk.{State}
-use Rattle.wol_bay.specs.Bay.{BayState}
-use Rattle.wol_config.specs.Configs.{IsValid}
-use Rattle.wol_config.specs.declared.config.Config.{Config}
-use Rattle.manager.specs.declared.part.Part.TheVariants.{Home, Segment}
-use Rattle.manager_recovery.specs.Refused.{Refuses, is_named}
-use Rattle.manager_recovery.specs.declared.opening.Opening.{Opening}
-use Rattle.manager_recovery.specs.declared.opening.OwnedPart.{OwnedPart}
-use Rattle.manager_recovery.specs.declared.refusal.OpenRefusal.{OpenRefusal}
-use Rattle.manager_recovery.specs.declared.refusal.OpenRefusal.TheVariants.{LabelDiffers, LoggerMissing, OutsideView, Damaged, Twins, DiskFault, NoMemory}
-use Rattle.volume_images.specs.Volumes.{shapes_of}
-use Rattle.rack.specs.Opening.{IsOpeningRack}
-use Rattle.rack.specs.Parts.{TakesOpening}
-use Rattle.rack.specs.Racks.{NamesVolumes}
-use Rattle.rack.specs.declared.heads_said.Said.{Said}
-use Rattle.rack.specs.declared.rack.Rack.{Rack}
-use Rattle.rack.specs.declared.rack.Rest.{Rest}
-use Rattle.rack.specs.declared.volume_fault.VolumeFault.TheVariants.{Refused}
-use Rattle.rack.proofs.Members.{first_in, later_in, of_map}
+use Rattle.rack.proofs.Basics.{◌≡◌, ◌<◌, ℕ, Bool, true, false, cond, not, List, [], ◌∷◌, length, map, Option, Some, refl, sym, subst}
+use Rattle.rack.proofs.Basics.{slice_get, find, Contains, All-contains, none-some, same_Some, slice_get_within, get_or_from_slice_get}
+use Rattle.rack.proofs.Terms.{State, BayState, IsValid, Config, Home, Segment, Refuses, is_named, Opening, OwnedPart, OpenRefusal}
+use Rattle.rack.proofs.Terms.{LabelDiffers, LoggerMissing, OutsideView, Damaged, Twins, DiskFault, NoMemory, shapes_of, IsOpeningRack}
+use Rattle.rack.proofs.Terms.{TakesOpening, NamesVolumes, Said, Rack, Rest, Refused}
+use Rattle.rack_parts.proofs.Members.{first_in, later_in, of_map}
 use Rattle.rack.proofs.Openable.{IsInImage, parts_in_images}
 
 -- what was found in a list is one of it

@@ -1,24 +1,11 @@
 -- The locks and their passes are set where they belong.
-use Rattle.std.proofs.Common.{◌≡◌, ◌<◌, ◌≤◌, ◌+◌, ◌-◌, ⊎_elim, ℕ, zero, suc, List, [], ◌∷◌, ◌++◌, length, map, take, reverse, Option, None, Some, refl, sym, ap, subst, ◌∙◌, arith}
-use Rattle.std.specs.Prelude.{All, MatchOption, slice_get, slice_index_or, slice_set, vec_len, vec_capacity}
-use Rattle.std.specs.List.{AllZip}
-use Rattle.std.specs.declared.alloc.Global.{Global}
-use Rattle.std.specs.declared.vec.Vec.{Vec}
-use Rattle.std.proofs.lemmas.Bool.{cases_eq}
-use Rattle.std.proofs.lemmas.List.{append_assoc, append-nil, map-append, reverse-append, reverse-reverse, length-append, length-map, length-reverse, length-set, take_at, take_all, map_more, get_or_read, get_or-set_same, get_or-set_other}
-use Rattle.std.proofs.lemmas.List.Elements.{All-pop}
-use Rattle.std.proofs.lemmas.Option.{slice_get-get_or, slice_get_past}
-use Rattle.turn_lock.specs.declared.lock.TurnLock.{TurnLock}
-use Rattle.turn_lock.specs.declared.pass.PassOf.{PassOf}
-use Rattle.spin_model.specs.declared.spindle.Spindle.{Spindle}
-use Rattle.spin_model.specs.declared.spindle.SpindleBase.{SpindleBase}
-use Rattle.seg_pool.specs.declared.base.PoolBase.{PoolBase}
-use Rattle.seg_pool.specs.declared.pool.Pool.{Pool}
-use Rattle.log_segment.specs.declared.free.FreeSegment.{FreeSegment}
-use Rattle.rack.specs.Making.{AreLists}
-use Rattle.rack.specs.Parts.{PutsSpindles, PutsPools, last_of, ArePopped}
-use Rattle.rack.specs.declared.lists.Lists.{Lists}
-use Rattle.rack.specs.declared.locks.Issued.{Issued}
+use Rattle.rack.proofs.Basics.{◌≡◌, ◌<◌, ◌≤◌, ◌+◌, ◌-◌, ⊎_elim, ℕ, zero, suc, List, [], ◌∷◌, ◌++◌, length, map, take, reverse, Option, None}
+use Rattle.rack.proofs.Basics.{Some, refl, sym, ap, subst, ◌∙◌, arith, All, MatchOption, slice_get, slice_index_or, slice_set, vec_len}
+use Rattle.rack.proofs.Basics.{vec_capacity, AllZip, Global, Vec, cases_eq, append_assoc, append-nil, map-append, reverse-append}
+use Rattle.rack.proofs.Basics.{reverse-reverse, length-append, length-map, length-reverse, length-set, take_at, map_more, get_or_read}
+use Rattle.rack.proofs.Basics.{get_or-set_same, get_or-set_other, All-pop, slice_get-get_or, slice_get_past}
+use Rattle.rack.proofs.Terms.{TurnLock, PassOf, Spindle, SpindleBase, PoolBase, Pool, FreeSegment, AreLists, PutsSpindles, PutsPools}
+use Rattle.rack.proofs.Terms.{last_of, Lists, Issued}
 
 module _ {X Y : Type 0} where
   pub zip_push : (R : X → Y → Type 0) (xs : List X) (ys : List Y) (x : X) (y : Y) → AllZip R xs ys → R x y → AllZip R (xs ++ x ∷ []) (ys ++ y ∷ [])

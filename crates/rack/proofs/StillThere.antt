@@ -1,25 +1,11 @@
 -- An image that was there, whatever a crash had left of it, is there afterwards.
-use Rattle.std.proofs.Common.{◌≡◌, ⊎_elim, ℕ, List, Option, None, Some, option_map, refl, sym, ap, ◌∙◌, subst}
-use Rattle.std.specs.Prelude.{slice_get, slice_set, slice_index_or, unwrap_or}
-use Rattle.std.proofs.lemmas.Bool.{cases_eq}
-use Rattle.std.proofs.lemmas.List.{length-set}
-use Rattle.std.proofs.lemmas.Option.{get_or_from_slice_get, slice_get_within, slice_get-map}
-use Rattle.wol_disk.specs.Disk.{Block, State}
-use Rattle.wol_model.specs.Heads.{Shape}
-use Rattle.wol_model.specs.Images.{Images, image_of}
-use Rattle.rack.specs.Opens.{IsThere}
-use Rattle.wol_bay.specs.Bay.{Name, Told, at_name}
-use Rattle.wol_config.specs.declared.config.Config.{Config}
-use Rattle.wol_config.specs.declared.config.VolumeConf.{VolumeConf}
+use Rattle.rack.proofs.Basics.{◌≡◌, ⊎_elim, ℕ, List, Option, None, Some, option_map, refl, sym, ap, ◌∙◌, subst, slice_get, slice_set, slice_index_or, unwrap_or, cases_eq}
+use Rattle.rack.proofs.Basics.{length-set, get_or_from_slice_get, slice_get_within, slice_get-map}
+use Rattle.rack.proofs.Terms.{Block, State, Shape, Images, image_of, IsThere, Name, Told, at_name, Config, VolumeConf, shapes_of, image_read, images_read, MayLeave, AreLeft}
+use Rattle.rack.proofs.Terms.{AreLeftOfParts, HadRefused, image_here, ImageRest, Rack}
 use Rattle.manager.proofs.Lanes.{get_set, get_other}
-use Rattle.volume_images.specs.Volumes.{shapes_of, image_read, images_read, MayLeave, AreLeft}
-use Rattle.rack.specs.Closes.{AreLeftOfParts}
-use Rattle.rack.specs.Owners.{HadRefused}
-use Rattle.rack.specs.Rests.{image_here}
-use Rattle.rack.specs.declared.rack.ImageRest.{ImageRest}
-use Rattle.rack.specs.declared.rack.Rack.{Rack}
-use Rattle.rack.proofs.LeftImage.{volume_at}
-use Rattle.rack.proofs.Reopening.{reads_are_left}
+use Rattle.rack_closing.proofs.LeftImage.{volume_at}
+use Rattle.rack_closing.proofs.SoundClosed.{reads_are_left}
 
 -- whatever a crash had left of the images, that of volume v was there
 abbrev pub WasThere : Config → Told → (v : ℕ) → Type 0

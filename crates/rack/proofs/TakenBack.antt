@@ -1,47 +1,153 @@
--- Images that went back to their bay after want of memory for the pools, in which free segments may be other blank ones.
-use Rattle.std.proofs.Common.{◌≡◌, ◌≢◌, ◌⊎◌, inl, inr, ⊎_elim, ℕ, ◌+◌, ◌*◌, ◌<◌, ◌≤◌, Bool, true, false, List, [], length, Option, None, Some, option_map, refl, sym, ap, ◌∙◌, subst, arith}
-use Rattle.std.specs.Prelude.{slice_get, slice_index_or, slice_range, not, is_some, IsSome, IsTrue}
-use Rattle.std.proofs.lemmas.List.{length-map}
-use Rattle.std.proofs.lemmas.Option.{none-some, same_Some, slice_get_within, slice_get-map}
-use Rattle.wol_disk.specs.Disk.{Block, State, IsDisk, TellsContent, IsImage, IsImageOf, reads}
-use Rattle.wol_disk.proofs.Images.{image_reads}
-use Rattle.wol_model.specs.Heads.{Shape}
-use Rattle.wol_model.specs.Images.{Images, image_of, segment_of, IsSoundSegment, AreSound}
-use Rattle.wol_model.specs.Log.{IsIdle}
+-- What was taken out for a rack; and images that went back to their bay after want of memory for the pools.
+use Rattle.rack.proofs.Basics.{◌≡◌, ⊎_elim, ℕ, ◌+◌, ◌<◌, ◌≤◌, Bool, List, [], ◌∷◌, ◌++◌, length, Option, None, Some, option_map, IfSome, refl, sym, ap, ◌∙◌, subst, arith, ◌≢◌, ◌⊎◌}
+use Rattle.rack.proofs.Basics.{inl, inr, ◌*◌, true, false, is_some, not, get_or_from_slice_get, none-some, same_Some, slice_get_within, slice_get-map, slice_get, IsSome}
+use Rattle.rack.proofs.Basics.{slice_index_or, slice_range, IsTrue, length-map}
+use Rattle.rack.proofs.Terms.{Block, State, IsDisk, TellsContent, IsImage, IsImageOf, reads, image_reads, BayState, outs, Image, Told, at_name, Shape, IsIdle, Images, image_of}
+use Rattle.rack.proofs.Terms.{segment_of, IsSoundSegment, AreSound, Config, VolumeConf, IsValid, segment_head, SegHead, Free, Owned, Spun, state_of, HasHead, shape_in, shapes_of}
+use Rattle.rack.proofs.Terms.{NoneOut, MayLeave, AreLeft, IsTold, image_here, segment_here, IsImageRest, out_names, IsComplete, LeavesNoneOut, GivesBack, IsThere, LeavesAll}
+use Rattle.rack.proofs.Terms.{KeepsAllSound, HasFaulty, RefusesVolume, AreAsked, HasSentOut, said_at, StayedSo, LeavesNoMore, WasAtEntry, CanIssue, Restores, IsRestored, Said}
+use Rattle.rack.proofs.Terms.{ImageRest, RecoversSame, VolumeFault}
 use Rattle.wol_model.specs.Recovered.{extents_in}
 use Rattle.wol_model.proofs.Images.{idle_none}
-use Rattle.wol_bay.specs.Bay.{Image, Told, BayState, at_name}
-use Rattle.wol_config.specs.Configs.{IsValid}
-use Rattle.wol_config.specs.declared.config.Config.{Config}
-use Rattle.wol_config.specs.declared.config.VolumeConf.{VolumeConf}
-use Rattle.log_layout.specs.Values.{segment_head}
-use Rattle.log_layout.specs.declared.segment.SegHead.{SegHead}
-use Rattle.log_layout.specs.declared.segment.SegHead.TheVariants.{Free, Owned}
-use Rattle.spin_model.specs.Spun.{state_of}
-use Rattle.spin_model.specs.declared.spun.Spun.{Spun}
-use Rattle.volume_images.specs.Left.{IsTold}
-use Rattle.volume_images.specs.Volumes.{shape_in, shapes_of, MayLeave, AreLeft}
-use Rattle.rack.specs.Rests.{image_here, segment_here}
-use Rattle.rack.specs.Closing.{GivesBack}
-use Rattle.rack.specs.Owners.{RecoversSame}
-use Rattle.rack.specs.Opens.{IsThere, LeavesAll, KeepsAllSound, HasFaulty, RefusesVolume}
-use Rattle.rack.specs.Opening.{AreAsked, HasSentOut, StayedSo, LeavesNoMore, WasAtEntry, said_at}
-use Rattle.rack.specs.Parts.{IsRestored, Restores}
-use Rattle.rack.specs.declared.heads_said.Said.{Said}
+use Rattle.rack_parts.proofs.Members.{a_value, here_within}
+use Rattle.rack_closing.proofs.Places.{some_at, both_slices, slice_join}
+use Rattle.rack_closing.proofs.Names.{names_differ}
+use Rattle.rack_closing.proofs.CutParts.{reads_range}
+use Rattle.rack_closing.proofs.KeptImages.{IsKeptImage, AreTwo, IsBefore, kept_before, before_same, before_all}
+use Rattle.rack_closing.proofs.LeftImage.{IsLeftNow, left_image, volume_at}
+use Rattle.rack_closing.proofs.NewFaults.{told_each}
+use Rattle.rack_closing.proofs.SameRecovered.{SegmentsKeep, keeping}
+use Rattle.rack_closing.proofs.SoundBefore.{sound_before}
+use Rattle.rack_closing.proofs.Cases.{none_or}
 use Rattle.rack.specs.declared.images.Images.{Images as Asked}
-use Rattle.rack.specs.declared.rack.ImageRest.{ImageRest}
-use Rattle.rack.specs.declared.volume_fault.VolumeFault.{VolumeFault}
-use Rattle.rack.proofs.AllBack.{both_slices, slice_join}
-use Rattle.rack.proofs.Asking.{some_at, refuses_later}
-use Rattle.rack.proofs.CutParts.{reads_range}
-use Rattle.rack.proofs.KeptImages.{IsKeptImage, AreTwo, IsBefore, kept_before, before_same, before_all}
-use Rattle.rack.proofs.LeftImage.{IsLeftNow, left_image}
-use Rattle.rack.proofs.NewFaults.{told_each}
-use Rattle.rack.proofs.SameRecovered.{SegmentsKeep, keeping}
-use Rattle.rack.proofs.SentNames.{names_differ}
-use Rattle.rack.proofs.SoundBefore.{sound_before}
+use Rattle.rack.proofs.Asking.{refuses_later}
+use Rattle.rack.proofs.ImagesSent.{names_alike, none_named}
 use Rattle.rack.proofs.StillThere.{WasThere, conf_there, there_may}
-use Rattle.rack.proofs.TakenOut.{idle_of_free, same_here, again}
+
+-- What was taken out for a rack, from which it is set up.
+
+-- a segment with a free head is idle
+pub idle_of_free : (volumes : ℕ) (c : List Block) → HasHead volumes c (segment_head Free) → IsIdle c
+idle_of_free volumes c head = go c head.first
+  where
+    go : (bs : List Block) → slice_get bs 0 ≡ Some head.block → IsIdle bs
+    go [] is = absurd (none-some head.block is)
+    go (b ∷ bs) is = same_Some b head.block is ∙ head.spelled.bytes
+
+-- an image that is here has a shape
+pub shape_here : {D : Type 0} (config : Config) (out : List (Option (ImageRest D))) (k : ℕ) (r : ImageRest D) → length out ≡ length config.volumes.items → image_here out k ≡ Some r → (s : Shape) × (slice_get (shapes_of config) k ≡ Some s)
+shape_here config out k r count here =
+    let lt = here_within out k r here in
+    some_at (shapes_of config) k (let m = length-map config.volumes.items (shape_in config) in omega (arith, lt, count, m))
+
+module _ {D : Type 0} (tells : Bool) (state : D → State) (config : Config) (b b1 : BayState) (i : Asked D)
+    (asked : AreAsked tells state config b b1 (length config.volumes.items) i) where
+  -- what isn't out says nothing
+  pub unsaid : (k : ℕ) (s : Shape) → slice_get (shapes_of config) k ≡ Some s → image_here i.out.items k ≡ None → said_at i.said.items k ≡ None
+  unsaid k s is none = let v = volume_at config k s is in (asked.refused k v.0 (slice_get_within config.volumes.items k v.0 v.1) v.1 none).unsaid
+
+  -- the pools may be made
+  pub may_issue : (k : ℕ) (s : Shape) → slice_get (shapes_of config) k ≡ Some s → CanIssue state (length config.volumes.items) k s (said_at i.said.items k) (image_here i.out.items k)
+  may_issue k s is = go (said_at i.said.items k) (image_here i.out.items k) refl refl
+    where
+      go : (o : Option Said) (p : Option (ImageRest D)) → said_at i.said.items k ≡ o → image_here i.out.items k ≡ p → CanIssue state (length config.volumes.items) k s o p
+      go None None e f = tt
+      go (Some said) None e f = absurd (none-some said (sym (unsaid k s is f) ∙ e))
+      go None (Some r) e f = let out = asked.out k s r is f in absurd (none-some out.said (sym e ∙ out.said_is))
+      go (Some said) (Some r) e f =
+          let out = asked.out k s r is f in
+          let same : out.said ≡ said = same_Some out.said said (sym out.said_is ∙ e) in
+          let many = length-map config.volumes.items (shape_in config) in
+          subst (λ (x : Said). CanIssue state (length config.volumes.items) k s (Some x) (Some r)) same
+          (record {
+            count = out.says.count;
+            segments = record {
+              count = out.rest.count ∙ sym out.says.count;
+              here = λ j lt. out.all.segments j (let c = out.says.count in let d = out.rest.count in omega (arith, lt, c, d));
+              blank = λ j p free here.
+                  let there : segment_here r j ≡ Some p = get_or_from_slice_get r.segments.items j (Some p) None here in
+                  record {
+                    part = out.rest.segments j p there;
+                    idle = λ c image. idle_of_free (length (shapes_of config)) c (out.heads j p Free there free c image);
+                  };
+            };
+            owners = λ j owner owned. subst (λ (n : ℕ). owner < n) many (out.says.configured j (Owned owner) owned);
+          })
+
+  -- ---- After want of memory for the pools
+
+  module _ (out : List (Option (ImageRest D))) (count : length out ≡ length i.out.items)
+      (restores : (k : ℕ) → Restores state k config.segment_blocks (said_at i.said.items k) (image_here i.out.items k) (image_here out k)) where
+    same_out : (o : Option Said) (blocks k : ℕ) (old new : Option (ImageRest D)) → Restores state k blocks o old new → is_some new ≡ is_some old
+    same_out None blocks k old new e = ap is_some e
+    same_out (Some said) blocks k None new e = ap is_some e
+    same_out (Some said) blocks k (Some r) None e = absurd e
+    same_out (Some said) blocks k (Some r) (Some n) e = refl
+
+    pub same_here : (k : ℕ) → is_some (image_here out k) ≡ is_some (image_here i.out.items k)
+    same_here k = same_out (said_at i.said.items k) config.segment_blocks k (image_here i.out.items k) (image_here out k) (restores k)
+
+    -- an image with all of its parts again
+    pub record IsWholeAgain (k : ℕ) (s : Shape) (n : ImageRest D) : Type 0 where
+      pub rest : IsImageRest state k s n
+      pub all : IsComplete n
+
+    pub again : (k : ℕ) (s : Shape) (n : ImageRest D) → slice_get (shapes_of config) k ≡ Some s → image_here out k ≡ Some n → IsWholeAgain k s n
+    again k s n is here = go (said_at i.said.items k) (image_here i.out.items k) refl refl (subst (Restores state k config.segment_blocks (said_at i.said.items k) (image_here i.out.items k)) here (restores k))
+      where
+        blocks : s.segment_blocks ≡ config.segment_blocks
+        blocks = let v = volume_at config k s is in ap (λ (x : Shape). x.segment_blocks) (sym v.2)
+
+        go : (o : Option Said) (p : Option (ImageRest D)) → said_at i.said.items k ≡ o → image_here i.out.items k ≡ p → Restores state k config.segment_blocks o p (Some n) → IsWholeAgain k s n
+        go None p e f same = let there : image_here i.out.items k ≡ Some n = f ∙ sym same in let was = asked.out k s n is there in record { rest = was.rest; all = was.all }
+        go (Some said) None e f same = absurd (none-some n (sym same))
+        go (Some said) (Some r) e f restored =
+            let was = asked.out k s r is f in
+            let same : was.said ≡ said = same_Some was.said said (sym was.said_is ∙ e) in
+            let heads : length said.heads.items ≡ s.segments = subst (λ (x : Said). length x.heads.items ≡ s.segments) same was.says.count in
+            record {
+              rest = record {
+                label = subst (Rattle.rack_parts.specs.Rests.IsPart state k 2) (sym restored.same.label) was.rest.label;
+                home = subst (λ (h : Option (Spun D)). IfSome h (Rattle.rack_parts.specs.Rests.IsPart state k s.home)) (sym restored.same.home) was.rest.home;
+                count = restored.same.count ∙ was.rest.count;
+                segments = λ j p there. by_head j (slice_get said.heads.items j) refl
+                    (λ free. let found = restored.free j free in
+                    subst (λ (m : ℕ). Rattle.rack_parts.specs.Rests.IsPart state k m p) (sym blocks) (subst (Rattle.rack_parts.specs.Rests.IsPart state k config.segment_blocks) (same_Some found.0 p (sym found.1 ∙ there)) found.2.part))
+                    (λ owner owned. was.rest.segments j p (sym (restored.owned j owner owned) ∙ there))
+                    (λ none. absurd (beyond j p heads none there (restored.same.count ∙ was.rest.count)));
+                row = subst (λ x. (x.items ≡ []) × (s.segments ≤ Rattle.std.specs.Prelude.vec_capacity x)) (sym restored.same.row) was.rest.row;
+                room = subst (λ x. (x.items ≡ []) × (2 + s.segments ≤ Rattle.std.specs.Prelude.vec_capacity x)) (sym restored.same.room) was.rest.room;
+              };
+              all = record {
+                home = subst (λ (h : Option (Spun D)). IsSome h) (sym restored.same.home) was.all.home;
+                segments = λ j lt. by_head j (slice_get said.heads.items j) refl
+                    (λ free. ap is_some (restored.free j free).1)
+                    (λ owner owned. ap is_some (restored.owned j owner owned) ∙ was.all.segments j (let c = restored.same.count in omega (arith, lt, c)))
+                    (λ none. absurd (let c = restored.same.count in let d = was.rest.count in short j heads none (omega (arith, lt, c, d))));
+              };
+            }
+          where
+            by_head : {P : Type 0} (j : ℕ) (h : Option SegHead) → slice_get said.heads.items j ≡ h → (slice_get said.heads.items j ≡ Some Free → P) → ((owner : ℕ) → slice_get said.heads.items j ≡ Some (Owned owner) → P)
+                → (slice_get said.heads.items j ≡ None → P) → P
+            by_head j None e free owned none = none e
+            by_head j (Some Free) e free owned none = free e
+            by_head j (Some (Owned owner)) e free owned none = owned owner e
+
+            short : (j : ℕ) → length said.heads.items ≡ s.segments → slice_get said.heads.items j ≡ None → j < s.segments → ⊥
+            short j heads none lt = let there = some_at said.heads.items j (omega (arith, heads, lt)) in none-some there.0 (sym none ∙ there.1)
+
+            beyond : (j : ℕ) (p : Spun D) → length said.heads.items ≡ s.segments → slice_get said.heads.items j ≡ None → segment_here n j ≡ Some p → length n.segments.items ≡ s.segments → ⊥
+            beyond j p heads none there long = short j heads none (let lt = here_within n.segments.items j p there in omega (arith, lt, long))
+
+    -- the names of those that are out are the same
+    pub same_names : out_names config config.volumes.items out ≡ out_names config config.volumes.items i.out.items
+    same_names = names_alike config config.volumes.items out i.out.items same_here
+
+    -- nothing of the configuration is out any more
+    pub home_again : NoneOut config b → HasSentOut config i.out.items (length config.volumes.items) b b1 → (b2 : BayState) → LeavesNoneOut config out (outs b1) (outs b2) → outs b2 ≡ outs b
+    home_again home sent b2 none = none (outs b) (none_named config b home) (sent.outs ∙ ap (λ names. option_map (λ os. os ++ names) (outs b)) (sym same_names))
+
+-- Images that went back to their bay after want of memory for the pools, in which free segments may be other blank ones.
 
 -- ---- Where no image may be left that might not have been before
 
@@ -72,12 +178,7 @@ module _ {D : Type 0} (tells : Bool) (state : D → State) (config : Config) (b 
   sound_less old new less all images left = all images (left_less config old new less images left)
 
   told_less : {P : Told → Told → Type 0} → ((old new : Told) → LeavesNoMore old new → P old new) → IsTold LeavesNoMore b.told b'.told → IsTold P b.told b'.told
-  told_less {P} each = go b.told b'.told
-    where
-      go : (o o' : Option Told) → IsTold LeavesNoMore o o' → IsTold P o o'
-      go None o' l = l
-      go (Some old) None l = l
-      go (Some old) (Some new) l = each old new l
+  told_less {P} each = told_each LeavesNoMore P b.told b'.told each
 
   pub left_back : IsTold LeavesNoMore b.told b'.told → IsTold (LeavesAll tells state config b b') b.told b'.told
   left_back = told_less all_less
@@ -130,15 +231,13 @@ module _ {D : Type 0} (tells : Bool) (state : D → State) (config : Config) (va
 
   cause : (k : ℕ) (v : VolumeConf) → slice_get config.volumes.items k ≡ Some v → not_taken k ≡ true → (f : VolumeFault) × RefusesVolume {D = D} tells state config [] b b2 k v f
   unfolding not_taken
-  cause k v at is = go (image_here i.out.items k) refl
-    where
-      go : (o : Option (ImageRest D)) → image_here i.out.items k ≡ o → (f : VolumeFault) × RefusesVolume {D = D} tells state config [] b b2 k v f
-      go None e = let why = asked.refused k v (slice_get_within config.volumes.items k v at) at e in (
+  cause k v at is =
+      let none = none_or (image_here i.out.items k) (λ r e. let f = ap is_some e in cc (f, is)) in
+      let why = asked.refused k v (slice_get_within config.volumes.items k v at) at none in (
         why.fault,
         refuses_later tells state config [] b b1 b2 k v why.fault counts
             (told_each (GivesBack state config out 0) HasFaulty b1.told b2.told (λ x y g. (g.more, g.faulty)) back) why.refuses,
       )
-      go (Some r) e = absurd (let f = ap is_some e in cc (f, is))
 
   -- an image with its parts as they were, but for free segments
   record IsBack (k : ℕ) (conf : VolumeConf) (t : Told) (n : ImageRest D) : Type 0 where
@@ -192,7 +291,7 @@ module _ {D : Type 0} (tells : Bool) (state : D → State) (config : Config) (va
               let whole = again tells state config b b1 i asked out count restores k s n (shape_is k conf at) e in
               let now = left_image state tell_all sound config t2 images left k s n (shape_is k conf at) whole.rest given.more (λ v of. given.back k v n (omega arith) of e) in
               let before = ba.entry.image in
-              let home = home_of n whole.all.home in
+              let home = a_value n.home whole.all.home in
               record {
                 before = before;
                 there = ba.entry.there;
@@ -214,13 +313,6 @@ module _ {D : Type 0} (tells : Bool) (state : D → State) (config : Config) (va
                 segments = λ j lt. segment ba now.0 now.2 j lt (some_at ba.own.heads.items j (let h = ba.heads in omega (arith, h, lt)));
               }
             where
-              home_of : (m : ImageRest D) → IsSome m.home → (p : Spun D) × (m.home ≡ Some p)
-              home_of m there = by m.home refl there
-                where
-                  by : (o : Option (Spun D)) → m.home ≡ o → IsSome o → (p : Spun D) × (m.home ≡ Some p)
-                  by None e there = absurd (cc there)
-                  by (Some p) e there = (p, e)
-
               segment : (ba : IsBack k conf t n) (c : List Block) (now : IsLeftNow state s n c) (j : ℕ) → j < s.segments → (h : SegHead) × (slice_get ba.own.heads.items j ≡ Some h)
                   → (was : List Block) × IsImage (slice_range ba.entry.image.blocks (2 + s.home + j * s.segment_blocks) (2 + s.home + (j + 1) * s.segment_blocks)) was × ((segment_of s c j ≡ was) ⊎ (IsIdle (segment_of s c j) × IsIdle was))
               segment ba c now j lt head = by head.0 head.1
@@ -244,20 +336,16 @@ module _ {D : Type 0} (tells : Bool) (state : D → State) (config : Config) (va
                       )
                   by (Owned owner) e =
                       let there = ba.restored.owned j owner e in
-                      let p = part_at (segment_here ba.was j) refl in (
+                      let p = a_value (segment_here ba.was j) (ba.complete j lt) in (
                         segment_of s c j,
                         (ba.entry.cut.segments j p.0 p.1).had (segment_of s c j) (now.segments j p.0 (there ∙ p.1)),
                         inl refl,
                       )
-                    where
-                      part_at : (o : Option (Spun D)) → segment_here ba.was j ≡ o → (p : Spun D) × (segment_here ba.was j ≡ Some p)
-                      part_at None f = absurd (let some = ba.complete j lt in let none = ap is_some f in cc (some, none))
-                      part_at (Some p) f = (p, f)
 
       still : (k : ℕ) (conf : VolumeConf) → slice_get config.volumes.items k ≡ Some conf → not_taken k ≡ true → MayLeave (at_name conf.name t.images) (image_of images k)
       still k conf at is_not =
           let one = left.each k conf (slice_get_within config.volumes.items k conf at) in
-          let name : (slice_index_or config.volumes.items k conf).name ≡ conf.name = ap (λ (w : VolumeConf). w.name) (Rattle.std.proofs.lemmas.Option.get_or_from_slice_get config.volumes.items k conf conf at) in
+          let name : (slice_index_or config.volumes.items k conf).name ≡ conf.name = ap (λ (w : VolumeConf). w.name) (get_or_from_slice_get config.volumes.items k conf conf at) in
           refused_kept k conf at is_not (image_of images k) (subst (λ (m : _). MayLeave (at_name m t2.images) (image_of images k)) name one)
 
       -- each image that was there is there
@@ -292,11 +380,8 @@ module _ {D : Type 0} (tells : Bool) (state : D → State) (config : Config) (va
         where
           each : (k : ℕ) (s : Shape) → slice_get (shapes_of config) k ≡ Some s → (image_of before.0 k ≡ image_of images k) ⊎ AreTwo (KeepsFront k) (KeepsSegment k) s (image_of images k) (image_of before.0 k)
           each k s at =
-              let lt = slice_get_within (shapes_of config) k s at in
-              let long = length-map config.volumes.items (shape_in config) in
-              let conf = some_at config.volumes.items k (omega (arith, lt, long)) in
-              let same : shape_in config conf.0 ≡ s = same_Some (shape_in config conf.0) s (sym (shape_is k conf.0 conf.1) ∙ at) in
-              by conf.0 conf.1 same (not_taken k) refl
+              let conf = volume_at config k s at in
+              by conf.0 conf.1 conf.2 (not_taken k) refl
             where
               by : (conf : VolumeConf) → slice_get config.volumes.items k ≡ Some conf → shape_in config conf ≡ s → (o : Bool) → not_taken k ≡ o → (image_of before.0 k ≡ image_of images k) ⊎ AreTwo (KeepsFront k) (KeepsSegment k) s (image_of images k) (image_of before.0 k)
               by conf at same true e = inl (before.1.same k conf at e)

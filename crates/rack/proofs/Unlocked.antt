@@ -1,59 +1,26 @@
 -- The manager of a volume found no memory for its lock, and came back to the rest: nothing of the rack is away that wasn't before.
-use Rattle.std.proofs.Common.{◌≡◌, ◌≢◌, ◌⊎◌, inl, inr, ⊎_elim, ℕ, zero, suc, ◌+◌, ◌^◌, ◌<◌, Bool, List, [], ◌∷◌, ◌++◌, length, map, get_or, Option, None, Some, refl, sym, ap, ◌∙◌, subst, arith}
-use Rattle.std.specs.Prelude.{slice_get, is_some, AllPairs, All, Contains, option_and_then}
-use Rattle.std.specs.List.{AllZip}
-use Rattle.std.proofs.lemmas.Bool.{cases_eq}
-use Rattle.std.proofs.lemmas.List.{length-map}
-use Rattle.std.proofs.lemmas.List.Elements.{All-contains}
-use Rattle.std.proofs.lemmas.Option.{none-some, same_Some, slice_get-get_or, slice_get_within, get_or_from_slice_get}
-use Rattle.wol_disk.specs.Disk.{Block, State, IsDisk, TellsContent, IsImageOf}
-use Rattle.wol_disk.proofs.Calls.{now_leaves}
-use Rattle.wol_promise.specs.Manager.{SaysOwnerOrFree}
-use Rattle.wol_bay.specs.Bay.{Image, Told, BayState, at_name}
-use Rattle.wol_config.specs.Configs.{IsValid}
-use Rattle.wol_config.specs.declared.config.Config.{Config}
-use Rattle.wol_config.specs.declared.config.VolumeConf.{VolumeConf}
-use Rattle.spin_model.specs.Spun.{state_of}
-use Rattle.spin_model.specs.declared.spun.Spun.{Spun}
-use Rattle.log_segment.specs.Segment.{part_of}
-use Rattle.log_segment.specs.declared.free.FreeSegment.{FreeSegment}
-use Rattle.logger.specs.Lanes.{IsHeld, IsSameLane, logger_of, pool_of, held_in}
-use Rattle.logger.specs.declared.lane.HeldSegment.{HeldSegment}
-use Rattle.logger.specs.declared.lane.Lane.{Lane}
-use Rattle.manager.specs.declared.base.ManagerBase.{ManagerBase}
-use Rattle.manager.specs.declared.manager.Manager.{Manager}
+use Rattle.rack.proofs.Basics.{◌≡◌, ◌≢◌, ◌⊎◌, inl, inr, ⊎_elim, ℕ, zero, suc, ◌+◌, ◌^◌, ◌<◌, Bool, List, [], ◌∷◌, ◌++◌, length, map, get_or}
+use Rattle.rack.proofs.Basics.{Option, None, Some, refl, sym, ap, ◌∙◌, subst, arith, slice_get, is_some, AllPairs, All, Contains}
+use Rattle.rack.proofs.Basics.{option_and_then, AllZip, cases_eq, length-map, All-contains, none-some, same_Some, slice_get-get_or}
+use Rattle.rack.proofs.Basics.{slice_get_within, get_or_from_slice_get}
+use Rattle.rack.proofs.Terms.{Block, State, IsDisk, TellsContent, IsImageOf, now_leaves, SaysOwnerOrFree, Image, Told, BayState, at_name}
+use Rattle.rack.proofs.Terms.{IsValid, Config, VolumeConf, state_of, Spun, part_of, FreeSegment, IsHeld, IsSameLane, logger_of, pool_of}
+use Rattle.rack.proofs.Terms.{held_in, HeldSegment, Lane, ManagerBase, Manager, Station, Fate, Kept, Freed, IsFateOf, HasGiven, kept_of}
+use Rattle.rack.proofs.Terms.{Opens, IsInLane, place_of, Opening, OwnedPart, head_place, shape_in, shapes_of, KeepsButHome, home_here}
+use Rattle.rack.proofs.Terms.{IsForeign, HadBefore, HadSegmentBefore, IsGone, BeganWith, said_at, IsOpeningRack, HasBegun, IsStopped}
+use Rattle.rack.proofs.Terms.{BeganInPlace, IsBegun, TakesOpening, CanPutLanes, PutsManager, loggers_out, base_of_station, IsOpenBase}
+use Rattle.rack.proofs.Terms.{image_here, segment_here, held_here, away_with, IsSegmentHere, IsRestBut, OnlyAccess, AreRooms, Said}
+use Rattle.rack.proofs.Terms.{ImageRest, Rack, Rest}
 use Rattle.manager.specs.declared.manager.ManagerParts.{ManagerParts}
-use Rattle.manager.specs.declared.station.Station.{Station}
-use Rattle.manager_recovery.specs.Left.{Fate, Kept, Freed, IsFateOf, HasGiven, kept_of}
-use Rattle.manager_recovery.specs.Opened.{Opens, IsInLane}
-use Rattle.manager_recovery.specs.Opening.{place_of}
-use Rattle.manager_recovery.specs.declared.opening.Opening.{Opening}
-use Rattle.manager_recovery.specs.declared.opening.OwnedPart.{OwnedPart}
-use Rattle.volume_images.specs.Accepted.{head_place}
-use Rattle.volume_images.specs.Volumes.{shape_in, shapes_of}
-use Rattle.rack.specs.Closing.{KeepsButHome, home_here}
-use Rattle.rack.specs.Foreign.{IsForeign}
-use Rattle.rack.specs.Opens.{HadBefore, HadSegmentBefore, IsGone, BeganWith}
-use Rattle.rack.specs.Opening.{said_at, IsOpeningRack, HasBegun, IsStopped}
-use Rattle.rack.specs.Owners.{BeganInPlace, IsBegun}
-use Rattle.rack.specs.Parts.{TakesOpening, CanPutLanes, PutsManager, loggers_out}
-use Rattle.rack.specs.Racks.{base_of_station, IsOpenBase}
-use Rattle.rack.specs.Rests.{image_here, segment_here, held_here, away_with, IsSegmentHere, IsRestBut, OnlyAccess, AreRooms}
-use Rattle.rack.specs.declared.heads_said.Said.{Said}
-use Rattle.rack.specs.declared.rack.ImageRest.{ImageRest}
-use Rattle.rack.specs.declared.rack.Rack.{Rack}
-use Rattle.rack.specs.declared.rack.Rest.{Rest}
 use Rattle.rack.proofs.Fates.{HasFate, has_fate, kept_in, freed_in, held_before, kept_says, kept_had, freed_gone, same_by}
-use Rattle.rack.proofs.LanesTaken.{pairs_apart}
-use Rattle.rack.proofs.ManagerBack as back
-use Rattle.rack.proofs.Members.{segment_in_image, in_map, of_recursion}
-use Rattle.rack.proofs.NewBase.{owner_new, view_new, others_new, all_new, inside_new, base_new, rest_new, accesses_new, unmanaged}
-use Rattle.rack.proofs.OneClosable.{one_owner}
-use Rattle.rack.proofs.OneOpened.{base_stays, out_stays}
+use Rattle.rack_parts.proofs.LanesTaken.{pairs_apart}
+use Rattle.rack_parts.proofs.Members.{segment_in_image, in_map, of_recursion}
+use Rattle.rack.proofs.OpenAway.{owner_new, view_new, others_new, all_new, inside_new, base_new, rest_new, accesses_new, unmanaged}
+use Rattle.rack.proofs.LockedStation.{one_owner, base_stays, out_stays}
+use Rattle.rack.proofs.Openable.{IsInImage, parts_in_images, contains_map, no_home}
+use Rattle.rack_closing.proofs.SameOut.{same_out, taken_same}
+use Rattle.rack_parts.proofs.ManagerBack as back
 use Rattle.rack.proofs.OpenAway as away
-use Rattle.rack.proofs.Openable.{IsInImage, parts_in_images}
-use Rattle.rack.proofs.SameOut.{same_out, taken_same}
-use Rattle.rack.proofs.Takes.{contains_map, no_home}
 use Rattle.rack.proofs.Without as without
 
 -- the element of the first list at the place of one of the second
@@ -202,7 +169,7 @@ module _ {D : Type 0} (tells : Bool) (state : D → State) (config : Config) (va
         let one : g.0 ≡ s.0 = same_Some g.0 s.0 (sym g.1 ∙ s.1) in
         let given : HasGiven o.owned.items opens.fates s.0 l = subst (λ (x : Lane D). HasGiven o.owned.items opens.fates x l) one g.2 in
         let held = held_before o.owned.items opens.fates s.0 l s.2.pool given h.index each.holding in
-        let lane = All-contains (λ (x : Lane D). Rattle.rack.specs.Parts.IsNewLane state r.rest id (Rattle.rack.specs.Parts.segments_of config (logger_of x)) x) o.lanes.items s.0 takes.lanes.each
+        let lane = All-contains (λ (x : Lane D). Rattle.rack_parts.specs.Parts.IsNewLane state r.rest id (Rattle.rack_parts.specs.Parts.segments_of config (logger_of x)) x) o.lanes.items s.0 takes.lanes.each
         (in_lanes.0, slice_get_within o.lanes.items in_lanes.0 s.0 s.1, get_or_from_slice_get o.lanes.items in_lanes.0 s.0 s.0 s.1) in
         let place = ready.since id (logger_of s.0) h.index (pool_of s.0) lane.pool held.0 in
         let from = contains_map place_of o.owned.items (logger_of s.0, h.index) (takes.owned.all (logger_of s.0) h.index place) in

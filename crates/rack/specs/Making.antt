@@ -1,48 +1,25 @@
 -- What a rack is made of, before its volumes are opened.
-use Rattle.std.specs.Prelude.{◌≡◌, ◌≢◌, ◌≤◌, ◌<◌, ◌+◌, ◌∷◌, ◌++◌, ℕ, List, [], length, vec_capacity, Option, None, Some, Result, Ok, Err, slice_index_or, slice_set, false, All}
-use Rattle.turn_lock.specs.Passes.{lock_passes, pass_seen, pass_mine, pass_number, IsPassOf, IsFree}
+use Rattle.std.specs.Prelude.{◌≡◌, ◌≤◌, ◌<◌, ◌+◌, ◌∷◌, ◌++◌, ℕ, List, [], length, vec_capacity, Option, None, Some, Result, Ok, Err, slice_index_or, All, ⊤, ◌-◌, map, take, slice_get}
 use Rattle.turn_lock.specs.declared.pass.PassOf.{PassOf}
-use Rattle.spin_model.specs.Operations.{has_token}
 use Rattle.spin_model.specs.declared.spindle.Spindle.{Spindle}
 use Rattle.spin_model.specs.declared.spindle.SpindleBase.{SpindleBase}
-use Rattle.spin_model.specs.declared.spun.Spun.{Spun}
-use Rattle.logger.specs.Lanes.{AreAccesses}
 use Rattle.logger.specs.declared.shared.Shared.{Shared}
-use Rattle.rack.specs.Rests.{IsSpindleLock}
-use Rattle.rack.specs.declared.heads_said.Said.{Said}
+use Rattle.rack_parts.specs.declared.heads_said.Said.{Said}
 use Rattle.rack.specs.declared.images.Images.{Images}
-use Rattle.rack.specs.declared.volume_fault.VolumeFault.{VolumeFault}
+use Rattle.rack_parts.specs.declared.volume_fault.VolumeFault.{VolumeFault}
 use Rattle.rack.specs.declared.lists.Lists.{Lists}
-use Rattle.rack.specs.declared.locks.Issued.{Issued}
-use Rattle.rack.specs.declared.rack.ImageRest.{ImageRest}
-use Rattle.rack.specs.declared.rack.Rooms.{Rooms}
-use Rattle.rack.specs.declared.rack.VolumePasses.{VolumePasses}
-
--- ---- Locks with all of their passes
-
--- all passes of the lock, each in no turn
-pub record IsWholeLock {T B : Type 0} (i : Issued T B) : Type 0 where
-  pub count : length i.passes.items ≡ lock_passes i.lock
-  pub each : All (λ p. IsPassOf i.lock p × IsFree p) i.passes.items
-
--- they stand in the order of their numbers
-pub record IsInOrder {T B : Type 0} (i : Issued T B) : Type 0 where
-  pub whole : IsWholeLock i
-  pub numbered : (n : ℕ) (d : PassOf T B) → n < length i.passes.items → pass_number (slice_index_or i.passes.items n d) ≡ n
-
--- the passes of the spindle of volume k: no token of them is out, they made accesses only, and of the volumes' passes only k's own was used
-pub record AreSettled (k : ℕ) (i : Issued Spindle SpindleBase) : Type 0 where
-  pub settled : All (λ p. has_token (pass_mine p) ≡ false) i.passes.items
-  pub accesses : All (λ p. AreAccesses (pass_mine p)) i.passes.items
-  pub others : (n : ℕ) (d : PassOf Spindle SpindleBase) → n ≢ k → n < length i.passes.items → pass_mine (slice_index_or i.passes.items n d) ≡ []
-  -- nor was the last, which is the keeper's
-  pub last : (n : ℕ) (d : PassOf Spindle SpindleBase) → length i.passes.items ≡ n + 1 → (pass_seen (slice_index_or i.passes.items n d) ≡ []) × (pass_mine (slice_index_or i.passes.items n d) ≡ [])
-
--- the locks of the first spindles, without a token out
-pub record AreSpindlesOf (volumes timeout : ℕ) (made : List (Issued Spindle SpindleBase)) : Type 0 where
-  pub each : All (λ i. IsInOrder i) made
-  pub spindles : (k : ℕ) (d : Issued Spindle SpindleBase) → k < length made → IsSpindleLock volumes k timeout (slice_index_or made k d).lock
-  pub settled : (k : ℕ) (d : Issued Spindle SpindleBase) → k < length made → AreSettled k (slice_index_or made k d)
+use Rattle.rack_parts.specs.declared.locks.Issued.{Issued}
+use Rattle.rack_parts.specs.declared.rack.ImageRest.{ImageRest}
+use Rattle.rack_parts.specs.declared.rack.Rooms.{Rooms}
+use Rattle.rack_parts.specs.declared.rack.VolumePasses.{VolumePasses}
+use Rattle.std.specs.List.{AllZip}
+use Rattle.std.specs.declared.alloc.Global.{Global}
+use Rattle.std.specs.declared.vec.Vec.{Vec}
+use Rattle.seg_pool.specs.declared.base.PoolBase.{PoolBase}
+use Rattle.seg_pool.specs.declared.pool.Pool.{Pool}
+use Rattle.log_segment.specs.declared.free.FreeSegment.{FreeSegment}
+use Rattle.rack_parts.specs.Rests.{IsRow, AreRooms, pool_pass, spindle_pass, held_here}
+use Rattle.rack_parts.specs.declared.rack.Rack.{Rack}
 
 -- ---- Empty lists with room
 
@@ -72,15 +49,84 @@ pub record AreLists {D : Type 0} (volumes : ℕ) (l : Lists D) : Type 0 where
   pub passes : All (AreEmptyPasses volumes) l.passes.items
   pub rooms : AreNewRooms volumes l.rooms
 
--- ---- Parts that come back
+-- ---- A rack before a volume is opened
 
--- the segment with this index came back
-pub record IsFilled {D : Type 0} (old new : ImageRest D) (index : ℕ) (part : Spun D) : Type 0 where
-  pub label : new.label ≡ old.label
-  pub home : new.home ≡ old.home
-  pub segments : new.segments.items ≡ slice_set old.segments.items index (Some part)
-  pub row : new.row ≡ old.row
-  pub room : new.room ≡ old.room
+-- the locks of the spindles and their rows of passes are there, but the keepers' passes stand in a list of their own
+pub record PutsSpindles {D : Type 0} (spindles : List (Issued Spindle SpindleBase)) (old new : Lists D) : Type 0 where
+  pub locks : new.shared.spindles.items ≡ map (λ (i : Issued Spindle SpindleBase). i.lock) spindles
+  pub keepers : AllZip (λ (i : Issued Spindle SpindleBase) p. slice_get i.passes.items (length spindles) ≡ Some p) spindles new.keepers.items
+  pub rows : AllZip (λ (i : Issued Spindle SpindleBase) (row : Vec (PassOf Spindle SpindleBase) Global). (row.items ≡ take (length spindles) i.passes.items) × (length spindles + 1 ≤ vec_capacity row)) spindles new.rooms.spindles.items
+  pub pools : new.shared.pools ≡ old.shared.pools
+  pub stations : new.stations ≡ old.stations
+  pub passes : new.passes ≡ old.passes
+  pub pool_rooms : new.rooms.pools ≡ old.rooms.pools
+  pub managers : new.rooms.managers ≡ old.rooms.managers
+  pub closed : new.rooms.closed ≡ old.rooms.closed
+
+-- the locks of the pools and their rows of passes are there
+pub record PutsPools {D : Type 0} (pools : List (Issued (Pool (FreeSegment D)) PoolBase)) (old new : Lists D) : Type 0 where
+  pub locks : new.shared.pools.items ≡ map (λ (i : Issued (Pool (FreeSegment D)) PoolBase). i.lock) pools
+  pub rows : new.rooms.pools.items ≡ map (λ (i : Issued (Pool (FreeSegment D)) PoolBase). i.passes) pools
+  pub spindles : new.shared.spindles ≡ old.shared.spindles
+  pub keepers : new.keepers ≡ old.keepers
+  pub stations : new.stations ≡ old.stations
+  pub passes : new.passes ≡ old.passes
+  pub spindle_rooms : new.rooms.spindles ≡ old.rooms.spindles
+  pub managers : new.rooms.managers ≡ old.rooms.managers
+  pub closed : new.rooms.closed ≡ old.rooms.closed
+
+-- the last element of a row
+abbrev pub last_of : {T : Type 0} → Vec T Global → Option T
+last_of row = slice_get row.items (length row.items - 1)
+
+-- each row lost its last element
+pub record ArePopped {T : Type 0} (old new : List (Vec T Global)) : Type 0 where
+  pub count : length new ≡ length old
+  pub each : (k : ℕ) (d : Vec T Global) → k < length old → (slice_index_or new k d).items ≡ take (length (slice_index_or old k d).items - 1) (slice_index_or old k d).items
+  pub rooms : (k : ℕ) (d : Vec T Global) → k < length old → vec_capacity (slice_index_or new k d) ≡ vec_capacity (slice_index_or old k d)
+
+-- each row has a pass for each volume, and there is room for it
+pub record CanDeal {D : Type 0} (l : Lists D) : Type 0 where
+  pub pools : All (λ row. length row.items ≡ length l.passes.items) l.rooms.pools.items
+  pub pool_count : length l.rooms.pools.items ≡ length l.passes.items
+  pub spindles : All (λ row. length row.items ≡ length l.passes.items) l.rooms.spindles.items
+  pub spindle_count : length l.rooms.spindles.items ≡ length l.passes.items
+  pub passes : All (AreEmptyPasses (length l.passes.items)) l.passes.items
+
+-- the rows are empty, and have the room that they had
+pub record AreEmptied {T : Type 0} (old new : List (Vec T Global)) : Type 0 where
+  pub count : length new ≡ length old
+  pub empty : All (λ row. row.items ≡ []) new
+  pub rooms : (k : ℕ) (d : Vec T Global) → k < length old → vec_capacity (slice_index_or new k d) ≡ vec_capacity (slice_index_or old k d)
+
+-- volume v has the pass at place v of each row, and the rows are empty
+pub record Deals {D : Type 0} (old new : Lists D) : Type 0 where
+  pub count : length new.passes.items ≡ length old.passes.items
+  pub pools : (v : ℕ) (p : VolumePasses D) → slice_get new.passes.items v ≡ Some p → p.pools.items ≡ map (λ (row : Vec (PassOf (Pool (FreeSegment D)) PoolBase) Global). slice_get row.items v) old.rooms.pools.items
+  pub spindles : (v : ℕ) (p : VolumePasses D) → slice_get new.passes.items v ≡ Some p → p.spindles.items ≡ map (λ (row : Vec (PassOf Spindle SpindleBase) Global). slice_get row.items v) old.rooms.spindles.items
+  pub held : (v : ℕ) (p q : VolumePasses D) → slice_get old.passes.items v ≡ Some p → slice_get new.passes.items v ≡ Some q → q.held ≡ p.held
+  pub pool_rows : AreEmptied old.rooms.pools.items new.rooms.pools.items
+  pub spindle_rows : AreEmptied old.rooms.spindles.items new.rooms.spindles.items
+  pub shared : new.shared ≡ old.shared
+  pub keepers : new.keepers ≡ old.keepers
+  pub stations : new.stations ≡ old.stations
+  pub managers : new.rooms.managers ≡ old.rooms.managers
+  pub closed : new.rooms.closed ≡ old.rooms.closed
+
+-- the locks, passes and rooms stand where they belong, and no volume is open
+pub record IsSetUp {D : Type 0} (spindles : List (Issued Spindle SpindleBase)) (pools : List (Issued (Pool (FreeSegment D)) PoolBase)) (volumes : ℕ) (r : Rack D) : Type 0 where
+  pub pool_locks : r.shared.pools.items ≡ map (λ (i : Issued (Pool (FreeSegment D)) PoolBase). i.lock) pools
+  pub spindle_locks : r.shared.spindles.items ≡ map (λ (i : Issued Spindle SpindleBase). i.lock) spindles
+  pub keeper_count : length r.keepers.items ≡ volumes
+  pub keepers : (k : ℕ) (i : Issued Spindle SpindleBase) → slice_get spindles k ≡ Some i → slice_get r.keepers.items k ≡ slice_get i.passes.items volumes
+  pub stations : (r.stations.items ≡ []) × (volumes ≤ vec_capacity r.stations)
+  pub count : length r.rest.passes.items ≡ volumes
+  pub rows : All (λ p. IsRow volumes p) r.rest.passes.items
+  pub pool_passes : (v k : ℕ) (i : Issued (Pool (FreeSegment D)) PoolBase) → v < volumes → slice_get pools k ≡ Some i → pool_pass r.rest v k ≡ slice_get i.passes.items v
+  pub spindle_passes : (v k : ℕ) (i : Issued Spindle SpindleBase) → v < volumes → slice_get spindles k ≡ Some i → spindle_pass r.rest v k ≡ slice_get i.passes.items v
+  pub held : (v k : ℕ) → held_here r.rest v k ≡ []
+  pub rooms : AreRooms volumes 0 r.rest.rooms
+  pub managers : volumes ≤ vec_capacity r.rest.rooms.managers
 
 -- ---- Images that were taken out
 

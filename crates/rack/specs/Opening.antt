@@ -27,24 +27,24 @@ use Rattle.volume_images.specs.Accepted.{HasHead, IsConfigured, IsAccepted, head
 use Rattle.volume_images.specs.Formatted.{part_sizes}
 use Rattle.volume_images.specs.Left.{IsTold}
 use Rattle.volume_images.specs.Volumes.{shape_in, shapes_of, MayLeave}
-use Rattle.rack.specs.Rests.{image_here, segment_here, pool_pass, held_here, IsImageOut, IsImageRest}
-use Rattle.rack.specs.Making.{AreSpindlesOf}
-use Rattle.rack.specs.Parts.{holder_by, IsIssuedPool, Supplies, IsOwnedPlace, segment_in}
-use Rattle.rack.specs.Racks.{IsClosable, NamesVolumes, AreUnused, KeepToViews}
-use Rattle.rack.specs.Closing.{IsComplete}
-use Rattle.rack.specs.Opens.{HadBefore, IsAsRead, out_names, BeganWith, HasFaulty, KeepsOthers, RefusesVolume}
+use Rattle.rack_parts.specs.Rests.{image_here, segment_here, pool_pass, held_here, IsImageOut, IsImageRest, out_names}
+use Rattle.rack_parts.specs.Locks.{AreSpindlesOf}
+use Rattle.rack_parts.specs.Parts.{holder_by, IsIssuedPool, Supplies, IsOwnedPlace, segment_in}
+use Rattle.rack_parts.specs.Racks.{IsClosable, NamesVolumes, AreUnused, KeepToViews}
+use Rattle.rack_parts.specs.Closing.{IsComplete}
+use Rattle.rack_closing.specs.Opens.{HadBefore, IsAsRead, BeganWith, HasFaulty, KeepsOthers, RefusesVolume}
 use Rattle.rack.specs.declared.all.Taken.{Taken}
-use Rattle.rack.specs.declared.heads_said.Said.{Said}
+use Rattle.rack_parts.specs.declared.heads_said.Said.{Said}
 use Rattle.rack.specs.declared.images.Images.{Images}
-use Rattle.rack.specs.declared.locks.Issued.{Issued}
-use Rattle.rack.specs.declared.rack.ImageRest.{ImageRest}
-use Rattle.rack.specs.declared.rack.Rack.{Rack}
-use Rattle.rack.specs.declared.rack.Rest.{Rest}
+use Rattle.rack_parts.specs.declared.locks.Issued.{Issued}
+use Rattle.rack_parts.specs.declared.rack.ImageRest.{ImageRest}
+use Rattle.rack_parts.specs.declared.rack.Rack.{Rack}
+use Rattle.rack_parts.specs.declared.rack.Rest.{Rest}
 use Rattle.manager.specs.declared.part.Part.{Part}
 use Rattle.manager.specs.declared.part.Part.TheVariants.{Home, Segment}
 use Rattle.manager_recovery.specs.declared.refusal.OpenRefusal.TheVariants.{DiskFault}
-use Rattle.rack.specs.declared.volume_fault.VolumeFault.{VolumeFault}
-use Rattle.rack.specs.declared.volume_fault.VolumeFault.TheVariants.{Refused}
+use Rattle.rack_parts.specs.declared.volume_fault.VolumeFault.{VolumeFault}
+use Rattle.rack_parts.specs.declared.volume_fault.VolumeFault.TheVariants.{Refused}
 
 -- ---- One image that is out
 

@@ -1,28 +1,26 @@
 // All volumes of a bay are opened.
 ghost use Rattle.std.specs.Prelude.{ℕ, ◌≡◌, ◌<◌, ◌≤◌, List, length, All, ◌++◌, None, Some, slice_get, option_map, IfOk, OnErr, IfSome, IsTrue};
-ghost use Rattle.wol_bay.specs.Bay.{Name, outs};
+ghost use Rattle.wol_bay.specs.Bay.{outs};
 ghost use Rattle.wol_config.specs.Configs.{IsValid};
 ghost use Rattle.volume_images.specs.Left.{IsTold};
 ghost use Rattle.volume_images.specs.Volumes.{NoneOut, images_read, shapes_of};
-ghost use Rattle.rack.specs.Racks.{IsRack, IsUnused, AreUnused, KeepToViews};
-ghost use Rattle.rack.specs.Rests.{IsImageOut};
-ghost use Rattle.rack.specs.Owners.{HadRefused};
+ghost use Rattle.rack_parts.specs.Racks.{IsRack, IsUnused, AreUnused, KeepToViews};
+ghost use Rattle.rack_parts.specs.Rests.{IsImageOut, out_names};
+ghost use Rattle.rack_closing.specs.Owners.{HadRefused};
 ghost use Rattle.rack.specs.Opening.{IsTaken};
-ghost use Rattle.rack.specs.Opens.{out_names, AreViewsAsRead, BeganWith, WereThere, AreRefused, LeavesAll, HasFaulty, KeepsOthers, KeepsAllSound};
+ghost use Rattle.rack_closing.specs.Opens.{AreViewsAsRead, BeganWith, WereThere, AreRefused, LeavesAll, HasFaulty, KeepsOthers, KeepsAllSound};
 ghost use Rattle.wol_disk.specs.Disk.{Rose};
 ghost use Rattle.wol_model.specs.Images.{AreSound};
 ghost use Rattle.manager.specs.declared.part.Part.{Part};
 ghost use Rattle.manager_recovery.specs.declared.refusal.OpenRefusal.TheVariants.{DiskFault};
-ghost use Rattle.rack.specs.Closes.{HasFaultAt, HasFaultIn};
-ghost use Rattle.rack.specs.declared.volume_fault.VolumeFault.TheVariants.{Refused};
+ghost use Rattle.rack_closing.specs.Closes.{HasFaultAt, HasFaultIn};
+ghost use Rattle.rack_parts.specs.declared.volume_fault.VolumeFault.TheVariants.{Refused};
 
-use crate::closing::close_all;
 use crate::images::{Images, open_images};
 use crate::lists::Lists;
-use crate::locks::{Issued, IssuedPool, end_spindles, issue_spindles};
-use crate::pools::issue_pools;
-use crate::rack::Rack;
-use crate::rest::give_back;
+use crate::volumes::open_volumes;
+use rack_closing::close_all;
+use rack_parts::{Issued, IssuedPool, Rack, end_spindles, give_back, issue_pools, issue_spindles};
 use spin_model::Spindle;
 use std::alloc::Global;
 use std::sync::Wait;
@@ -136,7 +134,7 @@ pub fn open_all<R: Wait, B: Bay>(
     };
     let Images { said, out, faults } = images;
     let mut rack = lists.filled(spindles, pools, out, faults);
-    match rack.open_volumes(alloc, rt, config, said.as_slice()) {
+    match open_volumes(&mut rack, alloc, rt, config, said.as_slice()) {
         Ok(()) => Ok(rack),
         Err(NoMemory) => {
             let _spindles = close_all(rack, bay, config);

@@ -1,25 +1,22 @@
 // The images of a configuration are taken out of their bay.
-ghost use Rattle.std.specs.Prelude.{◌≡◌, ◌<◌, length, slice_index_or, slice_get, Some, ℕ, IfOk, IfErr, OnErr, IsOk};
+ghost use Rattle.std.specs.Prelude.{◌≡◌, ◌<◌, length, slice_get, Some, ℕ, IfOk, IfErr, OnErr};
 ghost use Rattle.wol_bay.specs.Bay.{IsHome};
 ghost use Rattle.wol_config.specs.Configs.{IsValid};
 ghost use Rattle.wol_config.specs.declared.config.VolumeConf.{VolumeConf};
 ghost use Rattle.volume_images.specs.Left.{IsTold};
-ghost use Rattle.volume_images.specs.Volumes.{NoneOut, shapes_of};
-ghost use Rattle.rack.specs.Rests.{IsSpindleLock};
-ghost use Rattle.rack.specs.Making.{IsInOrder, AreSettled, AreSpindlesOf};
-ghost use Rattle.rack.specs.Opens.{KeepsOthers};
+ghost use Rattle.volume_images.specs.Volumes.{NoneOut};
+ghost use Rattle.rack_parts.specs.Rests.{IsSpindleLock};
+ghost use Rattle.rack_parts.specs.Locks.{IsInOrder, AreSettled, AreSpindlesOf};
+ghost use Rattle.rack_closing.specs.Opens.{KeepsOthers, fault_in_image, fault_of_image};
 ghost use Rattle.rack.specs.Opening.{IsNextOpened, IsNextRefused, IsBackAtOnce, AreAsked, HasSentOut, HasAllBack};
 
-use crate::VolumeFault;
-use crate::heads_said::{Said, lay_out};
-use crate::locks::Issued;
-use crate::rack::ImageRest;
-use crate::rest::give_back;
-use crate::volume_fault::fault_of_image;
+use manager::Part;
+use manager_recovery::OpenRefusal;
+use rack_parts::{ImageRest, Issued, Said, VolumeFault, give_back, lay_out};
 use spin_model::Spindle;
 use std::alloc::Global;
 use std::sync::Wait;
-use volume_images::{label_of, open_image};
+use volume_images::{ImageFault, ImageRefusal, label_of, open_image};
 use wol_bay::Bay;
 use wol_config::Config;
 use wol_disk::{Disk, NoMemory};
@@ -61,6 +58,34 @@ impl<D: Disk> Images<D> {
                 self.out.push_reserved(None);
                 self.faults.push_reserved(Some(fault));
             }
+        }
+    }
+}
+
+// The fault of volume `id` where its image was refused for this; None stands for want of memory.
+fn fault_of_image(id: u32, refusal: ImageRefusal) -> Option<VolumeFault>
+    ensures { result ≡ fault_of_image id refusal }
+{
+    match refusal {
+        ImageRefusal::Absent => Some(VolumeFault::Absent),
+        ImageRefusal::WrongLength { bytes } => Some(VolumeFault::WrongLength { bytes }),
+        ImageRefusal::BayFailed => Some(VolumeFault::BayFailed),
+        ImageRefusal::Fault(fault) => Some(fault_in_image(id, fault)),
+        ImageRefusal::NoMemory => None,
+    }
+}
+
+fn fault_in_image(id: u32, fault: ImageFault) -> VolumeFault
+    ensures { result ≡ fault_in_image id fault }
+{
+    match fault {
+        ImageFault::Damaged { block } => {
+            VolumeFault::Refused(OpenRefusal::Damaged { volume: id, block })
+        }
+        ImageFault::LabelDiffers => VolumeFault::Refused(OpenRefusal::LabelDiffers),
+        ImageFault::LabelFault => VolumeFault::LabelFault,
+        ImageFault::SegmentFault(index) => {
+            VolumeFault::Refused(OpenRefusal::DiskFault(Part::Segment { volume: id, index }))
         }
     }
 }

@@ -1,13 +1,12 @@
 // The lists that a rack keeps are made, and filled.
 ghost use Rattle.std.specs.Prelude.{ℕ, ◌≡◌, ◌≤◌, [], length, map, IfOk, All, vec_capacity};
-ghost use Rattle.rack.specs.Parts.{last_of, ArePopped};
-ghost use Rattle.rack.specs.Making.{IsEmptyShared, AreNewRooms, AreEmptyPasses};
+ghost use Rattle.rack.specs.Making.{last_of, ArePopped, IsEmptyShared, AreNewRooms, AreEmptyPasses};
 
-use crate::VolumeFault;
-use crate::locks::{Issued, IssuedPool};
-use crate::rack::{ImageRest, Rack, Rest, Rooms, VolumePasses};
 use logger::Shared;
 use manager::Station;
+use rack_parts::{
+    ImageRest, Issued, IssuedPool, Rack, Rest, Rooms, VolumeFault, VolumePasses, end_passes,
+};
 use spin_model::Spindle;
 use std::alloc::Global;
 use turn_lock::Pass;
@@ -56,26 +55,6 @@ fn new_row<D: Disk>(alloc: Global, volumes: usize) -> Result<VolumePasses<D>, No
         spindles,
         held,
     })
-}
-
-/// Ends the lists of volumes where no segment is in them.
-pub(crate) fn end_passes<D: Disk>(mut passes: Vec<VolumePasses<D>>)
-    requires { All (λ p. All (λ list. list.items ≡ []) p.held.items) passes.items }
-{
-    while let Some(
-        VolumePasses {
-            pools: _,
-            spindles: _,
-            mut held,
-        },
-    ) = passes.pop()
-    {
-        while let Some(list) = held.pop() {
-            list.destroy_empty();
-        }
-        held.destroy_empty();
-    }
-    passes.destroy_empty();
 }
 
 fn new_rooms<D: Disk>(alloc: Global, volumes: usize) -> Result<Rooms<D>, NoMemory>
@@ -129,7 +108,7 @@ fn deal_one<T>(rows: &mut [Vec<T>], places: &mut Vec<Option<T>>)
 impl<D: Disk> Lists<D> {
     ghost use Rattle.std.specs.Prelude.{◌≡◌, ◌≤◌, ◌+◌, ℕ, [], length, IfOk, All, vec_capacity};
     ghost use Rattle.rack.specs.Making.{AreLists};
-    ghost use Rattle.rack.specs.Parts.{PutsSpindles, PutsPools, CanDeal, Deals, IsSetUp};
+    ghost use Rattle.rack.specs.Making.{PutsSpindles, PutsPools, CanDeal, Deals, IsSetUp};
 
     /// Lists with room for so many volumes.
     pub(crate) fn new(alloc: Global, volumes: usize) -> Result<Lists<D>, NoMemory>

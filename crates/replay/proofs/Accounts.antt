@@ -19,7 +19,7 @@ use Rattle.trace_windows.specs.Laws.{AreInOrder}
 use Rattle.request_workers.specs.Begun.{SpindlePass}
 use Rattle.request_workers.specs.declared.floor.Floor.{Floor}
 use Rattle.request_workers.specs.declared.request.Reclaim.{Reclaim}
-use Rattle.rack.proofs.Members.{is_member}
+use Rattle.rack_parts.proofs.Members.{is_member}
 use Rattle.replay.specs.Served.{HaveStarted, ServedFromStart, ServedWindow, WasServed, WereServed}
 use Rattle.replay.proofs.RacksServed.{at_place, there_at}
 

@@ -28,7 +28,7 @@ use Rattle.request_workers.specs.declared.desk.Desk.{Desk}
 use Rattle.request_workers.specs.declared.floor.Floor.{Floor}
 use Rattle.request_workers.specs.declared.request.Reclaim.{Reclaim}
 use Rattle.rack.specs.Closes.{IsClosedVolume}
-use Rattle.rack.specs.declared.rack.ImageRest.{ImageRest}
+use Rattle.rack_parts.specs.declared.rack.ImageRest.{ImageRest}
 use Rattle.replay.specs.Ended.{HasRefusedWrite}
 use Rattle.replay.specs.Endings.{fault_of_window}
 use Rattle.replay.specs.Served.{ServedFromStart, ServedWindow, WereServed}

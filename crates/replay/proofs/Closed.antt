@@ -24,10 +24,10 @@ use Rattle.wol_config.specs.declared.config.Config.{Config}
 use Rattle.wol_config.specs.declared.config.VolumeConf.{VolumeConf}
 use Rattle.volume_images.specs.Volumes.{NoneOut, shapes_of}
 use Rattle.rack.specs.Closing.{LeavesNoneOut}
-use Rattle.rack.specs.Opens.{out_names}
+use Rattle.rack.specs.Rests.{out_names}
 use Rattle.rack.specs.Racks.{IsClosable, IsRack, IsUnused}
-use Rattle.rack.specs.declared.rack.Rack.{Rack}
-use Rattle.rack.specs.declared.rack.Rest.{Rest}
+use Rattle.rack_parts.specs.declared.rack.Rack.{Rack}
+use Rattle.rack_parts.specs.declared.rack.Rest.{Rest}
 use Rattle.replay.specs.Runs.{RunsIn, closed, no_memory, served}
 use Rattle.replay.specs.declared.counting.Counted.{Counted}
 use Rattle.replay.specs.declared.given.Given.{Given}

@@ -19,7 +19,7 @@ use Rattle.trace_gen.specs.Generated.{targets_of}
 use Rattle.volume_images.specs.Volumes.{shapes_of}
 use Rattle.rack.specs.Closes.{IsClosedSpindle}
 use Rattle.rack.specs.Racks.{IsClosable, IsRack, IsUnused, KeepToViews}
-use Rattle.rack.specs.declared.rack.Rack.{Rack}
+use Rattle.rack_parts.specs.declared.rack.Rack.{Rack}
 use Rattle.request_workers.specs.Begun.{FailToBegin, HasBegun, HasStayed, HaveBegun, HaveBegunVolumes, SpindlePass}
 use Rattle.request_workers.specs.declared.floor.Floor.{Floor}
 use Rattle.request_workers.specs.declared.request.Reclaim.{Reclaim}

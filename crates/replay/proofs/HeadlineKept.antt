@@ -22,8 +22,8 @@ use Rattle.report.specs.Faults.{status_of}
 use Rattle.report.specs.declared.fault.Fault.TheVariants.{Volume}
 use Rattle.trace_gen.specs.Generated.{targets_of}
 use Rattle.troubles.specs.Troubles.{trouble_of}
-use Rattle.rack.proofs.NewFaults.{told_with}
-use Rattle.rack.specs.declared.volume_fault.VolumeFault.{VolumeFault}
+use Rattle.rack_closing.proofs.NewFaults.{told_with}
+use Rattle.rack_parts.specs.declared.volume_fault.VolumeFault.{VolumeFault}
 use Rattle.replay.specs.Ended as ended
 use Rattle.replay.specs.Givens.{HasGivenAll}
 use Rattle.replay.specs.Headlined.{AreAllOpen, ArePrinted, HasNotBegun, KeepsHeadline, MeetsHeadline}

@@ -20,7 +20,7 @@ use Rattle.wol_config.specs.declared.config.Config.{Config}
 use Rattle.volume_images.specs.Volumes.{shapes_of}
 use Rattle.rack.specs.Closes.{IsClosedVolume}
 use Rattle.rack.specs.Racks.{base_of_station}
-use Rattle.rack.specs.declared.rack.ImageRest.{ImageRest}
+use Rattle.rack_parts.specs.declared.rack.ImageRest.{ImageRest}
 use Rattle.replay.specs.Histories.{History, AreHistories, IsHistory, view_at}
 use Rattle.replay.proofs.AnswersServed.{operation_in}
 use Rattle.replay.proofs.EntriesOwn.{all_of_three, coded_all, noted_all, notes_back, own_notes, OfEntry}

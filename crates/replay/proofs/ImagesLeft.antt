@@ -33,7 +33,7 @@ use Rattle.volume_images.specs.Volumes.{AreLeft, images_read, shapes_of}
 use Rattle.rack.specs.Closes.{AreListedOf, HasFaultyPart, IsClosedVolume, IsOnLogger, RecoversTo, recovered_out, segments_out}
 use Rattle.rack.specs.Racks.{base_of_station}
 use Rattle.rack.specs.Rests.{IsImageOut}
-use Rattle.rack.specs.declared.rack.ImageRest.{ImageRest}
+use Rattle.rack_parts.specs.declared.rack.ImageRest.{ImageRest}
 use Rattle.replay.specs.Histories.{AreHistories, BeginAsRead, History, is_broken, is_broken_at}
 use Rattle.replay.specs.Leaves.{LeavesImages, records_in, written_array}
 use Rattle.open_rack.proofs.AllOut.{accepted_all, recovered_all}

@@ -22,7 +22,7 @@ use Rattle.troubles.proofs.Named.{named_alike}
 use Rattle.volume_images.specs.Left.{IsTold}
 use Rattle.rack.specs.Closes.{HasFaultyPart, IsClosedVolume, part_named}
 use Rattle.rack.specs.Racks.{base_of_station}
-use Rattle.rack.specs.declared.rack.ImageRest.{ImageRest}
+use Rattle.rack_parts.specs.declared.rack.ImageRest.{ImageRest}
 use Rattle.request_turns.specs.Turns.{WasDown}
 use Rattle.request_turns.proofs.Gaining.{down_breaks}
 use Rattle.replay.specs.Histories.{AreHistories, History, is_broken, is_broken_at}

@@ -22,10 +22,10 @@ use Rattle.volume_images.specs.Volumes.{shape_in, shapes_of}
 use Rattle.rack.specs.Foreign.{AreForeign}
 use Rattle.rack.specs.Racks.{base_of_station, AreOut, AreRising, IsClosable, IsOpenBase, IsRack}
 use Rattle.rack.specs.Rests.{AreLocks, IsImageOut, IsRest, OnlyAccess}
-use Rattle.rack.specs.declared.rack.ImageRest.{ImageRest}
-use Rattle.rack.specs.declared.rack.Rack.{Rack}
-use Rattle.rack.specs.declared.rack.Rest.{Rest}
-use Rattle.rack.specs.declared.volume_fault.VolumeFault.{VolumeFault}
+use Rattle.rack_parts.specs.declared.rack.ImageRest.{ImageRest}
+use Rattle.rack_parts.specs.declared.rack.Rack.{Rack}
+use Rattle.rack_parts.specs.declared.rack.Rest.{Rest}
+use Rattle.rack_parts.specs.declared.volume_fault.VolumeFault.{VolumeFault}
 use Rattle.request_turns.specs.Helped.{ManagerLock}
 use Rattle.request_workers.specs.Begun.{SpindlePass}
 use Rattle.request_workers.specs.Stations.{AreStations}

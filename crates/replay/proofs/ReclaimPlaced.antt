@@ -29,7 +29,7 @@ use Rattle.request_workers.specs.declared.request.Reclaim.{Reclaim}
 use Rattle.request_workers.proofs.Totals.{all_added}
 use Rattle.rack.specs.Closes.{IsClosedVolume}
 use Rattle.rack.specs.Racks.{AreUnused, IsUnused, base_of_station}
-use Rattle.rack.specs.declared.rack.ImageRest.{ImageRest}
+use Rattle.rack_parts.specs.declared.rack.ImageRest.{ImageRest}
 use Rattle.replay.specs.Counts.{most_count}
 use Rattle.replay.specs.Histories.{History, is_broken}
 use Rattle.replay.specs.Placed.{CountsReclaimed}

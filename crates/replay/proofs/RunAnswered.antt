@@ -18,9 +18,9 @@ use Rattle.rack.specs.Opens.{AreRefused, BeganWith, HasFaulty, KeepsAllSound, We
 use Rattle.rack.specs.Owners.{HadRefused}
 use Rattle.rack.specs.Racks.{AreUnused, IsRack, IsUnused, KeepToViews}
 use Rattle.rack.specs.Rests.{IsImageOut}
-use Rattle.rack.specs.declared.rack.Rack.{Rack}
-use Rattle.rack.specs.declared.rack.Rest.{Rest}
-use Rattle.rack.specs.declared.volume_fault.VolumeFault.TheVariants as fault
+use Rattle.rack_parts.specs.declared.rack.Rack.{Rack}
+use Rattle.rack_parts.specs.declared.rack.Rest.{Rest}
+use Rattle.rack_parts.specs.declared.volume_fault.VolumeFault.TheVariants as fault
 use Rattle.spin_model.specs.Spindles.{SpindleView}
 use Rattle.request_workers.specs.Begun.{SpindlePass}
 use Rattle.request_workers.specs.Stations.{AreStations}

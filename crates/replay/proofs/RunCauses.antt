@@ -8,7 +8,7 @@ use Rattle.wol_config.specs.declared.config.Config.{Config}
 use Rattle.manager.specs.Stands.{notes_of}
 use Rattle.manager.specs.declared.station.Station.{Station}
 use Rattle.rack.specs.Closes.{IsClosedVolume}
-use Rattle.rack.specs.declared.rack.ImageRest.{ImageRest}
+use Rattle.rack_parts.specs.declared.rack.ImageRest.{ImageRest}
 use Rattle.replay.specs.Histories.{History, is_broken, is_broken_at}
 use Rattle.replay.proofs.HistoriesLeft.{histories_of, history_at}
 use Rattle.replay.proofs.WindowBroken.{not_none}

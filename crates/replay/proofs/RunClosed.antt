@@ -19,10 +19,10 @@ use Rattle.rack.specs.Opens.{AreRefused, BeganWith, HasFaulty, KeepsAllSound, Le
 use Rattle.rack.specs.Owners.{HadRefused}
 use Rattle.rack.specs.Racks.{AreUnused, IsRack}
 use Rattle.rack.specs.Rests.{IsImageOut, image_here}
-use Rattle.rack.specs.declared.rack.ImageRest.{ImageRest}
-use Rattle.rack.specs.declared.rack.Rack.{Rack}
-use Rattle.rack.specs.declared.volume_fault.VolumeFault.{VolumeFault}
-use Rattle.rack.specs.declared.volume_fault.VolumeFault.TheVariants as fault
+use Rattle.rack_parts.specs.declared.rack.ImageRest.{ImageRest}
+use Rattle.rack_parts.specs.declared.rack.Rack.{Rack}
+use Rattle.rack_parts.specs.declared.volume_fault.VolumeFault.{VolumeFault}
+use Rattle.rack_parts.specs.declared.volume_fault.VolumeFault.TheVariants as fault
 use Rattle.replay.specs.NotOpened.{LeavesBay}
 use Rattle.replay.specs.Replays.{Replayed, closed}
 use Rattle.open_rack.specs.NotOpened.{first_closed}
@@ -32,7 +32,7 @@ use Rattle.replay.specs.declared.session.Options.{Options}
 use Rattle.replay.specs.declared.stop.Stop.TheVariants as stop
 use Rattle.rack.proofs.Asking.{refuses_later, rose_on}
 use Rattle.rack.proofs.FailedParts.{gained_parts, part_came_back, part_failed}
-use Rattle.rack.proofs.NewFaults.{told_each, told_with}
+use Rattle.rack_closing.proofs.NewFaults.{told_each, told_with}
 use Rattle.rack.proofs.StillThere.{there_left}
 use Rattle.open_rack.proofs.FirstClosed.{first_refused}
 use Rattle.open_rack.proofs.Since.{refused_alone, refused_missing}

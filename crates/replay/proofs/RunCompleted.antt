@@ -11,8 +11,8 @@ use Rattle.report.specs.declared.fault.Fault.TheVariants.{Memory, TraceSource}
 use Rattle.spin_model.specs.Spindles.{SpindleView}
 use Rattle.volume_images.specs.Volumes.{images_read, shapes_of}
 use Rattle.rack.specs.Closes.{HasFaultIn, IsClosedSpindle}
-use Rattle.rack.specs.declared.rack.Rack.{Rack}
-use Rattle.rack.specs.declared.volume_fault.VolumeFault.{VolumeFault}
+use Rattle.rack_parts.specs.declared.rack.Rack.{Rack}
+use Rattle.rack_parts.specs.declared.volume_fault.VolumeFault.{VolumeFault}
 use Rattle.replay.specs.Completes.{Completes, MayComplete}
 use Rattle.replay.specs.Prints.{PrintsText, all_amounts}
 use Rattle.open_rack.specs.NotOpened.{first_closed}

@@ -17,7 +17,7 @@ use Rattle.wol_config.specs.declared.config.Config.{Config}
 use Rattle.manager.specs.declared.station.Station.{Station}
 use Rattle.report.specs.declared.fault.Fault.{Fault}
 use Rattle.report.specs.declared.fault.Fault.TheVariants as fault
-use Rattle.rack.specs.declared.rack.ImageRest.{ImageRest}
+use Rattle.rack_parts.specs.declared.rack.ImageRest.{ImageRest}
 use Rattle.manager.specs.Stands.{notes_of}
 use Rattle.request_turns.specs.Turns.{IsBroken, ManagerPass}
 use Rattle.request_workers.specs.Requests.{answers_to}

@@ -23,9 +23,9 @@ use Rattle.rack.specs.Opens.{BeganWith, HadSegmentBefore, IsGone, IsLeftHere, Ke
 use Rattle.rack.specs.Owners.{BeganInPlace, HadRefused, IsBegun, images_taken}
 use Rattle.rack.specs.Racks.{AreUnused, base_of_station}
 use Rattle.rack.specs.Rests.{IsSegmentHere, held_here, image_here}
-use Rattle.rack.specs.declared.rack.ImageRest.{ImageRest}
-use Rattle.rack.specs.declared.rack.Rack.{Rack}
-use Rattle.rack.specs.declared.rack.Rest.{Rest}
+use Rattle.rack_parts.specs.declared.rack.ImageRest.{ImageRest}
+use Rattle.rack_parts.specs.declared.rack.Rack.{Rack}
+use Rattle.rack_parts.specs.declared.rack.Rest.{Rest}
 use Rattle.replay.specs.Histories.{answers_in}
 use Rattle.replay.specs.Runs.{locks_of}
 use Rattle.replay.specs.Served.{ServedFromStart, ServedWindow}

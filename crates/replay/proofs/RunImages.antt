@@ -18,7 +18,7 @@ use Rattle.rack.specs.Closes.{HasFaultyPart, IsClosedVolume, RecoversTo}
 use Rattle.rack.specs.Opens.{KeepsAllSound}
 use Rattle.rack.specs.Racks.{base_of_station}
 use Rattle.rack.specs.Rests.{IsImageOut}
-use Rattle.rack.specs.declared.rack.ImageRest.{ImageRest}
+use Rattle.rack_parts.specs.declared.rack.ImageRest.{ImageRest}
 use Rattle.replay.specs.Histories.{AreHistories, BeginAsRead, History}
 use Rattle.replay.specs.Leaves.{LeavesImages}
 use Rattle.replay.proofs.FlightEnded.{StationFlew, entries_flew}

@@ -25,8 +25,8 @@ use Rattle.rack.specs.Closes.{IsClosedVolume}
 use Rattle.rack.specs.Opens.{BeganWith, KeepsAllSound, HasFaulty}
 use Rattle.rack.specs.Racks.{AreUnused, IsUnused, base_of_station}
 use Rattle.rack.specs.Rests.{IsImageOut}
-use Rattle.rack.specs.declared.rack.Rack.{Rack}
-use Rattle.rack.specs.declared.rack.Rest.{Rest}
+use Rattle.rack_parts.specs.declared.rack.Rack.{Rack}
+use Rattle.rack_parts.specs.declared.rack.Rest.{Rest}
 use Rattle.request_workers.specs.Requests.{answers_to}
 use Rattle.request_workers.specs.Stations.{AreStations, IsMoved}
 use Rattle.request_workers.specs.declared.floor.Floor.{Floor}

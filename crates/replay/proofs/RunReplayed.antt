@@ -30,8 +30,8 @@ use Rattle.rack.specs.Opens.{BeganWith, HasFaulty, KeepsAllSound}
 use Rattle.rack.specs.PoolUses.{ArePools, PassesEmpty, TakesFew}
 use Rattle.rack.specs.Racks.{AreUnused, IsClosable, IsRack, IsUnused, KeepToViews, base_of_station}
 use Rattle.rack.specs.Rests.{IsImageOut, image_here}
-use Rattle.rack.proofs.Members.{a_value}
-use Rattle.rack.specs.declared.rack.Rack.{Rack}
+use Rattle.rack_parts.proofs.Members.{a_value}
+use Rattle.rack_parts.specs.declared.rack.Rack.{Rack}
 use Rattle.rack.proofs.FailedParts.{faulty_since}
 use Rattle.spin_model.specs.Operations.{uses_of}
 use Rattle.spin_model.specs.Spindles.{SpindleView}

@@ -26,7 +26,7 @@ use Rattle.request_workers.specs.declared.request.Reclaim.{Reclaim}
 use Rattle.request_workers.specs.declared.request.Reclaim.TheVariants as reclaim
 use Rattle.rack.specs.Closes.{IsClosedVolume}
 use Rattle.rack.specs.Racks.{AreUnused, IsUnused, base_of_station}
-use Rattle.rack.specs.declared.rack.ImageRest.{ImageRest}
+use Rattle.rack_parts.specs.declared.rack.ImageRest.{ImageRest}
 use Rattle.replay.specs.Histories.{History, is_broken, is_broken_at}
 use Rattle.replay.specs.Served.{ServedFromStart, ServedWindow}
 use Rattle.replay.specs.Sessions.{WentWell}

@@ -11,11 +11,11 @@ use Rattle.request_workers.specs.Floors.{IsFloor, IsOn}
 use Rattle.request_workers.specs.Stations.{AreStations, IsMoved}
 use Rattle.request_workers.specs.declared.floor.Floor.{Floor}
 use Rattle.wol_config.specs.declared.config.Config.{Config}
-use Rattle.rack.specs.declared.rack.Rack.{Rack}
+use Rattle.rack_parts.specs.declared.rack.Rack.{Rack}
 use Rattle.wol_io.proofs.Appending.{keeps_same}
 use Rattle.report.specs.declared.fault.Fault.{Fault}
 use Rattle.report.specs.declared.fault.Fault.TheVariants.{Memory, TraceSource}
-use Rattle.rack.specs.declared.volume_fault.VolumeFault.{VolumeFault}
+use Rattle.rack_parts.specs.declared.volume_fault.VolumeFault.{VolumeFault}
 use Rattle.open_rack.specs.NotOpened.{first_closed}
 use Rattle.replay.specs.Runs.{CanServe, RunsIn, ServesFrom, closed, locks_of, new_session, no_memory, served}
 use Rattle.replay.specs.Served.{AreSamePasses}

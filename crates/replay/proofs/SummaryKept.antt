@@ -21,7 +21,7 @@ use Rattle.wol_config.specs.declared.config.Config.{Config}
 use Rattle.volume_images.specs.Volumes.{shapes_of}
 use Rattle.rack.specs.Closes.{IsClosedSpindle}
 use Rattle.rack.specs.Racks.{IsClosable, IsRack, IsUnused, KeepToViews}
-use Rattle.rack.specs.declared.rack.Rack.{Rack}
+use Rattle.rack_parts.specs.declared.rack.Rack.{Rack}
 use Rattle.replay.specs.Prints.{all_amounts}
 use Rattle.replay.specs.Served.{ServedFromStart, ServedWindow}
 use Rattle.replay.specs.Sessions.{AreWindowsOf, ServesWhole}

@@ -18,9 +18,9 @@ use Rattle.request_workers.specs.Stations.{AreStations}
 use Rattle.rack.specs.Closes.{IsClosedVolume}
 use Rattle.rack.specs.Racks.{IsRack, KeepToViews, base_of_station}
 use Rattle.rack.specs.Rests.{spindle_pass}
-use Rattle.rack.specs.declared.rack.Rack.{Rack}
-use Rattle.rack.specs.declared.rack.Rest.{Rest}
-use Rattle.rack.specs.declared.rack.VolumePasses.{VolumePasses}
+use Rattle.rack_parts.specs.declared.rack.Rack.{Rack}
+use Rattle.rack_parts.specs.declared.rack.Rest.{Rest}
+use Rattle.rack_parts.specs.declared.rack.VolumePasses.{VolumePasses}
 use Rattle.replay.specs.Histories.{view_at}
 use Rattle.replay.specs.Runs.{locks_of}
 use Rattle.replay.proofs.HistoriesLeft.{histories_of, view_there}

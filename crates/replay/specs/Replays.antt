@@ -16,7 +16,7 @@ use Rattle.trace_gen.specs.Generated.{targets_of}
 use Rattle.troubles.specs.Troubles.{trouble_of, trouble_of_part}
 use Rattle.rack.specs.Closes.{HasFaultyPart, part_named}
 use Rattle.rack.specs.PoolUses.{ArePools, PassesEmpty, TakesFew}
-use Rattle.rack.specs.declared.volume_fault.VolumeFault.{VolumeFault}
+use Rattle.rack_parts.specs.declared.volume_fault.VolumeFault.{VolumeFault}
 use Rattle.replay.specs.Ended.{EndsFor}
 use Rattle.replay.specs.Givens.{HasGiven}
 use Rattle.replay.specs.Headlined.{AreAllOpen}

@@ -3,8 +3,8 @@ use Rattle.manager.specs.declared.part.Part.{Part}
 use Rattle.manager.specs.declared.part.Part.TheVariants as part
 use Rattle.manager_recovery.specs.declared.refusal.OpenRefusal.{OpenRefusal}
 use Rattle.manager_recovery.specs.declared.refusal.OpenRefusal.TheVariants as refusal
-use Rattle.rack.specs.declared.volume_fault.VolumeFault.{VolumeFault}
-use Rattle.rack.specs.declared.volume_fault.VolumeFault.TheVariants as fault
+use Rattle.rack_parts.specs.declared.volume_fault.VolumeFault.{VolumeFault}
+use Rattle.rack_parts.specs.declared.volume_fault.VolumeFault.TheVariants as fault
 use Rattle.report.specs.declared.trouble.Trouble.{Trouble}
 use Rattle.report.specs.declared.trouble.Trouble.TheVariants.{Absent, Length, LabelDiffers, Damaged, Twins, OutsideView, LoggerMissing, Bay, Label, Home, Segment}
 

@@ -19,8 +19,8 @@ use Rattle.logger_view.proofs.Callers.{same_view}
 use Rattle.manager.proofs.Lanes.{get_set, get_other}
 use Rattle.volume_images.specs.Volumes.{AreLeft, MayLeave, images_read, shape_in, shapes_of}
 use Rattle.rack.specs.Opens.{IsThere, KeepsAllSound}
-use Rattle.rack.proofs.SentNames.{names_differ}
-use Rattle.rack.proofs.SoundBefore.{at_front, some_image}
+use Rattle.rack_closing.proofs.Names.{names_differ}
+use Rattle.rack_closing.proofs.SoundBefore.{at_front, some_image}
 use Rattle.inspection.proofs.Unhelped.{there_is}
 use Rattle.report.specs.declared.fault.Fault.{Fault}
 use Rattle.view_change.specs.Changes.{Allows, changed, id_of}

@@ -20,7 +20,7 @@ use Rattle.request_turns.specs.Helped.{IsPassAt}
 use Rattle.request_turns.specs.Turns.{ManagerPass}
 use Rattle.request_turns.proofs.Noting.{notes_at}
 use Rattle.rack.specs.Racks.{IsStation, base_of_station}
-use Rattle.rack.specs.declared.rack.Rack.{Rack}
+use Rattle.rack_parts.specs.declared.rack.Rack.{Rack}
 use Rattle.inspection.specs.Looks.{IsConfiguredBase}
 use Rattle.inspection.specs.Racks.{numbers_of, CanLook, IsSameRack, IsSameStation, IsStationAt}
 use Rattle.inspection.proofs.Unhelped.{all_at, there_is}

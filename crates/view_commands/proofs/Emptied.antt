@@ -19,7 +19,7 @@ use Rattle.request_turns.proofs.Gaining.{down_breaks}
 use Rattle.request_turns.proofs.Noting.{notes_at}
 use Rattle.rack.specs.Closes.{HasFaultyPart, IsClosedVolume, part_named}
 use Rattle.rack.specs.Racks.{IsStation, IsUnused, base_of_station}
-use Rattle.rack.specs.declared.rack.Rack.{Rack}
+use Rattle.rack_parts.specs.declared.rack.Rack.{Rack}
 use Rattle.rack.proofs.FailedParts.{faulty_since}
 use Rattle.open_rack.specs.Sessions.{OpensAndCloses}
 use Rattle.spin_model.specs.Spindles.{SpindleView}

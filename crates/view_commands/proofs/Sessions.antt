@@ -26,9 +26,9 @@ use Rattle.rack.specs.Opens.{BeganWith, HasFaulty, WereThere}
 use Rattle.rack.specs.Owners.{IsBegun, images_taken}
 use Rattle.rack.specs.Racks.{IsStation, base_of_station}
 use Rattle.rack.specs.Rests.{IsImageOut, image_here}
-use Rattle.rack.specs.declared.rack.ImageRest.{ImageRest}
-use Rattle.rack.specs.declared.rack.Rack.{Rack}
-use Rattle.rack.specs.declared.volume_fault.VolumeFault.{VolumeFault}
+use Rattle.rack_parts.specs.declared.rack.ImageRest.{ImageRest}
+use Rattle.rack_parts.specs.declared.rack.Rack.{Rack}
+use Rattle.rack_parts.specs.declared.volume_fault.VolumeFault.{VolumeFault}
 use Rattle.open_rack.specs.Sessions.{OpensAndCloses}
 use Rattle.open_rack.proofs.Since.{rose_before, unmapped}
 use Rattle.inspection.specs.Racks.{IsSameRack, numbers_of}

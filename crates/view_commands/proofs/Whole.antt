@@ -21,8 +21,8 @@ use Rattle.volume_images.specs.Left.{IsTold}
 use Rattle.volume_images.specs.Volumes.{images_read, shape_in, shapes_of}
 use Rattle.rack.specs.Opens.{KeepsAllSound, LeavesAll}
 use Rattle.rack.specs.Owners.{recovered_but}
-use Rattle.rack.specs.declared.rack.Rack.{Rack}
-use Rattle.rack.proofs.SoundBefore.{some_image}
+use Rattle.rack_parts.specs.declared.rack.Rack.{Rack}
+use Rattle.rack_closing.proofs.SoundBefore.{some_image}
 use Rattle.open_rack.specs.Sessions.{OpensAndCloses}
 use Rattle.open_rack.proofs.FirstClosed.{first_is}
 use Rattle.open_rack.proofs.Since.{rose_before}

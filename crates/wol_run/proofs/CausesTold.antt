@@ -28,7 +28,7 @@ use Rattle.comparison.specs.Compares.{EndsBehind}
 use Rattle.comparison.specs.Compares as behind
 use Rattle.replay.specs.Givens.{HasGivenAll, Refuses}
 use Rattle.replay.specs.NotOpened.{IsFirstClosed, IsOpened}
-use Rattle.rack.specs.declared.volume_fault.VolumeFault.{VolumeFault}
+use Rattle.rack_parts.specs.declared.volume_fault.VolumeFault.{VolumeFault}
 use Rattle.replay.specs.Replays.{Replayed, Replays, closed, no_memory, ran}
 use Rattle.replay.specs.Served.{ServedWindow}
 use Rattle.replay.specs.Stops.{fault_of_trace}

@@ -12,8 +12,8 @@ use Rattle.msr_trace.specs.declared.format.TraceFault.TheVariants as trace
 use Rattle.report.specs.Faults.{fault_text, status_of}
 use Rattle.report.specs.declared.fault.Fault.{Fault}
 use Rattle.manager_recovery.specs.declared.refusal.OpenRefusal.TheVariants as refusal
-use Rattle.rack.specs.declared.volume_fault.VolumeFault.{VolumeFault}
-use Rattle.rack.specs.declared.volume_fault.VolumeFault.TheVariants as closed_for
+use Rattle.rack_parts.specs.declared.volume_fault.VolumeFault.{VolumeFault}
+use Rattle.rack_parts.specs.declared.volume_fault.VolumeFault.TheVariants as closed_for
 use Rattle.rack.specs.Racks.{NamesVolumes}
 use Rattle.report.specs.Troubles.{trouble_status}
 use Rattle.replay.specs.Givens.{HasGivenAll, Refuses}

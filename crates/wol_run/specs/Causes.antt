@@ -12,8 +12,8 @@ use Rattle.volume_images.specs.Volumes.{images_read}
 use Rattle.rack.specs.Opens.{RefusesVolume, WereThere}
 use Rattle.rack.specs.Owners.{IsBegun}
 use Rattle.rack.specs.Rests.{image_here}
-use Rattle.rack.specs.declared.rack.ImageRest.{ImageRest}
-use Rattle.rack.specs.declared.volume_fault.VolumeFault.{VolumeFault}
+use Rattle.rack_parts.specs.declared.rack.ImageRest.{ImageRest}
+use Rattle.rack_parts.specs.declared.volume_fault.VolumeFault.{VolumeFault}
 use Rattle.report.specs.Troubles.{trouble_status}
 use Rattle.report.specs.declared.trouble.Trouble.{Trouble}
 use Rattle.troubles.specs.Troubles.{trouble_of}

@@ -12,8 +12,8 @@ use Rattle.wol_config.specs.declared.config.VolumeConf.{VolumeConf}
 use Rattle.volume_images.specs.Left.{IsTold}
 use Rattle.rack.specs.Opens.{KeepsOthers, RefusesVolume, WereThere}
 use Rattle.rack.specs.Rests.{image_here}
-use Rattle.rack.specs.declared.rack.ImageRest.{ImageRest}
-use Rattle.rack.specs.declared.volume_fault.VolumeFault.{VolumeFault}
+use Rattle.rack_parts.specs.declared.rack.ImageRest.{ImageRest}
+use Rattle.rack_parts.specs.declared.volume_fault.VolumeFault.{VolumeFault}
 use Rattle.replay.specs.NotOpened.{LeavesBay}
 use Rattle.wol_run.specs.Formatting.{IsUntouched}
 use Rattle.wol_run.specs.Settings.{HasConfig}

@@ -1,4 +1,4 @@
-use Rattle.rack.proofs.SentNames.{none_named}
+use Rattle.rack.proofs.ImagesSent.{none_named}
 use Rattle.bay_tests.proofs.racks.open_and_close.Goals as goal
 
 pub close_all-spindles-requires-clause-rack : goal.close_all-spindles-requires-clause-rack

@@ -2,7 +2,7 @@ use Rattle.open_rack.specs.Sessions.{IsClosed, IsOpened}
 use Rattle.open_rack.proofs.RacksAgain.{closable_again, rest_again}
 use Rattle.open_rack.proofs.Since.{home_again, none_out_still, opens_and_closes, sound_since}
 use Rattle.rack.proofs.FailedParts.{gained_parts}
-use Rattle.rack.proofs.OthersKept.{others_then}
+use Rattle.rack.proofs.ImagesSent.{others_then}
 use Rattle.inspection.proofs.Opened.{can_look}
 use Rattle.inspection.proofs.SameRacks.{again_same}
 use Rattle.inspection.proofs.calls.print_opened.Goals as goal

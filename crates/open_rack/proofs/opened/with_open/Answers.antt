@@ -1,7 +1,7 @@
 use Rattle.open_rack.specs.Sessions.{IsClosed, IsOpened}
 use Rattle.open_rack.proofs.RacksAgain.{closable_again, rest_again}
 use Rattle.rack.proofs.FailedParts.{gained_parts}
-use Rattle.rack.proofs.OthersKept.{others_then}
+use Rattle.rack.proofs.ImagesSent.{others_then}
 use Rattle.open_rack.proofs.Since.{home_again, none_out_still, opens_and_closes, sound_since}
 use Rattle.open_rack.proofs.opened.with_open.Goals as goal
 

@@ -1,21 +1,11 @@
-use Rattle.std.proofs.Common.{◌≡◌, ℕ, List, Option, Some, length, sym, ap, ◌∙◌, subst}
-use Rattle.std.specs.Prelude.{All, IsTrue}
-use Rattle.wol_bay.specs.Bay.{Told}
-use Rattle.turn_lock.specs.declared.pass.PassOf.{PassOf}
-use Rattle.spin_model.specs.declared.spindle.Spindle.{Spindle}
-use Rattle.spin_model.specs.declared.spindle.SpindleBase.{SpindleBase}
-use Rattle.rack.specs.Racks.{IsUnused, KeepToViews}
-use Rattle.rack.specs.Opens.{BeganWith}
-use Rattle.rack.specs.Opening.{view_at, IsOpeningRack, HasBegun, HaveFaults}
-use Rattle.rack.specs.declared.heads_said.Said.{Said}
-use Rattle.rack.proofs.Complete.{opens_all}
+use Rattle.rack.proofs.Basics.{◌≡◌, ℕ, List, Option, Some, length, sym, ap, ◌∙◌, subst, All, IsTrue}
+use Rattle.rack.proofs.Terms.{Told, PassOf, Spindle, SpindleBase, IsUnused, KeepToViews, BeganWith, view_at, IsOpeningRack, HasBegun, HaveFaults, Said}
+use Rattle.rack_parts.proofs.LocksIssued.{on_err}
+use Rattle.rack_closing.proofs.SoundVolumes.{opens_all}
 use Rattle.rack.proofs.FailedParts.{gained_parts, part_failed}
-use Rattle.rack.proofs.Issues.{on_err}
-use Rattle.rack.proofs.OthersKept.{others_same, others_then}
+use Rattle.rack.proofs.ImagesSent.{others_same, others_then}
 use Rattle.rack.proofs.TakenBack.{left_back, nothing_done}
-use Rattle.rack.proofs.OpenedAll.{out_after, opened_out, opened_home, opened_others, opened_faulty, opened_unfaulty, opened_kept, opened_failed, opened_there, opened_views, closed_left, closed_sound, quiet_stations, fresh_passes, count_spindles, count_pools, told_at}
-use Rattle.rack.proofs.TakenBegun.{begun_first, refused_first}
-use Rattle.rack.proofs.TakenReady.{taken_opening, many}
+use Rattle.rack.proofs.OpenedAll.{out_after, opened_out, opened_home, opened_others, opened_faulty, opened_unfaulty, opened_kept, opened_failed, opened_there, opened_views, closed_left, closed_sound, quiet_stations, fresh_passes, count_spindles, count_pools, told_at, begun_first, refused_first, taken_opening, many}
 use Rattle.rack.proofs.all.open_all.Goals as goal
 
 pub filled-rack-requires-clause-spindles : goal.filled-rack-requires-clause-spindles
@@ -38,8 +28,6 @@ returns-in-Ok-open_volumes-clause-rack g c =
 
 pub returns-in-Ok-open_volumes-clause-out : goal.returns-in-Ok-open_volumes-clause-out
 returns-in-Ok-open_volumes-clause-out g c =
-    let set_up = c.filled-rack.ensures.rest in
-    let faults_are = c.filled-rack.ensures.faults in
     let out_is = out_after g.B.Part.Disk.tells g.B.Part.Disk.state c.args.config.now c.requires.config (g.B.Bay.state c.args.bay.now) (g.B.Bay.state c.take_out.new.bay) c.in-Ok.taken c.in-Ok.ensures.taken c.filled-rack.result c.open_volumes.new.self c.filled-rack.ensures.images c.open_volumes.ensures.same_out in
     opened_out g.B.Part.Disk.tells g.B.Part.Disk.state c.args.config.now c.requires.config (g.B.Bay.state c.args.bay.now) (g.B.Bay.state c.take_out.new.bay) c.in-Ok.taken c.in-Ok.ensures.taken c.open_volumes.new.self out_is
 
@@ -53,8 +41,6 @@ returns-in-Ok-open_volumes-clause-began g c =
 
 pub returns-in-Ok-open_volumes-clause-there : goal.returns-in-Ok-open_volumes-clause-there
 returns-in-Ok-open_volumes-clause-there g c =
-    let set_up = c.filled-rack.ensures.rest in
-    let faults_are = c.filled-rack.ensures.faults in
     let out_is = out_after g.B.Part.Disk.tells g.B.Part.Disk.state c.args.config.now c.requires.config (g.B.Bay.state c.args.bay.now) (g.B.Bay.state c.take_out.new.bay) c.in-Ok.taken c.in-Ok.ensures.taken c.filled-rack.result c.open_volumes.new.self c.filled-rack.ensures.images c.open_volumes.ensures.same_out in
     λ telling. told_at (g.B.Bay.state c.args.bay.now).told (opened_there g.B.Part.Disk.tells g.B.Part.Disk.state c.args.config.now c.requires.config (g.B.Bay.state c.args.bay.now) (g.B.Bay.state c.take_out.new.bay) c.in-Ok.taken c.in-Ok.ensures.taken c.open_volumes.new.self out_is telling)
 
@@ -73,28 +59,20 @@ returns-in-Ok-open_volumes-clause-refused g c =
 
 pub returns-in-Ok-open_volumes-clause-fresh_keepers : goal.returns-in-Ok-open_volumes-clause-fresh_keepers
 returns-in-Ok-open_volumes-clause-fresh_keepers g c =
-    let images_are = c.filled-rack.ensures.images in
-    let faults_are = c.filled-rack.ensures.faults in
     subst (λ (l : _). All (λ (p : PassOf Spindle SpindleBase). IsUnused p) l.items) (sym c.open_volumes.ensures.keepers) (fresh_passes g.B.Part.Disk.tells g.B.Part.Disk.state c.args.config.now (g.B.Bay.state c.args.bay.now) (g.B.Bay.state c.take_out.new.bay) c.in-Ok.taken c.in-Ok.ensures.taken c.filled-rack.result c.filled-rack.ensures.rest)
 
 pub returns-in-Ok-open_volumes-clause-faulty : goal.returns-in-Ok-open_volumes-clause-faulty
 returns-in-Ok-open_volumes-clause-faulty g c =
-    let set_up = c.filled-rack.ensures.rest in
-    let faults_are = c.filled-rack.ensures.faults in
     let out_is = out_after g.B.Part.Disk.tells g.B.Part.Disk.state c.args.config.now c.requires.config (g.B.Bay.state c.args.bay.now) (g.B.Bay.state c.take_out.new.bay) c.in-Ok.taken c.in-Ok.ensures.taken c.filled-rack.result c.open_volumes.new.self c.filled-rack.ensures.images c.open_volumes.ensures.same_out in
     opened_faulty g.B.Part.Disk.tells g.B.Part.Disk.state c.args.config.now c.requires.config (g.B.Bay.state c.args.bay.now) (g.B.Bay.state c.take_out.new.bay) c.in-Ok.taken c.in-Ok.ensures.taken c.open_volumes.new.self out_is
 
 pub returns-in-Ok-open_volumes-clause-unfaulty : goal.returns-in-Ok-open_volumes-clause-unfaulty
 returns-in-Ok-open_volumes-clause-unfaulty g c =
-    let set_up = c.filled-rack.ensures.rest in
-    let faults_are = c.filled-rack.ensures.faults in
     let out_is = out_after g.B.Part.Disk.tells g.B.Part.Disk.state c.args.config.now c.requires.config (g.B.Bay.state c.args.bay.now) (g.B.Bay.state c.take_out.new.bay) c.in-Ok.taken c.in-Ok.ensures.taken c.filled-rack.result c.open_volumes.new.self c.filled-rack.ensures.images c.open_volumes.ensures.same_out in
     λ all. opened_unfaulty g.B.Part.Disk.tells g.B.Part.Disk.state c.args.config.now c.requires.config (g.B.Bay.state c.args.bay.now) (g.B.Bay.state c.take_out.new.bay) c.in-Ok.taken c.in-Ok.ensures.taken c.open_volumes.new.self out_is all (many g.B.Part.Disk.tells g.B.Part.Disk.state c.args.config.now c.requires.config (g.B.Bay.state c.args.bay.now) (g.B.Bay.state c.take_out.new.bay) c.in-Ok.taken c.in-Ok.ensures.taken)
 
 pub returns-in-Ok-open_volumes-clause-kept : goal.returns-in-Ok-open_volumes-clause-kept
 returns-in-Ok-open_volumes-clause-kept g c =
-    let set_up = c.filled-rack.ensures.rest in
-    let faults_are = c.filled-rack.ensures.faults in
     let out_is = out_after g.B.Part.Disk.tells g.B.Part.Disk.state c.args.config.now c.requires.config (g.B.Bay.state c.args.bay.now) (g.B.Bay.state c.take_out.new.bay) c.in-Ok.taken c.in-Ok.ensures.taken c.filled-rack.result c.open_volumes.new.self c.filled-rack.ensures.images c.open_volumes.ensures.same_out in
     λ telling. opened_kept g.B.Part.Disk.tells g.B.Part.Disk.state c.args.config.now c.requires.config (g.B.Bay.state c.args.bay.now) (g.B.Bay.state c.take_out.new.bay) c.in-Ok.taken c.in-Ok.ensures.taken c.open_volumes.new.self out_is
 

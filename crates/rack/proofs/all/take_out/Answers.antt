@@ -1,24 +1,11 @@
-use Rattle.std.proofs.Common.{◌≡◌, ℕ, length, List, Option, None, refl, sym, ap, ◌∙◌, subst, arith}
-use Rattle.std.specs.Prelude.{slice_index_or, vec_len, is_some, All}
-use Rattle.std.proofs.lemmas.List.{with_items_is}
-use Rattle.std.proofs.lemmas.Option.{slice_get_within, get_or_from_slice_get}
-use Rattle.spin_model.specs.declared.spindle.Spindle.{Spindle}
-use Rattle.spin_model.specs.declared.spindle.SpindleBase.{SpindleBase}
-use Rattle.wol_bay.specs.Bay.{IsHome, outs}
-use Rattle.wol_config.specs.declared.config.VolumeConf.{VolumeConf}
-use Rattle.volume_images.specs.Left.{IsTold}
-use Rattle.rack.specs.Closing.{GivesBack, LeavesNoneOut}
-use Rattle.rack.specs.Making.{IsWholeLock, AreSpindlesOf}
-use Rattle.rack.specs.Parts.{CanIssue, IsIssuedPool, Supplies, Restores}
-use Rattle.rack.specs.Rests.{image_here}
-use Rattle.rack.specs.declared.heads_said.Said.{Said}
-use Rattle.rack.specs.declared.locks.Issued.{Issued}
-use Rattle.rack.specs.declared.rack.ImageRest.{ImageRest}
-use Rattle.rack.proofs.SentNames.{names_out}
-use Rattle.rack.proofs.Issues.{on_err}
-use Rattle.rack.proofs.OthersKept.{others_same, others_then, back_others, sent_others}
-use Rattle.rack.proofs.TakenBack.{left_back, sound_back, nothing_done, left_again, sound_again}
-use Rattle.rack.proofs.TakenOut.{shape_here, may_issue, again, same_here, home_again}
+use Rattle.rack.proofs.Basics.{◌≡◌, ℕ, length, List, Option, None, refl, sym, ap, ◌∙◌, subst, arith, is_some, slice_index_or, All, with_items_is, slice_get_within}
+use Rattle.rack.proofs.Basics.{get_or_from_slice_get}
+use Rattle.rack.proofs.Terms.{Spindle, SpindleBase, IsHome, outs, VolumeConf, IsTold, GivesBack, LeavesNoneOut, IsWholeLock, AreSpindlesOf, CanIssue, IsIssuedPool, Supplies}
+use Rattle.rack.proofs.Terms.{Restores, image_here, Said, Issued, ImageRest}
+use Rattle.std.specs.Prelude.{vec_len}
+use Rattle.rack_parts.proofs.LocksIssued.{on_err}
+use Rattle.rack.proofs.ImagesSent.{names_out, others_same, others_then, back_others, sent_others}
+use Rattle.rack.proofs.TakenBack.{left_back, sound_back, nothing_done, left_again, sound_again, shape_here, may_issue, again, same_here, home_again}
 use Rattle.rack.proofs.all.take_out.Goals as goal
 
 pub issue_pools-requires-clause-each : goal.issue_pools-requires-clause-each

@@ -1,6 +1,5 @@
-use Rattle.std.proofs.Common.{◌≡◌, ◌≤◌, length, vec_capacity}
-use Rattle.rack.specs.Making.{AreSpindlesOf}
-use Rattle.rack.specs.Opening.{AreAsked, HasSentOut}
+use Rattle.rack.proofs.Basics.{◌≡◌, ◌≤◌, length, vec_capacity}
+use Rattle.rack.proofs.Terms.{AreSpindlesOf, AreAsked, HasSentOut}
 use Rattle.rack.proofs.images.open_images.Given as goal
 
 -- the images before the one at hand were asked for

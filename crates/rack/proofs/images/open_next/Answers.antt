@@ -1,24 +1,9 @@
-use Rattle.std.proofs.Common.{◌≡◌, ◌<◌, ℕ, false, length, option_map, Some, IfSome, sym, ap, ◌∙◌, subst, arith}
-use Rattle.std.proofs.lemmas.List.{length-map}
-use Rattle.std.proofs.lemmas.Option.{slice_get-get_or, get_or_from_slice_get}
-use Rattle.wol_model.specs.Heads.{Shape}
-use Rattle.std.specs.Prelude.{slice_get}
-use Rattle.wol_bay.specs.Bay.{Name, IsHome, sent_out}
-use Rattle.wol_bay.specs.Refusals.{blocks_at}
-use Rattle.wol_config.specs.declared.config.VolumeConf.{VolumeConf}
-use Rattle.log_layout.specs.Values.{shape_of}
-use Rattle.volume_images.specs.Formatted.{part_sizes}
-use Rattle.volume_images.specs.Left.{IsTold}
-use Rattle.volume_images.specs.Refusals.{IsCutOpenable, SaysSo, Refuses}
-use Rattle.volume_images.specs.Volumes.{shape_in, shapes_of}
-use Rattle.turn_lock.specs.Passes.{pass_lock, pass_mine, IsPassOf, IsFree}
-use Rattle.turn_lock.specs.declared.pass.PassOf.{PassOf}
-use Rattle.spin_model.specs.declared.spindle.Spindle.{Spindle}
-use Rattle.spin_model.specs.declared.spindle.SpindleBase.{SpindleBase}
-use Rattle.spin_model.specs.Operations.{has_token}
-use Rattle.rack.proofs.NextImage.{sized, next_rest, next_all, next_says, next_heads, next_entry}
-use Rattle.rack.proofs.NextRefused.{next_refuses, next_stayed, back_at_once}
-use Rattle.rack.proofs.UsedPass.{used_pass}
+use Rattle.rack.proofs.Basics.{◌≡◌, ◌<◌, ℕ, false, length, option_map, Some, IfSome, sym, ap, ◌∙◌, subst, arith, length-map}
+use Rattle.rack.proofs.Basics.{slice_get-get_or, get_or_from_slice_get, slice_get}
+use Rattle.rack.proofs.Terms.{Shape, Name, IsHome, sent_out, blocks_at, VolumeConf, shape_of, part_sizes, IsTold, IsCutOpenable, SaysSo}
+use Rattle.rack.proofs.Terms.{shape_in, shapes_of, pass_lock, pass_mine, IsPassOf, IsFree, PassOf, Spindle, SpindleBase, has_token}
+use Rattle.volume_images.specs.Refusals.{Refuses}
+use Rattle.rack.proofs.NextImage.{sized, next_rest, next_all, next_says, next_heads, next_entry, next_refuses, next_stayed, back_at_once, used_pass}
 use Rattle.rack.proofs.images.open_next.Goals as goal
 
 pub open_image-requires-clause-home : goal.open_image-requires-clause-home

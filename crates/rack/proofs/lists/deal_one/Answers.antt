@@ -1,6 +1,4 @@
-use Rattle.std.proofs.Common.{◌<◌, length, arith}
-use Rattle.std.specs.Prelude.{slice_index_or}
-use Rattle.std.proofs.lemmas.List.{get_or_default}
+use Rattle.rack.proofs.Basics.{◌<◌, length, arith, slice_index_or, get_or_default}
 use Rattle.rack.proofs.Setting.{dealt_next, popped_none}
 use Rattle.rack.proofs.lists.deal_one.Goals as goal
 

@@ -1,4 +1,4 @@
-use Rattle.std.proofs.Common.{◌≤◌, length, vec_capacity}
+use Rattle.rack.proofs.Basics.{◌≤◌, length, vec_capacity}
 use Rattle.rack.proofs.Setting.{IsDealtTo}
 use Rattle.rack.proofs.lists.deal_one.Given as goal
 

@@ -1,8 +1,5 @@
-use Rattle.std.proofs.Common.{sym, subst, arith}
-use Rattle.std.specs.Prelude.{All}
-use Rattle.std.proofs.lemmas.Grind.{common_steps}
-use Rattle.std.proofs.lemmas.List.Elements.{All-push}
-use Rattle.rack.specs.Making.{AreEmptyPasses}
+use Rattle.rack.proofs.Basics.{sym, subst, arith, All, common_steps, All-push}
+use Rattle.rack.proofs.Terms.{AreEmptyPasses}
 use Rattle.rack.proofs.lists.new_passes.Goals as goal
 
 pub loop-volume-preserved : goal.loop-volume-preserved

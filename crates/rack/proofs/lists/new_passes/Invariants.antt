@@ -1,6 +1,5 @@
-use Rattle.std.proofs.Common.{◌≡◌, ◌≤◌, length, vec_capacity}
-use Rattle.std.specs.Prelude.{All}
-use Rattle.rack.specs.Making.{AreEmptyPasses}
+use Rattle.rack.proofs.Basics.{◌≡◌, ◌≤◌, length, vec_capacity, All}
+use Rattle.rack.proofs.Terms.{AreEmptyPasses}
 use Rattle.rack.proofs.lists.new_passes.Given as goal
 
 -- the lists of the volumes so far

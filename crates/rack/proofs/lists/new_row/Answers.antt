@@ -1,10 +1,5 @@
-use Rattle.std.proofs.Common.{◌≡◌, ◌+◌, ℕ, List, [], length, sym, ap, subst, ◌∙◌, arith}
-use Rattle.std.specs.Prelude.{All}
-use Rattle.std.specs.declared.alloc.Global.{Global}
-use Rattle.std.specs.declared.vec.Vec.{Vec}
-use Rattle.std.proofs.lemmas.List.{length_push}
-use Rattle.std.proofs.lemmas.List.Elements.{All-push}
-use Rattle.spin_model.specs.declared.spun.Spun.{Spun}
+use Rattle.rack.proofs.Basics.{◌≡◌, ◌+◌, ℕ, List, [], length, sym, ap, subst, ◌∙◌, arith, All, Global, Vec, length_push, All-push}
+use Rattle.rack.proofs.Terms.{Spun}
 use Rattle.rack.proofs.lists.new_row.Goals as goal
 
 pub push_reserved-requires : goal.push_reserved-requires

@@ -1,5 +1,4 @@
-use Rattle.std.proofs.Common.{◌≡◌, ◌≤◌, [], length, vec_capacity}
-use Rattle.std.specs.Prelude.{All}
+use Rattle.rack.proofs.Basics.{◌≡◌, ◌≤◌, [], length, vec_capacity, All}
 use Rattle.rack.proofs.lists.new_row.Given as goal
 
 -- the empty lists so far

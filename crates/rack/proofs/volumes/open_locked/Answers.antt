@@ -1,7 +1,6 @@
-use Rattle.std.proofs.Common.{[], sym, ap, ◌∙◌, subst, arith}
+use Rattle.rack.proofs.Basics.{[], sym, ap, ◌∙◌, subst, arith}
+use Rattle.rack.proofs.Terms.{Stands, Opens, base_at_opening}
 use contract.BorrowLft.{⊑_meet, ⊑_static}
-use Rattle.manager.specs.Stands.{Stands}
-use Rattle.manager_recovery.specs.Opened.{Opens, base_at_opening}
 use Rattle.rack.proofs.volumes.open_locked.Goals as goal
 
 pub new-requires : goal.new-requires

@@ -1,4 +1,4 @@
-use Rattle.manager_recovery.specs.Opened.{base_at_opening}
+use Rattle.rack.proofs.Terms.{base_at_opening}
 use Rattle.rack.proofs.volumes.open_locked.Given as goal
 
 abbrev pub ghost-new : goal.ghost-new

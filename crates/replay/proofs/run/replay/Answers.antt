@@ -2,7 +2,7 @@ use Rattle.std.proofs.Common.{◌∙◌, Err, ap, inr, length, refl}
 use Rattle.wol_io.proofs.Appending.{keeps_same}
 use Rattle.std.proofs.lemmas.List.{length-map}
 use Rattle.volume_images.specs.Volumes.{shape_in}
-use Rattle.rack.proofs.OthersKept.{others_then}
+use Rattle.rack.proofs.ImagesSent.{others_then}
 use Rattle.replay.proofs.Closed.{closable_now, home_outs, journals_now, outs_same, same_rest}
 use Rattle.replay.proofs.RacksServed.{can_serve}
 use Rattle.replay.specs.Completes.{Completes}

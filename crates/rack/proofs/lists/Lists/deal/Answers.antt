@@ -1,11 +1,7 @@
-use Rattle.std.proofs.Common.{◌≡◌, ◌+◌, ◌-◌, List, map, Some, length, refl, sym, ap, subst, ◌∙◌, arith}
-use Rattle.std.specs.Prelude.{slice_get}
-use Rattle.std.specs.declared.alloc.Global.{Global}
-use Rattle.std.specs.declared.vec.Vec.{Vec}
-use Rattle.std.proofs.lemmas.List.{with_items_is}
-use Rattle.std.proofs.lemmas.Option.{slice_get_read}
-use Rattle.rack.specs.Parts.{last_of, ArePopped}
-use Rattle.rack.proofs.Dealing.{PoolPass, SpindlePass, AreDealtDown, dealt_down_none, empty, pool_places, spindle_places, dealt_down_next, dealt_down_all}
+use Rattle.rack.proofs.Basics.{◌≡◌, ◌+◌, ◌-◌, List, map, Some, length, refl, sym, ap, subst, ◌∙◌, arith, slice_get, Global, Vec}
+use Rattle.rack.proofs.Basics.{with_items_is, slice_get_read}
+use Rattle.rack.proofs.Terms.{last_of, ArePopped}
+use Rattle.rack.proofs.SettingUp.{PoolPass, SpindlePass, AreDealtDown, dealt_down_none, empty, pool_places, spindle_places, dealt_down_next, dealt_down_all}
 use Rattle.rack.proofs.lists.Lists.deal.Goals as goal
 
 pub loop-left-init : goal.loop-left-init

@@ -1,5 +1,4 @@
-use Rattle.std.proofs.Common.{◌≡◌, List, [], refl, subst, arith}
-use Rattle.std.proofs.lemmas.List.{nil_from_length}
+use Rattle.rack.proofs.Basics.{◌≡◌, List, [], refl, subst, arith, nil_from_length}
 use Rattle.rack.proofs.Setting.{PoolLock, ArePoolsPut, pools_none, pool_lock_room, pool_row_room, pools_next, pools_all}
 use Rattle.rack.proofs.lists.Lists.put_pools.Goals as goal
 

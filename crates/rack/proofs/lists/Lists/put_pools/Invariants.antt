@@ -1,4 +1,4 @@
-use Rattle.std.proofs.Common.{vec_len}
+use Rattle.rack.proofs.Basics.{vec_len}
 use Rattle.rack.proofs.Setting.{ArePoolsPut}
 use Rattle.rack.proofs.lists.Lists.put_pools.Given as goal
 

@@ -1,7 +1,6 @@
-use Rattle.std.proofs.Common.{◌≡◌, ◌+◌, List, length, refl, sym, subst, arith}
-use Rattle.std.specs.Prelude.{All}
+use Rattle.rack.proofs.Basics.{◌≡◌, ◌+◌, List, length, refl, sym, subst, arith, All}
 use Rattle.rack.proofs.Setting.{SpindleLock, AreSpindlesPut, spindles_none, last_size, room_for_lock, room_for_keeper, room_for_row, spindles_next}
-use Rattle.rack.proofs.Together.{all_reverse}
+use Rattle.rack_parts.proofs.Members.{all_reverse}
 use Rattle.rack.proofs.lists.Lists.put_spindles.Goals as goal
 
 pub loop-lock-init : goal.loop-lock-init

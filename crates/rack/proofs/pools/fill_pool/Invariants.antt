@@ -1,5 +1,0 @@
-use Rattle.rack.proofs.Filling.{IsFilledTo}
-use Rattle.rack.proofs.pools.fill_pool.Given as goal
-
-abbrev pub invariant-loop-index : goal.invariant-loop-index
-invariant-loop-index g l = IsFilledTo g.D.Disk.state l.heads l.fn.segments l.segments l.fn.pool l.pool l.index

@@ -1,9 +1,0 @@
-use Rattle.std.proofs.Common.{◌≤◌, length, vec_capacity}
-use Rattle.rack.proofs.LanesTaken.{AreLanesTaken}
-use Rattle.rack.proofs.rack.Rest.take_lanes.Given as goal
-
-abbrev pub invariant-loop-logger : goal.invariant-loop-logger
-invariant-loop-logger g l = record {
-  taken : AreLanesTaken g.D.Disk.state l.config l.view l.id l.fn.self l.self l.lanes.items l.logger-index;
-  room : length l.view ≤ vec_capacity l.lanes;
-}

@@ -1,0 +1,74 @@
+-- Parts that came back with a fault stay in the list of the bay.
+use Rattle.rack_closing.proofs.Basics.{◌≡◌, ℕ, ◌+◌, List, [], ◌++◌, Option, None, Some, option_map, sym, ap, ◌∙◌, subst, append-nil}
+use Rattle.rack_closing.proofs.Basics.{append_assoc, zero, suc, ◌-◌, length, refl, arith, Contains-append_left, Contains-append_right}
+use Rattle.rack_closing.proofs.Basics.{same_Some}
+use Rattle.rack_closing.proofs.Terms.{Name, Told, sent_out, Image, BayState, at_name, HasFaulty, IsFaultAmong, HasNewFault, RefusesImage}
+use Rattle.rack_closing.proofs.Terms.{reads, Config, VolumeConf, IsImageFault, shape_in, shapes_of, ImageRest, VolumeFault, LabelFault}
+use Rattle.volume_images.specs.Left.{IsTold}
+use Rattle.volume_images.specs.declared.reading.ImageFault.{ImageFault}
+use Rattle.volume_images.specs.declared.reading.ImageFault.TheVariants as fault
+
+pub told_each : (P Q : Told → Told → Type 0) (o n : Option Told) → ((x y : Told) → P x y → Q x y) → IsTold P o n → IsTold Q o n
+told_each P Q None n each is = is
+told_each P Q (Some o) None each is = is
+told_each P Q (Some o) (Some n) each is = each o n is
+
+pub told_with : (P Q : Told → Told → Type 0) (o n : Option Told) → IsTold P o n → IsTold Q o n → IsTold (λ x y. P x y × Q x y) o n
+told_with P Q None n first then = first
+told_with P Q (Some o) None first then = first
+told_with P Q (Some o) (Some n) first then = (first, then)
+
+-- no further part came back with a fault
+pub none_faulty : (x y : Told) → y.faulty ≡ x.faulty → HasFaulty x y
+none_faulty x y same = ([], same ∙ sym (append-nil x.faulty))
+
+-- where nothing was done, or an image went out
+pub same_faulty : (o n : Option Told) → IsTold (λ x y. y ≡ x) o n → IsTold HasFaulty o n
+same_faulty o n = told_each (λ x y. y ≡ x) HasFaulty o n (λ x y same. none_faulty x y (ap (λ (t : Told). t.faulty) same))
+
+pub sent_faulty : (name : Name) (sizes : List ℕ) (o n : Option Told) → n ≡ option_map (sent_out name sizes) o → IsTold HasFaulty o n
+sent_faulty name sizes None n sent = sent
+sent_faulty name sizes (Some t) n sent = subst (λ (x : Option Told). IsTold HasFaulty (Some t) x) (sym sent) ([], sym (append-nil t.faulty))
+
+among_left : (name : Name) (f : ImageFault) (xs ys : List (Name × ℕ)) → IsFaultAmong name f xs → IsFaultAmong name f (xs ++ ys)
+among_left name (fault.Damaged block) xs ys is = tt
+among_left name fault.LabelDiffers xs ys is = tt
+among_left name fault.LabelFault xs ys is = Contains-append_left xs ys (name, 0) is
+among_left name (fault.SegmentFault index) xs ys is = Contains-append_left xs ys (name, 2 + index) is
+
+among_right : (name : Name) (f : ImageFault) (xs ys : List (Name × ℕ)) → IsFaultAmong name f ys → IsFaultAmong name f (xs ++ ys)
+among_right name (fault.Damaged block) xs ys is = tt
+among_right name fault.LabelDiffers xs ys is = tt
+among_right name fault.LabelFault xs ys is = Contains-append_right xs ys (name, 0) is
+among_right name (fault.SegmentFault index) xs ys is = Contains-append_right xs ys (name, 2 + index) is
+
+-- what came back since a moment came back since an earlier one
+pub fault_since : (name : Name) (f : ImageFault) (e o n : Option Told) → IsTold HasFaulty e o → IsTold (HasNewFault name f) o n → IsTold (HasNewFault name f) e n
+fault_since name f None None n gained new = new
+fault_since name f None (Some o) n gained new = absurd (cc gained)
+fault_since name f (Some e) None n gained new = absurd gained
+fault_since name f (Some e) (Some o) None gained new = absurd new
+fault_since name f (Some e) (Some o) (Some n) gained new = record {
+  more = gained.0 ++ new.more;
+  more_is = new.more_is ∙ ap (λ (fs : List (Name × ℕ)). fs ++ new.more) gained.1 ∙ append_assoc e.faulty gained.0 new.more;
+  among = among_right name f gained.0 new.more new.among;
+}
+
+-- and until a later one
+pub fault_later : (name : Name) (f : ImageFault) (e o n : Option Told) → IsTold (HasNewFault name f) e o → IsTold HasFaulty o n → IsTold (HasNewFault name f) e n
+fault_later name f None None n new gained = gained
+fault_later name f None (Some o) n new gained = absurd (cc new)
+fault_later name f (Some e) None n new gained = absurd new
+fault_later name f (Some e) (Some o) None new gained = absurd gained
+fault_later name f (Some e) (Some o) (Some n) new gained = record {
+  more = new.more ++ gained.0;
+  more_is = gained.1 ∙ ap (λ (fs : List (Name × ℕ)). fs ++ gained.0) new.more_is ∙ append_assoc e.faulty new.more gained.0;
+  among = among_left name f new.more gained.0 new.among;
+}
+
+-- what the image that is told said
+pub image_said : {D : Type 0} (config : Config) (old new : BayState) (out : List (Option (ImageRest D))) (k : ℕ) (v : VolumeConf) (f : VolumeFault) (t : Told) → old.told ≡ Some t
+    → (r : RefusesImage config out old new k v f) → (i : Image) → at_name v.name t.images ≡ Some i → IsImageFault (length (shapes_of config)) k (shape_in config v) (reads i.blocks) r.image_fault
+image_said config old new out k v f t told r i at =
+    let was = r.said t told in
+    subst (λ (x : Image). IsImageFault (length (shapes_of config)) k (shape_in config v) (reads x.blocks) r.image_fault) (same_Some was.0 i (sym was.1 ∙ at)) was.4

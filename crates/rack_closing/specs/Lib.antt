@@ -1,0 +1,10 @@
+pub use Rattle.rack_parts.specs.Rests
+pub use Rattle.rack_parts.specs.Foreign
+pub use Rattle.rack_parts.specs.Racks
+pub use Rattle.rack_parts.specs.Parts
+pub use Rattle.rack_parts.specs.Closing
+pub mod Owners
+pub mod PoolUses
+pub mod Opens
+pub mod Closes
+pub mod Laws

@@ -1,0 +1,15 @@
+pub mod Basics
+pub mod Terms
+pub mod LocksIssued
+pub mod SpindlesClosed
+pub mod GivenBack
+pub mod Members
+pub mod ManagerBack
+pub mod StationsClosed
+pub mod PoolsClosed
+pub mod HeldBack
+pub mod LanesMoved
+pub mod PoolsEmptied
+pub mod Returned
+pub mod OwnedTaken
+pub mod LanesTaken
