@@ -120,7 +120,7 @@ check_versions() {
 
 check_clauses() {
     local crate function have label rows
-    for function in wol_run::run replay::replay inspection::inspect rack::open_all rack::close_all request_workers::window \
+    for function in wol_run::run replay::replay inspection::inspect rack::open_all rack_closing::close_all request_workers::window \
         $(sed -n 's/^    pub fn \([a-z_]*\).*/manager::Manager::\1/p' crates/manager/src/*.rt); do
         crate=${function%%::*}
         have=$(labels "$crate" "${function##*::}" | sort -u)
