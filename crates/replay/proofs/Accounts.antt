@@ -17,8 +17,8 @@ use Rattle.run_laws.specs.Journals.{OthersAccess, uses_by}
 use Rattle.run_laws.proofs.Accounts.{account_covers, no_account}
 use Rattle.trace_windows.specs.Laws.{AreInOrder}
 use Rattle.request_workers.specs.Begun.{SpindlePass}
-use Rattle.request_workers.specs.declared.floor.Floor.{Floor}
-use Rattle.request_workers.specs.declared.request.Reclaim.{Reclaim}
+use Rattle.window_desks.specs.declared.floor.Floor.{Floor}
+use Rattle.window_desks.specs.declared.request.Reclaim.{Reclaim}
 use Rattle.rack_parts.proofs.Members.{is_member}
 use Rattle.replay.specs.Served.{HaveStarted, ServedFromStart, ServedWindow, WasServed, WereServed}
 use Rattle.replay.proofs.RacksServed.{at_place, there_at}

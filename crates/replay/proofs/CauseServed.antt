@@ -24,9 +24,9 @@ use Rattle.trace_windows.specs.Requests.{asked, requests_in_all}
 use Rattle.trace_windows.specs.declared.request.Request.{Request}
 use Rattle.request_workers.specs.Floors.{HasRun}
 use Rattle.request_workers.specs.Stations.{IsMoved}
-use Rattle.request_workers.specs.declared.desk.Desk.{Desk}
-use Rattle.request_workers.specs.declared.floor.Floor.{Floor}
-use Rattle.request_workers.specs.declared.request.Reclaim.{Reclaim}
+use Rattle.window_desks.specs.declared.desk.Desk.{Desk}
+use Rattle.window_desks.specs.declared.floor.Floor.{Floor}
+use Rattle.window_desks.specs.declared.request.Reclaim.{Reclaim}
 use Rattle.rack.specs.Closes.{IsClosedVolume}
 use Rattle.rack_parts.specs.declared.rack.ImageRest.{ImageRest}
 use Rattle.replay.specs.Ended.{HasRefusedWrite}

@@ -16,7 +16,7 @@ use Rattle.replay.specs.Served.{ServedFromStart, ServedWindow}
 use Rattle.replay.proofs.Accounts.{AreOthers, account_journal, empty_journal, first_start, moments_of, moments_within, no_start, served_used}
 use Rattle.spin_model.specs.Spindles.{SpindleView, StandsFor}
 use Rattle.request_workers.specs.Begun.{SpindlePass}
-use Rattle.request_workers.specs.declared.floor.Floor.{Floor}
+use Rattle.window_desks.specs.declared.floor.Floor.{Floor}
 use Rattle.replay.specs.Sessions.{ServesSome, ServesWhole}
 use Rattle.wol_disk.specs.Disk.{State}
 use Rattle.wol_bay.specs.Bay.{BayState, Told, at_name, outs}

@@ -26,7 +26,7 @@ use Rattle.trace_windows.specs.declared.request.Request as program
 use Rattle.volume_images.specs.Left.{IsTold}
 use Rattle.request_turns.specs.declared.outcome.Outcome.{Outcome}
 use Rattle.request_turns.specs.declared.outcome.Outcome.TheVariants as outcome
-use Rattle.request_workers.specs.declared.request.Window.{Window}
+use Rattle.window_desks.specs.declared.request.Window.{Window}
 use Rattle.replay.specs.Completes.{Completes, MayComplete, is_write, writes_to}
 use Rattle.replay.specs.Ended.{EndsFor, HasRefusedWrite, IsPartFault, memory, no_line, refused, sink_failed}
 use Rattle.replay.specs.Endings.{fault_of_outcome, fault_of_reclaim, fault_of_window, first_refused, lacked_memory}

@@ -21,8 +21,8 @@ use Rattle.rack.specs.Closes.{IsClosedSpindle}
 use Rattle.rack.specs.Racks.{IsClosable, IsRack, IsUnused, KeepToViews}
 use Rattle.rack_parts.specs.declared.rack.Rack.{Rack}
 use Rattle.request_workers.specs.Begun.{FailToBegin, HasBegun, HasStayed, HaveBegun, HaveBegunVolumes, SpindlePass}
-use Rattle.request_workers.specs.declared.floor.Floor.{Floor}
-use Rattle.request_workers.specs.declared.request.Reclaim.{Reclaim}
+use Rattle.window_desks.specs.declared.floor.Floor.{Floor}
+use Rattle.window_desks.specs.declared.request.Reclaim.{Reclaim}
 use Rattle.replay.specs.Served.{Further, HasStarted, ServedFromStart, ServedWindow, StartsOnce, WasNotRun, begins_alone, fails_to_begin, is_none_served, none_further}
 use Rattle.replay.specs.Sessions.{AreWindowsOf}
 use Rattle.replay.specs.Summed as summed

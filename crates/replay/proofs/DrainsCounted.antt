@@ -20,8 +20,8 @@ use Rattle.request_turns.specs.Entries.{AreEntriesOf, AreMade, IsGroupEntry}
 use Rattle.request_turns.specs.declared.outcome.Outcome as turns
 use Rattle.request_turns.specs.declared.outcome.Outcome.TheVariants as outcome
 use Rattle.request_workers.specs.Requests.{answers_to, outcomes_of, own_requests, told}
-use Rattle.request_workers.specs.declared.request.Reclaim.{Reclaim}
-use Rattle.request_workers.specs.declared.request.Reclaim.TheVariants as reclaim
+use Rattle.window_desks.specs.declared.request.Reclaim.{Reclaim}
+use Rattle.window_desks.specs.declared.request.Reclaim.TheVariants as reclaim
 use Rattle.replay.specs.Counts.{was_drained}
 use Rattle.replay.specs.Histories.{History, answers_in}
 use Rattle.replay.specs.Served.{ServedWindow, outcomes_in}

@@ -20,10 +20,10 @@ use Rattle.request_turns.specs.declared.outcome.Outcome.{Outcome}
 use Rattle.request_turns.specs.declared.outcome.Outcome.TheVariants as outcome
 use Rattle.request_workers.specs.Requests.{answers_to, own_requests, outcomes_of, StopsAtRefusal, told}
 use Rattle.request_workers.specs.Worked.{HasWorked}
-use Rattle.request_workers.specs.declared.desk.Desk.{Desk}
-use Rattle.request_workers.specs.declared.floor.Floor.{Floor}
-use Rattle.request_workers.specs.declared.request.Reclaim.{Reclaim}
-use Rattle.request_workers.specs.declared.request.Window.{Window}
+use Rattle.window_desks.specs.declared.desk.Desk.{Desk}
+use Rattle.window_desks.specs.declared.floor.Floor.{Floor}
+use Rattle.window_desks.specs.declared.request.Reclaim.{Reclaim}
+use Rattle.window_desks.specs.declared.request.Window.{Window}
 use Rattle.replay.specs.Endings.{fault_of_outcome, fault_of_window, fault_of_reclaim, first_refused, lacked_memory}
 use Rattle.replay.specs.Histories.{answers_in}
 use Rattle.replay.specs.Served.{ServedWindow, ServedFromStart, WasServed, WereServed}

@@ -17,9 +17,9 @@ use Rattle.manager.specs.declared.station.Station.{Station}
 use Rattle.request_turns.specs.Turns.{ManagerPass, coded}
 use Rattle.request_turns.proofs.Gaining.{pass_kept}
 use Rattle.request_workers.specs.Stations.{IsMoved}
-use Rattle.request_workers.specs.declared.desk.Desk.{Desk}
-use Rattle.request_workers.specs.declared.floor.Floor.{Floor}
-use Rattle.request_workers.specs.declared.request.Reclaim.{Reclaim}
+use Rattle.window_desks.specs.declared.desk.Desk.{Desk}
+use Rattle.window_desks.specs.declared.floor.Floor.{Floor}
+use Rattle.window_desks.specs.declared.request.Reclaim.{Reclaim}
 use Rattle.rack.specs.Racks.{AreUnused, IsUnused}
 use Rattle.replay.specs.Histories.{answers_in}
 use Rattle.replay.specs.Served.{ServedFromStart, ServedWindow}

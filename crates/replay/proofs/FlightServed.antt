@@ -31,10 +31,10 @@ use Rattle.request_turns.specs.declared.outcome.Outcome.TheVariants as outcome
 use Rattle.request_workers.specs.Closed.{IsClosed}
 use Rattle.request_workers.specs.Requests.{StopsAtRefusal, answers_to, outcomes_of, own_requests, told}
 use Rattle.request_workers.specs.Worked.{HasWorked}
-use Rattle.request_workers.specs.declared.desk.Desk.{Desk}
-use Rattle.request_workers.specs.declared.floor.Floor.{Floor}
-use Rattle.request_workers.specs.declared.request.Reclaim.{Reclaim}
-use Rattle.request_workers.specs.declared.request.Reclaim.TheVariants as reclaim
+use Rattle.window_desks.specs.declared.desk.Desk.{Desk}
+use Rattle.window_desks.specs.declared.floor.Floor.{Floor}
+use Rattle.window_desks.specs.declared.request.Reclaim.{Reclaim}
+use Rattle.window_desks.specs.declared.request.Reclaim.TheVariants as reclaim
 use Rattle.replay.specs.Histories.{answers_in}
 use Rattle.replay.specs.Served.{ServedFromStart, ServedWindow, WereServed}
 use Rattle.replay.proofs.AnswersServed.{own_answers}

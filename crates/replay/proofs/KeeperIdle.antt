@@ -17,8 +17,8 @@ use Rattle.request_turns.specs.Turns.{ManagerPass, began, coded}
 use Rattle.request_turns.proofs.CountLaws.{AreOthersIdle}
 use Rattle.request_turns.proofs.Gaining.{notes_joined, nothing_more, pass_kept}
 use Rattle.request_workers.specs.Begun.{HaveBegunVolumes}
-use Rattle.request_workers.specs.declared.floor.Floor.{Floor}
-use Rattle.request_workers.specs.declared.request.Reclaim.{Reclaim}
+use Rattle.window_desks.specs.declared.floor.Floor.{Floor}
+use Rattle.window_desks.specs.declared.request.Reclaim.{Reclaim}
 use Rattle.replay.specs.Served.{ServedFromStart, ServedWindow, WasServed, WereServed}
 use Rattle.replay.proofs.EntriesOwn.{all_of_three}
 use Rattle.replay.proofs.PassesRuled.{pass_there}

@@ -4,8 +4,8 @@ use Rattle.manager.specs.declared.station.Station.{Station}
 use Rattle.request_turns.specs.Helped.{ManagerLock}
 use Rattle.request_workers.specs.Floors.{AreWhole, IsFloor, passes_of}
 use Rattle.request_workers.specs.Stations.{AreMoved, IsMoved}
-use Rattle.request_workers.specs.declared.floor.Floor.{Floor}
-use Rattle.request_workers.specs.declared.floor.Passes.{Passes}
+use Rattle.window_desks.specs.declared.floor.Floor.{Floor}
+use Rattle.window_desks.specs.declared.floor.Passes.{Passes}
 
 module _ {D : Type 0} (ls : List (ManagerLock D)) (p : Passes D) (f : Floor D) (locks : f.locks.now ≡ ls) (passes : passes_of f ≡ p) where
   pub floor_lent : AreWhole ls p → IsFloor f

@@ -24,7 +24,7 @@ use Rattle.msr_trace.specs.declared.format.TraceFault.TheVariants as refusal
 use Rattle.report.specs.declared.fault.Fault.TheVariants.{Memory}
 use Rattle.request_workers.specs.Begun.{HaveBegun, HaveBegunVolumes, SpindlePass}
 use Rattle.request_workers.specs.Floors.{AreSameButRoom, IsAsItWas}
-use Rattle.request_workers.specs.declared.floor.Floor.{Floor}
+use Rattle.window_desks.specs.declared.floor.Floor.{Floor}
 use Rattle.replay.specs.Counts.{no_totals}
 use Rattle.replay.specs.Givens.{HasGiven, HasGivenAll, Refuses}
 use Rattle.replay.specs.Served.{AreTotals, Further, ServedFromStart, ServedWindow, WasNotRun, begins_alone, fails_to_begin, is_none_served, none_further}

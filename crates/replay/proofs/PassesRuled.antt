@@ -9,10 +9,10 @@ use Rattle.request_turns.proofs.Gaining.{gains_turn}
 use Rattle.request_workers.specs.Begun.{HaveBegunVolumes, SpindlePass}
 use Rattle.request_workers.specs.Closed.{IsClosed}
 use Rattle.request_workers.specs.Worked.{HasWorked, HelpedIn}
-use Rattle.request_workers.specs.declared.desk.Desk.{Desk}
-use Rattle.request_workers.specs.declared.floor.Floor.{Floor}
-use Rattle.request_workers.specs.declared.request.Reclaim.{Reclaim}
-use Rattle.request_workers.specs.declared.request.Reclaim.TheVariants as reclaim
+use Rattle.window_desks.specs.declared.desk.Desk.{Desk}
+use Rattle.window_desks.specs.declared.floor.Floor.{Floor}
+use Rattle.window_desks.specs.declared.request.Reclaim.{Reclaim}
+use Rattle.window_desks.specs.declared.request.Reclaim.TheVariants as reclaim
 use Rattle.replay.specs.Served.{ServedWindow, ServedFromStart, WasNotRun, WasServed, WereServed}
 use Rattle.replay.proofs.AnswersServed.{desk_there}
 use Rattle.replay.proofs.Makes.{Makes, makes_both, makes_none, makes_same}

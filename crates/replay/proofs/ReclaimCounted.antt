@@ -14,10 +14,10 @@ use Rattle.request_workers.specs.Counted.{AreHonest, all_between}
 use Rattle.request_workers.specs.Floors.{workers_of}
 use Rattle.request_workers.specs.Helped.{AreHelped}
 use Rattle.request_workers.specs.Worked.{HelpedIn}
-use Rattle.request_workers.specs.declared.desk.Desk.{Desk}
-use Rattle.request_workers.specs.declared.floor.Floor.{Floor}
-use Rattle.request_workers.specs.declared.request.Reclaim.{Reclaim}
-use Rattle.request_workers.specs.declared.request.Reclaim.TheVariants as reclaim
+use Rattle.window_desks.specs.declared.desk.Desk.{Desk}
+use Rattle.window_desks.specs.declared.floor.Floor.{Floor}
+use Rattle.window_desks.specs.declared.request.Reclaim.{Reclaim}
+use Rattle.window_desks.specs.declared.request.Reclaim.TheVariants as reclaim
 use Rattle.request_workers.proofs.Totals.{HaveGained, all_both, gained_honest, have_gained_both, window_gained}
 use Rattle.replay.specs.Counts.{most_count}
 use Rattle.replay.specs.Served.{ServedFromStart, ServedWindow, WasServed, WereServed}

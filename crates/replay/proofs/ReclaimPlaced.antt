@@ -23,9 +23,9 @@ use Rattle.request_turns.proofs.Gaining.{nothing_more}
 use Rattle.request_workers.specs.Counted.{AreHonest, all_between}
 use Rattle.request_workers.specs.Floors.{AreSameButRoom, workers_of}
 use Rattle.request_workers.specs.Stations.{IsMoved}
-use Rattle.request_workers.specs.declared.desk.Desk.{Desk}
-use Rattle.request_workers.specs.declared.floor.Floor.{Floor}
-use Rattle.request_workers.specs.declared.request.Reclaim.{Reclaim}
+use Rattle.window_desks.specs.declared.desk.Desk.{Desk}
+use Rattle.window_desks.specs.declared.floor.Floor.{Floor}
+use Rattle.window_desks.specs.declared.request.Reclaim.{Reclaim}
 use Rattle.request_workers.proofs.Totals.{all_added}
 use Rattle.rack.specs.Closes.{IsClosedVolume}
 use Rattle.rack.specs.Racks.{AreUnused, IsUnused, base_of_station}

@@ -17,9 +17,9 @@ use Rattle.request_turns.specs.Turns.{ManagerPass, IsBroken, coded, faulty_part}
 use Rattle.request_turns.proofs.Gaining.{broken_more, down_breaks, last_joined, notes_joined, pass_kept}
 use Rattle.request_workers.specs.Closed.{IsClosed}
 use Rattle.request_workers.specs.Worked.{HelpedIn}
-use Rattle.request_workers.specs.declared.floor.Floor.{Floor}
-use Rattle.request_workers.specs.declared.request.Reclaim.{Reclaim}
-use Rattle.request_workers.specs.declared.request.Reclaim.TheVariants as reclaim
+use Rattle.window_desks.specs.declared.floor.Floor.{Floor}
+use Rattle.window_desks.specs.declared.request.Reclaim.{Reclaim}
+use Rattle.window_desks.specs.declared.request.Reclaim.TheVariants as reclaim
 use Rattle.replay.specs.Served.{ServedFromStart, ServedWindow, WasServed, WereServed}
 
 -- ---- The worker

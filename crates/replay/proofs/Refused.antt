@@ -14,7 +14,7 @@ use Rattle.report.specs.declared.fault.Fault.TheVariants.{Memory, TraceSource}
 use Rattle.trace_windows.specs.declared.request.Request.{Request}
 use Rattle.request_turns.specs.declared.outcome.Outcome.{Outcome}
 use Rattle.request_turns.specs.declared.outcome.Outcome.TheVariants as outcome
-use Rattle.request_workers.specs.declared.request.Window.{Window}
+use Rattle.window_desks.specs.declared.request.Window.{Window}
 use Rattle.replay.specs.Endings.{fault_of_outcome, fault_of_read, fault_of_reclaim, fault_of_window, fault_of_write, first_refused, lacked_memory}
 use Rattle.replay.specs.declared.stop.Stop.TheVariants as stop
 

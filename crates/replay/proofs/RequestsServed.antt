@@ -20,8 +20,8 @@ use Rattle.run_laws.specs.Answers.{answers_of, requests_in}
 use Rattle.run_laws.proofs.ReadLines.{volume_requests}
 use Rattle.request_turns.specs.declared.outcome.Outcome.{Outcome}
 use Rattle.request_workers.specs.Requests.{answers_to}
-use Rattle.request_workers.specs.declared.floor.Floor.{Floor}
-use Rattle.request_workers.specs.declared.request.Reclaim.{Reclaim}
+use Rattle.window_desks.specs.declared.floor.Floor.{Floor}
+use Rattle.window_desks.specs.declared.request.Reclaim.{Reclaim}
 use Rattle.replay.specs.Histories.{answers_in}
 use Rattle.replay.specs.Served.{ServedFromStart, ServedWindow, WereServed}
 use Rattle.replay.specs.Sessions.{AreWindowsOf}

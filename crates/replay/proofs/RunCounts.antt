@@ -21,7 +21,7 @@ use Rattle.rack_parts.specs.declared.rack.ImageRest.{ImageRest}
 use Rattle.manager.specs.Stands.{notes_of}
 use Rattle.request_turns.specs.Turns.{IsBroken, ManagerPass}
 use Rattle.request_workers.specs.Requests.{answers_to}
-use Rattle.request_workers.specs.declared.request.Reclaim.{Reclaim}
+use Rattle.window_desks.specs.declared.request.Reclaim.{Reclaim}
 use Rattle.replay.specs.Endings.{fault_of_window}
 use Rattle.replay.specs.Histories.{History, answers_in, is_broken_at, next_after, next_at}
 use Rattle.replay.specs.Served.{ServedWindow}

@@ -12,7 +12,7 @@ use Rattle.wol_config.specs.declared.config.Config.{Config}
 use Rattle.report.specs.declared.fault.Fault.{Fault}
 use Rattle.report.specs.declared.fault.Fault.TheVariants.{Memory, Versions}
 use Rattle.request_workers.specs.Begun.{SpindlePass}
-use Rattle.request_workers.specs.declared.floor.Floor.{Floor}
+use Rattle.window_desks.specs.declared.floor.Floor.{Floor}
 use Rattle.trace_gen.specs.Generated.{targets_of}
 use Rattle.replay.specs.Endings.{fault_of_window}
 use Rattle.replay.specs.Ended.{EndsFor, HasRefusedWrite, IsPartFault, memory, no_line, refused, sink_failed, whole}

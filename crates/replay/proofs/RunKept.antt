@@ -29,8 +29,8 @@ use Rattle.rack_parts.specs.declared.rack.Rack.{Rack}
 use Rattle.rack_parts.specs.declared.rack.Rest.{Rest}
 use Rattle.request_workers.specs.Requests.{answers_to}
 use Rattle.request_workers.specs.Stations.{AreStations, IsMoved}
-use Rattle.request_workers.specs.declared.floor.Floor.{Floor}
-use Rattle.request_workers.specs.declared.request.Reclaim.{Reclaim}
+use Rattle.window_desks.specs.declared.floor.Floor.{Floor}
+use Rattle.window_desks.specs.declared.request.Reclaim.{Reclaim}
 use Rattle.replay.specs.Endings.{fault_of_window}
 use Rattle.replay.specs.Histories.{History, AreHistories, ArePlainMarks, BeginAsRead, LeavesReclaimed, is_broken, answers_in, is_broken_at, next_at}
 use Rattle.replay.specs.Leaves.{LeavesImages}

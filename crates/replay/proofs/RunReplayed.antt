@@ -37,9 +37,9 @@ use Rattle.spin_model.specs.Operations.{uses_of}
 use Rattle.spin_model.specs.Spindles.{SpindleView}
 use Rattle.request_workers.specs.Begun.{FailToBegin, HaveBegun, SpindlePass}
 use Rattle.request_workers.specs.Stations.{AreStations, IsMoved}
-use Rattle.request_workers.specs.declared.floor.Floor.{Floor}
-use Rattle.request_workers.specs.declared.request.Reclaim.{Reclaim}
-use Rattle.request_workers.specs.declared.request.Reclaim.TheVariants as reclaim
+use Rattle.window_desks.specs.declared.floor.Floor.{Floor}
+use Rattle.window_desks.specs.declared.request.Reclaim.{Reclaim}
+use Rattle.window_desks.specs.declared.request.Reclaim.TheVariants as reclaim
 use Rattle.replay.specs.Ended.{memory}
 use Rattle.replay.specs.Givens.{HasGiven}
 use Rattle.replay.specs.Headlined.{AreAllOpen}

@@ -20,10 +20,10 @@ use Rattle.request_turns.specs.Turns.{IsBroken, KeptStay, ManagerPass, began, co
 use Rattle.request_turns.proofs.CountLaws.{AreOthersIdle}
 use Rattle.request_turns.proofs.Gaining.{kept_join, notes_joined, nothing_more, pass_kept}
 use Rattle.request_workers.specs.Stations.{IsMoved}
-use Rattle.request_workers.specs.declared.desk.Desk.{Desk}
-use Rattle.request_workers.specs.declared.floor.Floor.{Floor}
-use Rattle.request_workers.specs.declared.request.Reclaim.{Reclaim}
-use Rattle.request_workers.specs.declared.request.Reclaim.TheVariants as reclaim
+use Rattle.window_desks.specs.declared.desk.Desk.{Desk}
+use Rattle.window_desks.specs.declared.floor.Floor.{Floor}
+use Rattle.window_desks.specs.declared.request.Reclaim.{Reclaim}
+use Rattle.window_desks.specs.declared.request.Reclaim.TheVariants as reclaim
 use Rattle.rack.specs.Closes.{IsClosedVolume}
 use Rattle.rack.specs.Racks.{AreUnused, IsUnused, base_of_station}
 use Rattle.rack_parts.specs.declared.rack.ImageRest.{ImageRest}

@@ -24,9 +24,9 @@ use Rattle.request_turns.specs.Helped.{ManagerLock}
 use Rattle.request_workers.specs.Begun.{SpindlePass, FailToBegin, HaveBegun, HaveBegunVolumes}
 use Rattle.request_workers.specs.Floors.{HasRun}
 use Rattle.request_workers.specs.Requests.{AreOfVolumes}
-use Rattle.request_workers.specs.declared.floor.Floor.{Floor}
-use Rattle.request_workers.specs.declared.request.Reclaim.{Reclaim}
-use Rattle.request_workers.specs.declared.request.Window.{Window as Answer}
+use Rattle.window_desks.specs.declared.floor.Floor.{Floor}
+use Rattle.window_desks.specs.declared.request.Reclaim.{Reclaim}
+use Rattle.window_desks.specs.declared.request.Window.{Window as Answer}
 use Rattle.replay.specs.Counts.{CountsWindow, most_count, was_read, was_written, was_logged, went_home, was_drained}
 use Rattle.replay.specs.Served.{AreSamePasses, AreTotals, HaveStarted, ServedFromStart, ServedWindow, StartsOnce, WasServed, WereServed, is_none_served, outcomes_in}
 use Rattle.replay.specs.Sessions.{AreServedFrom, AreServedOf, AreVolumes, EndsIn, Finishes, GoesOn, HasBegunWindow, HasFailedToBegin, HasServed, lines_of_window, lines_of_windows}

@@ -9,7 +9,7 @@ use Rattle.request_turns.specs.Helped.{ManagerLock}
 use Rattle.request_workers.specs.Begun.{SpindlePass}
 use Rattle.request_workers.specs.Floors.{IsFloor, IsOn}
 use Rattle.request_workers.specs.Stations.{AreStations, IsMoved}
-use Rattle.request_workers.specs.declared.floor.Floor.{Floor}
+use Rattle.window_desks.specs.declared.floor.Floor.{Floor}
 use Rattle.wol_config.specs.declared.config.Config.{Config}
 use Rattle.rack_parts.specs.declared.rack.Rack.{Rack}
 use Rattle.wol_io.proofs.Appending.{keeps_same}

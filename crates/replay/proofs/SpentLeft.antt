@@ -27,9 +27,9 @@ use Rattle.request_turns.specs.declared.outcome.Outcome.TheVariants as outcome
 use Rattle.request_turns.proofs.Gaining.{notes_joined}
 use Rattle.request_workers.specs.Requests.{answers_to, outcomes_of}
 use Rattle.request_workers.specs.Worked.{HasWorked}
-use Rattle.request_workers.specs.declared.desk.Desk.{Desk}
-use Rattle.request_workers.specs.declared.request.Reclaim.{Reclaim}
-use Rattle.request_workers.specs.declared.request.Window.{Window}
+use Rattle.window_desks.specs.declared.desk.Desk.{Desk}
+use Rattle.window_desks.specs.declared.request.Reclaim.{Reclaim}
+use Rattle.window_desks.specs.declared.request.Window.{Window}
 use Rattle.replay.specs.Endings.{fault_of_outcome, fault_of_reclaim, fault_of_window, first_refused, lacked_memory}
 use Rattle.replay.proofs.LastWindow.{closed_more}
 use Rattle.replay.proofs.PassesRuled.{IsRuled}

@@ -14,7 +14,7 @@ use Rattle.trace_gen.specs.Generated.{targets_of}
 use Rattle.report.specs.Names.{printed_names}
 use Rattle.report.specs.Summaries.{summary_text}
 use Rattle.request_workers.specs.Begun.{SpindlePass}
-use Rattle.request_workers.specs.declared.floor.Floor.{Floor}
+use Rattle.window_desks.specs.declared.floor.Floor.{Floor}
 use Rattle.wol_disk.specs.Disk.{State}
 use Rattle.wol_bay.specs.Bay.{BayState}
 use Rattle.wol_config.specs.declared.config.Config.{Config}

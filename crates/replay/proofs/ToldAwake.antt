@@ -12,8 +12,8 @@ use Rattle.spin_model.specs.Spindles.{state_after}
 use Rattle.run_laws.specs.Journals.{answer_then, answers_by}
 use Rattle.rack.specs.Racks.{IsUnused}
 use Rattle.request_workers.specs.Begun.{HasBegun, HasStayed, SpindlePass}
-use Rattle.request_workers.specs.declared.floor.Floor.{Floor}
-use Rattle.request_workers.specs.declared.request.Reclaim.{Reclaim}
+use Rattle.window_desks.specs.declared.floor.Floor.{Floor}
+use Rattle.window_desks.specs.declared.request.Reclaim.{Reclaim}
 use Rattle.replay.specs.Served.{HasStarted, HaveStarted, ServedFromStart, ServedWindow, WasServed, WereServed}
 use Rattle.replay.proofs.Accounts.{HasUsed, there_after}
 use Rattle.replay.specs.Summed.{column}

@@ -17,10 +17,10 @@ use Rattle.manager.specs.declared.station.Station.{Station}
 use Rattle.rack.specs.Racks.{AreUnused}
 use Rattle.request_workers.specs.Stations.{IsMoved}
 use Rattle.request_workers.specs.Worked.{HasWorked}
-use Rattle.request_workers.specs.declared.desk.Desk.{Desk}
-use Rattle.request_workers.specs.declared.floor.Floor.{Floor}
-use Rattle.request_workers.specs.declared.request.Reclaim.{Reclaim}
-use Rattle.request_workers.specs.declared.request.Reclaim.TheVariants as reclaim
+use Rattle.window_desks.specs.declared.desk.Desk.{Desk}
+use Rattle.window_desks.specs.declared.floor.Floor.{Floor}
+use Rattle.window_desks.specs.declared.request.Reclaim.{Reclaim}
+use Rattle.window_desks.specs.declared.request.Reclaim.TheVariants as reclaim
 use Rattle.replay.specs.Histories.{answers_in}
 use Rattle.replay.specs.Runs.{locks_of}
 use Rattle.replay.specs.Served.{ServedFromStart, ServedWindow, WereServed}

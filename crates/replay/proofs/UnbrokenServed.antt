@@ -25,11 +25,11 @@ use Rattle.request_workers.specs.Closed.{IsClosed}
 use Rattle.request_workers.specs.Helped.{AreAllKept}
 use Rattle.request_workers.specs.Requests.{answers_to, told}
 use Rattle.request_workers.specs.Worked.{HasWorked, HelpedIn, first_fault}
-use Rattle.request_workers.specs.declared.desk.Desk.{Desk}
-use Rattle.request_workers.specs.declared.floor.Floor.{Floor}
-use Rattle.request_workers.specs.declared.request.Reclaim.{Reclaim}
-use Rattle.request_workers.specs.declared.request.Reclaim.TheVariants as reclaim
-use Rattle.request_workers.specs.declared.request.Window.{Window}
+use Rattle.window_desks.specs.declared.desk.Desk.{Desk}
+use Rattle.window_desks.specs.declared.floor.Floor.{Floor}
+use Rattle.window_desks.specs.declared.request.Reclaim.{Reclaim}
+use Rattle.window_desks.specs.declared.request.Reclaim.TheVariants as reclaim
+use Rattle.window_desks.specs.declared.request.Window.{Window}
 use Rattle.replay.specs.Endings.{fault_of_reclaim, fault_of_window, first_refused, lacked_memory}
 use Rattle.replay.specs.Served.{ServedFromStart, ServedWindow, WasServed, WereServed}
 use Rattle.replay.specs.Sessions.{WentWell}

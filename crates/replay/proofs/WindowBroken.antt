@@ -34,11 +34,11 @@ use Rattle.request_workers.specs.Floors.{HasRun}
 use Rattle.request_workers.specs.Requests.{outcomes_of}
 use Rattle.request_workers.specs.Stations.{IsMoved}
 use Rattle.request_workers.specs.Worked.{first_fault}
-use Rattle.request_workers.specs.declared.desk.Desk.{Desk}
-use Rattle.request_workers.specs.declared.floor.Floor.{Floor}
-use Rattle.request_workers.specs.declared.request.Reclaim.{Reclaim}
-use Rattle.request_workers.specs.declared.request.Reclaim.TheVariants as reclaim
-use Rattle.request_workers.specs.declared.request.Window.{Window}
+use Rattle.window_desks.specs.declared.desk.Desk.{Desk}
+use Rattle.window_desks.specs.declared.floor.Floor.{Floor}
+use Rattle.window_desks.specs.declared.request.Reclaim.{Reclaim}
+use Rattle.window_desks.specs.declared.request.Reclaim.TheVariants as reclaim
+use Rattle.window_desks.specs.declared.request.Window.{Window}
 use Rattle.replay.specs.Endings.{fault_of_outcome, fault_of_reclaim, fault_of_window, first_refused, lacked_memory}
 use Rattle.replay.proofs.AnswersServed.{desk_there}
 use Rattle.replay.proofs.RacksServed.{a_member, at_place, mapped, there_at, unmapped}

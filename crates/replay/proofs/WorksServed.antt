@@ -14,10 +14,10 @@ use Rattle.request_turns.proofs.Gaining.{down_breaks, gains_both, gains_none, ga
 use Rattle.request_workers.specs.Begun.{HaveBegunVolumes}
 use Rattle.request_workers.specs.Closed.{IsClosed}
 use Rattle.request_workers.specs.Worked.{HasWorked}
-use Rattle.request_workers.specs.declared.desk.Desk.{Desk}
-use Rattle.request_workers.specs.declared.floor.Floor.{Floor}
-use Rattle.request_workers.specs.declared.request.Reclaim.{Reclaim}
-use Rattle.request_workers.specs.declared.request.Reclaim.TheVariants as reclaim
+use Rattle.window_desks.specs.declared.desk.Desk.{Desk}
+use Rattle.window_desks.specs.declared.floor.Floor.{Floor}
+use Rattle.window_desks.specs.declared.request.Reclaim.{Reclaim}
+use Rattle.window_desks.specs.declared.request.Reclaim.TheVariants as reclaim
 use Rattle.replay.specs.Served.{ServedFromStart, ServedWindow, WasNotRun, WereServed}
 use Rattle.replay.specs.Works.{AreBegun, AreWorks, IsClosing, IsWork}
 use Rattle.replay.proofs.FirstsServed.{was_worked}

@@ -23,8 +23,8 @@ use Rattle.rack.specs.Closes.{AreListedOf, IsOnLogger}
 use Rattle.rack.specs.Owners.{IsBegun}
 use Rattle.rack.specs.PoolUses.{ArePools, PassesEmpty, TakesFew}
 use Rattle.trace_gen.specs.Generated.{targets_of}
-use Rattle.request_workers.specs.declared.request.Reclaim.{Reclaim}
-use Rattle.request_workers.specs.declared.request.Reclaim.TheVariants as reclaim
+use Rattle.window_desks.specs.declared.request.Reclaim.{Reclaim}
+use Rattle.window_desks.specs.declared.request.Reclaim.TheVariants as reclaim
 use Rattle.replay.specs.Givens.{HasGiven}
 use Rattle.replay.specs.Headlined.{HasNotBegun}
 use Rattle.replay.specs.Histories.{History, IsHistory, answers_in, is_broken, is_broken_at, view_at}

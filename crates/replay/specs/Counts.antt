@@ -4,7 +4,7 @@ use Rattle.manager.specs.declared.part.Place.TheVariants.{Home, Log}
 use Rattle.report.specs.declared.totals.Totals.{Totals}
 use Rattle.request_turns.specs.declared.outcome.Outcome.{Outcome}
 use Rattle.request_turns.specs.declared.outcome.Outcome.TheVariants.{Read, Wrote, NoRead, NoWrite, NotRun}
-use Rattle.request_workers.specs.declared.request.Window.{Window}
+use Rattle.window_desks.specs.declared.request.Window.{Window}
 
 -- nothing was counted
 abbrev pub no_totals : Totals

@@ -14,7 +14,7 @@ use Rattle.report.specs.declared.fault.Fault.TheVariants.{Volume, Memory, Versio
 use Rattle.trace_windows.specs.declared.request.Request.{Request}
 use Rattle.request_turns.specs.declared.outcome.Outcome.{Outcome}
 use Rattle.request_turns.specs.declared.outcome.Outcome.TheVariants.{Read, Wrote, NoRead, NoWrite, NotRun}
-use Rattle.request_workers.specs.declared.request.Window.{Window}
+use Rattle.window_desks.specs.declared.request.Window.{Window}
 use Rattle.troubles.specs.Troubles.{trouble_of_part}
 
 -- a call of a part failed

@@ -20,8 +20,8 @@ use Rattle.rack.specs.Owners.{IsBegun}
 use Rattle.report.specs.Names.{name_at, printed_names}
 use Rattle.report.specs.Summaries.{read_text}
 use Rattle.request_workers.specs.Requests.{answers_to}
-use Rattle.request_workers.specs.declared.request.Reclaim.{Reclaim}
-use Rattle.request_workers.specs.declared.request.Reclaim.TheVariants as reclaim
+use Rattle.window_desks.specs.declared.request.Reclaim.{Reclaim}
+use Rattle.window_desks.specs.declared.request.Reclaim.TheVariants as reclaim
 use Rattle.replay.specs.Served.{ServedWindow}
 
 -- ---- Requests and their answers

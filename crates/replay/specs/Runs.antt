@@ -9,8 +9,8 @@ use Rattle.request_turns.specs.Helped.{ManagerLock}
 use Rattle.request_workers.specs.Begun.{SpindlePass, AreKeepers}
 use Rattle.request_workers.specs.Floors.{IsOn, passes_of}
 use Rattle.request_workers.specs.Stations.{AreStations, IsMoved}
-use Rattle.request_workers.specs.declared.floor.Floor.{Floor}
-use Rattle.request_workers.specs.declared.floor.Passes.{Passes}
+use Rattle.window_desks.specs.declared.floor.Floor.{Floor}
+use Rattle.window_desks.specs.declared.floor.Passes.{Passes}
 use Rattle.wol_config.specs.declared.config.Config.{Config}
 use Rattle.report.specs.declared.fault.Fault.{Fault}
 use Rattle.report.specs.declared.fault.Fault.TheVariants.{Memory}

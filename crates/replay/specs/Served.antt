@@ -8,9 +8,9 @@ use Rattle.wol_model.specs.Journal.{Started}
 use Rattle.request_turns.specs.declared.outcome.Outcome.{Outcome}
 use Rattle.request_workers.specs.Begun.{SpindlePass, FailToBegin, HaveBegun, HaveBegunVolumes}
 use Rattle.request_workers.specs.Floors.{AreSameButRoom, HasRun}
-use Rattle.request_workers.specs.declared.floor.Floor.{Floor}
-use Rattle.request_workers.specs.declared.request.Reclaim.{Reclaim}
-use Rattle.request_workers.specs.declared.request.Window.{Window}
+use Rattle.window_desks.specs.declared.floor.Floor.{Floor}
+use Rattle.window_desks.specs.declared.request.Reclaim.{Reclaim}
+use Rattle.window_desks.specs.declared.request.Window.{Window}
 use Rattle.report.specs.declared.totals.Totals.{Totals}
 use Rattle.trace_windows.specs.Batches.{Batched}
 use Rattle.replay.specs.Counts.{was_read, was_written, was_logged, went_home, was_drained, most_count}

@@ -16,8 +16,8 @@ use Rattle.report.specs.declared.fault.Fault.TheVariants.{Memory}
 use Rattle.request_turns.specs.Helped.{ManagerLock}
 use Rattle.request_workers.specs.Begun.{SpindlePass, AreKeepers, FailToBegin, HaveBegun, HaveBegunVolumes}
 use Rattle.request_workers.specs.Floors.{IsFloor, IsOn}
-use Rattle.request_workers.specs.declared.floor.Floor.{Floor}
-use Rattle.request_workers.specs.declared.request.Window.{Window as Answer}
+use Rattle.window_desks.specs.declared.floor.Floor.{Floor}
+use Rattle.window_desks.specs.declared.request.Window.{Window as Answer}
 use Rattle.trace_windows.specs.Batches.{Batched, IsBatchOf}
 use Rattle.trace_windows.specs.Cutting.{Cutting, HasCut, next_number}
 use Rattle.trace_windows.specs.Requests.{is_skipped}

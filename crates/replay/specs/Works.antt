@@ -9,8 +9,8 @@ use Rattle.wol_promise.specs.Report.{IsBegun, by_worker}
 use Rattle.wol_promise.specs.Ruled.{IsDrained, Noted}
 use Rattle.request_turns.specs.Entries.{AreMade}
 use Rattle.request_workers.specs.Requests.{StopsAtRefusal, outcomes_of, own_requests}
-use Rattle.request_workers.specs.declared.request.Reclaim.{Reclaim}
-use Rattle.request_workers.specs.declared.request.Reclaim.TheVariants as reclaim
+use Rattle.window_desks.specs.declared.request.Reclaim.{Reclaim}
+use Rattle.window_desks.specs.declared.request.Reclaim.TheVariants as reclaim
 use Rattle.replay.specs.Histories.{History, is_broken}
 use Rattle.replay.specs.Served.{ServedWindow}
 

@@ -14,7 +14,7 @@ ghost use Rattle.replay.specs.Completes.{Completes, MayComplete};
 ghost use Rattle.replay.specs.Replays.{Replayed, status_in};
 ghost use Rattle.open_rack.specs.NotOpened.{first_closed};
 ghost use Rattle.replay.specs.Runs.{new_session, CanServe, IsFloorOf, ServesFrom, RunsIn};
-ghost use Rattle.request_workers.specs.declared.floor.Floor.{Floor};
+ghost use Rattle.window_desks.specs.declared.floor.Floor.{Floor};
 
 use crate::counting::Counted;
 use crate::given::Given;

@@ -7,13 +7,13 @@ use Rattle.std.proofs.lemmas.Bool.{cases_lt}
 use Rattle.std.proofs.lemmas.List.{get_or_append_left, get_or-append-add, get_or-append_right}
 use Rattle.logger.specs.declared.shared.Shared.{Shared}
 use Rattle.request_turns.specs.Helped.{ManagerLock}
-use Rattle.request_workers.specs.Desks.{AreReady, AreServed, IsReadyDesk}
+use Rattle.window_desks.specs.Desks.{AreReady, AreServed, IsReadyDesk}
 use Rattle.request_workers.specs.Jobs.{IsReadyJob}
-use Rattle.request_workers.specs.Served.{HasServed}
+use Rattle.window_desks.specs.Served.{HasServed}
 use Rattle.request_workers.specs.Shares.{CanShare, HasHelpedOn, HasShared}
-use Rattle.request_workers.specs.declared.desk.Desk.{Desk}
-use Rattle.request_workers.specs.declared.floor.Floor.{Floor}
-use Rattle.request_workers.specs.declared.request.Reclaim.{Reclaim}
+use Rattle.window_desks.specs.declared.desk.Desk.{Desk}
+use Rattle.window_desks.specs.declared.floor.Floor.{Floor}
+use Rattle.window_desks.specs.declared.request.Reclaim.{Reclaim}
 
 module _ {D : Type 0} (ls : List (ManagerLock D)) (shared : Shared D) (ds es : List (Desk D)) (ready : AreReady ls shared 0 (ds ++ es)) where
   -- the first desks are ready where they are

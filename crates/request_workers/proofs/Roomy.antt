@@ -7,24 +7,24 @@ use Rattle.logger.specs.declared.shared.Shared.{Shared}
 use Rattle.manager.specs.Stands.{IsShared}
 use Rattle.manager.specs.declared.base.ManagerBase.{ManagerBase}
 use Rattle.manager.specs.declared.part.StepFault.{StepFault}
-use Rattle.request_workers.specs.Closed.{IsClosed}
-use Rattle.request_workers.specs.Desks.{IsReadyDesk, AreReady, AreServed, AreAt, ShareDesks, AreEmpty}
-use Rattle.request_workers.specs.Floors.{IsFloor, IsOn, AreInside, AreSameButRoom}
+use Rattle.window_desks.specs.Closed.{IsClosed}
+use Rattle.window_desks.specs.Desks.{IsReadyDesk, AreReady, AreServed, AreAt, ShareDesks, AreEmpty}
+use Rattle.window_desks.specs.Floors.{IsFloor, IsOn, AreInside, AreSameButRoom}
 use Rattle.request_turns.specs.Helped.{ManagerLock, IsPassAt}
 use Rattle.request_turns.specs.Requests.{IsWithin}
-use Rattle.request_workers.specs.Handed.{IsHanded, HasOwn, AreHandedOut}
-use Rattle.request_workers.specs.Helped.{ArePassesAt, AreSharing}
-use Rattle.request_workers.specs.Requests.{AreWithin, own_requests}
+use Rattle.window_desks.specs.Handed.{IsHanded, HasOwn, AreHandedOut}
+use Rattle.window_desks.specs.Helped.{ArePassesAt, AreSharing}
+use Rattle.window_desks.specs.Requests.{AreWithin, own_requests}
 use Rattle.request_turns.specs.Counts.{Counts, blocks_between, records_between}
 use Rattle.request_turns.specs.Turns.{ManagerPass, IsHonest, Gains}
-use Rattle.request_workers.specs.Worked.{HasWorked, AreWorked, HelpedIn}
-use Rattle.request_workers.specs.declared.desk.Desk.{Desk}
-use Rattle.request_workers.specs.declared.floor.Floor.{Floor}
-use Rattle.request_workers.proofs.Handing.{own_within}
+use Rattle.window_desks.specs.Worked.{HasWorked, AreWorked, HelpedIn}
+use Rattle.window_desks.specs.declared.desk.Desk.{Desk}
+use Rattle.window_desks.specs.declared.floor.Floor.{Floor}
+use Rattle.window_desks.proofs.Handing.{own_within}
 use Rattle.trace_windows.specs.declared.request.Request.{Request}
 use Rattle.request_turns.specs.declared.outcome.Outcome.{Outcome}
-use Rattle.request_workers.specs.declared.request.Reclaim.{Reclaim}
-use Rattle.request_workers.specs.declared.request.Reclaim.TheVariants as reclaim
+use Rattle.window_desks.specs.declared.request.Reclaim.{Reclaim}
+use Rattle.window_desks.specs.declared.request.Reclaim.TheVariants as reclaim
 
 some_in : {A : Type 0} (xs : List A) (k : ℕ) → k < length xs → A
 some_in [] k h = absurd (omega (arith, h))

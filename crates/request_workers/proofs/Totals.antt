@@ -12,12 +12,12 @@ use Rattle.request_turns.specs.Turns.{ManagerPass, began, notes_seen, Gains}
 use Rattle.request_turns.specs.declared.tally.Tally.{Tally}
 use Rattle.request_turns.proofs.Counting.{added_joined, others_nothing, between_both, counts_is, adds_up, more_of}
 use Rattle.request_turns.proofs.Gaining.{gains_turn, gains_both, notes_joined}
-use Rattle.request_workers.specs.Closed.{IsClosed}
-use Rattle.request_workers.specs.Counted.{AreHonest, all_between}
-use Rattle.request_workers.specs.Worked.{HasWorked, AreWorked}
-use Rattle.request_workers.specs.declared.desk.Desk.{Desk}
-use Rattle.request_workers.specs.declared.request.Reclaim.{Reclaim}
-use Rattle.request_workers.specs.declared.request.Reclaim.TheVariants as reclaim
+use Rattle.window_desks.specs.Closed.{IsClosed}
+use Rattle.window_desks.specs.Counted.{AreHonest, all_between}
+use Rattle.window_desks.specs.Worked.{HasWorked, AreWorked}
+use Rattle.window_desks.specs.declared.desk.Desk.{Desk}
+use Rattle.window_desks.specs.declared.request.Reclaim.{Reclaim}
+use Rattle.window_desks.specs.declared.request.Reclaim.TheVariants as reclaim
 use Rattle.trace_windows.specs.declared.request.Request.{Request}
 use Rattle.request_turns.specs.declared.outcome.Outcome.{Outcome}
 

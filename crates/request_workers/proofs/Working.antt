@@ -15,23 +15,23 @@ use Rattle.manager.specs.declared.part.ReadRefusal.TheVariants as refused_read
 use Rattle.manager.specs.declared.part.StepFault.{StepFault}
 use Rattle.manager.specs.declared.part.WriteRefusal.{WriteRefusal}
 use Rattle.manager.specs.declared.part.WriteRefusal.TheVariants as refused
-use Rattle.request_workers.specs.Closed.{IsClosed, HasClosedDesk, AreClosed}
-use Rattle.request_workers.specs.Collects.{IsCollected, HoldsOutcomes}
-use Rattle.request_workers.specs.Desks.{HaveOwn, AreServed}
+use Rattle.window_desks.specs.Closed.{IsClosed, HasClosedDesk, AreClosed}
+use Rattle.window_desks.specs.Collects.{IsCollected, HoldsOutcomes}
+use Rattle.window_desks.specs.Desks.{HaveOwn, AreServed}
 use Rattle.request_turns.specs.Counts.{Counts, blocks_between, records_between}
 use Rattle.request_turns.specs.Entries.{AreEntriesOf, AreMade, none, one, several, IsGroupEntry, IsRefusedRead, IsRefusedWrite, TellsFault, is_log}
 use Rattle.trace_windows.specs.Requests.{asked}
-use Rattle.request_workers.specs.Requests.{own_requests, outcomes_of, answers_to, StopsAtRefusal}
-use Rattle.request_workers.specs.Served.{HasServed}
+use Rattle.window_desks.specs.Requests.{own_requests, outcomes_of, answers_to, StopsAtRefusal}
+use Rattle.window_desks.specs.Served.{HasServed}
 use Rattle.request_turns.specs.Turns.{ManagerPass, began, notes_seen}
-use Rattle.request_workers.specs.Worked.{HasWorked, AreWorked}
-use Rattle.request_workers.specs.declared.desk.Desk.{Desk}
-use Rattle.request_workers.specs.declared.request.Reclaim.{Reclaim}
+use Rattle.window_desks.specs.Worked.{HasWorked, AreWorked}
+use Rattle.window_desks.specs.declared.desk.Desk.{Desk}
+use Rattle.window_desks.specs.declared.request.Reclaim.{Reclaim}
 use Rattle.trace_windows.specs.declared.request.Request.{Request}
 use Rattle.request_turns.specs.declared.outcome.Outcome.{Outcome}
 use Rattle.request_turns.specs.declared.outcome.Outcome.TheVariants as outcome
 use Rattle.request_turns.specs.declared.tally.Tally.{Tally}
-use Rattle.request_workers.proofs.Counted.{from_none, closed_counted}
+use Rattle.window_desks.proofs.Counted.{from_none, closed_counted}
 use Rattle.request_turns.proofs.MadeLaws.{made_length}
 use Rattle.std.specs.List.{AllByRecursion}
 

@@ -1,6 +1,6 @@
 -- What is handed to a worker and comes back.
 use Rattle.std.specs.Prelude.{◌≡◌, ◌≤◌, ◌+◌, ℕ, Bool, length}
-use Rattle.request_workers.specs.Desks.{AreReady, AreServed}
+use Rattle.window_desks.specs.Desks.{AreReady, AreServed}
 use Rattle.request_workers.specs.declared.job.Job.{Job}
 
 -- its desks are ready for a window, at the locks from `start` on

@@ -3,12 +3,12 @@ use Rattle.std.specs.Prelude.{◌≡◌, ◌^◌, ◌≤◌, ◌+◌, ◌-◌, �
 use Rattle.wol_model.specs.History.{helper}
 use Rattle.logger.specs.declared.shared.Shared.{Shared}
 use Rattle.request_turns.specs.declared.outcome.Outcome.{Outcome}
-use Rattle.request_workers.specs.Counted.{HaveCounted}
-use Rattle.request_workers.specs.Desks.{AreReady, AreServed}
-use Rattle.request_workers.specs.Helped.{ArePassesAt, AreSharing, AreAllKept, IsCause}
-use Rattle.request_workers.specs.Worked.{AreWorked, HelpedIn}
-use Rattle.request_workers.specs.declared.floor.Floor.{Floor}
-use Rattle.request_workers.specs.declared.request.Reclaim.{Reclaim}
+use Rattle.window_desks.specs.Counted.{HaveCounted}
+use Rattle.window_desks.specs.Desks.{AreReady, AreServed}
+use Rattle.window_desks.specs.Helped.{ArePassesAt, AreSharing, AreAllKept, IsCause}
+use Rattle.window_desks.specs.Worked.{AreWorked, HelpedIn}
+use Rattle.window_desks.specs.declared.floor.Floor.{Floor}
+use Rattle.window_desks.specs.declared.request.Reclaim.{Reclaim}
 use Rattle.trace_windows.specs.declared.request.Request.{Request}
 
 -- how many desks a run has: their number divided by the workers', rounded up, and at least one

@@ -2,17 +2,12 @@
 ghost use Rattle.std.specs.Prelude.{◌≡◌, ◌≤◌, ◌<◌, ◌^◌, [], ℕ, List, map, length, vec_len, vec_capacity, slice_index_or, sum_by, OnOk, OnErr, IfOk};
 ghost use Rattle.request_turns.specs.Counts.{CountsMore};
 ghost use Rattle.request_workers.specs.Crews.{IsCrew};
-ghost use Rattle.request_workers.specs.Floors.{IsFloor, IsOn, AreInside, HasRun, IsAsItWas};
-ghost use Rattle.request_workers.specs.Requests.{AreOfVolumes};
-ghost use Rattle.request_workers.specs.Worked.{first_fault};
-ghost use Rattle.request_workers.specs.declared.desk.Desk.{Desk};
+ghost use Rattle.window_desks.specs.Floors.{IsFloor, IsOn, AreInside, HasRun, IsAsItWas};
+ghost use Rattle.window_desks.specs.Requests.{AreOfVolumes};
+ghost use Rattle.window_desks.specs.Worked.{first_fault};
+ghost use Rattle.window_desks.specs.declared.desk.Desk.{Desk};
 
 use crate::crew::Crew;
-use crate::desk::Desk;
-use crate::floor::Floor;
-use crate::hand_out::hand_out;
-use crate::helper::HelperRoom;
-use crate::request::{Reclaim, Window};
 use crate::slices::run_window;
 use logger::Shared;
 use manager::StepFault;
@@ -20,6 +15,8 @@ use request_turns::Tally;
 use std::alloc::Global;
 use std::sync::Wait;
 use trace_windows::Request;
+use window_desks::hand_out::hand_out;
+use window_desks::{Desk, Floor, HelperRoom, Reclaim, Window};
 use wol_disk::{Disk, NoMemory};
 use wol_io::Gate;
 

@@ -3,11 +3,10 @@ ghost use Rattle.std.specs.Prelude.{◌≡◌, ◌≤◌, ◌<◌, ℕ, length, 
 ghost use Rattle.request_workers.specs.Crews.{AreIdleSeats, AreOver, IsCrew, IsOverCrew};
 ghost use Rattle.request_workers.specs.Shares.{size_of_runs};
 
-use crate::desk::Desk;
 use crate::job::Job;
-use crate::request::{Reclaim, Sharing, Workers};
 use errands::{Errands, Sender};
 use std::thread::yield_now;
+use window_desks::{Desk, Reclaim, Sharing, Workers};
 use wol_disk::Disk;
 
 // How often the caller looks whether a worker came, where all windows are to be served by workers.

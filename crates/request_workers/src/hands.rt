@@ -4,15 +4,11 @@ ghost use Rattle.request_workers.specs.Crews.{IsCrew, IsPartCrew, IsSameCrew};
 ghost use Rattle.request_workers.specs.Shares.{CanHelp, CanShare, HasHelpedOn, HasShared, IsLastRun, size_of_runs};
 
 use crate::crew::{Crew, Seat, run_size};
-use crate::desk::Desk;
-use crate::floor::Floor;
-use crate::helper::help;
 use crate::job::Job;
-use crate::request::{Reclaim, Sharing, Workers};
-use crate::run::serve_run;
 use logger::Shared;
 use std::sync::Wait;
 use trace_windows::Request;
+use window_desks::{Desk, Floor, Reclaim, Sharing, Workers, help, serve_run};
 use wol_disk::Disk;
 use wol_io::Gate;
 

@@ -1,11 +1,10 @@
 // What a worker is handed, and how it serves it.
-use crate::desk::Desk;
-use crate::run::serve_run;
 use errands::Errand;
 use logger::Shared;
 use manager::Manager;
 use std::sync::Wait;
 use turn_lock::TurnLock;
+use window_desks::{Desk, serve_run};
 use wol_disk::Disk;
 use wol_io::Gate;
 

@@ -2,21 +2,18 @@
 ghost use Rattle.std.specs.Prelude.{◌≡◌, ◌≤◌, ◌<◌, [], ℕ, List, None, length, vec_capacity, slice_index_or};
 ghost use Rattle.request_turns.specs.Counts.{Counts};
 ghost use Rattle.request_workers.specs.Crews.{IsCrew};
-ghost use Rattle.request_workers.specs.Desks.{HaveOwn};
-ghost use Rattle.request_workers.specs.Requests.{AreOfVolumes};
+ghost use Rattle.window_desks.specs.Desks.{HaveOwn};
+ghost use Rattle.window_desks.specs.Requests.{AreOfVolumes};
 ghost use Rattle.request_workers.specs.Shares.{CanShare, HasRunOn};
-ghost use Rattle.request_workers.specs.declared.desk.Desk.{Desk};
+ghost use Rattle.window_desks.specs.declared.desk.Desk.{Desk};
 
-use crate::closing::close_all;
 use crate::crew::Crew;
-use crate::floor::Floor;
-use crate::gather::collect;
 use crate::hands::{hands_for, serve_all, shares_for};
-use crate::request::Reclaim;
 use logger::Shared;
 use request_turns::Outcome;
 use std::sync::Wait;
 use trace_windows::Request;
+use window_desks::{Floor, Reclaim, close_all, collect};
 use wol_disk::Disk;
 use wol_io::Gate;
 

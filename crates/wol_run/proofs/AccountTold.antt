@@ -4,7 +4,7 @@ use Rattle.std.proofs.lemmas.Bool.Decides.{eqb_tells}
 use Rattle.wol_disk.specs.Disk.{State}
 use Rattle.wol_bay.specs.Bay.{BayState}
 use Rattle.wol_config.specs.declared.config.Config.{Config}
-use Rattle.request_workers.specs.declared.request.Reclaim.{Reclaim}
+use Rattle.window_desks.specs.declared.request.Reclaim.{Reclaim}
 use Rattle.replay.specs.Account.{Account, KeepsAccount}
 use Rattle.replay.specs.Replays.{status_in}
 use Rattle.replay.specs.declared.given.Given.{Given}

@@ -10,7 +10,7 @@ use Rattle.report.specs.declared.fault.Fault.TheVariants as fault
 use Rattle.report.specs.declared.trouble.Trouble.{Trouble}
 use Rattle.report.specs.declared.trouble.Trouble.TheVariants as trouble
 use Rattle.trace_windows.specs.declared.request.Request.{Request}
-use Rattle.request_workers.specs.declared.request.Window.{Window}
+use Rattle.window_desks.specs.declared.request.Window.{Window}
 use Rattle.replay.specs.Endings.{fault_of_window}
 use Rattle.replay.specs.Stops.{fault_of_trace}
 use Rattle.wol_run.proofs.WindowFaults.{ends_window}

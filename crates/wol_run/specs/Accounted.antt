@@ -3,7 +3,7 @@ use Rattle.std.specs.Prelude.{◌⊎◌, ℕ, Bool, List, Option}
 use Rattle.wol_disk.specs.Disk.{State}
 use Rattle.wol_bay.specs.Bay.{BayState}
 use Rattle.wol_config.specs.declared.config.Config.{Config}
-use Rattle.request_workers.specs.declared.request.Reclaim.{Reclaim}
+use Rattle.window_desks.specs.declared.request.Reclaim.{Reclaim}
 use Rattle.replay.specs.Account.{KeepsAccount}
 use Rattle.wol_run.specs.Replaying.{GivenLines, HasLeft, IsUnreplayed}
 use Rattle.wol_run.specs.Settings.{HasConfig}

@@ -17,9 +17,9 @@ use Rattle.command_words.specs.declared.command.Generated.{Generated}
 use Rattle.command_words.specs.declared.command.Options.{Options}
 use Rattle.command_words.specs.declared.command.Mode.{Mode}
 use Rattle.command_words.specs.declared.command.Mode.TheVariants as mode
-use Rattle.request_workers.specs.declared.request.Reclaim.{Reclaim}
-use Rattle.request_workers.specs.declared.request.Reclaim.TheVariants as reclaim
-use Rattle.request_workers.specs.declared.request.Sharing.TheVariants.{WherePays}
+use Rattle.window_desks.specs.declared.request.Reclaim.{Reclaim}
+use Rattle.window_desks.specs.declared.request.Reclaim.TheVariants as reclaim
+use Rattle.window_desks.specs.declared.request.Sharing.TheVariants.{WherePays}
 use Rattle.wol_run.specs.Formatting.{IsUntouched}
 use Rattle.wol_run.specs.Settings.{HasConfig}
 use Rattle.wol_run.specs.Tops.{EndsWith}

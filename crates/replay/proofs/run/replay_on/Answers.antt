@@ -1,5 +1,5 @@
 use Rattle.std.proofs.Common.{ap, sym, ◌∙◌}
-use Rattle.request_workers.specs.declared.floor.Floor.{Floor}
+use Rattle.window_desks.specs.declared.floor.Floor.{Floor}
 use Rattle.replay.proofs.Lent.{moved_lent, whole_back}
 use Rattle.replay.proofs.ServingOn.{serves_from}
 use Rattle.replay.specs.declared.session.Session.{Session}

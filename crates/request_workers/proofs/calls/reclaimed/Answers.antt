@@ -4,7 +4,7 @@ use Rattle.std.proofs.Math.Seq.{take-length}
 use Rattle.std.proofs.lemmas.List.{take_more}
 use Rattle.std.proofs.lemmas.List.Sums.{sum_by_push}
 use Rattle.request_turns.proofs.Counting.{more_is, more_both, none_more}
-use Rattle.request_workers.specs.declared.desk.Desk.{Desk}
+use Rattle.window_desks.specs.declared.desk.Desk.{Desk}
 use Rattle.request_workers.proofs.calls.reclaimed.Goals as goal
 
 pub loop-desk-init : goal.loop-desk-init

@@ -1,7 +1,7 @@
 use Rattle.std.proofs.Common.{take}
 use Rattle.std.specs.Prelude.{sum_by}
 use Rattle.request_turns.specs.Counts.{CountsMore}
-use Rattle.request_workers.specs.declared.desk.Desk.{Desk}
+use Rattle.window_desks.specs.declared.desk.Desk.{Desk}
 use Rattle.request_workers.proofs.calls.reclaimed.Given as goal
 
 abbrev pub invariant-loop-desk : goal.invariant-loop-desk

@@ -1,6 +1,6 @@
 use Rattle.std.proofs.Common.{◌≡◌, map, drop}
-use Rattle.request_workers.specs.Worked.{first_fault}
-use Rattle.request_workers.specs.declared.desk.Desk.{Desk}
+use Rattle.window_desks.specs.Worked.{first_fault}
+use Rattle.window_desks.specs.declared.desk.Desk.{Desk}
 use Rattle.request_workers.proofs.calls.refused_turn.Given as goal
 
 abbrev pub invariant-loop-k : goal.invariant-loop-k

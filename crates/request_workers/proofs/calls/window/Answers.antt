@@ -2,10 +2,10 @@ use Rattle.std.proofs.Common.{◌≡◌, ◌∙◌, refl, sym, ap, subst, length
 use Rattle.std.specs.Option.{option_or}
 use Rattle.std.proofs.lemmas.List.{with_items_is}
 use Rattle.wol_model.specs.History.{helper}
-use Rattle.request_workers.specs.Worked.{AreWorked, first_fault}
-use Rattle.request_workers.specs.declared.desk.Desk.{Desk}
-use Rattle.request_workers.specs.declared.floor.Floor.{Floor}
-use Rattle.request_workers.proofs.Counted.{window_counts}
+use Rattle.window_desks.specs.Worked.{AreWorked, first_fault}
+use Rattle.window_desks.specs.declared.desk.Desk.{Desk}
+use Rattle.window_desks.specs.declared.floor.Floor.{Floor}
+use Rattle.window_desks.proofs.Counted.{window_counts}
 use Rattle.request_workers.proofs.Roomy.{sharing, all_ready, all_roomy, floor_after, floor_same}
 use Rattle.request_workers.proofs.calls.window.Goals as goal
 

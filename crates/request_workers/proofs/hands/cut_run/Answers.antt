@@ -1,6 +1,6 @@
 use Rattle.std.proofs.Common.{rules, ◌≡◌, ◌++◌, ◌∷◌, [], List, reverse, ap, sym, ◌∙◌, append_assoc, arith}
 use Rattle.std.proofs.lemmas.List.{reverse-append}
-use Rattle.request_workers.specs.declared.desk.Desk.{Desk}
+use Rattle.window_desks.specs.declared.desk.Desk.{Desk}
 use Rattle.request_workers.proofs.hands.cut_run.Goals as goal
 
 pub loop-preserved : goal.loop-preserved

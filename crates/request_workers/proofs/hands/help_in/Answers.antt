@@ -1,6 +1,6 @@
 use Rattle.std.proofs.Common.{refl}
 use Rattle.request_turns.proofs.Gaining.{kept_none}
-use Rattle.request_workers.proofs.Counted.{have_none}
+use Rattle.window_desks.proofs.Counted.{have_none}
 use Rattle.request_workers.proofs.hands.help_in.Goals as goal
 
 pub help-requires-clause-passes : goal.help-requires-clause-passes

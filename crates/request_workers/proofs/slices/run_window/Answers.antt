@@ -1,9 +1,9 @@
 use Rattle.std.proofs.Common.{◌≡◌, ◌∙◌, List, length, get_or, sym, ap, subst, arith}
 use Rattle.std.specs.Vec.{with_items}
 use Rattle.std.proofs.lemmas.List.{with_items_is}
-use Rattle.request_workers.specs.Collects.{HoldsOutcomes}
-use Rattle.request_workers.specs.Worked.{AreWorked}
-use Rattle.request_workers.specs.declared.desk.Desk.{Desk}
+use Rattle.window_desks.specs.Collects.{HoldsOutcomes}
+use Rattle.window_desks.specs.Worked.{AreWorked}
+use Rattle.window_desks.specs.declared.desk.Desk.{Desk}
 use Rattle.request_workers.proofs.Working.{all_hold, all_worked}
 use Rattle.request_workers.proofs.Roomy.{passes_served, shares_served}
 use Rattle.request_workers.proofs.Parts.{helped_still}

@@ -1,0 +1,10 @@
+use Rattle.std.proofs.Common.{◌≡◌, ◌≤◌, ◌<◌, [], ℕ, slice_index_or}
+use Rattle.window_desks.specs.Handed.{IsHanded}
+use Rattle.window_desks.specs.declared.desk.Desk.{Desk}
+use Rattle.window_desks.proofs.hand_out.begin_all.Given as goal
+
+abbrev pub invariant-loop-k : goal.invariant-loop-k
+invariant-loop-k g l = record {
+  begun : (j : ℕ) (d : Desk g.row.D.Denot) → j < l.k → IsHanded [] (slice_index_or l.initial.desks j d) (slice_index_or l.desks j d);
+  rest : (j : ℕ) (d : Desk g.row.D.Denot) → l.k ≤ j → slice_index_or l.desks j d ≡ slice_index_or l.initial.desks j d;
+}

@@ -1,0 +1,13 @@
+pub mod Requests
+pub mod Handed
+pub mod Batches
+pub mod Served
+pub mod Closed
+pub mod Helped
+pub mod Desks
+pub mod Counted
+pub mod Collects
+pub mod Worked
+pub mod Floors
+pub mod Stations
+pub mod Begun

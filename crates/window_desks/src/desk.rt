@@ -1,0 +1,24 @@
+// What the worker of a volume has.
+use manager::{Manager, StepFault};
+use reclaimer::Fetch;
+use request_turns::{Outcome, Payload, Tally};
+use trace_windows::Request;
+use turn_lock::Pass;
+use wol_disk::Disk;
+
+/// A volume's worker: its pass, and room of its own for what it reads and writes.
+#[derive(Drop)]
+pub struct Desk<D: Disk> {
+    /// The number of the volume.
+    pub id: u32,
+    pub worker: Pass<Manager<D>>,
+    // the requests of its volume in this window, in order
+    pub(crate) requests: Vec<Request>,
+    pub(crate) outcomes: Vec<Outcome>,
+    pub(crate) payload: Payload,
+    pub(crate) fetch: Fetch,
+    /// What was reclaimed in this window.
+    pub tally: Tally,
+    /// The refusal of this window's reclaim turn.
+    pub fault: Option<StepFault>,
+}
