@@ -1,8 +1,7 @@
 -- The blocks of requests in a row are their payloads.
 use Rattle.std.proofs.Common.{◌≡◌, ◌<◌, ◌≤◌, ◌+◌, ◌-◌, ℕ, List, [], ◌∷◌, ◌++◌, map, length, take, drop, get_or, None, refl, sym, ap, ◌∙◌, arith}
-use Rattle.std.specs.Prelude.{slice_set}
 use Rattle.std.specs.List.{AllByRecursion, flat_map, range_with_len, sum_by}
-use Rattle.std.proofs.lemmas.List.{append-nil, map-append, take-take, drop-take, take_more, take_more_set}
+use Rattle.std.proofs.lemmas.List.{append-nil, map-append, take-take, drop-take, take_more}
 use Rattle.std.proofs.Math.Seq.{take-append_seam, drop-append_seam}
 use Rattle.std.proofs.lemmas.List.Concat.{flat_map-append}
 use Rattle.std.proofs.lemmas.Slice.{take-put_mid}
@@ -52,9 +51,9 @@ requests_write (r ∷ rs) out is =
 map_push : (rs : List Request) (r : Request) → map item_of (rs ++ r ∷ []) ≡ map item_of rs ++ item_of r ∷ []
 map_push rs r = map-append item_of rs (r ∷ [])
 
-pub listed_more : (rs : List Request) (items : List Item) (n : ℕ) (d : Request) → n < length rs → n < length items → take n items ≡ map item_of (take n rs)
-    → take (n + 1) (slice_set items n (item_of (get_or rs n d))) ≡ map item_of (take (n + 1) rs)
-listed_more rs items n d lt room is = take_more_set items n (item_of (get_or rs n d)) room ∙ ap (λ (is : List Item). is ++ item_of (get_or rs n d) ∷ []) is
+pub listed_more : (rs : List Request) (items : List Item) (n : ℕ) (d : Request) → n < length rs → items ≡ map item_of (take n rs)
+    → items ++ item_of (get_or rs n d) ∷ [] ≡ map item_of (take (n + 1) rs)
+listed_more rs items n d lt is = ap (λ (is : List Item). is ++ item_of (get_or rs n d) ∷ []) is
     ∙ sym (map_push (take n rs) (get_or rs n d)) ∙ ap (map item_of) (sym (take_more rs n d lt))
 
 pub counted_more : (rs : List Request) (n : ℕ) (d : Request) → n < length rs → blocks_in (take (n + 1) rs) ≡ blocks_in (take n rs) + (get_or rs n d).count

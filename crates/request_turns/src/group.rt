@@ -1,5 +1,5 @@
 // Several writes of one volume in one turn: those that go to one log together leave one entry.
-ghost use Rattle.std.specs.Prelude.{ℕ, ◌≡◌, ◌++◌, ◌∷◌, [], ◌≤◌, ◌+◌, ◌^◌, false, None, Some, length, map, take, sum_by};
+ghost use Rattle.std.specs.Prelude.{ℕ, ◌≡◌, ◌++◌, ◌∷◌, [], ◌≤◌, ◌+◌, ◌^◌, false, None, Some, length, map, take, sum_by, vec_capacity};
 ghost use Rattle.std.specs.List.{AllByRecursion, flat_map};
 ghost use Rattle.turn_lock.specs.Passes.{pass_lock, pass_number, IsPassOf, IsFree, IsInTurn};
 ghost use Rattle.wol_model.specs.History.{worker};
@@ -33,23 +33,19 @@ use turn_lock::{Pass, Turn, TurnLock};
 use wol_disk::{Block, Disk};
 use wol_model::Kind;
 
-/// The most writes of a turn, and the most blocks that they have together.
-const MOST: usize = 128;
-
-// The items of requests, in front.
-fn list_items(requests: &[Request]) -> [Item; MOST]
-    requires { length requests.now ≤ 128 }
-    ensures { take (length requests.now) result ≡ map item_of requests.now }
+// The items of requests.
+fn list_items(requests: &[Request], items: &mut Vec<Item>)
+    requires { length requests.now ≤ vec_capacity items.old }
+    ensures listed { items.new.items ≡ map item_of requests.now }
+    ensures room { vec_capacity items.new ≡ vec_capacity items.old }
 {
-    let mut items = [Item { lbn: 0, count: 0 }; MOST];
-    for place in 0..requests.len() {
-        let request = &requests[place];
-        items[place] = Item {
+    items.clear();
+    for request in requests {
+        items.push_reserved(Item {
             lbn: request.lbn,
             count: request.count,
-        };
+        });
     }
-    items
 }
 
 // Fills blocks with the payloads of requests, one behind the other.
@@ -160,8 +156,7 @@ pub fn write_many_turn<D: Disk, R: Wait>(
     ensures counted { HasCounted D.tells tally.old tally.new pass.old pass.new }
 {
     let turn = lock.enter(rt, pass);
-    let items = list_items(requests);
-    let items = &items[..requests.len()];
+    list_items(requests, &mut payload.items);
     fill_all(requests, &mut payload.blocks);
     write_run_within::<D, R, Brand>(
         rt,
@@ -169,7 +164,7 @@ pub fn write_many_turn<D: Disk, R: Wait>(
         turn,
         pass,
         shared,
-        items,
+        payload.items.as_slice(),
         &payload.blocks,
         fetch,
         tally,

@@ -1,6 +1,6 @@
 use Rattle.std.proofs.Common.{◌≡◌, ◌≤◌, ℕ, List, length, map, take, refl, sym, ap, subst, ◌∙◌, arith}
 use Rattle.std.specs.List.{sum_by}
-use Rattle.std.proofs.lemmas.List.{length-map, length-take, with_items_is}
+use Rattle.std.proofs.lemmas.List.{length-map, with_items_is}
 use Rattle.turn_lock.specs.Passes.{pass_lock}
 use Rattle.log_segment.specs.Records.{count_of}
 use Rattle.log_segment.specs.declared.item.Item.{Item}
@@ -13,20 +13,16 @@ use Rattle.request_turns.proofs.GroupTurns.{answered_many, items_within, few_her
 use Rattle.request_turns.proofs.Payloads.{kept_length}
 use Rattle.request_turns.proofs.group.write_many_turn.Goals as goal
 
-pub list_items-items-requires : goal.list_items-items-requires
-list_items-items-requires g c =
-    let rs = c.args.requests.now in let e = c.enter-turn.ensures in
+pub list_items-requires : goal.list_items-requires
+list_items-requires g c =
+    let rs = c.args.requests.now in let e = c.enter-turn.ensures in let room = c.payload.invariant.1 in
     let sum = few_here c.args.pass.now c.enter-turn.new.pass rs e.same c.requires.within e.value.keeps.upholds.places.most.1 c.requires.some c.requires.blocks in
-    let le = few_requests rs (pass_lock c.args.pass.now).base c.requires.within in omega (arith, le, sum)
-
-pub slice_bounds-items-end : goal.slice_bounds-items-end
-slice_bounds-items-end g c =
-    let e = sym (length-take (length c.args.requests.now) c.list_items-items.result) ∙ ap length c.list_items-items.ensures ∙ length-map c.args.requests.now item_of in omega (arith, e)
+    let le = few_requests rs (pass_lock c.args.pass.now).base c.requires.within in omega (arith, le, sum, room)
 
 pub fill_all-requires-clause-room : goal.fill_all-requires-clause-room
 fill_all-requires-clause-room g c =
     let e = c.enter-turn.ensures in
-    let long : length c.deref_mut.result.now ≡ 128 = ap length c.deref_mut.ensures.value ∙ c.payload.invariant in
+    let long : length c.deref_mut.result.now ≡ 128 = ap length c.deref_mut.ensures.value ∙ c.payload.invariant.0 in
     let sum = few_here c.args.pass.now c.enter-turn.new.pass c.args.requests.now e.same c.requires.within e.value.keeps.upholds.places.most.1 c.requires.some c.requires.blocks in omega (arith, long, sum)
 
 pub fill_all-requires-clause-within : goal.fill_all-requires-clause-within
@@ -37,15 +33,15 @@ fill_all-requires-clause-within g c =
 pub write_run_within-requires-clause-items : goal.write_run_within-requires-clause-items
 write_run_within-requires-clause-items g c =
     let base = (pass_lock c.enter-turn.new.pass).base in
-    subst (AreItemsOf base.volume.began.most base.volume.began.home_blocks) (sym c.list_items-items.ensures)
+    subst (AreItemsOf base.volume.began.most base.volume.began.home_blocks) (sym (c.as_slice.ensures.value ∙ c.list_items.ensures.listed))
     (items_within base c.args.requests.now (here c.args.pass.now c.enter-turn.new.pass c.args.requests.now c.enter-turn.ensures.same c.requires.within))
 
 pub write_run_within-requires-clause-blocks : goal.write_run_within-requires-clause-blocks
 write_run_within-requires-clause-blocks g c =
     let e = c.enter-turn.ensures in let rs = c.args.requests.now in
-    let long : length c.deref.result.now ≡ 128 = ap length c.deref.ensures.value ∙ kept_length c.payload.inside.blocks _ 128 c.payload.invariant in
+    let long : length c.deref.result.now ≡ 128 = ap length c.deref.ensures.value ∙ kept_length c.payload.inside.blocks _ 128 c.payload.invariant.0 in
     let sum = few_here c.args.pass.now c.enter-turn.new.pass rs e.same c.requires.within e.value.keeps.upholds.places.most.1 c.requires.some c.requires.blocks in
-    subst (λ (is : List Item). count_of is ≤ length c.deref.result.now) (sym c.list_items-items.ensures)
+    subst (λ (is : List Item). count_of is ≤ length c.deref.result.now) (sym (c.as_slice.ensures.value ∙ c.list_items.ensures.listed))
     (subst (λ (k : ℕ). k ≤ length c.deref.result.now) (sym (counted_all rs)) (omega (arith, sum, long)))
 
 pub returns-clause-answered : goal.returns-clause-answered
@@ -56,7 +52,7 @@ returns-clause-answered g c =
     answered_many _ rs (map item_of rs) c.deref.result.now c.write_run_within.result.0 c.write_run_within.result.1 c.args.pass.now c.enter-turn.new.pass _ _ _
     c.requires.kinds (requests_write rs c.deref.result.now (ap (take (sum_by (λ (r : Request). r.count) rs)) is ∙ c.fill_all.ensures.filled)) (length-map rs item_of) e.same e.seen e.mine e.own
     (subst (λ (is : List Item). HasWrittenMany g.D.Disk.tells is c.deref.result.now c.write_run_within.result.0 c.write_run_within.result.1 c.args.tally.now c.write_run_within.new.tally c.enter-turn.new.pass c.write_run_within.new.pass)
-    c.list_items-items.ensures c.write_run_within.ensures)
+    (c.as_slice.ensures.value ∙ c.list_items.ensures.listed) c.write_run_within.ensures)
 
 pub returns-clause-counted : goal.returns-clause-counted
 returns-clause-counted g c = let e = c.enter-turn.ensures in let w = c.write_run_within.ensures in

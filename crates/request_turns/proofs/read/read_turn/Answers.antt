@@ -11,7 +11,7 @@ returns-clause-answered g c =
     (read_blocks_ _ _ c.read_within-answer.new.out c.read_within-answer.result c.args.pass.now c.enter-turn.new.pass _ e.same e.seen e.mine e.own c.read_within-answer.ensures))
 
 pub invariant_of-payload : goal.invariant_of-payload
-invariant_of-payload g c = kept_length c.payload.inside.blocks _ 128 c.payload.invariant
+invariant_of-payload g c = (kept_length c.payload.inside.blocks _ 128 c.payload.invariant.0, c.payload.invariant.1)
 
 pub returns-clause-counted : goal.returns-clause-counted
 returns-clause-counted g c = let e = c.enter-turn.ensures in
