@@ -97,7 +97,8 @@ fn open_alone<R: Wait, B: Bay>(
 ) -> Option<Result<OutImage<B::Part>, ImageRefusal>>
     requires shape { IsShape (shape_of want.now) }
     requires home { IsHome name.now (B.state bay.old) }
-    ensures { MatchOption result (outs (B.state bay.new) ≡ outs (B.state bay.old)) (λ r. OnErr r (outs (B.state bay.new) ≡ outs (B.state bay.old))) }
+    ensures { MatchOption result (outs (B.state bay.new) ≡ outs (B.state bay.old))
+        (λ r. OnErr r (outs (B.state bay.new) ≡ outs (B.state bay.old))) }
 {
     match TurnLock::new(alloc, Spindle::new(alloc, want.id, 600), 1, 0) {
         Ok((lock, mut passes)) => {

@@ -16,14 +16,17 @@ abbrev pub full_words : Bool → List (List ℕ)
 full_words true = codes "full" ∷ []
 full_words false = []
 
--- the line of a volume of this name: how many records it had and has, and how many blocks were copied
+-- the line of a volume of this name: how many records it had and has, and how many blocks were
+-- copied
 abbrev pub clean_line : (name : List ℕ) → Cleaned → List ℕ
-clean_line name c = line_of (codes "clean" ∷ name ∷ codes "records" ∷ decimal c.before ∷ codes "to" ∷ decimal c.after ∷ codes "copied" ∷ decimal c.copied ∷ full_words c.full)
+clean_line name c = line_of (codes "clean" ∷ name ∷ codes "records" ∷ decimal c.before ∷ codes "to"
+    ∷ decimal c.after ∷ codes "copied" ∷ decimal c.copied ∷ full_words c.full)
 
 -- the lines of these volumes, from this number on
 abbrev pub lines_from : (number : ℕ) → Config → List Cleaned → List ℕ
 lines_from number config [] = []
-lines_from number config (c ∷ cs) = clean_line (name_at (names_of config.volumes.items) number) c ++ lines_from (number + 1) config cs
+lines_from number config (c ∷ cs) = clean_line (name_at (names_of config.volumes.items) number) c
+    ++ lines_from (number + 1) config cs
 
 -- the lines of the first volumes
 abbrev pub lines_of : Config → List Cleaned → List ℕ

@@ -36,7 +36,8 @@ use Rattle.cleaning.specs.Lines.{fault_of, lines_of}
 use Rattle.cleaning.specs.Turns.{operation_of}
 use Rattle.wol_config.specs.Configs.{most_of}
 
--- The next version of what a volume began with, and the number of its chunks, come to more than 2^63.
+-- The next version of what a volume began with, and the number of its chunks, come to more than
+-- 2^63.
 pub record LacksVersions (most : ℕ) (b : Base) : Type 0 where
   pub chunks : List (ℕ × ℕ)
   pub each : AllByRecursion (λ c. IsChunk (is_covered b.look.listed) most c.0 c.1) chunks
@@ -44,19 +45,25 @@ pub record LacksVersions (most : ℕ) (b : Base) : Type 0 where
   pub beyond : 2 ^ 63 < b.next + length chunks
 
 -- A volume wasn't cleaned: the records that are left are those with which it was opened.
-pub record LeavesVolume (tells : Bool) (config : Config) (old new : BayState) (number : ℕ) : Type 0 where
+pub record LeavesVolume (tells : Bool) (config : Config) (old new : BayState) (number : ℕ) :
+    Type 0 where
   pub base : Base
   pub owner : base.owner ≡ number
-  pub begun : IsTrue tells → IsTold (λ entry exit. IsBegun config (images_read config entry) base) old.told new.told
-  pub listed : IsTrue tells → IsTold (λ entry exit. LeavesRecords config number base.look.listed exit) old.told new.told
+  pub begun : IsTrue tells
+      → IsTold (λ entry exit. IsBegun config (images_read config entry) base) old.told new.told
+  pub listed : IsTrue tells
+      → IsTold (λ entry exit. LeavesRecords config number base.look.listed exit) old.told new.told
 
--- A volume was cleaned: `opened` is its manager as the volume was opened of the images as they read, `after` the one that cleaning left,
--- which stands for the array at opening behind one entry of copies. Where a call of a disk failed the bay's count rose, and the part
--- that is told came back with a fault.
-pub record CleansVolume {D : Type 0} (tells : Bool) (state : D → State) (config : Config) (old new : BayState) (number : ℕ) (answer : Result Cleaned CleanFault) : Type 0 where
+-- A volume was cleaned: `opened` is its manager as the volume was opened of the images as they
+-- read, `after` the one that cleaning left, which stands for the array at opening behind one entry
+-- of copies. Where a call of a disk failed the bay's count rose, and the part that is told came
+-- back with a fault.
+pub record CleansVolume {D : Type 0} (tells : Bool) (state : D → State) (config : Config)
+    (old new : BayState) (number : ℕ) (answer : Result Cleaned CleanFault) : Type 0 where
   pub base : ManagerBase
   pub owner : base.volume.began.owner ≡ number
-  pub begun : IsTrue tells → IsTold (λ entry exit. IsBegun config (images_read config entry) base.volume.began) old.told new.told
+  pub begun : IsTrue tells → IsTold
+      (λ entry exit. IsBegun config (images_read config entry) base.volume.began) old.told new.told
   pub opened : Manager D
   pub stood : Stands tells state opened base []
   pub after : Manager D
@@ -66,52 +73,79 @@ pub record CleansVolume {D : Type 0} (tells : Bool) (state : D → State) (confi
   pub operation : note.entry.operation ≡ operation_of cleans.copies answer
   pub stands : Stands tells state after base (note ∷ [])
   -- unless a call failed, the records that are left are those of the manager that cleaning left
-  pub listed : ((p : Part) → answer ≢ Err (DiskFault p)) → IsTrue tells → IsTold (λ entry exit. LeavesRecords config number (listed_in after.index.entries) exit) old.told new.told
+  pub listed : ((p : Part) → answer ≢ Err (DiskFault p)) → IsTrue tells
+      → IsTold (λ entry exit. LeavesRecords config number (listed_in after.index.entries) exit)
+      old.told new.told
   pub cause : (p : Part) → answer ≡ Err (DiskFault p) → Rose old.faults new.faults
   -- .. and the part that is told, one of this volume, came back with a fault
-  pub faulty : (p : Part) → answer ≡ Err (DiskFault p) → IsTold (HasFaultyPart tells config number base.volume.began.view (name_of p)) old.told new.told
+  pub faulty : (p : Part) → answer ≡ Err (DiskFault p)
+      → IsTold (HasFaultyPart tells config number base.volume.began.view (name_of p)) old.told
+      new.told
   pub spent : answer ≡ Err VersionsSpent → LacksVersions (most_of config) base.volume.began
 
--- Whatever images a crash leaves, each volume recovers to the array that the images before recovered to as they read.
+-- Whatever images a crash leaves, each volume recovers to the array that the images before
+-- recovered to as they read.
 abbrev pub KeepsArrays : Config → (entry exit : Told) → Type 0
-KeepsArrays config entry exit = (images : Images) → AreLeft config exit images → (v : ℕ) → v < length (shapes_of config)
-    → recovered_from (shapes_of config) images v ≡ recovered_from (shapes_of config) (images_read config entry) v
+KeepsArrays config entry exit =
+    (images : Images) → AreLeft config exit images → (v : ℕ) → v < length (shapes_of config)
+    → recovered_from (shapes_of config) images v
+    ≡ recovered_from (shapes_of config) (images_read config entry) v
 
-module _ {D : Type 0} (tells : Bool) (state : D → State) (config : Config) (old new : BayState) (sink sink' : ℕ) (printed printed' : Option (List ℕ)) where
+module _ {D : Type 0} (tells : Bool) (state : D → State) (config : Config) (old new : BayState)
+    (sink sink' : ℕ) (printed printed' : Option (List ℕ)) where
   -- these first volumes were cleaned
   abbrev pub AreCleaned : List Cleaned → Type 0
-  AreCleaned told = (length told ≤ length config.volumes.items) × ((k : ℕ) (c : Cleaned) → slice_get told k ≡ Some c → CleansVolume tells state config old new k (Ok c))
+  AreCleaned told = (length told ≤ length config.volumes.items)
+      × ((k : ℕ) (c : Cleaned) → slice_get told k ≡ Some c
+      → CleansVolume tells state config old new k (Ok c))
 
   -- the volumes from this number on weren't
   abbrev pub LeavesFrom : (n : ℕ) → Type 0
-  LeavesFrom n = (v : ℕ) → n ≤ v → v < length config.volumes.items → LeavesVolume tells config old new v
+  LeavesFrom n =
+      (v : ℕ) → n ≤ v → v < length config.volumes.items → LeavesVolume tells config old new v
 
-  -- All volumes were cleaned; or the next was refused; or there was no memory for its line; or the sink failed at it, and no further one was
-  -- cleaned. The lines are those of the answers, in order.
+  -- All volumes were cleaned; or the next was refused; or there was no memory for its line; or the
+  -- sink failed at it, and no further one was cleaned. The lines are those of the answers, in
+  -- order.
   pub data EndsFor : Result (Unit {0}) Stop → Type 0 where
-    whole : (told : List Cleaned) → AreCleaned told → length told ≡ length config.volumes.items → sink' ≡ sink → Appends printed printed' (lines_of config told) → EndsFor (Ok tt)
-    refused : (told : List Cleaned) (f : CleanFault) → AreCleaned told → (length told < length config.volumes.items) × LeavesFrom (length told + 1) → CleansVolume tells state config old new (length told) (Err f) → sink' ≡ sink
-        → Appends printed printed' (lines_of config told) → EndsFor (Err (stop.Fault (fault_of (length told) f)))
-    no_memory : (told : List Cleaned) (c : Cleaned) → AreCleaned (told ++ c ∷ []) × LeavesFrom (length told + 1) → sink' ≡ sink → Appends printed printed' (lines_of config told) → EndsFor (Err (stop.Fault Memory))
-    sink_failed : (told : List Cleaned) (c : Cleaned) → AreCleaned (told ++ c ∷ []) × LeavesFrom (length told + 1) → Rose sink sink' → AppendsFront printed printed' (lines_of config (told ++ c ∷ [])) → EndsFor (Err stop.Sink)
+    whole : (told : List Cleaned) → AreCleaned told → length told ≡ length config.volumes.items
+        → sink' ≡ sink → Appends printed printed' (lines_of config told) → EndsFor (Ok tt)
+    refused : (told : List Cleaned) (f : CleanFault) → AreCleaned told
+        → (length told < length config.volumes.items) × LeavesFrom (length told + 1)
+        → CleansVolume tells state config old new (length told) (Err f) → sink' ≡ sink
+        → Appends printed printed' (lines_of config told)
+        → EndsFor (Err (stop.Fault (fault_of (length told) f)))
+    no_memory : (told : List Cleaned) (c : Cleaned)
+        → AreCleaned (told ++ c ∷ []) × LeavesFrom (length told + 1) → sink' ≡ sink
+        → Appends printed printed' (lines_of config told) → EndsFor (Err (stop.Fault Memory))
+    sink_failed : (told : List Cleaned) (c : Cleaned)
+        → AreCleaned (told ++ c ∷ []) × LeavesFrom (length told + 1) → Rose sink sink'
+        → AppendsFront printed printed' (lines_of config (told ++ c ∷ [])) → EndsFor (Err stop.Sink)
 
-  -- A cleaning over a bay: there was no memory to open its volumes; or one of them couldn't be opened, and none was cleaned; or all were open.
+  -- A cleaning over a bay: there was no memory to open its volumes; or one of them couldn't be
+  -- opened, and none was cleaned; or all were open.
   pub data CleansBay : Result (Unit {0}) Stop → Type 0 where
     unopened : sink' ≡ sink → Keeps printed printed' → CleansBay (Err (stop.Fault Memory))
-    closed : (k : ℕ) (f : VolumeFault) → sink' ≡ sink → Keeps printed printed' → IsFirstClosed tells state config old new k f → CleansBay (Err (stop.Fault (Volume k (trouble_of f))))
-    ran : (result : Result (Unit {0}) Stop) → EndsFor result → (IsTrue tells → IsTold (KeepsArrays config) old.told new.told) → CleansBay result
+    closed : (k : ℕ) (f : VolumeFault) → sink' ≡ sink → Keeps printed printed'
+        → IsFirstClosed tells state config old new k f
+        → CleansBay (Err (stop.Fault (Volume k (trouble_of f))))
+    ran : (result : Result (Unit {0}) Stop) → EndsFor result
+        → (IsTrue tells → IsTold (KeepsArrays config) old.told new.told) → CleansBay result
 
 -- ---- When it has to come to its end
 
--- Nothing stands in the way: the images at entry are sound as they read, no call failed, and each volume has versions for its chunks.
-pub record MayComplete (tells : Bool) (config : Config) (old new : BayState) (sink sink' : ℕ) : Type 0 where
+-- Nothing stands in the way: the images at entry are sound as they read, no call failed, and each
+-- volume has versions for its chunks.
+pub record MayComplete (tells : Bool) (config : Config) (old new : BayState) (sink sink' : ℕ) :
+    Type 0 where
   pub telling : IsTrue tells
   pub entry : Told
   pub entry_is : old.told ≡ Some entry
   pub sound : AreSound (shapes_of config) (images_read config entry)
   pub bay_calm : Rose old.faults new.faults → ⊥
   pub sink_calm : Rose sink sink' → ⊥
-  pub versions : (b : Base) → IsBegun config (images_read config entry) b → LacksVersions (most_of config) b → ⊥
+  pub versions : (b : Base) → IsBegun config (images_read config entry) b
+      → LacksVersions (most_of config) b → ⊥
 
 -- it came to its end, or there was no memory
 abbrev pub Completes : Result (Unit {0}) Stop → Type 0

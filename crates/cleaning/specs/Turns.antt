@@ -28,13 +28,18 @@ abbrev pub none_copied : (records : ℕ) → Cleaned
 none_copied records = record { before = records; after = records; copied = 0; full = false }
 
 -- The manager was cleaned; or it couldn't be, and stays as it is.
-pub data CleansOrLeaves {D : Type 0} (tells : Bool) (state : D → State) (most : ℕ) (old new : Manager D) : List Write → Result Cleaned CleanFault → Type 0 where
-  cleaned : (result : Result Cleaned CleanFault) → CanClean old → (has : HasCleaned tells state most old new result) → CleansOrLeaves tells state most old new has.copies result
-  left : (CanClean old → ⊥) → new ≡ old → CleansOrLeaves tells state most old new [] (Ok (none_copied (length old.index.entries)))
+pub data CleansOrLeaves {D : Type 0} (tells : Bool) (state : D → State) (most : ℕ)
+    (old new : Manager D) : List Write → Result Cleaned CleanFault → Type 0 where
+  cleaned : (result : Result Cleaned CleanFault) → CanClean old
+      → (has : HasCleaned tells state most old new result)
+      → CleansOrLeaves tells state most old new has.copies result
+  left : (CanClean old → ⊥) → new ≡ old
+      → CleansOrLeaves tells state most old new [] (Ok (none_copied (length old.index.entries)))
 
--- A volume was cleaned in one turn, which added this entry behind these: `opened` is the manager that stood for those, `after` the one that
--- stands for this one too.
-pub record CleansIn {D : Type 0} (tells : Bool) (state : D → State) (most : ℕ) (p q : ManagerPass D) (result : Result Cleaned CleanFault) : Type 0 where
+-- A volume was cleaned in one turn, which added this entry behind these: `opened` is the manager
+-- that stood for those, `after` the one that stands for this one too.
+pub record CleansIn {D : Type 0} (tells : Bool) (state : D → State) (most : ℕ) (p q : ManagerPass D)
+    (result : Result Cleaned CleanFault) : Type 0 where
   pub before : List Entry
   pub copies : List Write
   pub note : Noted
@@ -46,7 +51,9 @@ pub record CleansIn {D : Type 0} (tells : Bool) (state : D → State) (most : �
   pub stands : Stands tells state after (pass_lock p).base (notes_of before ++ note ∷ [])
   pub did : CleansOrLeaves tells state most opened after copies result
 
--- the turn's call: what it made of the manager with these copies, and that the manager stands for its entry
-pub record DoesClean {D : Type 0} (tells : Bool) (state : D → State) (most : ℕ) (old new : Manager D) (copies : List Write) (result : Result Cleaned CleanFault) : Type 0 where
+-- the turn's call: what it made of the manager with these copies, and that the manager stands for
+-- its entry
+pub record DoesClean {D : Type 0} (tells : Bool) (state : D → State) (most : ℕ)
+    (old new : Manager D) (copies : List Write) (result : Result Cleaned CleanFault) : Type 0 where
   pub did : CleansOrLeaves tells state most old new copies result
   pub leaves : LeavesEntry tells state old new (operation_of copies result)

@@ -144,7 +144,8 @@ pub fn clean_volumes<R: Wait, K: Sink, B: Bay>(
     // images of names that aren't configured are as they were
     ensures others { IsTold (KeepsOthers config.now)
         (B.state bay.old).told (B.state bay.new).told }
-    ensures cleans { CleansBay B.Part.tells B.Part.state config.now (B.state bay.old) (B.state bay.new)
+    ensures cleans { CleansBay B.Part.tells B.Part.state config.now (B.state bay.old)
+        (B.state bay.new)
         (K.faults out.old) (K.faults out.new) (K.taken out.old) (K.taken out.new) result }
     ensures later { K.faults out.old ≤ K.faults out.new }
     ensures complete { MayComplete B.Part.tells config.now (B.state bay.old) (B.state bay.new)

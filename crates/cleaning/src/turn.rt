@@ -61,7 +61,8 @@ fn leave_cleaned<D: Disk, N: Memo>(
     requires value { Stands D.tells D.state turn.value (pass_lock pass.old).base
         (notes_seen pass.old ++ N.note ∷ []) }
     ensures left { HasLeft D.tells (note_told (pass_number pass.old)
-        (operation_of done.now.value.items answer.now) (look_of_manager turn.value)) pass.old pass.new }
+        (operation_of done.now.value.items answer.now)
+        (look_of_manager turn.value)) pass.old pass.new }
 {
     let _ = done;
     let _ = answer;

@@ -1,4 +1,5 @@
--- The command that words ask for: `clap` takes the words, and what it finds are the values of a command.
+-- The command that words ask for: `clap` takes the words, and what it finds are the values of a
+-- command.
 use Rattle.std.specs.Prelude.{◌≡◌, ⊤, List, [], Some, codes}
 use Rattle.clap.specs.Words.{Row, Text, fault_of, subcommand_of}
 use Rattle.solo.specs.Volume.{target_of}
@@ -48,7 +49,8 @@ pub record Asks (name : Text) (rows : List Row) (command : Command) : Type 0 whe
 abbrev pub AsksNothing : Text → List Row → Type 0
 AsksNothing name rows = (command : Command) → ¬ Asks name rows command
 
--- the words ask for the command: `clap` has no fault to find in them, and makes this subcommand of them
+-- the words ask for the command: `clap` has no fault to find in them, and makes this subcommand of
+-- them
 pub record IsCommand (words : List Text) (command : Command) : Type 0 where
   pub taken : fault_of the_app words ≡ []
   pub name : Text

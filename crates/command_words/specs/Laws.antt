@@ -1,4 +1,5 @@
--- The laws of words: those of the documented table are commands, and words ask for one command at most.
+-- The laws of words: those of the documented table are commands, and words ask for one command at
+-- most.
 use Rattle.std.specs.Prelude.{◌≡◌, List}
 use Rattle.clap.specs.Words.{Text}
 use Rattle.solo.specs.Volume.{target_of}

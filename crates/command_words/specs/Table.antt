@@ -144,7 +144,8 @@ each_in [] = false
 each_in (each ∷ rest) = true
 each_in (g ∷ rest) = each_in rest
 
--- the given options are these: without them there is one worker, and data moves home between windows
+-- the given options are these: without them there is one worker, and data moves home between
+-- windows
 pub record AreOptions (given : List Given) (options : Options) : Type 0 where
   pub different : AreAllDifferent given
   pub workers : unwrap_or (workers_in given) 1 ≡ options.workers
@@ -158,7 +159,8 @@ pub record IsReplay (words : List (List ℕ)) (options : Options) : Type 0 where
   pub spelled : words ≡ codes "replay" ∷ flat_map words_of given
   pub as_given : AreOptions given options
 
--- the words are `soak SEED LINES` with options, each at most once, in any order and anywhere behind the command
+-- the words are `soak SEED LINES` with options, each at most once, in any order and anywhere behind
+-- the command
 pub record IsSoak (words : List (List ℕ)) (asked : Generated) (options : Options) : Type 0 where
   pub before : List Given
   pub between : List Given

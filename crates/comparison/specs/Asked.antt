@@ -22,7 +22,10 @@ asked_of b = record { moment = b.moment; asks = map (λ (r : Request). ask_of (a
 
 -- what is asked in a window
 abbrev pub asked_in : Config → Window → Asked
-asked_in config w = record { moment = w.moment; asks = map ask_of (requests_in (most_of config) (targets_of config) w) }
+asked_in config w = record {
+  moment = w.moment;
+  asks = map ask_of (requests_in (most_of config) (targets_of config) w);
+}
 
 -- .. in each window of these lines
 abbrev pub asked_by : Config → List (Option TraceLine) → List Asked
@@ -30,4 +33,5 @@ asked_by config ls = map (asked_in config) (windows (most_of config) (targets_of
 
 -- the four lines of a trace; the account begins with its first line and ends with its last
 abbrev pub comparison_of : Config → List (Option TraceLine) → List ℕ
-comparison_of config ls = whatif_text config (started (timed ls)) (asked_by config ls) (ended (timed ls))
+comparison_of config ls =
+    whatif_text config (started (timed ls)) (asked_by config ls) (ended (timed ls))

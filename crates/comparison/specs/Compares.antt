@@ -17,13 +17,19 @@ use Rattle.replay.specs.declared.stop.Stop.{Stop}
 use Rattle.replay.specs.declared.stop.Stop.TheVariants as stop
 use Rattle.comparison.specs.Asked.{comparison_of}
 
-module _ {S : Type 0} (left : S → Option (List ℕ)) (config : Config) (start now : Given S) (sink sink' : ℕ) (printed printed' : Option (List ℕ)) where
-  -- Why a comparison ended behind the lines `run`, and what was printed: all lines were run, and their four lines were printed; or the
-  -- sink failed at these; or no further line came; or there was no memory.
+module _ {S : Type 0} (left : S → Option (List ℕ)) (config : Config) (start now : Given S)
+    (sink sink' : ℕ) (printed printed' : Option (List ℕ)) where
+  -- Why a comparison ended behind the lines `run`, and what was printed: all lines were run, and
+  -- their four lines were printed; or the sink failed at these; or no further line came; or there
+  -- was no memory.
   pub data EndsBehind {T : Type 0} (run : List (Option TraceLine)) : Result T Stop → Type 0 where
-    whole : (done : T) → HasGivenAll left (targets_of config) start now run → sink' ≡ sink → Appends printed printed' (comparison_of config run) → EndsBehind run (Ok done)
-    sink_failed : HasGivenAll left (targets_of config) start now run → Rose sink sink' → AppendsFront printed printed' (comparison_of config run) → EndsBehind run (Err stop.Sink)
-    no_line : (refusal : TraceFault) → refusal ≢ trace.NoMemory → Refuses left refusal start now run → sink' ≡ sink → Keeps printed printed' → EndsBehind run (Err (stop.Fault (fault_of_trace refusal)))
+    whole : (done : T) → HasGivenAll left (targets_of config) start now run → sink' ≡ sink
+        → Appends printed printed' (comparison_of config run) → EndsBehind run (Ok done)
+    sink_failed : HasGivenAll left (targets_of config) start now run → Rose sink sink'
+        → AppendsFront printed printed' (comparison_of config run) → EndsBehind run (Err stop.Sink)
+    no_line : (refusal : TraceFault) → refusal ≢ trace.NoMemory → Refuses left refusal start now run
+        → sink' ≡ sink → Keeps printed printed'
+        → EndsBehind run (Err (stop.Fault (fault_of_trace refusal)))
     memory : sink' ≡ sink → Keeps printed printed' → EndsBehind run (Err (stop.Fault Memory))
 
   -- these lines came
@@ -33,10 +39,12 @@ module _ {S : Type 0} (left : S → Option (List ℕ)) (config : Config) (start 
     pub ends : EndsBehind run result
 
 -- Nothing stands in the way of a comparison: no call failed, no line is bad or one too many.
-pub record MayCompare {S : Type 0} (left : S → Option (List ℕ)) (start now : Given S) (sink sink' source source' : ℕ) : Type 0 where
+pub record MayCompare {S : Type 0} (left : S → Option (List ℕ)) (start now : Given S)
+    (sink sink' source source' : ℕ) : Type 0 where
   pub sink_calm : Rose sink sink' → ⊥
   pub source_calm : Rose source source' → ⊥
-  pub spelled : (line : ℕ) (why : BadLine) (ls : List (Option TraceLine)) → Refuses left (trace.Bad line why) start now ls → ⊥
+  pub spelled : (line : ℕ) (why : BadLine) (ls : List (Option TraceLine))
+      → Refuses left (trace.Bad line why) start now ls → ⊥
   pub few : (ls : List (Option TraceLine)) → Refuses left trace.Spent start now ls → ⊥
 
 module _ {S : Type 0} (left : S → Option (List ℕ)) (config : Config) (start now : Given S) where
@@ -51,4 +59,6 @@ module _ {S : Type 0} (left : S → Option (List ℕ)) (config : Config) (start 
   pub record StopsBefore (e : Stop) : Type 0 where
     pub run : List (Option TraceLine)
     pub given : HasGiven left (targets_of config) start now run
-    pub cause : ((refusal : TraceFault) × (refusal ≢ trace.NoMemory) × (e ≡ stop.Fault (fault_of_trace refusal)) × Refuses left refusal start now run) ⊎ (e ≡ stop.Fault Memory)
+    pub cause : ((refusal : TraceFault) × (refusal ≢ trace.NoMemory)
+        × (e ≡ stop.Fault (fault_of_trace refusal)) × Refuses left refusal start now run)
+        ⊎ (e ≡ stop.Fault Memory)

@@ -58,7 +58,8 @@ is_some_window (w ∷ ws) = true
 pub record IsBehind (config : Config) (ws : List Asked) (s : Comparison) : Type 0 where
   pub started : s.started ≡ is_some_window ws
   pub run : HaveRun config (beginning ws) ws s.machines
-  pub at : AreAt (length config.volumes.items) (last_moment (beginning ws) ws) s.machines.always.asked s.machines
+  pub at : AreAt (length config.volumes.items) (last_moment (beginning ws) ws)
+      s.machines.always.asked s.machines
 
 -- a window at this moment may come behind those that were run
 pub record MayRun (config : Config) (moment : ℕ) (s : Comparison) : Type 0 where
@@ -74,10 +75,12 @@ begun_at moment (w ∷ ws) = w.moment
 pub record HasBegun (config : Config) (moment : ℕ) (ws : List Asked) (s : Comparison) : Type 0 where
   pub started : s.started ≡ true
   pub run : HaveRun config (begun_at moment ws) ws s.machines
-  pub at : AreAt (length config.volumes.items) (last_moment (begun_at moment ws) ws) s.machines.always.asked s.machines
+  pub at : AreAt (length config.volumes.items) (last_moment (begun_at moment ws) ws)
+      s.machines.always.asked s.machines
 
 -- these lines were taken, and the windows that are whole were run
-pub record HasTaken (config : Config) (ls : List (Option TraceLine)) (c : Cutting) (s : Comparison) : Type 0 where
+pub record HasTaken (config : Config) (ls : List (Option TraceLine)) (c : Cutting)
+    (s : Comparison) : Type 0 where
   pub given : List Window
   pub cut : HasCut (most_of config) (targets_of config) ls given c
   pub behind : IsBehind config (map (asked_in config) given) s

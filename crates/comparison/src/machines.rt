@@ -28,7 +28,10 @@ fn tell(policy: Policy, machine: Machine, to: u64, out: &mut Vec<u8>) -> Result<
     requires machine { IsMachine machine }
     requires live { machine.live ≡ true }
     requires later { machine.moment ≤ to }
-    ensures ok { OnOk result ((config : Config) (from : ℕ) (ws : List Asked) → HasRun policy config from ws machine → out.new.items ≡ out.old.items ++ policy_text policy (compared policy config from ws to)) }
+    ensures ok { OnOk result ((config : Config) (from : ℕ) (ws : List Asked)
+        → HasRun policy config from ws machine
+        → out.new.items
+        ≡ out.old.items ++ policy_text policy (compared policy config from ws to)) }
 {
     let sums = machine.finish(to);
     policy_line(policy, &sums, out)
@@ -55,8 +58,11 @@ impl Machines {
         requires later { self.old.always.moment ≤ at }
         requires asks { AllByRecursion (IsAsk (length self.old.always.volumes.items)) asks.now }
         requires few { self.old.always.asked + length asks.now < 2 ^ 63 }
-        ensures at { OnOk result (AreAt (length self.old.always.volumes.items) at (self.old.always.asked + length asks.now) self.new) }
-        ensures run { OnOk result ((config : Config) (from : ℕ) (ws : List Asked) → HaveRun config from ws self.old → HaveRun config from (ws ++ record { moment = at; asks = asks.now } ∷ []) self.new) }
+        ensures at { OnOk result (AreAt (length self.old.always.volumes.items) at
+            (self.old.always.asked + length asks.now) self.new) }
+        ensures run { OnOk result ((config : Config) (from : ℕ) (ws : List Asked)
+            → HaveRun config from ws self.old
+            → HaveRun config from (ws ++ record { moment = at; asks = asks.now } ∷ []) self.new) }
     {
         self.always.window(at, asks)?;
         self.spin_down.window(at, asks)?;
@@ -68,7 +74,9 @@ impl Machines {
     pub(crate) fn tell(self, to: u64, out: &mut Vec<u8>) -> Result<(), NoMemory>
         requires together { AreTogether self }
         requires later { self.always.moment ≤ to }
-        ensures { OnOk result ((config : Config) (from : ℕ) (ws : List Asked) → HaveRun config from ws self → out.new.items ≡ out.old.items ++ whatif_text config from ws to) }
+        ensures { OnOk result ((config : Config) (from : ℕ) (ws : List Asked)
+            → HaveRun config from ws self
+            → out.new.items ≡ out.old.items ++ whatif_text config from ws to) }
     {
         let Machines {
             always,

@@ -18,10 +18,12 @@ use wol_io::{Sink, Source};
 fn run_all<S: Source>(alloc: Global, config: &Config, given: &mut Given<S>) -> Result<Vec<u8>, Stop>
     requires valid { IsValid config.now }
     requires new { IsNew given.old }
-    ensures whole { IfOk result (λ text. MakesWhole S.left config.now given.old given.new text.items) }
+    ensures whole { IfOk result
+        (λ text. MakesWhole S.left config.now given.old given.new text.items) }
     ensures some { IfErr result (λ e. StopsBefore S.left config.now given.old given.new e) }
     ensures source_later { faults_of S.faults given.old ≤ faults_of S.faults given.new }
-    ensures source { result ≡ Err (Stop.Fault TraceSource) → Rose (faults_of S.faults given.old) (faults_of S.faults given.new) }
+    ensures source { result ≡ Err (Stop.Fault TraceSource)
+        → Rose (faults_of S.faults given.old) (faults_of S.faults given.new) }
     ensures same_borrow { borrow_of S.borrow given.new ≡ borrow_of S.borrow given.old }
     ensures within { IsWithin given.new }
 {
@@ -54,13 +56,16 @@ pub fn compare<S: Source, K: Sink>(
 ) -> Result<(), Stop>
     requires valid { IsValid config.now }
     requires new { IsNew given.old }
-    ensures compares { Compares S.left config.now given.old given.new (K.faults out.old) (K.faults out.new) (K.taken out.old) (K.taken out.new) result }
+    ensures compares { Compares S.left config.now given.old given.new (K.faults out.old)
+        (K.faults out.new) (K.taken out.old) (K.taken out.new) result }
     ensures later { K.faults out.old ≤ K.faults out.new }
     ensures source_later { faults_of S.faults given.old ≤ faults_of S.faults given.new }
-    ensures source { result ≡ Err (Stop.Fault TraceSource) → Rose (faults_of S.faults given.old) (faults_of S.faults given.new) }
+    ensures source { result ≡ Err (Stop.Fault TraceSource)
+        → Rose (faults_of S.faults given.old) (faults_of S.faults given.new) }
     ensures same_borrow { borrow_of S.borrow given.new ≡ borrow_of S.borrow given.old }
     ensures within { IsWithin given.new }
-    ensures complete { MayCompare S.left given.old given.new (K.faults out.old) (K.faults out.new) (faults_of S.faults given.old) (faults_of S.faults given.new) → Completes result }
+    ensures complete { MayCompare S.left given.old given.new (K.faults out.old) (K.faults out.new)
+        (faults_of S.faults given.old) (faults_of S.faults given.new) → Completes result }
 {
     let text = run_all(alloc, config, given)?;
     out.write(&text)?;

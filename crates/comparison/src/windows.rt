@@ -69,7 +69,8 @@ impl Comparison {
     fn begin(&mut self, alloc: Global, config: &Config, moment: u64) -> Result<(), NoMemory>
         requires valid { IsValid config.now }
         requires may { MayRun config.now moment self.old }
-        ensures begun { OnOk result ((ws : List Asked) → IsBehind config.now ws self.old → HasBegun config.now moment ws self.new) }
+        ensures begun { OnOk result ((ws : List Asked) → IsBehind config.now ws self.old
+            → HasBegun config.now moment ws self.new) }
         ensures few { OnOk result (self.new.machines.always.asked ≤ self.old.machines.always.asked) }
     {
         if !self.started {
@@ -82,11 +83,14 @@ impl Comparison {
     // Runs a window.
     fn run(&mut self, alloc: Global, config: &Config, batch: &Batch) -> Result<(), NoMemory>
         requires valid { IsValid config.now }
-        requires inside { AllByRecursion (IsInside (most_of config.now) (targets_of config.now)) batch.now.requests }
+        requires inside { AllByRecursion (IsInside (most_of config.now) (targets_of config.now))
+            batch.now.requests }
         requires may { MayRun config.now batch.now.moment self.old }
         requires few { self.old.machines.always.asked ≤ 131073 * 2 ^ 32 }
-        ensures behind { OnOk result ((ws : List Asked) → IsBehind config.now ws self.old → IsBehind config.now (ws ++ asked_of batch.now ∷ []) self.new) }
-        ensures few { OnOk result (self.new.machines.always.asked ≤ self.old.machines.always.asked + 131073) }
+        ensures behind { OnOk result ((ws : List Asked) → IsBehind config.now ws self.old
+            → IsBehind config.now (ws ++ asked_of batch.now ∷ []) self.new) }
+        ensures few { OnOk result
+            (self.new.machines.always.asked ≤ self.old.machines.always.asked + 131073) }
     {
         let moment = batch.moment();
         self.begin(alloc, config, moment)?;
@@ -106,7 +110,9 @@ impl Comparison {
         requires lines { cutter.old.tally.lines < 2 ^ 32 }
         requires fits { IfSome line (λ l. Fits (trace_line l.now)) }
         requires some { HasTakenSome config.now cutter.old self.old }
-        ensures taken { OnOk result ((ls : List _) → HasTaken config.now ls cutter.old self.old → HasTaken config.now (ls ++ option_map (λ l. trace_line l.now) line.entry ∷ []) cutter.new self.new) }
+        ensures taken { OnOk result ((ls : List _) → HasTaken config.now ls cutter.old self.old
+            → HasTaken config.now (ls ++ option_map (λ l. trace_line l.now) line.entry ∷ [])
+            cutter.new self.new) }
         ensures lines { OnOk result (cutter.new.tally.lines ≡ cutter.old.tally.lines + 1) }
     {
         if cutter.take(config, line)? {
@@ -121,7 +127,8 @@ impl Comparison {
         requires valid { IsValid config.now }
         requires lines { cutter.now.tally.lines ≤ 2 ^ 32 }
         requires some { HasTakenSome config.now cutter.now self.old }
-        ensures { OnOk result ((ls : List _) → HasTaken config.now ls cutter.now self.old → IsBehind config.now (asked_by config.now ls) self.new) }
+        ensures { OnOk result ((ls : List _) → HasTaken config.now ls cutter.now self.old
+            → IsBehind config.now (asked_by config.now ls) self.new) }
     {
         let last = cutter.current();
         if last.lines() == 0 {
@@ -140,7 +147,8 @@ impl Comparison {
         requires valid { IsValid config.now }
         requires lines { cutter.now.tally.lines ≤ 2 ^ 32 }
         requires some { HasTakenSome config.now cutter.now self }
-        ensures { IfOk result (λ text. (ls : List _) → HasTaken config.now ls cutter.now self → text.items ≡ comparison_of config.now ls) }
+        ensures { IfOk result (λ text. (ls : List _) → HasTaken config.now ls cutter.now self
+            → text.items ≡ comparison_of config.now ls) }
     {
         self.run_last(alloc, config, cutter)?;
         let mut text = Vec::new(alloc);

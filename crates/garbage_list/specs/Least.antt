@@ -23,8 +23,8 @@ can_go_home lanes es e = is_awake lanes e && has_due (listed_in es) e.listed
 abbrev pub first_version : (Indexed → Bool) → List Indexed → Option ℕ
 first_version test es = option_map (λ e. e.listed.version) (find test es)
 
--- what is told of one version: the version itself where its record passes, and none where it doesn't or there is no
--- such record
+-- what is told of one version: the version itself where its record passes, and none where it
+-- doesn't or there is no such record
 abbrev pub told_of : (Indexed → Bool) → ℕ → Option Indexed → Option ℕ
 told_of test version None = None
 told_of test version (Some e) = if test e then Some version else None

@@ -87,7 +87,8 @@ pub fn next_to_go(index: &Index, lanes: &[bool]) -> Option<u64>
 pub fn next_due(index: &Index, lanes: &[bool]) -> Option<u64>
     requires { AllByRecursion (HasLane lanes.now) index.now.entries }
 
-    ensures value { result ≡ first_version (can_go_home lanes.now index.now.entries) index.now.entries }
+    ensures value { result
+        ≡ first_version (can_go_home lanes.now index.now.entries) index.now.entries }
     ensures stated { IfSome result
         (λ v. IsSomeAnd (entry_at index.now.entries v)
         (λ e. can_go_home lanes.now index.now.entries e ≡ true)) }

@@ -26,27 +26,36 @@ places_told (Ok told) = replicate told.0 told.1
 places_told (Err refusal) = []
 
 -- there was no memory for the places: nothing was written, and nothing changed
-pub record HasNoRoom {D : Type 0} (items : List Item) (answer : Result ℕ WriteRefusal) (places added : Vec Place Global) (old new : Manager D) : Type 0 where
+pub record HasNoRoom {D : Type 0} (items : List Item) (answer : Result ℕ WriteRefusal)
+    (places added : Vec Place Global) (old new : Manager D) : Type 0 where
   pub refused : answer ≡ Err NoMemory
   pub full : vec_capacity places < vec_len places + length items
   pub places_ : added.items ≡ places.items
   pub same : new ≡ old
 
--- some first items were written as a run of the manager's, with this told of it, and the place of each was added
-pub record HasCommitted {D : Type 0} (tells : Bool) (state : D → State) (items : List Item) (from : List Block) (answer : Result ℕ WriteRefusal) (places added : Vec Place Global) (old new : Manager D) : Type 0 where
+-- some first items were written as a run of the manager's, with this told of it, and the place of
+-- each was added
+pub record HasCommitted {D : Type 0} (tells : Bool) (state : D → State) (items : List Item)
+    (from : List Block) (answer : Result ℕ WriteRefusal) (places added : Vec Place Global)
+    (old new : Manager D) : Type 0 where
   pub told : Result (ℕ × Place) WriteRefusal
   pub counts : answer ≡ count_told told
   pub adds : added.items ≡ places.items ++ places_told told
   pub tried : ℕ
-  pub run : HasRun tells state items from tried (place_told told) (ruled_run old new items from) old new
+  pub run : HasRun tells state items from tried (place_told told) (ruled_run old new items from) old
+      new
   pub all : IfOk told (λ t. t.0 ≡ tried)
-  pub placed : IsPlaceOf (map logger_of old.lanes.items) (place_told told) (ruled_run old new items from)
-  pub answered : HaveAnswered (first_count items) (takes_at (ruled_run old new items from) (place_told told)) new.rooms.items old.lanes.items new.lanes.items
+  pub placed :
+      IsPlaceOf (map logger_of old.lanes.items) (place_told told) (ruled_run old new items from)
+  pub answered : HaveAnswered (first_count items)
+      (takes_at (ruled_run old new items from) (place_told told)) new.rooms.items old.lanes.items
+      new.lanes.items
   pub waking_home : NeedsHome (ruled_run old new items from) (place_told told) old new
   pub waking_logs : NeedsLogs (ruled_run old new items from) (place_told told) old new
   pub down : (p : Part) → (told ≡ Err (Down p)) ↔ (old.down ≡ Some p)
   pub versions : (told ≡ Err VersionsSpent) ↔ ((old.down ≡ None) × (old.next ≡ 2 ^ 63))
-  pub memory : told ≡ Err NoMemory → (old.down ≡ None) × (old.next < 2 ^ 63) × (old.index.reserved < 1)
+  pub memory : told ≡ Err NoMemory
+      → (old.down ≡ None) × (old.next < 2 ^ 63) × (old.index.reserved < 1)
   pub fault : TellsFault state (place_told told) old new
   pub calm : OnOk told (NoneRose state old new)
   pub unchanged : IsAsBefore (place_told told) old new

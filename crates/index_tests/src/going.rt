@@ -33,7 +33,8 @@ const SECOND: Rec = Rec {
 
 fn two_offloads(alloc: Global) -> Result<Index, NoMemory>
     ensures { IfOk result
-        (λ i. i.entries ≡ unhomed (cover_at (entry_of SECOND 0)) (entry_of FIRST 0) ∷ entry_of SECOND 0 ∷ []) }
+        (λ i. i.entries
+        ≡ unhomed (cover_at (entry_of SECOND 0)) (entry_of FIRST 0) ∷ entry_of SECOND 0 ∷ []) }
 {
     let mut index = Index::new(alloc);
     index.reserve(2)?;

@@ -30,7 +30,8 @@ const NEWER: Rec = Rec {
 
 fn two_records(alloc: Global) -> Result<Index, NoMemory>
     ensures { IfOk result
-        (λ i. i.entries ≡ unhomed (cover_at (entry_of NEWER 0)) (entry_of OLDER 0) ∷ entry_of NEWER 0 ∷ []) }
+        (λ i. i.entries
+        ≡ unhomed (cover_at (entry_of NEWER 0)) (entry_of OLDER 0) ∷ entry_of NEWER 0 ∷ []) }
 {
     let mut index = Index::new(alloc);
     index.reserve(2)?;

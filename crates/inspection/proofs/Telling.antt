@@ -24,7 +24,7 @@ use Rattle.manager.specs.declared.part.Part.{Part}
 use Rattle.manager.specs.declared.base.ManagerBase.{ManagerBase}
 use Rattle.manager.specs.declared.manager.Manager.{Manager}
 use Rattle.manager.specs.declared.station.Station.{Station}
-use Rattle.manager_recovery.specs.Opened.{IsPlaceOf}
+use Rattle.manager_recovery.specs.Opened.{StandsInOwned}
 use Rattle.manager_recovery.specs.Owned.{Owned}
 use Rattle.log_dump.specs.Texts.{check_text}
 use Rattle.log_dump.specs.Volumes.{held_segments}
@@ -61,15 +61,15 @@ use Rattle.inspection.proofs.Unhelped.{all_at, broken_still, none_before, one_do
 
 -- entries that stand still stand where those did
 still_placed : (v : ℕ) (view : List ℕ) (owned : List Owned) (places : List Indexed) (next now : ℕ) → next ≡ now → (es : List Indexed) → AllByRecursion (λ (e : Indexed). e.listed.version < now) es → AreStill places next es
-    → AllByRecursion (IsPlaceOf v view owned) places → AllByRecursion (IsPlaceOf v view owned) es
+    → AllByRecursion (StandsInOwned v view owned) places → AllByRecursion (StandsInOwned v view owned) es
 still_placed v view owned places next now same [] below still each = tt
 still_placed v view owned places next now same (e ∷ es) below still each = (here, still_placed v view owned places next now same es below.1 still.1 each)
   where
-    here : IsPlaceOf v view owned e
+    here : StandsInOwned v view owned e
     here =
         let lt : e.listed.version < now = below.0 in
         let stood = still.0 (omega (arith, lt, same)) in
-        let was : IsPlaceOf v view owned stood.0 = all_member (IsPlaceOf v view owned) places stood.0 each stood.1 in
+        let was : StandsInOwned v view owned stood.0 = all_member (StandsInOwned v view owned) places stood.0 each stood.1 in
         let at = stood.2 in
         record {
           segment = was.segment;

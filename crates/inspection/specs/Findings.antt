@@ -19,14 +19,17 @@ use Rattle.inspection.specs.declared.asked.Asked.TheVariants.{Check}
 use Rattle.inspection.specs.declared.beside.Finding.{Finding}
 
 -- a station whose volume may be looked at, and a finding of nothing yet
-pub record CanBeLookedAt {D : Type 0} (config : Config) (shared : Shared D) (s : Station D) (f : Finding) : Type 0 where
+pub record CanBeLookedAt {D : Type 0} (config : Config) (shared : Shared D) (s : Station D)
+    (f : Finding) : Type 0 where
   pub station : IsStation s
   pub base : IsConfiguredBase config shared (base_of_station s)
   pub empty : f.text.items ≡ []
 
 -- so it is of each of these stations
-pub record CanAllBeLookedAt {D : Type 0} (config : Config) (shared : Shared D) (ss : List (Station D)) (fs : List Finding) : Type 0 where
-  pub each : (k : ℕ) (s : Station D) (f : Finding) → k < length ss → CanBeLookedAt config shared (slice_index_or ss k s) (slice_index_or fs k f)
+pub record CanAllBeLookedAt {D : Type 0} (config : Config) (shared : Shared D)
+    (ss : List (Station D)) (fs : List Finding) : Type 0 where
+  pub each : (k : ℕ) (s : Station D) (f : Finding) → k < length ss
+      → CanBeLookedAt config shared (slice_index_or ss k s) (slice_index_or fs k f)
 
 -- findings of nothing yet
 abbrev pub AreEmpty : List Finding → Type 0
@@ -34,18 +37,23 @@ AreEmpty fs = All (λ (f : Finding). f.text.items ≡ []) fs
 
 -- a part that a finding tells has the name of a configured volume
 abbrev pub IsKnown : Config → Finding → Type 0
-IsKnown config f = (p : Part) → (f.answer ≡ Err (dump.DiskFault p)) ⊎ (f.answer ≡ Err (dump.Down p)) → IsAmong (length (printed_names config.volumes.items)) (trouble_of_part p)
+IsKnown config f = (p : Part) → (f.answer ≡ Err (dump.DiskFault p)) ⊎ (f.answer ≡ Err (dump.Down p))
+    → IsAmong (length (printed_names config.volumes.items)) (trouble_of_part p)
 
 -- the volume of a station was looked at for its line, and this was found
-pub record HasFound {D : Type 0} (tells : Bool) (state : D → State) (config : Config) (s t : Station D) (f : Finding) : Type 0 where
+pub record HasFound {D : Type 0} (tells : Bool) (state : D → State) (config : Config)
+    (s t : Station D) (f : Finding) : Type 0 where
   pub same : IsSameStation s t
   pub looks : LooksAt tells state config Check s.id s.worker t.worker f.answer [] f.text.items
   pub err : OnErr f.answer (f.text.items ≡ [])
   pub known : IsKnown config f
 
 -- so it is of each of these stations
-pub record HaveFound {D : Type 0} (tells : Bool) (state : D → State) (config : Config) (ss ts : List (Station D)) (fs : List Finding) : Type 0 where
-  pub each : (k : ℕ) (s : Station D) (f : Finding) → k < length ss → HasFound tells state config (slice_index_or ss k s) (slice_index_or ts k s) (slice_index_or fs k f)
+pub record HaveFound {D : Type 0} (tells : Bool) (state : D → State) (config : Config)
+    (ss ts : List (Station D)) (fs : List Finding) : Type 0 where
+  pub each : (k : ℕ) (s : Station D) (f : Finding) → k < length ss
+      → HasFound tells state config (slice_index_or ss k s) (slice_index_or ts k s)
+      (slice_index_or fs k f)
 
 -- the line of a volume that isn't in order, or none
 abbrev pub lines_of : Config → (number : ℕ) → Option Trouble → List ℕ
@@ -53,22 +61,28 @@ lines_of config number None = []
 lines_of config number (Some trouble) = trouble_line config number trouble
 
 -- The volumes of the first n of these stations were looked at, and the others are as they were.
-pub record AreFoundTo {D : Type 0} (tells : Bool) (state : D → State) (config : Config) (ss ts : List (Station D)) (fs : List Finding) (n : ℕ) : Type 0 where
+pub record AreFoundTo {D : Type 0} (tells : Bool) (state : D → State) (config : Config)
+    (ss ts : List (Station D)) (fs : List Finding) (n : ℕ) : Type 0 where
   pub long : length ts ≡ length ss
   pub count : length fs ≡ length ss
   pub within : n ≤ length ss
-  pub found : (k : ℕ) (s : Station D) (f : Finding) → k < n → HasFound tells state config (slice_index_or ss k s) (slice_index_or ts k s) (slice_index_or fs k f)
+  pub found : (k : ℕ) (s : Station D) (f : Finding) → k < n
+      → HasFound tells state config (slice_index_or ss k s) (slice_index_or ts k s)
+      (slice_index_or fs k f)
   pub ahead : (k : ℕ) (s : Station D) → n ≤ k → slice_index_or ts k s ≡ slice_index_or ss k s
-  pub nothing : (k : ℕ) (f : Finding) → n ≤ k → k < length fs → (slice_index_or fs k f).text.items ≡ []
+  pub nothing : (k : ℕ) (f : Finding) → n ≤ k → k < length fs
+      → (slice_index_or fs k f).text.items ≡ []
 
 -- the first n stations, and what was found of them, stay
-pub record KeepsFound {D : Type 0} (n : ℕ) (ss ts : List (Station D)) (fs hs : List Finding) : Type 0 where
+pub record KeepsFound {D : Type 0} (n : ℕ) (ss ts : List (Station D)) (fs hs : List Finding) :
+    Type 0 where
   pub long : length ts ≡ length ss
   pub stations : (k : ℕ) (s : Station D) → k < n → slice_index_or ts k s ≡ slice_index_or ss k s
   pub findings : (k : ℕ) (f : Finding) → k < n → slice_index_or hs k f ≡ slice_index_or fs k f
 
 -- what is told of a volume by what was found at its station, which is one of the first n
-pub record TellsFound {D : Type 0} (config : Config) (r : Rack D) (fs : List Finding) (n number : ℕ) (t : Telling) : Type 0 where
+pub record TellsFound {D : Type 0} (config : Config) (r : Rack D) (fs : List Finding) (n number : ℕ)
+    (t : Telling) : Type 0 where
   pub place : ℕ
   pub station : Station D
   pub is_station : IsStationAt r.stations.items number place station
@@ -80,5 +94,6 @@ pub record TellsFound {D : Type 0} (config : Config) (r : Rack D) (fs : List Fin
   pub text : t.text ≡ finding.text.items ++ lines_of config number t.trouble
 
 -- what is told of a volume
-abbrev pub IsToldBy : {D : Type 0} → Config → Rack D → List Finding → (n number : ℕ) → Telling → Type 0
+abbrev pub IsToldBy : {D : Type 0} → Config → Rack D → List Finding → (n number : ℕ) → Telling
+    → Type 0
 IsToldBy config r fs n number t = TellsFault config r number t ⊎ TellsFound config r fs n number t

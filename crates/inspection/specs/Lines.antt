@@ -25,7 +25,9 @@ use Rattle.inspection.specs.declared.calls.Stop.TheVariants.{Sink, Memory}
 
 -- the line of a volume that isn't in order
 abbrev pub trouble_line : Config → (number : ℕ) → Trouble → List ℕ
-trouble_line config number trouble = line_of (name_at (printed_names config.volumes.items) number ∷ trouble_text (printed_names config.volumes.items) trouble ∷ [])
+trouble_line config number trouble = line_of
+    (name_at (printed_names config.volumes.items) number
+    ∷ trouble_text (printed_names config.volumes.items) trouble ∷ [])
 
 -- what is wrong with a volume that was looked at
 abbrev pub trouble_told : Result (Unit {0}) DumpFault → Option Trouble
@@ -35,7 +37,9 @@ trouble_told (Err (dump.Down part)) = Some (trouble_of_part part)
 trouble_told (Err dump.NoMemory) = None
 
 -- the volume of a station was looked at: its worker's pass is this one then
-pub record LooksAtVolume {D : Type 0} (tells : Bool) (state : D → State) (config : Config) (asked : Asked) (old new : Rack D) (number : ℕ) (answer : Result (Unit {0}) DumpFault) (text : List ℕ) : Type 0 where
+pub record LooksAtVolume {D : Type 0} (tells : Bool) (state : D → State) (config : Config)
+    (asked : Asked) (old new : Rack D) (number : ℕ) (answer : Result (Unit {0}) DumpFault)
+    (text : List ℕ) : Type 0 where
   pub place : ℕ
   pub station : Station D
   pub is_station : IsStationAt old.stations.items number place station
@@ -49,19 +53,22 @@ pub record Telling : Type 0 where
   pub text : List ℕ
 
 -- the volume has no station, and its fault is told
-pub record TellsFault {D : Type 0} (config : Config) (r : Rack D) (number : ℕ) (t : Telling) : Type 0 where
+pub record TellsFault {D : Type 0} (config : Config) (r : Rack D) (number : ℕ) (t : Telling) :
+    Type 0 where
   pub fault : VolumeFault
   pub is_fault : slice_get r.faults.items number ≡ Some (Some fault)
   pub trouble : t.trouble ≡ Some (trouble_of fault)
   pub text : t.text ≡ trouble_line config number (trouble_of fault)
 
 -- it was looked at, and is in order
-pub record TellsOrder {D : Type 0} (tells : Bool) (state : D → State) (config : Config) (asked : Asked) (old new : Rack D) (number : ℕ) (t : Telling) : Type 0 where
+pub record TellsOrder {D : Type 0} (tells : Bool) (state : D → State) (config : Config)
+    (asked : Asked) (old new : Rack D) (number : ℕ) (t : Telling) : Type 0 where
   pub looked : LooksAtVolume tells state config asked old new number (Ok tt) t.text
   pub trouble : t.trouble ≡ None
 
 -- it was looked at, and a call of this part had failed or did
-pub record TellsFailed {D : Type 0} (tells : Bool) (state : D → State) (config : Config) (asked : Asked) (old new : Rack D) (number : ℕ) (t : Telling) : Type 0 where
+pub record TellsFailed {D : Type 0} (tells : Bool) (state : D → State) (config : Config)
+    (asked : Asked) (old new : Rack D) (number : ℕ) (t : Telling) : Type 0 where
   pub part : Part
   pub answer : Result (Unit {0}) DumpFault
   pub is_answer : (answer ≡ Err (dump.DiskFault part)) ⊎ (answer ≡ Err (dump.Down part))
@@ -70,14 +77,18 @@ pub record TellsFailed {D : Type 0} (tells : Bool) (state : D → State) (config
   pub text : t.text ≡ trouble_line config number (trouble_of_part part)
 
 -- what is told of a volume
-abbrev pub IsTelling : {D : Type 0} → (tells : Bool) → (D → State) → Config → Asked → (old new : Rack D) → (number : ℕ) → Telling → Type 0
+abbrev pub IsTelling : {D : Type 0} → (tells : Bool) → (D → State) → Config → Asked
+    → (old new : Rack D) → (number : ℕ) → Telling → Type 0
 IsTelling tells state config asked old new number t =
-    TellsFault config old number t ⊎ TellsOrder tells state config asked old new number t ⊎ TellsFailed tells state config asked old new number t
+    TellsFault config old number t ⊎ TellsOrder tells state config asked old new number t
+    ⊎ TellsFailed tells state config asked old new number t
 
 -- so it is of the first volumes, one after another
-pub record AreTellings {D : Type 0} (tells : Bool) (state : D → State) (config : Config) (asked : Asked) (old new : Rack D) (ts : List Telling) : Type 0 where
+pub record AreTellings {D : Type 0} (tells : Bool) (state : D → State) (config : Config)
+    (asked : Asked) (old new : Rack D) (ts : List Telling) : Type 0 where
   pub few : length ts ≤ length config.volumes.items
-  pub each : (k : ℕ) (t : Telling) → slice_get ts k ≡ Some t → IsTelling tells state config asked old new k t
+  pub each : (k : ℕ) (t : Telling) → slice_get ts k ≡ Some t
+      → IsTelling tells state config asked old new k t
 
 -- the texts, one after another
 abbrev pub text_of : List Telling → List ℕ
@@ -92,15 +103,21 @@ abbrev pub first_trouble : List Telling → Option Trouble
 first_trouble [] = None
 first_trouble (t ∷ ts) = first_of t.trouble (first_trouble ts)
 
--- What printing the volumes comes to: all were printed; or some first ones, and there was no memory for more; or a front of some
--- first ones, and the sink failed.
-abbrev pub PrintsBy : Result (Option Trouble) Stop → Config → List Telling → (faults faults' : ℕ) → (printed new : Option (List ℕ)) → Type 0
+-- What printing the volumes comes to: all were printed; or some first ones, and there was no memory
+-- for more; or a front of some first ones, and the sink failed.
+abbrev pub PrintsBy : Result (Option Trouble) Stop → Config → List Telling → (faults faults' : ℕ)
+    → (printed new : Option (List ℕ)) → Type 0
 PrintsBy (Ok trouble) config ts faults faults' printed new =
-    (length ts ≡ length config.volumes.items) × (trouble ≡ first_trouble ts) × (faults' ≡ faults) × Appends printed new (text_of ts)
-PrintsBy (Err Memory) config ts faults faults' printed new = (faults' ≡ faults) × Appends printed new (text_of ts)
-PrintsBy (Err Sink) config ts faults faults' printed new = Rose faults faults' × AppendsFront printed new (text_of ts)
+    (length ts ≡ length config.volumes.items) × (trouble ≡ first_trouble ts) × (faults' ≡ faults)
+    × Appends printed new (text_of ts)
+PrintsBy (Err Memory) config ts faults faults' printed new =
+    (faults' ≡ faults) × Appends printed new (text_of ts)
+PrintsBy (Err Sink) config ts faults faults' printed new =
+    Rose faults faults' × AppendsFront printed new (text_of ts)
 
-pub record PrintsVolumes {D : Type 0} (tells : Bool) (state : D → State) (config : Config) (asked : Asked) (old new : Rack D) (result : Result (Option Trouble) Stop) (faults faults' : ℕ) (printed printed' : Option (List ℕ)) : Type 0 where
+pub record PrintsVolumes {D : Type 0} (tells : Bool) (state : D → State) (config : Config)
+    (asked : Asked) (old new : Rack D) (result : Result (Option Trouble) Stop) (faults faults' : ℕ)
+    (printed printed' : Option (List ℕ)) : Type 0 where
   pub told : List Telling
   pub are : AreTellings tells state config asked old new told
   pub prints : PrintsBy result config told faults faults' printed printed'

@@ -25,8 +25,10 @@ use Rattle.inspection.specs.declared.asked.Asked.{Asked}
 use Rattle.inspection.specs.declared.asked.Asked.TheVariants.{Check, Dump}
 use Rattle.wol_config.specs.Configs.{most_of}
 
--- what a manager with this base, over these shared locks, has to serve: its volume and the loggers of its view are configured
-pub record IsConfiguredBase {D : Type 0} (config : Config) (shared : Shared D) (b : ManagerBase) : Type 0 where
+-- what a manager with this base, over these shared locks, has to serve: its volume and the loggers
+-- of its view are configured
+pub record IsConfiguredBase {D : Type 0} (config : Config) (shared : Shared D) (b : ManagerBase) :
+    Type 0 where
   pub volume : VolumeConf
   pub there : slice_get config.volumes.items b.volume.began.owner ≡ Some volume
   pub home_blocks : b.volume.began.home_blocks ≡ volume.home
@@ -34,18 +36,28 @@ pub record IsConfiguredBase {D : Type 0} (config : Config) (shared : Shared D) (
   pub view : AllByRecursion (λ (l : ℕ). l < length config.volumes.items) b.volume.began.view
   pub at : IsShared shared b
 
--- what is asked of a volume in order was appended: of the manager that stands for this beginning and these entries
-abbrev pub AppendsAsked : {D : Type 0} → Config → Asked → (number : ℕ) → Manager D → ManagerBase → List Noted → (old new : List ℕ) → Type 0
+-- what is asked of a volume in order was appended: of the manager that stands for this beginning
+-- and these entries
+abbrev pub AppendsAsked : {D : Type 0} → Config → Asked → (number : ℕ) → Manager D → ManagerBase
+    → List Noted → (old new : List ℕ) → Type 0
 AppendsAsked config Check number m b notes old new =
-    new ≡ old ++ check_text (name_at (names_of config.volumes.items) number) (array_of b notes) (length m.index.entries) (held_segments m)
+    new ≡ old ++ check_text (name_at (names_of config.volumes.items) number) (array_of b notes)
+    (length m.index.entries) (held_segments m)
 AppendsAsked config Dump number m b notes old new = IsDump config number m old new
 
 -- the entry of a turn with this operation, that leaves this look
 abbrev pub note_told : (pass : ℕ) → Operation → Look → Noted
-note_told pass operation look = record { entry = record { pass = pass; operation = operation }; look = look; passed = []; after_drain = false; ruled = false }
+note_told pass operation look = record {
+  entry = record { pass = pass; operation = operation };
+  look = look;
+  passed = [];
+  after_drain = false;
+  ruled = false;
+}
 
 -- one turn of a pass, behind these entries: it adds this entry
-pub record HasAdded {D : Type 0} (p q : ManagerPass D) (before : List Entry) (n : Noted) : Type 0 where
+pub record HasAdded {D : Type 0} (p q : ManagerPass D) (before : List Entry) (n : Noted) :
+    Type 0 where
   pub same : IsSamePass p q
   pub free : IsFree q
   pub begins : Begins (pass_seen p) before
@@ -62,12 +74,15 @@ BreaksIn (Err (Down part)) notes = WasDown part notes
 BreaksIn (Err NoMemory) notes = Unit {0}
 
 -- A volume was looked at in one turn: by the manager that stood for the entries before it.
-pub record LooksAt {D : Type 0} (tells : Bool) (state : D → State) (config : Config) (asked : Asked) (number : ℕ) (p q : ManagerPass D) (answer : Result (Unit {0}) DumpFault) (old new : List ℕ) : Type 0 where
+pub record LooksAt {D : Type 0} (tells : Bool) (state : D → State) (config : Config) (asked : Asked)
+    (number : ℕ) (p q : ManagerPass D) (answer : Result (Unit {0}) DumpFault) (old new : List ℕ) :
+    Type 0 where
   pub before : List Entry
   pub note : Noted
   pub added : HasAdded p q before note
   pub operation : note.entry.operation ≡ was_told answer
   pub manager : Manager D
   pub stands : Stands tells state manager (pass_lock p).base (notes_of before)
-  pub content : IsTrue tells → OnOk answer (AppendsAsked config asked number manager (pass_lock p).base (notes_of before) old new)
+  pub content : IsTrue tells → OnOk answer
+      (AppendsAsked config asked number manager (pass_lock p).base (notes_of before) old new)
   pub broken : BreaksIn answer (notes_of (pass_seen q))

@@ -19,16 +19,21 @@ abbrev pub numbers_of : {D : Type 0} → List (Station D) → List ℕ
 numbers_of {D} stations = map (λ (s : Station D). s.id) stations
 
 -- the station of a volume stands at this place
-pub record IsStationAt {D : Type 0} (stations : List (Station D)) (volume place : ℕ) (s : Station D) : Type 0 where
+pub record IsStationAt {D : Type 0} (stations : List (Station D)) (volume place : ℕ)
+    (s : Station D) : Type 0 where
   pub there : slice_get stations place ≡ Some s
   pub id : s.id ≡ volume
 
--- a volume without a station has a fault that names configured volumes, and the stations serve configured volumes
+-- a volume without a station has a fault that names configured volumes, and the stations serve
+-- configured volumes
 pub record CanLook {D : Type 0} (config : Config) (r : Rack D) : Type 0 where
   pub count : length r.faults.items ≡ length config.volumes.items
-  pub known : (k : ℕ) (f : VolumeFault) → slice_get r.faults.items k ≡ Some (Some f) → IsAmong (length (printed_names config.volumes.items)) (trouble_of f)
-  pub open_ : (k : ℕ) → slice_get r.faults.items k ≡ Some None → Contains (numbers_of r.stations.items) k
-  pub stations : All (λ s. IsStation s × IsConfiguredBase config r.shared (base_of_station s)) r.stations.items
+  pub known : (k : ℕ) (f : VolumeFault) → slice_get r.faults.items k ≡ Some (Some f)
+      → IsAmong (length (printed_names config.volumes.items)) (trouble_of f)
+  pub open_ : (k : ℕ) → slice_get r.faults.items k ≡ Some None
+      → Contains (numbers_of r.stations.items) k
+  pub stations :
+      All (λ s. IsStation s × IsConfiguredBase config r.shared (base_of_station s)) r.stations.items
 
 -- only what the worker's pass has seen and made is another
 pub record IsSameStation {D : Type 0} (s t : Station D) : Type 0 where
@@ -36,7 +41,8 @@ pub record IsSameStation {D : Type 0} (s t : Station D) : Type 0 where
   pub pass : IsSamePass s.worker t.worker
   pub free : IsFree s.worker → IsFree t.worker
   -- and where its own entries changed no content, they still don't
-  pub helps : AllByRecursion (λ n. IsHelp n.entry.operation) (notes_of (pass_mine s.worker)) → AllByRecursion (λ n. IsHelp n.entry.operation) (notes_of (pass_mine t.worker))
+  pub helps : AllByRecursion (λ n. IsHelp n.entry.operation) (notes_of (pass_mine s.worker))
+      → AllByRecursion (λ n. IsHelp n.entry.operation) (notes_of (pass_mine t.worker))
 
 -- so it is of each station of a rack, and all else is the same
 pub record IsSameRack {D : Type 0} (r q : Rack D) : Type 0 where

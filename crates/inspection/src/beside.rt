@@ -115,12 +115,16 @@ fn find_both<'a, D: Disk + Send, R: Threads + Wait + Sync>(
     join_mut(
         rt,
         &mut ||
-            requires { IsValid config.now × (length front_findings.now ≡ length front.now) × CanAllBeLookedAt config.now shared.now front.now front_findings.now }
-            ensures { HaveFound D.tells D.state config.entry.now front.entry.now front.exit.now front_findings.exit.now }
+            requires { IsValid config.now × (length front_findings.now ≡ length front.now)
+                × CanAllBeLookedAt config.now shared.now front.now front_findings.now }
+            ensures { HaveFound D.tells D.state config.entry.now front.entry.now front.exit.now
+                front_findings.exit.now }
         { find_each(rt, alloc, shared, config, front, front_findings) },
         &mut ||
-            requires { IsValid config.now × (length back_findings.now ≡ length back.now) × CanAllBeLookedAt config.now shared.now back.now back_findings.now }
-            ensures { HaveFound D.tells D.state config.entry.now back.entry.now back.exit.now back_findings.exit.now }
+            requires { IsValid config.now × (length back_findings.now ≡ length back.now)
+                × CanAllBeLookedAt config.now shared.now back.now back_findings.now }
+            ensures { HaveFound D.tells D.state config.entry.now back.entry.now back.exit.now
+                back_findings.exit.now }
         { find_each(rt, again, shared, config, back, back_findings) },
     );
 }
@@ -181,12 +185,16 @@ fn find_quarters<'a, D: Disk + Send, R: Threads + Wait + Sync>(
     join_mut(
         rt,
         &mut ||
-            requires { IsValid config.now × (length front_findings.now ≡ length front.now) × CanAllBeLookedAt config.now shared.now front.now front_findings.now }
-            ensures { HaveFound D.tells D.state config.entry.now front.entry.now front.exit.now front_findings.exit.now }
+            requires { IsValid config.now × (length front_findings.now ≡ length front.now)
+                × CanAllBeLookedAt config.now shared.now front.now front_findings.now }
+            ensures { HaveFound D.tells D.state config.entry.now front.entry.now front.exit.now
+                front_findings.exit.now }
         { find_halves(rt, alloc, shared, config, front, front_findings) },
         &mut ||
-            requires { IsValid config.now × (length back_findings.now ≡ length back.now) × CanAllBeLookedAt config.now shared.now back.now back_findings.now }
-            ensures { HaveFound D.tells D.state config.entry.now back.entry.now back.exit.now back_findings.exit.now }
+            requires { IsValid config.now × (length back_findings.now ≡ length back.now)
+                × CanAllBeLookedAt config.now shared.now back.now back_findings.now }
+            ensures { HaveFound D.tells D.state config.entry.now back.entry.now back.exit.now
+                back_findings.exit.now }
         { find_halves(rt, again, shared, config, back, back_findings) },
     );
 }
@@ -232,10 +240,13 @@ fn find_run<D: Disk + Send, R: Threads + Wait + Sync>(
     size: usize,
 )
     requires valid { IsValid config.now }
-    requires stations { All (λ s. IsStation s × IsConfiguredBase config.now shared.now (base_of_station s)) stations.old }
-    requires going { (before : List (Station _)) × AreFoundTo D.tells D.state config.now before stations.old findings.old found }
+    requires stations { All (λ s.
+        IsStation s × IsConfiguredBase config.now shared.now (base_of_station s)) stations.old }
+    requires going { (before : List (Station _))
+        × AreFoundTo D.tells D.state config.now before stations.old findings.old found }
     requires size { found + size ≤ length stations.old }
-    ensures going { (before : List (Station _)) → AreFoundTo D.tells D.state config.now before stations.old findings.old found
+    ensures going { (before : List (Station _))
+        → AreFoundTo D.tells D.state config.now before stations.old findings.old found
         → AreFoundTo D.tells D.state config.now before stations.new findings.new (found + size) }
     ensures keeps { KeepsFound found stations.old stations.new findings.old findings.new }
 {
@@ -259,12 +270,15 @@ pub(crate) fn find_through<D: Disk + Send, R: Threads + Wait + Sync>(
     place: usize,
 ) -> usize
     requires valid { IsValid config.now }
-    requires stations { All (λ s. IsStation s × IsConfiguredBase config.now shared.now (base_of_station s)) stations.old }
-    requires going { (before : List (Station _)) × AreFoundTo D.tells D.state config.now before stations.old findings.old found }
+    requires stations { All (λ s.
+        IsStation s × IsConfiguredBase config.now shared.now (base_of_station s)) stations.old }
+    requires going { (before : List (Station _))
+        × AreFoundTo D.tells D.state config.now before stations.old findings.old found }
     requires place { place < length stations.old }
     ensures place { place < result }
     ensures more { found ≤ result }
-    ensures going { (before : List (Station _)) → AreFoundTo D.tells D.state config.now before stations.old findings.old found
+    ensures going { (before : List (Station _))
+        → AreFoundTo D.tells D.state config.now before stations.old findings.old found
         → AreFoundTo D.tells D.state config.now before stations.new findings.new result }
     ensures keeps { KeepsFound found stations.old stations.new findings.old findings.new }
 {

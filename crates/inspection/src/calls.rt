@@ -75,7 +75,8 @@ fn print_volumes<D: Disk, R: Wait, K: Sink>(
     requires valid { IsValid config.now }
     requires rack { CanLook config.now rack.old }
     ensures same { IsSameRack rack.old rack.new }
-    ensures content { PrintsVolumes D.tells D.state config.now asked rack.old rack.new result (K.faults out.old) (K.faults out.new) (K.taken out.old) (K.taken out.new) }
+    ensures content { PrintsVolumes D.tells D.state config.now asked rack.old rack.new result
+        (K.faults out.old) (K.faults out.new) (K.taken out.old) (K.taken out.new) }
     ensures later { K.faults out.old ≤ K.faults out.new }
 {
     let mut first = None;
@@ -101,7 +102,8 @@ fn print_checks<D: Disk + Send, R: Threads + Wait + Sync, K: Sink>(
     requires valid { IsValid config.now }
     requires rack { CanLook config.now rack.old }
     ensures same { IsSameRack rack.old rack.new }
-    ensures content { PrintsVolumes D.tells D.state config.now Check rack.old rack.new result (K.faults out.old) (K.faults out.new) (K.taken out.old) (K.taken out.new) }
+    ensures content { PrintsVolumes D.tells D.state config.now Check rack.old rack.new result
+        (K.faults out.old) (K.faults out.new) (K.taken out.old) (K.taken out.new) }
     ensures later { K.faults out.old ≤ K.faults out.new }
 {
     let mut room = no_findings(alloc, rack.stations.len())?;
@@ -139,7 +141,8 @@ fn print_lines<D: Disk + Send, R: Threads + Wait + Sync, K: Sink>(
     requires valid { IsValid config.now }
     requires rack { CanLook config.now rack.old }
     ensures same { IsSameRack rack.old rack.new }
-    ensures content { PrintsVolumes D.tells D.state config.now asked rack.old rack.new result (K.faults out.old) (K.faults out.new) (K.taken out.old) (K.taken out.new) }
+    ensures content { PrintsVolumes D.tells D.state config.now asked rack.old rack.new result
+        (K.faults out.old) (K.faults out.new) (K.taken out.old) (K.taken out.new) }
     ensures later { K.faults out.old ≤ K.faults out.new }
 {
     match asked {
@@ -164,13 +167,17 @@ where
     ensures none_out { NoneOut config.now (B.state bay.new) }
     ensures home { outs (B.state bay.new) ≡ outs (B.state bay.old) }
     ensures counts { (B.state bay.old).faults ≤ (B.state bay.new).faults }
-    ensures sound { IsTrue B.Part.tells → IsTold (KeepsAllSound config.now) (B.state bay.old).told (B.state bay.new).told }
+    ensures sound { IsTrue B.Part.tells
+        → IsTold (KeepsAllSound config.now) (B.state bay.old).told (B.state bay.new).told }
     ensures others { IsTold (KeepsOthers config.now) (B.state bay.old).told (B.state bay.new).told }
     ensures did { IfOk result (λ c. OpensAndCloses B.Part.tells B.Part.state config.now
         (λ before after. IsSameRack before after × (K.faults out.old ≤ K.faults out.new)
-        × PrintsVolumes B.Part.tells B.Part.state config.now asked before after c.answer (K.faults out.old) (K.faults out.new) (K.taken out.old) (K.taken out.new))
+        × PrintsVolumes B.Part.tells B.Part.state config.now asked before after c.answer
+        (K.faults out.old) (K.faults out.new) (K.taken out.old) (K.taken out.new))
         (B.state bay.old) (B.state bay.new) c.spindles.items) }
-    ensures left { OnErr result (IsTrue B.Part.tells → IsTold (LeavesAll B.Part.tells B.Part.state config.now (B.state bay.old) (B.state bay.new)) (B.state bay.old).told (B.state bay.new).told) }
+    ensures left { OnErr result (IsTrue B.Part.tells
+        → IsTold (LeavesAll B.Part.tells B.Part.state config.now (B.state bay.old)
+        (B.state bay.new)) (B.state bay.old).told (B.state bay.new).told) }
     ensures unwritten { OnErr result (out.new ≡ out.old) }
 {
     let mut rack = open_all(alloc, rt, bay, config)?;
@@ -201,15 +208,21 @@ where
     requires home { NoneOut config.now (B.state bay.old) }
     ensures none_out { NoneOut config.now (B.state bay.new) }
     ensures home { outs (B.state bay.new) ≡ outs (B.state bay.old) }
-    ensures content { Inspects B.Part.tells B.Part.state config.now asked (B.state bay.old) (B.state bay.new) result (K.faults out.old) (K.faults out.new) (K.taken out.old) (K.taken out.new) }
+    ensures content { Inspects B.Part.tells B.Part.state config.now asked (B.state bay.old)
+        (B.state bay.new) result (K.faults out.old) (K.faults out.new) (K.taken out.old)
+        (K.taken out.new) }
     ensures later { K.faults out.old ≤ K.faults out.new }
     ensures counts { (B.state bay.old).faults ≤ (B.state bay.new).faults }
     // each image left in the bay recovers to what one at entry did, also after a stop within, and where a call of a disk failed
-    ensures left { IsTrue B.Part.tells → IsTold (LeavesAll B.Part.tells B.Part.state config.now (B.state bay.old) (B.state bay.new)) (B.state bay.old).told (B.state bay.new).told }
-    ensures sound { IsTrue B.Part.tells → IsTold (KeepsAllSound config.now) (B.state bay.old).told (B.state bay.new).told }
+    ensures left { IsTrue B.Part.tells → IsTold
+        (LeavesAll B.Part.tells B.Part.state config.now (B.state bay.old) (B.state bay.new))
+        (B.state bay.old).told (B.state bay.new).told }
+    ensures sound { IsTrue B.Part.tells
+        → IsTold (KeepsAllSound config.now) (B.state bay.old).told (B.state bay.new).told }
     // images of names that aren't configured are as they were
     ensures others { IsTold (KeepsOthers config.now) (B.state bay.old).told (B.state bay.new).told }
-    ensures complete { MayComplete B.Part.tells config.now (B.state bay.old) (B.state bay.new) (K.faults out.old) (K.faults out.new) → Completes result }
+    ensures complete { MayComplete B.Part.tells config.now (B.state bay.old) (B.state bay.new)
+        (K.faults out.old) (K.faults out.new) → Completes result }
 {
     let closed = print_opened(rt, alloc, asked, config, bay, out)?;
     closed.answer

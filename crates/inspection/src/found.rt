@@ -29,8 +29,11 @@ fn append_finding(
     requires valid { IsValid config.now }
     requires volume { volume < length config.now.volumes.items }
     requires known { IsKnown config.now finding.now }
-    ensures told { IfOk result (λ t. (t ≡ trouble_told finding.now.answer) × (finding.now.answer ≡ Err no_memory → ⊥)) }
-    ensures text { IfOk result (λ t. out.new.items ≡ (out.old.items ++ finding.now.text.items) ++ lines_of config.now volume t) }
+    ensures told { IfOk result
+        (λ t. (t ≡ trouble_told finding.now.answer) × (finding.now.answer ≡ Err no_memory → ⊥)) }
+    ensures text { IfOk result (λ t.
+        out.new.items
+        ≡ (out.old.items ++ finding.now.text.items) ++ lines_of config.now volume t) }
 {
     let trouble = trouble_told(finding.answer)?;
     out.extend_from_slice(&finding.text)?;
@@ -54,15 +57,22 @@ pub(crate) fn append_found<D: Disk + Send, R: Threads + Wait + Sync>(
 ) -> Result<Option<Trouble>, NoMemory>
     requires valid { IsValid config.now }
     requires rack { CanLook config.now rack.old }
-    requires going { (before : List (Station _)) × AreFoundTo D.tells D.state config.now before rack.old.stations.items findings.old found.old }
+    requires going { (before : List (Station _))
+        × AreFoundTo D.tells D.state config.now before rack.old.stations.items findings.old
+        found.old }
     requires volume { volume < length config.now.volumes.items }
     requires empty { out.old.items ≡ [] }
     ensures rest { rack.new ≡ record rack.old { stations = rack.new.stations } }
     ensures more { found.old ≤ found.new }
-    ensures going { (before : List (Station _)) → AreFoundTo D.tells D.state config.now before rack.old.stations.items findings.old found.old
-        → AreFoundTo D.tells D.state config.now before rack.new.stations.items findings.new found.new }
-    ensures keeps { KeepsFound found.old rack.old.stations.items rack.new.stations.items findings.old findings.new }
-    ensures told { IfOk result (λ t. IsToldBy config.now rack.new findings.new found.new volume (record { trouble = t; text = out.new.items })) }
+    ensures going { (before : List (Station _))
+        → AreFoundTo D.tells D.state config.now before rack.old.stations.items findings.old
+        found.old
+        → AreFoundTo D.tells D.state config.now before rack.new.stations.items findings.new
+        found.new }
+    ensures keeps { KeepsFound found.old rack.old.stations.items rack.new.stations.items
+        findings.old findings.new }
+    ensures told { IfOk result (λ t. IsToldBy config.now rack.new findings.new found.new volume
+        (record { trouble = t; text = out.new.items })) }
 {
     let Some(fault) = rack.faults[volume as usize] else {
         let place = place_of(&rack.stations, volume);

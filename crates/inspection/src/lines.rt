@@ -52,9 +52,12 @@ pub(crate) fn look_station<D: Disk, R: Wait>(
     requires station { IsStation station.old }
     requires base { IsConfiguredBase config.now shared.now (base_of_station station.old) }
     ensures same { IsSameStation station.old station.new }
-    ensures looks { LooksAt D.tells D.state config.now asked station.old.id station.old.worker station.new.worker result out.old.items out.new.items }
+    ensures looks { LooksAt D.tells D.state config.now asked station.old.id station.old.worker
+        station.new.worker result out.old.items out.new.items }
     ensures err { OnErr result (out.new.items ≡ out.old.items) }
-    ensures known { (p : Part) → (result ≡ Err (DumpFault.DiskFault p)) ⊎ (result ≡ Err (DumpFault.Down p)) → IsAmong (length (printed_names config.now.volumes.items)) (trouble_of_part p) }
+    ensures known { (p : Part) → (result ≡ Err (DumpFault.DiskFault p))
+        ⊎ (result ≡ Err (DumpFault.Down p))
+        → IsAmong (length (printed_names config.now.volumes.items)) (trouble_of_part p) }
 {
     let volume = station.id;
     look(
@@ -72,7 +75,8 @@ pub(crate) fn look_station<D: Disk, R: Wait>(
 
 /// What is wrong with a volume that was looked at with this answer.
 pub(crate) fn trouble_told(answer: Result<(), DumpFault>) -> Result<Option<Trouble>, NoMemory>
-    ensures ok { IfOk result (λ t. (t ≡ trouble_told answer) × (answer ≡ Err DumpFault.NoMemory → ⊥)) }
+    ensures ok { IfOk result
+        (λ t. (t ≡ trouble_told answer) × (answer ≡ Err DumpFault.NoMemory → ⊥)) }
     ensures err { OnErr result (answer ≡ Err DumpFault.NoMemory) }
 {
     match answer {
@@ -98,10 +102,14 @@ fn look_at<D: Disk, R: Wait>(
     requires there { Contains (numbers_of rack.old.stations.items) volume }
     requires empty { out.old.items ≡ [] }
     ensures same { IsSameRack rack.old rack.new }
-    ensures others { (place : ℕ) (s : Station _) → slice_get rack.old.stations.items place ≡ Some s → (s.id ≡ volume → ⊥) → slice_get rack.new.stations.items place ≡ Some s }
-    ensures looks { LooksAtVolume D.tells D.state config.now asked rack.old rack.new volume result out.new.items }
+    ensures others { (place : ℕ) (s : Station _) → slice_get rack.old.stations.items place ≡ Some s
+        → (s.id ≡ volume → ⊥) → slice_get rack.new.stations.items place ≡ Some s }
+    ensures looks { LooksAtVolume D.tells D.state config.now asked rack.old rack.new volume result
+        out.new.items }
     ensures err { OnErr result (out.new.items ≡ []) }
-    ensures known { (p : Part) → (result ≡ Err (DumpFault.DiskFault p)) ⊎ (result ≡ Err (DumpFault.Down p)) → IsAmong (length (printed_names config.now.volumes.items)) (trouble_of_part p) }
+    ensures known { (p : Part) → (result ≡ Err (DumpFault.DiskFault p))
+        ⊎ (result ≡ Err (DumpFault.Down p))
+        → IsAmong (length (printed_names config.now.volumes.items)) (trouble_of_part p) }
 {
     let place = place_of(&rack.stations, volume);
     look_station(
@@ -126,7 +134,8 @@ pub(crate) fn append_trouble(
     requires valid { IsValid config.now }
     requires volume { volume < length config.now.volumes.items }
     requires names { IsAmong (length (printed_names config.now.volumes.items)) trouble.now }
-    ensures ok { OnOk result (out.new.items ≡ out.old.items ++ trouble_line config.now volume trouble.now) }
+    ensures ok { OnOk result
+        (out.new.items ≡ out.old.items ++ trouble_line config.now volume trouble.now) }
     ensures err { OnErr result (out.new.items ≡ out.old.items) }
 {
     let mut text = Vec::new(alloc);
@@ -147,7 +156,8 @@ pub(crate) fn append_fault(
     requires volume { volume < length config.now.volumes.items }
     requires names { IsAmong (length (printed_names config.now.volumes.items)) (trouble_of fault) }
     ensures trouble { IfOk result (λ t. t ≡ Some (trouble_of fault)) }
-    ensures text { OnOk result (out.new.items ≡ out.old.items ++ trouble_line config.now volume (trouble_of fault)) }
+    ensures text { OnOk result
+        (out.new.items ≡ out.old.items ++ trouble_line config.now volume (trouble_of fault)) }
     ensures err { OnErr result (out.new.items ≡ out.old.items) }
 {
     let trouble = trouble_of(fault);
@@ -171,8 +181,10 @@ fn append_open<D: Disk, R: Wait>(
     requires volume { volume < length config.now.volumes.items }
     requires empty { out.old.items ≡ [] }
     ensures same { IsSameRack rack.old rack.new }
-    ensures others { (place : ℕ) (s : Station _) → slice_get rack.old.stations.items place ≡ Some s → (s.id ≡ volume → ⊥) → slice_get rack.new.stations.items place ≡ Some s }
-    ensures ok { IfOk result (λ t. IsTelling D.tells D.state config.now asked rack.old rack.new volume (record { trouble = t; text = out.new.items })) }
+    ensures others { (place : ℕ) (s : Station _) → slice_get rack.old.stations.items place ≡ Some s
+        → (s.id ≡ volume → ⊥) → slice_get rack.new.stations.items place ≡ Some s }
+    ensures ok { IfOk result (λ t. IsTelling D.tells D.state config.now asked rack.old rack.new
+        volume (record { trouble = t; text = out.new.items })) }
     ensures err { OnErr result (out.new.items ≡ []) }
 {
     let trouble = trouble_told(look_at(rt, alloc, asked, rack, config, volume, out))?;
@@ -197,8 +209,10 @@ pub(crate) fn append_volume<D: Disk, R: Wait>(
     requires volume { volume < length config.now.volumes.items }
     requires empty { out.old.items ≡ [] }
     ensures same { IsSameRack rack.old rack.new }
-    ensures others { (place : ℕ) (s : Station _) → slice_get rack.old.stations.items place ≡ Some s → (s.id ≡ volume → ⊥) → slice_get rack.new.stations.items place ≡ Some s }
-    ensures ok { IfOk result (λ t. IsTelling D.tells D.state config.now asked rack.old rack.new volume (record { trouble = t; text = out.new.items })) }
+    ensures others { (place : ℕ) (s : Station _) → slice_get rack.old.stations.items place ≡ Some s
+        → (s.id ≡ volume → ⊥) → slice_get rack.new.stations.items place ≡ Some s }
+    ensures ok { IfOk result (λ t. IsTelling D.tells D.state config.now asked rack.old rack.new
+        volume (record { trouble = t; text = out.new.items })) }
     ensures err { OnErr result (out.new.items ≡ []) }
 {
     let Some(fault) = rack.faults[volume as usize] else {

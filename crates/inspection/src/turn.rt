@@ -44,8 +44,10 @@ fn append_asked<D: Disk, R: Wait>(
     requires valid { IsValid config.now }
     requires serves { IsVolumeOf D.state config.now volume manager.old }
     ensures stands { Leaves D.tells D.state manager.old manager.new (was_told result) [] worker }
-    ensures content { IsTrue D.tells → (b : ManagerBase) (notes : List Noted) → Keeps D.tells D.state manager.old b notes
-        → OnOk result (AppendsAsked config.now asked volume manager.old b notes out.old.items out.new.items) }
+    ensures content { IsTrue D.tells → (b : ManagerBase) (notes : List Noted)
+        → Keeps D.tells D.state manager.old b notes
+        → OnOk result
+        (AppendsAsked config.now asked volume manager.old b notes out.old.items out.new.items) }
     ensures err { OnErr result (out.new.items ≡ out.old.items) }
     ensures down { (p : Part) → result ≡ Err (DumpFault.Down p) → manager.new.down ≡ Some p }
     ensures failed { (p : Part) → result ≡ Err (DumpFault.DiskFault p) → manager.new.down ≡ Some p }
@@ -65,9 +67,12 @@ fn leave_told<D: Disk, N: Memo>(
 )
     requires own { IsPassOf lock.now pass.old }
     requires turn { IsInTurn pass.old }
-    requires note { N.note ≡ note_told (pass_number pass.old) (was_told answer.now) (look_of_manager turn.value) }
-    requires value { Stands D.tells D.state turn.value (pass_lock pass.old).base (notes_seen pass.old ++ N.note ∷ []) }
-    ensures left { HasLeft D.tells (note_told (pass_number pass.old) (was_told answer.now) (look_of_manager turn.value)) pass.old pass.new }
+    requires note { N.note
+        ≡ note_told (pass_number pass.old) (was_told answer.now) (look_of_manager turn.value) }
+    requires value { Stands D.tells D.state turn.value (pass_lock pass.old).base
+        (notes_seen pass.old ++ N.note ∷ []) }
+    ensures left { HasLeft D.tells (note_told (pass_number pass.old) (was_told answer.now)
+        (look_of_manager turn.value)) pass.old pass.new }
     ensures broken { (p : Part) → turn.value.down ≡ Some p → WasDown p (notes_seen pass.new) }
 {
     let _ = answer;
@@ -92,9 +97,12 @@ pub(crate) fn look<D: Disk, R: Wait>(
     requires client { pass_number pass.old ≡ worker }
     requires base { IsConfiguredBase config.now shared.now (pass_lock pass.old).base }
     requires volume { (pass_lock pass.old).base.volume.began.owner ≡ volume }
-    ensures looks { LooksAt D.tells D.state config.now asked volume pass.old pass.new result out.old.items out.new.items }
+    ensures looks { LooksAt D.tells D.state config.now asked volume pass.old pass.new result
+        out.old.items out.new.items }
     ensures err { OnErr result (out.new.items ≡ out.old.items) }
-    ensures known { (p : Part) → (result ≡ Err (DumpFault.DiskFault p)) ⊎ (result ≡ Err (DumpFault.Down p)) → IsAmong (length (printed_names config.now.volumes.items)) (trouble_of_part p) }
+    ensures known { (p : Part) → (result ≡ Err (DumpFault.DiskFault p))
+        ⊎ (result ≡ Err (DumpFault.Down p))
+        → IsAmong (length (printed_names config.now.volumes.items)) (trouble_of_part p) }
 {
     let mut turn = lock.enter(rt, pass);
     let answer = append_asked(

@@ -1,4 +1,5 @@
--- What becomes of the entries of an index: blocks that are home now, blocks that are given up, and segments that go with all their records.
+-- What becomes of the entries of an index: blocks that are home now, blocks that are given up, and
+-- segments that go with all their records.
 use Rattle.std.specs.Prelude.{◌≡◌, ◌&&◌, ◌||◌, ℕ, Bool, true, false, not, ◌==◌, List, filter, Option, None, if◌then◌else◌}
 use Rattle.std.specs.List.{AllByRecursion}
 use Rattle.wol_disk.specs.Disk.{Block}
@@ -7,7 +8,8 @@ use Rattle.wol_model.specs.Index.{Indexed, cover_of, goes, listed_in, homing, is
 use Rattle.redirect_map.specs.Index.{changed}
 use Rattle.redirect_map.specs.Masks.{in_mask}
 
--- what blocks from block `first` on have for block b, where it is in the mask: bit i of the mask is block `first + i`
+-- what blocks from block `first` on have for block b, where it is in the mask: bit i of the mask is
+-- block `first + i`
 abbrev pub put_block : (first mask : ℕ) → List Block → (b : ℕ) → Option Block
 put_block first mask blocks b = if in_mask first mask b then block_of first blocks b else None
 
@@ -29,11 +31,14 @@ lies_elsewhere lane index e = not (e.listed.lane == lane && e.index == index)
 
 -- no record in the segment has a live block
 abbrev pub NoneLiveIn : (lane index : ℕ) → List Indexed → Type 0
-NoneLiveIn lane index es = AllByRecursion (λ e. lies_elsewhere lane index e ≡ false → (b : ℕ) → is_live (listed_in es) e.listed b ≡ false) es
+NoneLiveIn lane index es = AllByRecursion
+    (λ e. lies_elsewhere lane index e ≡ false → (b : ℕ) → is_live (listed_in es) e.listed b ≡ false)
+    es
 
 -- where the entry lies in the segment of this index of this lane, all that it keeps may go
 abbrev pub GoesIn : (lane index : ℕ) → List Indexed → Indexed → Type 0
-GoesIn lane index es e = lies_elsewhere lane index e ≡ false → (b : ℕ) → (cover_of e.listed).covers b ≡ true → goes (listed_in es) e.listed b ≡ true
+GoesIn lane index es e = lies_elsewhere lane index e ≡ false → (b : ℕ)
+    → (cover_of e.listed).covers b ≡ true → goes (listed_in es) e.listed b ≡ true
 
 -- the entry doesn't lie there, or has another version
 abbrev pub stays_behind : (lane index version : ℕ) → Indexed → Bool

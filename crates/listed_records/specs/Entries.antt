@@ -16,7 +16,8 @@ pub record IsInVolume (size : ℕ) (e : Indexed) : Type 0 where
   pub least : 1 ≤ e.listed.version
   pub lies : e.listed.first + length e.listed.keep ≤ size
 
--- the record stands where it stood: it has the same version, first block, lane, segment and position
+-- the record stands where it stood: it has the same version, first block, lane, segment and
+-- position
 pub record StandsAt (old e : Indexed) : Type 0 where
   pub version : e.listed.version ≡ old.listed.version
   pub first : e.listed.first ≡ old.listed.first
@@ -26,11 +27,14 @@ pub record StandsAt (old e : Indexed) : Type 0 where
 
 -- each record of a version below this one stands where one of these places is
 abbrev pub AreStill : (places : List Indexed) → (next : ℕ) → List Indexed → Type 0
-AreStill places next es = AllByRecursion (λ e. e.listed.version < next → (old : Indexed) × Contains places old × StandsAt old e) es
+AreStill places next es = AllByRecursion
+    (λ e. e.listed.version < next → (old : Indexed) × Contains places old × StandsAt old e) es
 
--- this is where each block of the range is read: in its newest record, or at home where there is none
+-- this is where each block of the range is read: in its newest record, or at home where there is
+-- none
 abbrev pub IsSource : List Indexed → (first count : ℕ) → Option Rec → Type 0
-IsSource es first count source = (b : ℕ) → first ≤ b → b < first + count → IsAnswer (newest cover_at es b) source
+IsSource es first count source =
+    (b : ℕ) → first ≤ b → b < first + count → IsAnswer (newest cover_at es b) source
 
 -- a block of the range isn't covered
 abbrev pub reads_home : List Listed → (first count : ℕ) → Bool

@@ -18,8 +18,10 @@ fn lies_in(record: &Rec, lane: u32, segment: u32) -> bool
 // Takes the record of this version out of the index, if it lies in this segment, where all that it keeps may go. Answers
 // whether it did.
 fn forget_one(index: &mut Index, version: u64, lane: u32, segment: u32) -> bool
-    requires goes { IfSome (entry_at index.old.entries version) (GoesIn lane segment index.old.entries) }
-    ensures gone { index.new.entries ≡ filter (stays_behind lane segment version) index.old.entries }
+    requires goes { IfSome (entry_at index.old.entries version)
+        (GoesIn lane segment index.old.entries) }
+    ensures gone { index.new.entries
+        ≡ filter (stays_behind lane segment version) index.old.entries }
     ensures counted { entries_at lane segment index.old.entries
         ≡ entries_at lane segment index.new.entries + (if result then 1 else 0) }
 {
@@ -38,7 +40,8 @@ fn forget_one(index: &mut Index, version: u64, lane: u32, segment: u32) -> bool
 fn next_going(index: &Index, from: u64, ups: &[bool]) -> Option<u64>
     ensures from { IfSome result (λ v. from ≤ v) }
     ensures least { IfSome result (λ v. AllByRecursion
-        (λ e. from ≤ e.listed.version → e.listed.version < v → slice_index_or ups.now e.listed.lane false ≡ true
+        (λ e. from ≤ e.listed.version → e.listed.version < v
+        → slice_index_or ups.now e.listed.lane false ≡ true
         → has_going (listed_in index.now.entries) e.listed ≡ false) index.now.entries) }
     ensures none { IfNone result (AllByRecursion
         (λ e. from ≤ e.listed.version → slice_index_or ups.now e.listed.lane false ≡ true

@@ -12,7 +12,14 @@ pub fn head_of(owner: u32, listed: &Rec) -> RecHead
     requires count { (1 ≤ listed.now.count) × (listed.now.count ≤ 128) }
     requires range { listed.now.lbn + listed.now.count ≤ 2 ^ 32 }
     requires kept { listed.now.keep < 2 ^ listed.now.count }
-    ensures value { result ≡ record { form = 2; keep = listed.now.keep; owner = owner; version = listed.now.version; lbn = listed.now.lbn; count = listed.now.count } }
+    ensures value { result ≡ record {
+      form = 2;
+      keep = listed.now.keep;
+      owner = owner;
+      version = listed.now.version;
+      lbn = listed.now.lbn;
+      count = listed.now.count;
+    } }
     ensures head { IsRecordHead (record_head result) }
 {
     RecHead {

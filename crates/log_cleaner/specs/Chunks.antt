@@ -8,7 +8,8 @@ use Rattle.wol_model.specs.Index.{Listed, cover_of, is_homed}
 
 -- ---- Chunks
 
--- A maximal run of covered blocks is cut after each `most` blocks from its start; these are so many blocks between two cuts, or behind the last one.
+-- A maximal run of covered blocks is cut after each `most` blocks from its start; these are so many
+-- blocks between two cuts, or behind the last one.
 pub record IsChunk (covered : ℕ → Bool) (most first count : ℕ) : Type 0 where
   -- where its run starts
   pub start : ℕ
@@ -59,15 +60,19 @@ NoneHomed es = AllByRecursion (λ e. (b : ℕ) → is_homed e b ≡ false) es
 -- the records are one for each chunk of these covered blocks, each keeping that chunk
 pub record IsClean (covered : ℕ → Bool) (most : ℕ) (es : List Listed) : Type 0 where
   pub each : (first count : ℕ) → IsChunk covered most first count → IsTidy es first count
-  pub only : AllByRecursion (λ e. (first : ℕ) × (count : ℕ) × IsChunk covered most first count × KeepsJust e first count) es
+  pub only : AllByRecursion (λ e.
+      (first : ℕ) × (count : ℕ) × IsChunk covered most first count × KeepsJust e first count) es
 
 -- each covered block below this one lies in a chunk that is tidy
 abbrev pub AreTidyBelow : (covered : ℕ → Bool) → (most from : ℕ) → List Listed → Type 0
-AreTidyBelow covered most from es = (b : ℕ) → b < from → covered b ≡ true → (first : ℕ) × (count : ℕ) × IsChunk covered most first count × (first ≤ b) × (b < first + count) × IsTidy es first count
+AreTidyBelow covered most from es = (b : ℕ) → b < from → covered b ≡ true
+    → (first : ℕ) × (count : ℕ) × IsChunk covered most first count × (first ≤ b)
+    × (b < first + count) × IsTidy es first count
 
 -- ---- Chunks one behind the other
 
--- The next chunk from a block on: no block before it is covered, its blocks are, and it isn't tidy among these records.
+-- The next chunk from a block on: no block before it is covered, its blocks are, and it isn't tidy
+-- among these records.
 pub record IsNext (covered : ℕ → Bool) (es : List Listed) (most from : ℕ) (i : Item) : Type 0 where
   pub low : from ≤ i.lbn
   pub bare : (b : ℕ) → from ≤ b → b < i.lbn → covered b ≡ false
@@ -80,7 +85,8 @@ pub record IsNext (covered : ℕ → Bool) (es : List Listed) (most from : ℕ) 
 -- each is the next one behind those before it
 abbrev pub AreNext : (covered : ℕ → Bool) → List Listed → (most from : ℕ) → List Item → Type 0
 AreNext covered es most from [] = ⊤
-AreNext covered es most from (i ∷ items) = IsNext covered es most from i × AreNext covered es most (i.lbn + i.count) items
+AreNext covered es most from (i ∷ items) =
+    IsNext covered es most from i × AreNext covered es most (i.lbn + i.count) items
 
 -- where they end
 abbrev pub end_of : (from : ℕ) → List Item → ℕ

@@ -30,14 +30,15 @@ AllAwake m = AllByRecursion (λ up. up ≡ true) m.ups.items
 abbrev pub covered_in : {D : Type 0} → Manager D → ℕ → Bool
 covered_in m b = is_covered (listed_in m.index.entries) b
 
--- the manager can be cleaned: nothing failed, no block is homed, and all its loggers are awake for it
+-- the manager can be cleaned: nothing failed, no block is homed, and all its loggers are awake for
+-- it
 pub record CanClean {D : Type 0} (m : Manager D) : Type 0 where
   pub up : m.down ≡ None
   pub unhomed : NoneHomed (listed_in m.index.entries)
   pub awake : AllAwake m
 
--- Between calls of a cleaning: it can be cleaned still, the same blocks are covered, home wasn't woken, and the passes of its pools have gained
--- entries at most.
+-- Between calls of a cleaning: it can be cleaned still, the same blocks are covered, home wasn't
+-- woken, and the passes of its pools have gained entries at most.
 pub record GoesOn {D : Type 0} (old new : Manager D) : Type 0 where
   pub same : IsSameManager old new
   pub can : CanClean new
@@ -46,7 +47,9 @@ pub record GoesOn {D : Type 0} (old new : Manager D) : Type 0 where
   pub home_up : new.home_up ≡ old.home_up
   pub home_needs : needs_of new.spindle ≡ needs_of old.spindle
   pub lanes : length new.lanes.items ≡ length old.lanes.items
-  pub pools : (k : ℕ) (o n : Lane D) → slice_get old.lanes.items k ≡ Some o → slice_get new.lanes.items k ≡ Some n → Begins (pass_mine (pool_of o)) (pass_mine (pool_of n))
+  pub pools : (k : ℕ) (o n : Lane D) → slice_get old.lanes.items k ≡ Some o
+      → slice_get new.lanes.items k ≡ Some n
+      → Begins (pass_mine (pool_of o)) (pass_mine (pool_of n))
 
 -- a copy is of a chunk of the covered blocks
 abbrev pub IsChunkOf : (covered : ℕ → Bool) → (most : ℕ) → Write → Type 0
@@ -57,7 +60,8 @@ abbrev pub IsOfUntidy : List Listed → Write → Type 0
 IsOfUntidy es w = IsTidy es w.first (length w.blocks) → ⊥
 
 -- the next chunk, behind all copies, still isn't tidy, and those before it are
-pub record IsLeftUntidy (covered : ℕ → Bool) (most : ℕ) (es : List Listed) (copies : List Write) : Type 0 where
+pub record IsLeftUntidy (covered : ℕ → Bool) (most : ℕ) (es : List Listed) (copies : List Write) :
+    Type 0 where
   pub first : ℕ
   pub count : ℕ
   pub chunk : IsChunk covered most first count
@@ -66,13 +70,17 @@ pub record IsLeftUntidy (covered : ℕ → Bool) (most : ℕ) (es : List Listed)
   pub untidy : IsTidy es first count → ⊥
 
 -- the chunks up to some block are tidy, and all copies lie before it
-abbrev pub TidiesBefore : (covered : ℕ → Bool) → (most : ℕ) → List Listed → (copies : List Write) → Type 0
-TidiesBefore covered most es copies = (first : ℕ) × AreTidyBelow covered most first es × AllByRecursion (λ w. w.first < first) copies
+abbrev pub TidiesBefore : (covered : ℕ → Bool) → (most : ℕ) → List Listed → (copies : List Write)
+    → Type 0
+TidiesBefore covered most es copies =
+    (first : ℕ) × AreTidyBelow covered most first es × AllByRecursion (λ w. w.first < first) copies
 
 -- the last that each lane's pass did in its pool was to find it empty
 abbrev pub FindsAllEmpty : {D : Type 0} → (old new : Manager D) → Type 0
-FindsAllEmpty {D} old new = (k : ℕ) (o n : Lane D) → slice_get old.lanes.items k ≡ Some o → slice_get new.lanes.items k ≡ Some n
-    → (before : List Entry) × Begins (pass_mine (pool_of o)) before × (pass_mine (pool_of n) ≡ before ++ (pass_number (pool_of n), operation_of (Took None)) ∷ [])
+FindsAllEmpty {D} old new = (k : ℕ) (o n : Lane D) → slice_get old.lanes.items k ≡ Some o
+    → slice_get new.lanes.items k ≡ Some n
+    → (before : List Entry) × Begins (pass_mine (pool_of o)) before
+    × (pass_mine (pool_of n) ≡ before ++ (pass_number (pool_of n), operation_of (Took None)) ∷ [])
 
 -- no segment that a lane holds has room for so many blocks
 abbrev pub NoneHasRoom : {D : Type 0} → (count : ℕ) → Manager D → Type 0
@@ -84,29 +92,45 @@ copied_blocks copies = sum_by (λ (w : Write). length w.blocks) copies
 
 -- A part's count rose in a call of the cleaning.
 abbrev pub RoseSince : {D : Type 0} → (D → State) → (old new : Manager D) → Part → Type 0
-RoseSince {D} state old new p = (mid : Manager D) × GoesOn old mid × PartRoseOrClaimed state mid new p
+RoseSince {D} state old new p =
+    (mid : Manager D) × GoesOn old mid × PartRoseOrClaimed state mid new p
 
 -- where nothing was copied the records are as they were
 abbrev pub Untouched : {D : Type 0} → (old new : Manager D) → List Write → Type 0
 Untouched old new copies = copies ≡ [] → new.index.entries ≡ old.index.entries
 
--- What an answer says. Where it isn't full the records are one for each chunk; where it is, no segment had room for the next, and no pool had one.
-abbrev pub TellsCleaned : {D : Type 0} → (tells : Bool) → (D → State) → (most : ℕ) → (old new : Manager D) → List Write → Result Cleaned CleanFault → Type 0
-TellsCleaned tells state most old new copies (Ok c) = GoesOn old new × LeavesEntry tells state old new (wrote copies)
-    × (c.before ≡ length old.index.entries) × (c.after ≡ length new.index.entries) × (c.copied ≡ copied_blocks copies)
+-- What an answer says. Where it isn't full the records are one for each chunk; where it is, no
+-- segment had room for the next, and no pool had one.
+abbrev pub TellsCleaned : {D : Type 0} → (tells : Bool) → (D → State) → (most : ℕ)
+    → (old new : Manager D) → List Write → Result Cleaned CleanFault → Type 0
+TellsCleaned tells state most old new copies (Ok c) =
+    GoesOn old new × LeavesEntry tells state old new (wrote copies)
+    × (c.before ≡ length old.index.entries) × (c.after ≡ length new.index.entries)
+    × (c.copied ≡ copied_blocks copies)
     × (c.full ≡ false → IsClean (covered_in old) most (listed_in new.index.entries))
-    × (c.full ≡ true → (new.next < 2 ^ 63) × FindsAllEmpty old new × (left : IsLeftUntidy (covered_in old) most (listed_in new.index.entries) copies) × NoneHasRoom left.count new) × Untouched old new copies
-TellsCleaned tells state most old new copies (Err (DiskFault p)) = (new.down ≡ Some p) × RoseSince state old new p × LeavesEntry tells state old new (Broke copies)
-TellsCleaned tells state most old new copies (Err VersionsSpent) = GoesOn old new × LeavesEntry tells state old new (wrote copies) × (new.next ≡ 2 ^ 63)
-    × (old.next + length copies ≡ 2 ^ 63) × IsLeftUntidy (covered_in old) most (listed_in new.index.entries) copies × Untouched old new copies
-TellsCleaned tells state most old new copies (Err NoMemory) = GoesOn old new × LeavesEntry tells state old new (wrote copies) × Untouched old new copies × TidiesBefore (covered_in old) most (listed_in new.index.entries) copies
+    × (c.full ≡ true → (new.next < 2 ^ 63) × FindsAllEmpty old new
+    × (left : IsLeftUntidy (covered_in old) most (listed_in new.index.entries) copies)
+    × NoneHasRoom left.count new) × Untouched old new copies
+TellsCleaned tells state most old new copies (Err (DiskFault p)) =
+    (new.down ≡ Some p) × RoseSince state old new p × LeavesEntry tells state old new (Broke copies)
+TellsCleaned tells state most old new copies (Err VersionsSpent) =
+    GoesOn old new × LeavesEntry tells state old new (wrote copies) × (new.next ≡ 2 ^ 63)
+    × (old.next + length copies ≡ 2 ^ 63)
+    × IsLeftUntidy (covered_in old) most (listed_in new.index.entries) copies
+    × Untouched old new copies
+TellsCleaned tells state most old new copies (Err NoMemory) =
+    GoesOn old new × LeavesEntry tells state old new (wrote copies) × Untouched old new copies
+    × TidiesBefore (covered_in old) most (listed_in new.index.entries) copies
 
--- What was copied are chunks that weren't tidy, in order, under the next versions; after a fault of a disk they may be in flight.
-pub record HasCleaned {D : Type 0} (tells : Bool) (state : D → State) (most : ℕ) (old new : Manager D) (result : Result Cleaned CleanFault) : Type 0 where
+-- What was copied are chunks that weren't tidy, in order, under the next versions; after a fault of
+-- a disk they may be in flight.
+pub record HasCleaned {D : Type 0} (tells : Bool) (state : D → State) (most : ℕ)
+    (old new : Manager D) (result : Result Cleaned CleanFault) : Type 0 where
   pub copies : List Write
   pub chunks : AllByRecursion (IsChunkOf (covered_in old) most) copies
   pub untidy : AllByRecursion (IsOfUntidy (listed_in old.index.entries)) copies
   pub in_order : AreRising (map (λ w. w.first) copies)
-  pub numbered : map (λ w. w.version) copies ≡ map (λ v. Some v) (range_with_len old.next (length copies))
+  pub numbered : map (λ w. w.version) copies
+      ≡ map (λ v. Some v) (range_with_len old.next (length copies))
   pub copied : AreCopies tells state old new copies
   pub tells_ : TellsCleaned tells state most old new copies result

@@ -9,4 +9,5 @@ mark_of lane index = (index + 257 * lane) % 4096
 
 -- each record that has a live block lies in a segment that is marked
 abbrev pub AreMarked : List Bool → List Indexed → Type 0
-AreMarked marks es = AllByRecursion (λ e. (b : ℕ) → is_live (listed_in es) e.listed b ≡ true → slice_index_or marks (mark_of e.listed.lane e.index) false ≡ true) es
+AreMarked marks es = AllByRecursion (λ e. (b : ℕ) → is_live (listed_in es) e.listed b ≡ true
+    → slice_index_or marks (mark_of e.listed.lane e.index) false ≡ true) es

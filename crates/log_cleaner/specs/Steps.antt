@@ -45,14 +45,16 @@ told_of items (Err refused.VersionsSpent) = Err VersionsSpent
 told_of items (Err refused.NoMemory) = Err NoMemory
 
 -- these were copied, and nothing failed
-pub record HasCopied {D : Type 0} (tells : Bool) (state : D → State) (old new : Manager D) (copies : List Write) : Type 0 where
+pub record HasCopied {D : Type 0} (tells : Bool) (state : D → State) (old new : Manager D)
+    (copies : List Write) : Type 0 where
   pub goes_on : GoesOn old new
   pub keeps : KeepsCopies tells state old new copies
   pub copied : AreCopies tells state old new copies
   pub next : new.next ≡ old.next + length copies
 
 -- a call of this part failed, and the last of these may be in flight
-pub record HasBroken {D : Type 0} (tells : Bool) (state : D → State) (old new : Manager D) (p : Part) (copies : List Write) : Type 0 where
+pub record HasBroken {D : Type 0} (tells : Bool) (state : D → State) (old new : Manager D)
+    (p : Part) (copies : List Write) : Type 0 where
   pub down : new.down ≡ Some p
   pub rose : RoseSince state old new p
   pub leaves : LeavesEntry tells state old new (Broke copies)
@@ -69,45 +71,58 @@ abbrev pub AreCopiesAt : (version : ℕ) → List Item → List Write → Type 0
 AreCopiesAt version [] [] = ⊤
 AreCopiesAt version [] (w ∷ ws) = ⊥
 AreCopiesAt version (i ∷ items) [] = ⊥
-AreCopiesAt version (i ∷ items) (w ∷ ws) = IsCopyAt i.lbn i.count version w × AreCopiesAt (version + 1) items ws
+AreCopiesAt version (i ∷ items) (w ∷ ws) =
+    IsCopyAt i.lbn i.count version w × AreCopiesAt (version + 1) items ws
 
 -- chunks that are tidy stay so, and so do records that are the uppermost to keep just some blocks
 pub record KeepsTidy {D : Type 0} (old new : Manager D) : Type 0 where
-  pub tidy : (first count : ℕ) → 1 ≤ count → IsTidy (listed_in old.index.entries) first count → IsTidy (listed_in new.index.entries) first count
-  pub upper : (version first count : ℕ) → 1 ≤ count → IsUppermost (listed_in old.index.entries) version first count → IsUppermost (listed_in new.index.entries) version first count
+  pub tidy : (first count : ℕ) → 1 ≤ count → IsTidy (listed_in old.index.entries) first count
+      → IsTidy (listed_in new.index.entries) first count
+  pub upper : (version first count : ℕ) → 1 ≤ count
+      → IsUppermost (listed_in old.index.entries) version first count
+      → IsUppermost (listed_in new.index.entries) version first count
 
 -- where the entry lies in this segment of this lane, it has no live block
 abbrev pub HasNoneLiveIn : (lane index : ℕ) → List Indexed → Indexed → Type 0
-HasNoneLiveIn lane index es e = lies_elsewhere lane index e ≡ false → (b : ℕ) → is_live (listed_in es) e.listed b ≡ false
+HasNoneLiveIn lane index es e =
+    lies_elsewhere lane index e ≡ false → (b : ℕ) → is_live (listed_in es) e.listed b ≡ false
 
 -- some records gave up what may go
-abbrev pub GivesSome : {D : Type 0} → (tells : Bool) → (D → State) → (old new : Manager D) → Result (Unit {0}) StepFault → Type 0
+abbrev pub GivesSome : {D : Type 0} → (tells : Bool) → (D → State) → (old new : Manager D)
+    → Result (Unit {0}) StepFault → Type 0
 GivesSome tells state old new (Ok done) = HasCopied tells state old new [] × KeepsTidy old new
 GivesSome tells state old new (Err (step.DiskFault p)) = HasBroken tells state old new p []
 GivesSome tells state old new (Err (step.Down p)) = ⊥
 
 -- the chunk is tidy whose uppermost record keeps just its blocks
 abbrev pub TidiesUp : {D : Type 0} → (first count : ℕ) → (old new : Manager D) → Type 0
-TidiesUp first count old new = (version : ℕ) → IsUppermost (listed_in old.index.entries) version first count → IsTidy (listed_in new.index.entries) first count
+TidiesUp first count old new = (version : ℕ)
+    → IsUppermost (listed_in old.index.entries) version first count
+    → IsTidy (listed_in new.index.entries) first count
 
 -- each chunk is tidy then whose uppermost record keeps just its blocks
 abbrev pub TidiesAll : {D : Type 0} → (old new : Manager D) → Type 0
 TidiesAll old new = (first count : ℕ) → 1 ≤ count → TidiesUp first count old new
 
 -- giving up all that may go
-abbrev pub GivesAll : {D : Type 0} → (tells : Bool) → (D → State) → (old new : Manager D) → Result (Unit {0}) StepFault → Type 0
-GivesAll tells state old new (Ok done) = HasCopied tells state old new [] × KeepsTidy old new × TidiesAll old new
+abbrev pub GivesAll : {D : Type 0} → (tells : Bool) → (D → State) → (old new : Manager D)
+    → Result (Unit {0}) StepFault → Type 0
+GivesAll tells state old new (Ok done) =
+    HasCopied tells state old new [] × KeepsTidy old new × TidiesAll old new
 GivesAll tells state old new (Err (step.DiskFault p)) = HasBroken tells state old new p []
 GivesAll tells state old new (Err (step.Down p)) = ⊥
 
 -- giving up some of it, or all
-abbrev pub GivesUp : {D : Type 0} → (tells : Bool) → (D → State) → (all : Bool) → (old new : Manager D) → Result (Unit {0}) StepFault → Type 0
-GivesUp tells state all old new (Ok done) = HasCopied tells state old new [] × KeepsTidy old new × (all ≡ true → TidiesAll old new)
+abbrev pub GivesUp : {D : Type 0} → (tells : Bool) → (D → State) → (all : Bool)
+    → (old new : Manager D) → Result (Unit {0}) StepFault → Type 0
+GivesUp tells state all old new (Ok done) =
+    HasCopied tells state old new [] × KeepsTidy old new × (all ≡ true → TidiesAll old new)
 GivesUp tells state all old new (Err (step.DiskFault p)) = HasBroken tells state old new p []
 GivesUp tells state all old new (Err (step.Down p)) = ⊥
 
 -- the same, by what cleaning tells
-abbrev pub Settles : {D : Type 0} → (tells : Bool) → (D → State) → (all : Bool) → (old new : Manager D) → Result (Unit {0}) CleanFault → Type 0
+abbrev pub Settles : {D : Type 0} → (tells : Bool) → (D → State) → (all : Bool)
+    → (old new : Manager D) → Result (Unit {0}) CleanFault → Type 0
 Settles tells state all old new (Ok done) = GivesUp tells state all old new (Ok done)
 Settles tells state all old new (Err (DiskFault p)) = HasBroken tells state old new p []
 Settles tells state all old new (Err VersionsSpent) = ⊥
@@ -117,30 +132,37 @@ Settles tells state all old new (Err NoMemory) = ⊥
 
 -- all blocks of these chunks are covered
 abbrev pub AreCoveredIn : {D : Type 0} → Manager D → List Item → Type 0
-AreCoveredIn m items = AllByRecursion (λ i. (b : ℕ) → is_within i.lbn i.count b ≡ true → covered_in m b ≡ true) items
+AreCoveredIn m items =
+    AllByRecursion (λ i. (b : ℕ) → is_within i.lbn i.count b ≡ true → covered_in m b ≡ true) items
 
 -- these blocks begin with what the array has of these chunks
 abbrev pub AreRead : (array : List Block) → List Item → List Block → Type 0
 AreRead array [] blocks = ⊤
-AreRead array (i ∷ items) blocks = (take i.count blocks ≡ slice_range array i.lbn (i.lbn + i.count)) × AreRead array items (drop i.count blocks)
+AreRead array (i ∷ items) blocks = (take i.count blocks ≡ slice_range array i.lbn (i.lbn + i.count))
+    × AreRead array items (drop i.count blocks)
 
 -- the blocks of these chunks were read, so many
-pub record HasReadAll {D : Type 0} (tells : Bool) (state : D → State) (items : List Item) (old new : Manager D) (room : List Block) (blocks : ℕ) : Type 0 where
+pub record HasReadAll {D : Type 0} (tells : Bool) (state : D → State) (items : List Item)
+    (old new : Manager D) (room : List Block) (blocks : ℕ) : Type 0 where
   pub count : blocks ≡ count_of items
   pub copied : HasCopied tells state old new []
   pub entries : new.index.entries ≡ old.index.entries
   pub size : (state_of state new.home).size ≡ (state_of state old.home).size
-  pub content : IsTrue tells → (b : ManagerBase) (notes : List Noted) → Keeps tells state old b notes → AreRead (array_of b notes) items (take blocks room)
+  pub content : IsTrue tells → (b : ManagerBase) (notes : List Noted)
+      → Keeps tells state old b notes → AreRead (array_of b notes) items (take blocks room)
 
 -- the same, by what is told
-abbrev pub ReadsAll : {D : Type 0} → (tells : Bool) → (D → State) → List Item → (old new : Manager D) → List Block → Result ℕ CleanFault → Type 0
-ReadsAll tells state items old new room (Ok blocks) = HasReadAll tells state items old new room blocks
+abbrev pub ReadsAll : {D : Type 0} → (tells : Bool) → (D → State) → List Item
+    → (old new : Manager D) → List Block → Result ℕ CleanFault → Type 0
+ReadsAll tells state items old new room (Ok blocks) =
+    HasReadAll tells state items old new room blocks
 ReadsAll tells state items old new room (Err (DiskFault p)) = HasBroken tells state old new p []
 ReadsAll tells state items old new room (Err VersionsSpent) = ⊥
 ReadsAll tells state items old new room (Err NoMemory) = ⊥
 
 -- no log had room
-pub record IsRefused {D : Type 0} (tells : Bool) (state : D → State) (count : ℕ) (old new : Manager D) : Type 0 where
+pub record IsRefused {D : Type 0} (tells : Bool) (state : D → State) (count : ℕ)
+    (old new : Manager D) : Type 0 where
   pub copied : HasCopied tells state old new []
   pub entries : new.index.entries ≡ old.index.entries
   pub next : old.next < 2 ^ 63
@@ -148,7 +170,8 @@ pub record IsRefused {D : Type 0} (tells : Bool) (state : D → State) (count : 
   pub room : NoneHasRoom count new
 
 -- the blocks of these chunks were written again, as the newest records
-pub record HasRewritten {D : Type 0} (tells : Bool) (state : D → State) (items : List Item) (old new : Manager D) : Type 0 where
+pub record HasRewritten {D : Type 0} (tells : Bool) (state : D → State) (items : List Item)
+    (old new : Manager D) : Type 0 where
   pub writes : List Write
   pub are : AreCopiesAt old.next items writes
   pub copied : HasCopied tells state old new writes
@@ -159,7 +182,8 @@ pub record HasRewritten {D : Type 0} (tells : Bool) (state : D → State) (items
   pub listed_is : listed_in new.index.entries ≡ (placed_all (Log lane) look writes).listed
 
 -- a disk call failed, perhaps that of copies of some first chunks
-pub record Fails {D : Type 0} (tells : Bool) (state : D → State) (items : List Item) (old new : Manager D) (p : Part) : Type 0 where
+pub record Fails {D : Type 0} (tells : Bool) (state : D → State) (items : List Item)
+    (old new : Manager D) (p : Part) : Type 0 where
   pub copies : List Write
   pub tried : ℕ
   pub within : tried ≤ length items
@@ -167,15 +191,20 @@ pub record Fails {D : Type 0} (tells : Bool) (state : D → State) (items : List
   pub broken : HasBroken tells state old new p copies
 
 -- what is so after a refusal
-abbrev pub TellsFault : {D : Type 0} → (tells : Bool) → (D → State) → List Item → (old new : Manager D) → CleanFault → Type 0
+abbrev pub TellsFault : {D : Type 0} → (tells : Bool) → (D → State) → List Item
+    → (old new : Manager D) → CleanFault → Type 0
 TellsFault tells state items old new (DiskFault p) = Fails tells state items old new p
-TellsFault tells state items old new VersionsSpent = HasCopied tells state old new [] × (new.next ≡ 2 ^ 63) × (new.index.entries ≡ old.index.entries)
-TellsFault tells state items old new NoMemory = HasCopied tells state old new [] × (new.index.entries ≡ old.index.entries)
+TellsFault tells state items old new VersionsSpent =
+    HasCopied tells state old new [] × (new.next ≡ 2 ^ 63) × (new.index.entries ≡ old.index.entries)
+TellsFault tells state items old new NoMemory =
+    HasCopied tells state old new [] × (new.index.entries ≡ old.index.entries)
 
 -- some first chunks were written again, or none had room
-abbrev pub Rewrites : {D : Type 0} → (tells : Bool) → (D → State) → List Item → (old new : Manager D) → Result ℕ CleanFault → Type 0
+abbrev pub Rewrites : {D : Type 0} → (tells : Bool) → (D → State) → List Item
+    → (old new : Manager D) → Result ℕ CleanFault → Type 0
 Rewrites tells state items old new (Ok zero) = IsRefused tells state (first_count items) old new
-Rewrites tells state items old new (Ok (suc n)) = HasRewritten tells state (take (suc n) items) old new × (suc n ≤ length items)
+Rewrites tells state items old new (Ok (suc n)) =
+    HasRewritten tells state (take (suc n) items) old new × (suc n ≤ length items)
 Rewrites tells state items old new (Err fault) = TellsFault tells state items old new fault
 
 -- how many were written
@@ -206,17 +235,21 @@ noted (Err (refused.Down p)) copies = []
 noted (Err refused.VersionsSpent) copies = []
 noted (Err refused.NoMemory) copies = []
 
-module _ {D : Type 0} (tells : Bool) (state : D → State) (items : List Item) (old new : Manager D) where
-  abbrev pub fault_copies : (fault : CleanFault) → TellsFault tells state items old new fault → List Write
+module _ {D : Type 0} (tells : Bool) (state : D → State) (items : List Item)
+    (old new : Manager D) where
+  abbrev pub fault_copies : (fault : CleanFault) → TellsFault tells state items old new fault
+      → List Write
   fault_copies (DiskFault p) f = f.copies
   fault_copies VersionsSpent f = []
   fault_copies NoMemory f = []
 
-  abbrev pub rewritten : (result : Result ℕ CleanFault) → Rewrites tells state items old new result → List Write
+  abbrev pub rewritten : (result : Result ℕ CleanFault) → Rewrites tells state items old new result
+      → List Write
   rewritten (Ok zero) r = []
   rewritten (Ok (suc n)) r = r.0.writes
   rewritten (Err fault) f = fault_copies fault f
 
   -- the same, with its copies behind those before it
   abbrev pub RewritesBehind : (before after : List Write) → Result ℕ CleanFault → Type 0
-  RewritesBehind before after result = (r : Rewrites tells state items old new result) × (after ≡ before ++ rewritten result r)
+  RewritesBehind before after result =
+      (r : Rewrites tells state items old new result) × (after ≡ before ++ rewritten result r)

@@ -25,9 +25,11 @@ const FAR: u64 = 1024;
 fn first_covered(index: &Index, low: u64, high: u64) -> u64
     requires order { low ≤ high }
     requires within { high < 2 ^ 32 }
-    requires there { (b : ℕ) × (low ≤ b) × (b ≤ high) × (is_covered (listed_in index.now.entries) b ≡ true) }
+    requires there { (b : ℕ) × (low ≤ b) × (b ≤ high)
+        × (is_covered (listed_in index.now.entries) b ≡ true) }
     ensures bounds { (low ≤ result) × (result ≤ high) }
-    ensures bare { (b : ℕ) → low ≤ b → b < result → is_covered (listed_in index.now.entries) b ≡ false }
+    ensures bare { (b : ℕ) → low ≤ b → b < result
+        → is_covered (listed_in index.now.entries) b ≡ false }
     ensures covered { is_covered (listed_in index.now.entries) result ≡ true }
 {
     let mut first = low;
@@ -48,7 +50,8 @@ fn first_covered(index: &Index, low: u64, high: u64) -> u64
 pub(crate) fn next_covered(index: &Index, from: u64) -> u64
     requires { from ≤ 2 ^ 32 }
     ensures bounds { (from ≤ result) × (result ≤ 2 ^ 32) }
-    ensures bare { (b : ℕ) → from ≤ b → b < result → is_covered (listed_in index.now.entries) b ≡ false }
+    ensures bare { (b : ℕ) → from ≤ b → b < result
+        → is_covered (listed_in index.now.entries) b ≡ false }
     ensures covered { result < 2 ^ 32 → is_covered (listed_in index.now.entries) result ≡ true }
     ensures index { IsIndex index.now.entries }
 {
@@ -90,7 +93,8 @@ fn kept_end(record: &Rec, lbn: u64, count: u32, most: u32) -> u32
     requires within { lbn < 2 ^ 32 }
     requires kept { in_mask record.now.lbn record.now.keep (lbn + count) ≡ true }
     ensures count { (count < result) × (result ≤ most) }
-    ensures kept { (b : ℕ) → lbn + count ≤ b → b < lbn + result → in_mask record.now.lbn record.now.keep b ≡ true }
+    ensures kept { (b : ℕ) → lbn + count ≤ b → b < lbn + result
+        → in_mask record.now.lbn record.now.keep b ≡ true }
 {
     for next in count + 1..most {
         if !keeps(record, lbn + u64::from(next)) {
@@ -106,7 +110,8 @@ pub(crate) fn chunk_len(index: &Index, lbn: u64, most: u32) -> u32
     requires within { lbn < 2 ^ 32 }
     requires covered { is_covered (listed_in index.now.entries) lbn ≡ true }
     ensures count { (1 ≤ result) × (result ≤ most) }
-    ensures run { (b : ℕ) → lbn ≤ b → b < lbn + result → is_covered (listed_in index.now.entries) b ≡ true }
+    ensures run { (b : ℕ) → lbn ≤ b → b < lbn + result
+        → is_covered (listed_in index.now.entries) b ≡ true }
     ensures ends { result < most → is_covered (listed_in index.now.entries) (lbn + result) ≡ false }
 {
     let mut count = 1;
@@ -126,7 +131,8 @@ fn keeps_just(record: &Rec, lbn: u64, count: u32) -> bool
     requires range { record.now.lbn + record.now.count ≤ 2 ^ 32 }
     requires few { record.now.count ≤ 128 }
     requires kept { record.now.keep < 2 ^ record.now.count }
-    ensures { (result ≡ true) ↔ ((b : ℕ) → in_mask record.now.lbn record.now.keep b ≡ is_within lbn count b) }
+    ensures { (result ≡ true)
+        ↔ ((b : ℕ) → in_mask record.now.lbn record.now.keep b ≡ is_within lbn count b) }
 {
     for place in 0..record.count {
         let block = record.lbn + u64::from(place);
@@ -158,7 +164,8 @@ pub(crate) fn is_tidy(index: &Index, lbn: u64, count: u32) -> bool
 fn untidy_chunk(index: &Index, from: u64, most: u32) -> Option<Item>
     requires from { from ≤ 2 ^ 32 }
     requires most { (1 ≤ most) × (most ≤ 128) }
-    ensures next { IfSome result (IsNext (is_covered (listed_in index.now.entries)) (listed_in index.now.entries) most from) }
+    ensures next { IfSome result (IsNext (is_covered (listed_in index.now.entries))
+        (listed_in index.now.entries) most from) }
     ensures within { IfSome result (λ i. i.lbn + i.count ≤ 2 ^ 32) }
 {
     let lbn = next_covered(index, from);
@@ -186,7 +193,8 @@ pub(crate) fn gather(index: &Index, first: Item, most: u32, width: usize) -> Gat
     requires width { width ≤ 8 }
     ensures count { (1 ≤ result.count) × (result.count ≤ 8) }
     ensures next { (rest : List Item) × (take result.count result.chunks ≡ first ∷ rest)
-        × AreNext (is_covered (listed_in index.now.entries)) (listed_in index.now.entries) most (first.lbn + first.count) rest }
+        × AreNext (is_covered (listed_in index.now.entries)) (listed_in index.now.entries) most
+        (first.lbn + first.count) rest }
 {
     let mut gathered = Gathered {
         chunks: [first; TOGETHER],

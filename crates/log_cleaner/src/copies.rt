@@ -64,7 +64,8 @@ fn with_first(done: &Copies, more: &Copies, count: usize) -> Copies
 
 /// The copies with those of the run that were done or may be in flight.
 pub(crate) fn noted(done: &mut Copies, more: &Copies, ran: Ran)
-    ensures { done.new.value.items ≡ done.old.value.items ++ noted ran.answer (take ran.items more.now.value.items) }
+    ensures { done.new.value.items
+        ≡ done.old.value.items ++ noted ran.answer (take ran.items more.now.value.items) }
 {
     match ran.answer {
         Ok(_) | Err(WriteRefusal::DiskFault(_)) => *done = with_first(done, more, ran.items),

@@ -27,7 +27,8 @@ const END: u64 = 1 << 63;
 
 // Whether the record of this version lies in this segment and has a live block.
 fn is_live_in(index: &Index, version: u64, lane: u32, segment: u32) -> bool
-    ensures { result ≡ false → IfSome (entry_at index.now.entries version) (HasNoneLiveIn lane segment index.now.entries) }
+    ensures { result ≡ false → IfSome (entry_at index.now.entries version)
+        (HasNoneLiveIn lane segment index.now.entries) }
 {
     let Some(record) = index.find(version) else {
         return false;
@@ -84,10 +85,12 @@ fn goes_whole(
     looked: &mut [Option<u32>; LANES],
 ) -> bool
     requires unhomed { NoneHomed (listed_in index.now.entries) }
-    requires awake { AllByRecursion (λ e. slice_index_or ups.now e.listed.lane false ≡ true) index.now.entries }
+    requires awake { AllByRecursion (λ e. slice_index_or ups.now e.listed.lane false ≡ true)
+        index.now.entries }
     requires marked { AreMarked marks.now index.now.entries }
     ensures there { result ≡ true → HasVersion index.now.entries version }
-    ensures covered { result ≡ true → ForSome (entry_at index.now.entries version) (λ e. NoneLiveIn e.listed.lane e.index index.now.entries) }
+    ensures covered { result ≡ true → ForSome (entry_at index.now.entries version)
+        (λ e. NoneLiveIn e.listed.lane e.index index.now.entries) }
 {
     let Some(record) = index.find(version) else {
         return false;

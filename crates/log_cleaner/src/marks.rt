@@ -24,7 +24,8 @@ fn mark_of(lane: u32, segment: u32) -> usize
 
 // Marks the segment of this version's record, if there is one.
 fn mark(index: &Index, version: u64, marks: &mut [bool; MARKS])
-    ensures kept { (k : ℕ) → slice_index_or marks.old k false ≡ true → slice_index_or marks.new k false ≡ true }
+    ensures kept { (k : ℕ) → slice_index_or marks.old k false ≡ true
+        → slice_index_or marks.new k false ≡ true }
     ensures marked { IfSome (entry_at index.now.entries version)
         (λ e. slice_index_or marks.new (mark_of e.listed.lane e.index) false ≡ true) }
     ensures index { IsIndex index.now.entries }
@@ -47,7 +48,8 @@ fn set_all(marks: &mut [bool; MARKS])
 /// are among those that are marked in the index.
 pub(crate) fn marks_of(index: &Index, ups: &[bool]) -> [bool; MARKS]
     requires unhomed { NoneHomed (listed_in index.now.entries) }
-    requires awake { AllByRecursion (λ e. slice_index_or ups.now e.listed.lane false ≡ true) index.now.entries }
+    requires awake { AllByRecursion (λ e. slice_index_or ups.now e.listed.lane false ≡ true)
+        index.now.entries }
     ensures { AreMarked result index.now.entries }
 {
     let mut marks = [false; MARKS];

@@ -11,7 +11,8 @@ abbrev pub refused : ReadRefusal → DumpFault
 refused (read.DiskFault p) = DiskFault p
 refused (read.Down p) = Down p
 
--- what a call with this answer leaves: readers see no change; a disk call that failed had no writes in flight
+-- what a call with this answer leaves: readers see no change; a disk call that failed had no writes
+-- in flight
 abbrev pub was_told : {T : Type 0} → Result T DumpFault → Operation
 was_told (Ok _) = Kept
 was_told (Err (DiskFault p)) = Broke []

@@ -17,11 +17,14 @@ use Rattle.manager.specs.declared.base.ManagerBase.{ManagerBase}
 use Rattle.manager.specs.declared.manager.Manager.{Manager}
 use Rattle.log_dump.specs.Texts.{AreRecordLines, IsRecordLine, count_text}
 
--- the manager serves this volume of the configuration: it stands there, and so do the loggers of its lanes; home and the most blocks of a call are the configuration's
-pub record IsVolumeOf {D : Type 0} (state : D → State) (config : Config) (number : ℕ) (m : Manager D) : Type 0 where
+-- the manager serves this volume of the configuration: it stands there, and so do the loggers of
+-- its lanes; home and the most blocks of a call are the configuration's
+pub record IsVolumeOf {D : Type 0} (state : D → State) (config : Config) (number : ℕ)
+    (m : Manager D) : Type 0 where
   pub volume : VolumeConf
   pub there : slice_get config.volumes.items number ≡ Some volume
-  pub loggers : AllByRecursion (λ (l : Lane D). logger_of l < length config.volumes.items) m.lanes.items
+  pub loggers :
+      AllByRecursion (λ (l : Lane D). logger_of l < length config.volumes.items) m.lanes.items
   pub home : volume.home ≡ (state_of state m.home).size
   pub most : m.most ≡ min 128 (config.segment_blocks - 2)
 
@@ -35,18 +38,23 @@ held_segments {D} m = sum_by (λ (l : Lane D). length (held_in l)) m.lanes.items
 
 -- the names of the loggers of a manager's lanes, by the places of the view
 abbrev pub logger_names : {D : Type 0} → Config → Manager D → List (List ℕ)
-logger_names {D} config m = map (λ (l : Lane D). name_at (names_of config.volumes.items) (logger_of l)) m.lanes.items
+logger_names {D} config m =
+    map (λ (l : Lane D). name_at (names_of config.volumes.items) (logger_of l)) m.lanes.items
 
 -- the line of the record at this place of the index was appended
-pub record HasLine {D : Type 0} (config : Config) (m : Manager D) (place : ℕ) (old new : List ℕ) : Type 0 where
+pub record HasLine {D : Type 0} (config : Config) (m : Manager D) (place : ℕ) (old new : List ℕ) :
+    Type 0 where
   pub entry : Indexed
   pub there : slice_get m.index.entries place ≡ Some entry
   pub line_ : List ℕ
   pub is : IsRecordLine (logger_names config m) m.index.entries entry line_
   pub appended : new ≡ old ++ line_
 
--- the lines of `dump` were appended: that of the volume, and one for each record of the index in order
-pub record IsDump {D : Type 0} (config : Config) (number : ℕ) (m : Manager D) (old new : List ℕ) : Type 0 where
+-- the lines of `dump` were appended: that of the volume, and one for each record of the index in
+-- order
+pub record IsDump {D : Type 0} (config : Config) (number : ℕ) (m : Manager D) (old new : List ℕ) :
+    Type 0 where
   pub lines : List ℕ
   pub are : AreRecordLines (logger_names config m) m.index.entries m.index.entries lines
-  pub appended : new ≡ old ++ (count_text (name_at (names_of config.volumes.items) number) (length m.index.entries) ++ lines)
+  pub appended : new ≡ old ++ (count_text (name_at (names_of config.volumes.items) number)
+      (length m.index.entries) ++ lines)

@@ -52,15 +52,20 @@ pub fn check_line<D: Disk, R: Wait>(
     // A line of this volume, of a digest, of all records and of the segments in which they lie, whether or not disks tell anything.
     ensures line { OnOk result ((digest : List ℕ) × (segments : ℕ) × (length digest ≡ 32)
         × HasDifferent (map place_of manager.old.index.entries) segments
-        × (out.new.items ≡ out.old.items ++ check_line (name_at (names_of config.now.volumes.items) volume) (encode_lower digest) (length manager.old.index.entries) segments)) }
+        × (out.new.items ≡ out.old.items
+        ++ check_line (name_at (names_of config.now.volumes.items) volume) (encode_lower digest)
+        (length manager.old.index.entries) segments)) }
     // Where the disks tell their content the array is the one that the manager stands for.
-    ensures content { IsTrue D.tells → (b : ManagerBase) (notes : List Noted) → Keeps D.tells D.state manager.old b notes
+    ensures content { IsTrue D.tells → (b : ManagerBase) (notes : List Noted)
+        → Keeps D.tells D.state manager.old b notes
         → OnOk result (out.new.items ≡ out.old.items
-        ++ check_text (name_at (names_of config.now.volumes.items) volume) (array_of b notes) (length manager.old.index.entries) (held_segments manager.old)) }
+        ++ check_text (name_at (names_of config.now.volumes.items) volume) (array_of b notes)
+        (length manager.old.index.entries) (held_segments manager.old)) }
     ensures err { OnErr result (out.new.items ≡ out.old.items) }
     ensures down { (p : Part) → (result ≡ Err (DumpFault.Down p)) ↔ (manager.old.down ≡ Some p) }
     ensures unchanged { IsSome manager.old.down → manager.new ≡ manager.old }
-    ensures cause { (p : Part) → result ≡ Err (DumpFault.DiskFault p) → (manager.new.down ≡ Some p) × PartRose D.state manager.old manager.new p }
+    ensures cause { (p : Part) → result ≡ Err (DumpFault.DiskFault p)
+        → (manager.new.down ≡ Some p) × PartRose D.state manager.old manager.new p }
     ensures up { OnOk result (manager.new.down ≡ None) }
     ensures calm { OnOk result (NoneRose D.state manager.old manager.new) }
     ensures read { HasOnlyRead D.state manager.old manager.new }
@@ -94,7 +99,8 @@ fn append_check<'a>(
     segments: u64,
     out: &mut Vec<u8>,
 ) -> Result<(), NoMemory>
-    ensures ok { OnOk result (out.new.items ≡ out.old.items ++ check_line name.now digits.now records segments) }
+    ensures ok { OnOk result
+        (out.new.items ≡ out.old.items ++ check_line name.now digits.now records segments) }
     ensures err { OnErr result (out.new.items ≡ out.old.items) }
 {
     append_line(

@@ -43,9 +43,11 @@ pub(crate) fn digest_of<D: Disk, R: Wait>(
     ensures up { OnOk result (manager.new.down ≡ None) }
     ensures size { IfOk result (λ digest. length digest ≡ 32) }
     ensures calm { OnOk result (NoneRose D.state manager.old manager.new) }
-    ensures content { IsTrue D.tells → (b : ManagerBase) (notes : List Noted) → Keeps D.tells D.state manager.old b notes
+    ensures content { IsTrue D.tells → (b : ManagerBase) (notes : List Noted)
+        → Keeps D.tells D.state manager.old b notes
         → IfOk result (λ digest. digest ≡ sha256 (bytes_of (array_of b notes))) }
-    ensures cause { (p : Part) → result ≡ Err (DumpFault.DiskFault p) → (manager.new.down ≡ Some p) × PartRose D.state manager.old manager.new p }
+    ensures cause { (p : Part) → result ≡ Err (DumpFault.DiskFault p)
+        → (manager.new.down ≡ Some p) × PartRose D.state manager.old manager.new p }
     ensures up_still { (p : Part) → ¬ (result ≡ Err (DumpFault.Down p)) }
 {
     let mut piece = room_for(alloc, most)?;
@@ -74,7 +76,8 @@ fn room_for(alloc: Global, blocks: u32) -> Result<Vec<Block>, DumpFault>
 
 // Adds the bytes of blocks to what a hasher has.
 fn feed(hasher: &mut Sha256, blocks: &[Block])
-    ensures { (message : List ℕ) → Holds256 hasher.old message → Holds256 hasher.new (message ++ bytes_of blocks.now) }
+    ensures { (message : List ℕ) → Holds256 hasher.old message
+        → Holds256 hasher.new (message ++ bytes_of blocks.now) }
 {
     for block in blocks {
         hasher.update(block.as_slice());

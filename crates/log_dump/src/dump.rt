@@ -96,7 +96,8 @@ fn put_record<D: Disk>(
     requires up { manager.now.down ≡ None }
     requires index { IsIndex manager.now.index.entries }
     requires there { place < length manager.now.index.entries }
-    requires loggers { AllByRecursion (λ l. logger_of l < length config.now.volumes.items) manager.now.lanes.items }
+    requires loggers { AllByRecursion (λ l. logger_of l < length config.now.volumes.items)
+        manager.now.lanes.items }
     ensures ok { OnOk result (HasLine config.now manager.now place out.old.items out.new.items) }
     ensures err { OnErr result (out.new.items ≡ out.old.items) }
 {
@@ -117,7 +118,8 @@ pub fn append_record<'a>(
     home: &'a [u8],
     out: &mut Vec<u8>,
 ) -> Result<(), NoMemory>
-    ensures ok { OnOk result (out.new.items ≡ out.old.items ++ record_line «record».now logger.now live.now home.now) }
+    ensures ok { OnOk result
+        (out.new.items ≡ out.old.items ++ record_line «record».now logger.now live.now home.now) }
     ensures err { OnErr result (out.new.items ≡ out.old.items) }
 {
     append_line(

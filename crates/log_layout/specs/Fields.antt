@@ -16,7 +16,8 @@ label_at b = record {
 abbrev pub record_at : List ℕ → RecHead
 record_at b = record {
   form = if slice_index b 7 == 49 then 1 else 2;
-  keep = if slice_index b 7 == 49 then (if little_number 4 (drop 8 b) == 1 then 2 ^ little_number 4 (drop 32 b) - 1 else 0) else little_number 16 (drop 36 b);
+  keep = if slice_index b 7 == 49 then (if little_number 4 (drop 8 b) == 1
+      then 2 ^ little_number 4 (drop 32 b) - 1 else 0) else little_number 16 (drop 36 b);
   owner = little_number 4 (drop 12 b);
   version = little_number 8 (drop 16 b);
   lbn = little_number 8 (drop 24 b);

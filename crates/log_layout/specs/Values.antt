@@ -16,4 +16,11 @@ segment_head (Owned owner) = head.Owned owner
 
 -- block i of the record is kept where bit i of `keep` is set
 abbrev pub record_head : RecHead → RecordHead
-record_head v = record { form = v.form; owner = v.owner; version = v.version; first = v.lbn; count = v.count; mask = v.keep }
+record_head v = record {
+  form = v.form;
+  owner = v.owner;
+  version = v.version;
+  first = v.lbn;
+  count = v.count;
+  mask = v.keep;
+}

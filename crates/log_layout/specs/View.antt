@@ -19,4 +19,8 @@ abbrev pub stored : List ℕ → Inside
 stored ids = record { ids = ids ++ replicate (16 - length ids) 0; len = length ids }
 
 pub stored-ids_of : (v : Inside) → IsStored v → stored (ids_of v) ≡ v
-stored-ids_of v h = λ i. record { ids = (ap (λ (n : ℕ). ids_of v ++ replicate (16 - n) 0) h.counted ∙ sym h.zeros) i; len = h.counted i }
+stored-ids_of v h = λ i. record {
+  ids = (ap (λ (n : ℕ). ids_of v ++ replicate (16 - n) 0) h.counted
+      ∙ sym h.zeros) i;
+  len = h.counted i;
+}

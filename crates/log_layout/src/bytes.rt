@@ -8,7 +8,8 @@ use byteorder::{ByteOrder, LittleEndian};
 
 pub(crate) fn put_bytes(b: &mut [u8], at: usize, bytes: &[u8])
     requires { at + length bytes.now ≤ length b.old }
-    ensures { (front : List ℕ) (k : ℕ) → length front ≡ at → length bytes.now ≤ k → b.old ≡ front ++ replicate k 0
+    ensures { (front : List ℕ) (k : ℕ) → length front ≡ at → length bytes.now ≤ k
+        → b.old ≡ front ++ replicate k 0
         → b.new ≡ front ++ bytes.now ++ replicate (k - length bytes.now) 0 }
 {
     b[at..at + bytes.len()].copy_from_slice(bytes);

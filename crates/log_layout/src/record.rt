@@ -92,7 +92,8 @@ fn is_in_range(v: RecHead) -> bool
 
 // Whether the fields that both forms have are in their ranges.
 fn has_span(v: &RecHead) -> bool
-    ensures { IsTrue result ↔ ((1 ≤ v.now.version) × (v.now.version < 2 ^ 63) × (1 ≤ v.now.count) × (v.now.count ≤ 128) × (v.now.lbn + v.now.count ≤ 2 ^ 32)) }
+    ensures { IsTrue result ↔ ((1 ≤ v.now.version) × (v.now.version < 2 ^ 63) × (1 ≤ v.now.count)
+        × (v.now.count ≤ 128) × (v.now.lbn + v.now.count ≤ 2 ^ 32)) }
 {
     v.version >= 1
         && v.version < 1 << 63

@@ -120,7 +120,8 @@ pub fn write_view(v: &View, b: &mut Block)
 fn put_ids(b: &mut Block, ids: &[u32])
     requires { length ids.now ≤ 16 }
     ensures { (front : List ℕ) → length front ≡ 12 → b.old ≡ front ++ replicate 500 0
-        → b.new ≡ front ++ flat_map (little_bytes 4) ids.now ++ replicate (500 - 4 * length ids.now) 0 }
+        → b.new ≡ front ++ flat_map (little_bytes 4) ids.now
+        ++ replicate (500 - 4 * length ids.now) 0 }
 {
     for (i, id) in ids.iter().enumerate() {
         put_u32(b, 12 + 4 * i, *id);

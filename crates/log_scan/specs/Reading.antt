@@ -31,7 +31,8 @@ abbrev pub ArePlaced : (at : ℕ) → List Record → List Found → Type 0
 ArePlaced at [] [] = ⊤
 ArePlaced at [] (f ∷ fs) = ⊥
 ArePlaced at (r ∷ rs) [] = ⊥
-ArePlaced at (r ∷ rs) (f ∷ fs) = (f.pos ≡ at) × (record_head f.head ≡ r.head) × ArePlaced (at + 1 + length r.blocks) rs fs
+ArePlaced at (r ∷ rs) (f ∷ fs) =
+    (f.pos ≡ at) × (record_head f.head ≡ r.head) × ArePlaced (at + 1 + length r.blocks) rs fs
 
 -- the heads up to position `at` were read, and are these
 pub record IsReading (bs : List Block) (owner at : ℕ) (found : List Found) : Type 0 where

@@ -23,7 +23,9 @@ pub record AreFound (rs : List Record) (found : List Found) : Type 0 where
 -- the scan of these blocks: they are free, or a log of just these records
 abbrev pub IsScanOf : List Block → Scan → Type 0
 IsScanOf bs s =
-    MatchOption s.owner (IsIdle bs × (s.records.items ≡ []) × (s.end ≡ 1)) (λ owner. (rs : List Record) × IsLog bs owner rs × AreFound rs s.records.items × (s.end ≡ end_of rs))
+    MatchOption s.owner (IsIdle bs × (s.records.items ≡ []) × (s.end ≡ 1))
+    (λ owner. (rs : List Record) × IsLog bs owner rs × AreFound rs s.records.items
+    × (s.end ≡ end_of rs))
 
 -- a head of this owner behind the segment's own, whose blocks end within the segment
 pub record IsInside (blocks owner : ℕ) (f : Found) : Type 0 where
@@ -32,11 +34,13 @@ pub record IsInside (blocks owner : ℕ) (f : Found) : Type 0 where
   pub owned : f.head.owner ≡ owner
   pub fits : f.pos + 1 + f.head.count ≤ blocks
 
--- What holds of each scan of a segment of so many blocks, also where its disk doesn't tell its content.
+-- What holds of each scan of a segment of so many blocks, also where its disk doesn't tell its
+-- content.
 pub record IsScan (blocks : ℕ) (s : Scan) : Type 0 where
   pub place : (1 ≤ s.end) × (s.end ≤ blocks)
   pub few : length s.records.items < s.end
-  pub heads : MatchOption s.owner (s.records.items ≡ []) (λ owner. AllByRecursion (IsInside blocks owner) s.records.items)
+  pub heads : MatchOption s.owner (s.records.items ≡ [])
+      (λ owner. AllByRecursion (IsInside blocks owner) s.records.items)
 
 -- ---- Damage
 
@@ -56,8 +60,10 @@ pub record IsFaultAt (bs : List Block) (owner p : ℕ) : Type 0 where
   pub rest : List Block
   pub here : drop p bs ≡ block ∷ rest
   pub no_gate : block ≢ gate_block
-  pub no_head : (h : RecordHead) → SpellsRecord block h → h.owner ≡ owner → h.count ≤ length rest → ⊥
+  pub no_head : (h : RecordHead) → SpellsRecord block h → h.owner ≡ owner → h.count ≤ length rest
+      → ⊥
 
 -- block p is at fault, and each head in front of it is whole
 abbrev pub IsFirstFault : List Block → (p : ℕ) → Type 0
-IsFirstFault bs p = ((p ≡ 0) × HasNoHead bs) ⊎ ((owner : ℕ) × (rs : List Record) × StandsBehind bs p owner rs × IsFaultAt bs owner p)
+IsFirstFault bs p = ((p ≡ 0) × HasNoHead bs)
+    ⊎ ((owner : ℕ) × (rs : List Record) × StandsBehind bs p owner rs × IsFaultAt bs owner p)

@@ -38,7 +38,8 @@ fn count_valid(found: &[Found]) -> usize
 pub fn adopt<D: Disk>(part: Spun<D>, scan: &Scan) -> Adopted<D>
     requires size { (4 ≤ (state_of D.state part).size) × ((state_of D.state part).size ≤ 65536) }
     requires shape { IsScan (state_of D.state part).size scan.now }
-    requires scanned { (vs : List (Values Block)) → (state_of D.state part).values ≡ Some vs → (vs ≡ only (reads vs)) × IsScanOf (reads vs) scan.now }
+    requires scanned { (vs : List (Values Block)) → (state_of D.state part).values ≡ Some vs
+        → (vs ≡ only (reads vs)) × IsScanOf (reads vs) scan.now }
     ensures free { IfFree result (IsFree D.state) }
     ensures free_owner { IfFree result (λ f. scan.now.owner ≡ None) }
     ensures held { IfHeld result (IsSegment D.state) }
@@ -47,7 +48,9 @@ pub fn adopt<D: Disk>(part: Spun<D>, scan: &Scan) -> Adopted<D>
     ensures place { IfHeld result (λ s. place_of s ≡ scan.now.end) }
     ensures valid { IfHeld result (λ s. valid_of s ≡ count_kept scan.now.records.items) }
     ensures part { adopted_part result ≡ part }
-    ensures holds { (vs : List (Values Block)) → (state_of D.state part).values ≡ Some vs → IfHeld result (λ s. (rs : List Record) → IsLog (reads vs) (owner_of s) rs → Holds D.state s rs) }
+    ensures holds { (vs : List (Values Block)) → (state_of D.state part).values ≡ Some vs
+        → IfHeld result
+        (λ s. (rs : List Record) → IsLog (reads vs) (owner_of s) rs → Holds D.state s rs) }
 {
     match scan.owner {
         None => Adopted::Free(FreeSegment::new(part)),

@@ -23,16 +23,22 @@ fn read_segment<D: Disk>(
     requires size { (state_of D.state part.old).size ≡ blocks }
     requires small { (4 ≤ blocks) × (blocks ≤ 65536) }
     ensures shape { IfOk result (IsScan blocks) }
-    ensures scanned { (bs : List Block) → (state_of D.state part.old).values ≡ Some (only bs) → IfOk result (IsScanOf bs) }
-    ensures damaged { (bs : List Block) (block : ℕ) → (state_of D.state part.old).values ≡ Some (only bs)
+    ensures scanned { (bs : List Block) → (state_of D.state part.old).values ≡ Some (only bs)
+        → IfOk result (IsScanOf bs) }
+    ensures damaged { (bs : List Block) (block : ℕ)
+        → (state_of D.state part.old).values ≡ Some (only bs)
         → IsErrOf result (fault.Damaged block) → IsDamaged bs × IsFirstFault bs block }
     ensures values { (state_of D.state part.new).values ≡ (state_of D.state part.old).values }
     ensures size { (state_of D.state part.new).size ≡ (state_of D.state part.old).size }
     ensures volume { volume_of part.new ≡ volume_of part.old }
-    ensures cause { IsErrOf result fault.Failed → Rose (state_of D.state part.old).faults (state_of D.state part.new).faults }
-    ensures calm { OnOk result ((state_of D.state part.new).faults ≡ (state_of D.state part.old).faults) }
-    ensures quiet { (block : ℕ) → IsErrOf result (fault.Damaged block) → (state_of D.state part.new).faults ≡ (state_of D.state part.old).faults }
-    ensures any_moment { LeavesOnly (state_of D.state part.old) (state_of D.state part.new) (IsImageOf (state_of D.state part.old).values) }
+    ensures cause { IsErrOf result fault.Failed
+        → Rose (state_of D.state part.old).faults (state_of D.state part.new).faults }
+    ensures calm { OnOk result
+        ((state_of D.state part.new).faults ≡ (state_of D.state part.old).faults) }
+    ensures quiet { (block : ℕ) → IsErrOf result (fault.Damaged block)
+        → (state_of D.state part.new).faults ≡ (state_of D.state part.old).faults }
+    ensures any_moment { LeavesOnly (state_of D.state part.old) (state_of D.state part.new)
+        (IsImageOf (state_of D.state part.old).values) }
 {
     let block = match read_block(part, token, 0) {
         Ok(block) => block,
@@ -63,18 +69,27 @@ fn read_segment<D: Disk>(
 /// `Failed` is the disk's, and comes before `Damaged`.
 pub fn scan<D: Disk>(alloc: Global, token: &Awake, part: &mut Spun<D>) -> Result<Scan, ScanFault>
     requires volume { token_volume token.now ≡ volume_of part.old }
-    requires size { (4 ≤ (state_of D.state part.old).size) × ((state_of D.state part.old).size ≤ 65536) }
+    requires size { (4 ≤ (state_of D.state part.old).size)
+        × ((state_of D.state part.old).size ≤ 65536) }
     ensures shape { IfOk result (IsScan (state_of D.state part.old).size) }
-    ensures scanned { (vs : List (Values Block)) → (state_of D.state part.old).values ≡ Some vs → IfOk result (IsScanOf (reads vs)) }
-    ensures damaged { (vs : List (Values Block)) (block : ℕ) → (state_of D.state part.old).values ≡ Some vs
-        → IsErrOf result (fault.Damaged block) → IsDamaged (reads vs) × IsFirstFault (reads vs) block }
-    ensures settled { OnOk result ((state_of D.state part.new).values ≡ option_map settled (state_of D.state part.old).values) }
+    ensures scanned { (vs : List (Values Block)) → (state_of D.state part.old).values ≡ Some vs
+        → IfOk result (IsScanOf (reads vs)) }
+    ensures damaged { (vs : List (Values Block)) (block : ℕ)
+        → (state_of D.state part.old).values ≡ Some vs
+        → IsErrOf result (fault.Damaged block)
+        → IsDamaged (reads vs) × IsFirstFault (reads vs) block }
+    ensures settled { OnOk result ((state_of D.state part.new).values
+        ≡ option_map settled (state_of D.state part.old).values) }
     ensures size { (state_of D.state part.new).size ≡ (state_of D.state part.old).size }
     ensures volume { volume_of part.new ≡ volume_of part.old }
-    ensures cause { IsErrOf result fault.Failed → Rose (state_of D.state part.old).faults (state_of D.state part.new).faults }
-    ensures calm { OnOk result ((state_of D.state part.new).faults ≡ (state_of D.state part.old).faults) }
-    ensures quiet { (block : ℕ) → IsErrOf result (fault.Damaged block) → (state_of D.state part.new).faults ≡ (state_of D.state part.old).faults }
-    ensures any_moment { LeavesOnly (state_of D.state part.old) (state_of D.state part.new) (IsImageOf (state_of D.state part.old).values) }
+    ensures cause { IsErrOf result fault.Failed
+        → Rose (state_of D.state part.old).faults (state_of D.state part.new).faults }
+    ensures calm { OnOk result
+        ((state_of D.state part.new).faults ≡ (state_of D.state part.old).faults) }
+    ensures quiet { (block : ℕ) → IsErrOf result (fault.Damaged block)
+        → (state_of D.state part.new).faults ≡ (state_of D.state part.old).faults }
+    ensures any_moment { LeavesOnly (state_of D.state part.old) (state_of D.state part.new)
+        (IsImageOf (state_of D.state part.old).values) }
 {
     match part.sync(token) {
         Ok(()) => {

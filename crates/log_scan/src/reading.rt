@@ -21,7 +21,8 @@ use wol_disk::{Block, Disk, Failed};
 pub fn read_block<D: Disk>(part: &mut Spun<D>, token: &Awake, at: u32) -> Result<Block, Failed>
     requires volume { token_volume token.now ≡ volume_of part.old }
     requires inside { at < (state_of D.state part.old).size }
-    ensures block { (bs : List Block) → (state_of D.state part.old).values ≡ Some (only bs) → IfOk result (StandsAt bs at) }
+    ensures block { (bs : List Block) → (state_of D.state part.old).values ≡ Some (only bs)
+        → IfOk result (StandsAt bs at) }
     ensures values { (state_of D.state part.new).values ≡ (state_of D.state part.old).values }
     ensures passes { Passes (state_of D.state part.old) (state_of D.state part.new) (IsErr result) }
     ensures volume { volume_of part.new ≡ volume_of part.old }
@@ -44,17 +45,24 @@ fn next_head<D: Disk>(
     requires small { blocks ≤ 65536 }
     requires inside { at < blocks }
     ensures found { (bs : List Block) → (state_of D.state part.old).values ≡ Some (only bs)
-        → IfOk result (λ o. MatchOption o (IsGateAt bs at) (λ h. IsHeadAt bs owner at (record_head h))) }
-    ensures shape { IfOk result (λ o. MatchOption o (⊤) (λ h. IsRecordHead (record_head h) × (h.owner ≡ owner) × (at + 1 + h.count ≤ blocks))) }
-    ensures damaged { (bs : List Block) (block : ℕ) → (state_of D.state part.old).values ≡ Some (only bs)
+        → IfOk result
+        (λ o. MatchOption o (IsGateAt bs at) (λ h. IsHeadAt bs owner at (record_head h))) }
+    ensures shape { IfOk result (λ o. MatchOption o (⊤)
+        (λ h. IsRecordHead (record_head h) × (h.owner ≡ owner) × (at + 1 + h.count ≤ blocks))) }
+    ensures damaged { (bs : List Block) (block : ℕ)
+        → (state_of D.state part.old).values ≡ Some (only bs)
         → IsErrOf result (fault.Damaged block) → (block ≡ at) × IsFaultAt bs owner at }
     ensures values { (state_of D.state part.new).values ≡ (state_of D.state part.old).values }
     ensures size { (state_of D.state part.new).size ≡ (state_of D.state part.old).size }
     ensures volume { volume_of part.new ≡ volume_of part.old }
-    ensures cause { IsErrOf result fault.Failed → Rose (state_of D.state part.old).faults (state_of D.state part.new).faults }
-    ensures calm { OnOk result ((state_of D.state part.new).faults ≡ (state_of D.state part.old).faults) }
-    ensures quiet { (block : ℕ) → IsErrOf result (fault.Damaged block) → (state_of D.state part.new).faults ≡ (state_of D.state part.old).faults }
-    ensures any_moment { LeavesOnly (state_of D.state part.old) (state_of D.state part.new) (IsImageOf (state_of D.state part.old).values) }
+    ensures cause { IsErrOf result fault.Failed
+        → Rose (state_of D.state part.old).faults (state_of D.state part.new).faults }
+    ensures calm { OnOk result
+        ((state_of D.state part.new).faults ≡ (state_of D.state part.old).faults) }
+    ensures quiet { (block : ℕ) → IsErrOf result (fault.Damaged block)
+        → (state_of D.state part.new).faults ≡ (state_of D.state part.old).faults }
+    ensures any_moment { LeavesOnly (state_of D.state part.old) (state_of D.state part.new)
+        (IsImageOf (state_of D.state part.old).values) }
 {
     let block = match read_block(part, token, at) {
         Ok(block) => block,
@@ -86,19 +94,28 @@ pub fn read_records<D: Disk>(
     requires volume { token_volume token.now ≡ volume_of part.old }
     requires size { (state_of D.state part.old).size ≡ blocks }
     requires small { (1 ≤ blocks) × (blocks ≤ 65536) }
-    ensures found { (bs : List Block) → (state_of D.state part.old).values ≡ Some (only bs) → IsReading bs owner 1 []
-        → IfOk result (λ r. (rs : List Record) × IsLog bs owner rs × AreFound rs r.0.items × (r.1 ≡ end_of rs)) }
+    ensures found { (bs : List Block) → (state_of D.state part.old).values ≡ Some (only bs)
+        → IsReading bs owner 1 []
+        → IfOk result
+        (λ r. (rs : List Record) × IsLog bs owner rs × AreFound rs r.0.items
+        × (r.1 ≡ end_of rs)) }
     ensures place { IfOk result (λ r. (1 ≤ r.1) × (r.1 ≤ blocks) × (length r.0.items < r.1)) }
     ensures heads { IfOk result (λ r. AllByRecursion (IsInside blocks owner) r.0.items) }
-    ensures damaged { (bs : List Block) (block : ℕ) → (state_of D.state part.old).values ≡ Some (only bs) → IsReading bs owner 1 []
-        → IsErrOf result (fault.Damaged block) → IsFaultAt bs owner block × ((found : List FoundAt) × IsReading bs owner block found) }
+    ensures damaged { (bs : List Block) (block : ℕ)
+        → (state_of D.state part.old).values ≡ Some (only bs) → IsReading bs owner 1 []
+        → IsErrOf result (fault.Damaged block)
+        → IsFaultAt bs owner block × ((found : List FoundAt) × IsReading bs owner block found) }
     ensures values { (state_of D.state part.new).values ≡ (state_of D.state part.old).values }
     ensures size { (state_of D.state part.new).size ≡ (state_of D.state part.old).size }
     ensures volume { volume_of part.new ≡ volume_of part.old }
-    ensures cause { IsErrOf result fault.Failed → Rose (state_of D.state part.old).faults (state_of D.state part.new).faults }
-    ensures calm { OnOk result ((state_of D.state part.new).faults ≡ (state_of D.state part.old).faults) }
-    ensures quiet { (block : ℕ) → IsErrOf result (fault.Damaged block) → (state_of D.state part.new).faults ≡ (state_of D.state part.old).faults }
-    ensures any_moment { LeavesOnly (state_of D.state part.old) (state_of D.state part.new) (IsImageOf (state_of D.state part.old).values) }
+    ensures cause { IsErrOf result fault.Failed
+        → Rose (state_of D.state part.old).faults (state_of D.state part.new).faults }
+    ensures calm { OnOk result
+        ((state_of D.state part.new).faults ≡ (state_of D.state part.old).faults) }
+    ensures quiet { (block : ℕ) → IsErrOf result (fault.Damaged block)
+        → (state_of D.state part.new).faults ≡ (state_of D.state part.old).faults }
+    ensures any_moment { LeavesOnly (state_of D.state part.old) (state_of D.state part.new)
+        (IsImageOf (state_of D.state part.old).values) }
 {
     let mut records = Vec::new(alloc);
     let mut at = 1;

@@ -12,4 +12,5 @@ reads_as d = option_map reads d.values
 -- the blocks of each item behind a gate in the place of its head
 abbrev pub without_heads : List Item → List Block → List Block
 without_heads [] from = []
-without_heads (i ∷ items) from = gate_block ∷ (take i.count from ++ without_heads items (drop i.count from))
+without_heads (i ∷ items) from =
+    gate_block ∷ (take i.count from ++ without_heads items (drop i.count from))

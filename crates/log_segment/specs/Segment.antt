@@ -68,7 +68,8 @@ pub record Breaks {D : Type 0} (old new : Segment D) : Type 0 where
   pub valid : valid_of new ≡ valid_of old
 
 -- The segment's disk keeps these records.
-pub record Holds {D : Type 0} (state : D → State) (seg : Segment D) (rs : List Record) : Type 0 where
+pub record Holds {D : Type 0} (state : D → State) (seg : Segment D) (rs : List Record) :
+    Type 0 where
   pub disk : Keeps (disk_of state seg) (owner_of seg) rs
   pub place : place_of seg ≡ end_of rs
   pub valid : valid_of seg ≡ count_valid rs
@@ -99,7 +100,8 @@ pub record IsFree {D : Type 0} (state : D → State) (seg : FreeSegment D) : Typ
   pub idle : IsFreeInAll (free_disk state seg)
 
 -- It is free, of this volume, and with this number of blocks.
-pub record IsBlank {D : Type 0} (state : D → State) (volume blocks : ℕ) (seg : FreeSegment D) : Type 0 where
+pub record IsBlank {D : Type 0} (state : D → State) (volume blocks : ℕ) (seg : FreeSegment D) :
+    Type 0 where
   pub free : IsFree state seg
   pub of : free_volume seg ≡ volume
   pub long : free_blocks seg ≡ blocks

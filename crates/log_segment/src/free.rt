@@ -28,7 +28,8 @@ impl<D: Disk> FreeSegment<D> {
 
     /// The segment that is this part.
     pub fn new(part: Spun<D>) -> FreeSegment<D>
-        requires size { (4 ≤ (state_of D.state part).size) × ((state_of D.state part).size ≤ 65536) }
+        requires size { (4 ≤ (state_of D.state part).size)
+            × ((state_of D.state part).size ≤ 65536) }
         requires idle { IsFreeInAll (state_of D.state part) }
         ensures shape { IsFree D.state result }
         ensures part { free_part result ≡ part }
@@ -64,11 +65,15 @@ impl<D: Disk> FreeSegment<D> {
         ensures place { place_of (given_by result) ≡ 1 }
         ensures valid { valid_of (given_by result) ≡ 0 }
         ensures whole { IfOk result IsWhole }
-        ensures ok { (vs : List (Values Block)) → (free_disk D.state self).values ≡ Some vs → IfOk result (λ s. Holds D.state s []) }
+        ensures ok { (vs : List (Values Block)) → (free_disk D.state self).values ≡ Some vs
+            → IfOk result (λ s. Holds D.state s []) }
         ensures err { IfErr result (λ e. IsBroken e.1) }
-        ensures any_moment { LeavesOnly (free_disk D.state self) (disk_of D.state (given_by result)) (IsIdleOrClaimed owner) }
-        ensures cause { IfErr result (λ e. Rose (free_disk D.state self).faults (disk_of D.state e.1).faults) }
-        ensures calm { IfOk result (λ s. (disk_of D.state s).faults ≡ (free_disk D.state self).faults) }
+        ensures any_moment { LeavesOnly (free_disk D.state self) (disk_of D.state (given_by result))
+            (IsIdleOrClaimed owner) }
+        ensures cause { IfErr result
+            (λ e. Rose (free_disk D.state self).faults (disk_of D.state e.1).faults) }
+        ensures calm { IfOk result
+            (λ s. (disk_of D.state s).faults ≡ (free_disk D.state self).faults) }
     {
         let FreeSegment { mut part, blocks } = self;
         match claim_part(&mut part, token, owner) {

@@ -26,13 +26,19 @@ fn lay_blocks<D: Disk>(
     requires volume { token_volume token.now ≡ volume_of part.old }
     requires small { (state_of D.state part.old).size ≤ 65536 }
     requires fits { at + 1 + length from.now ≤ (state_of D.state part.old).size }
-    ensures ok { (front tail : List Block) → length front ≡ at → reads_as (state_of D.state part.old) ≡ Some (front ++ tail) → EndsLog tail
-        → OnOk result ((rest : List Block) × EndsLog rest × (reads_as (state_of D.state part.new) ≡ Some (front ++ (gate_block ∷ (from.now ++ rest))))) }
+    ensures ok { (front tail : List Block) → length front ≡ at
+        → reads_as (state_of D.state part.old) ≡ Some (front ++ tail) → EndsLog tail
+        → OnOk result ((rest : List Block) × EndsLog rest
+        × (reads_as (state_of D.state part.new)
+        ≡ Some (front ++ (gate_block ∷ (from.now ++ rest))))) }
     ensures any_moment { LeavesOnly (state_of D.state part.old) (state_of D.state part.new)
-        (λ c. (d : List Block) × IsImageOf (state_of D.state part.old).values d × (take (at + 1) c ≡ take (at + 1) d)) }
+        (λ c. (d : List Block) × IsImageOf (state_of D.state part.old).values d
+        × (take (at + 1) c ≡ take (at + 1) d)) }
     ensures size { (state_of D.state part.new).size ≡ (state_of D.state part.old).size }
-    ensures cause { IsErr result → Rose (state_of D.state part.old).faults (state_of D.state part.new).faults }
-    ensures calm { OnOk result ((state_of D.state part.new).faults ≡ (state_of D.state part.old).faults) }
+    ensures cause { IsErr result
+        → Rose (state_of D.state part.old).faults (state_of D.state part.new).faults }
+    ensures calm { OnOk result
+        ((state_of D.state part.new).faults ≡ (state_of D.state part.old).faults) }
     ensures volume { volume_of part.new ≡ volume_of part.old }
 {
     let next = at as u64 + 1 + from.len() as u64;
@@ -55,13 +61,19 @@ fn lay_group<D: Disk>(
     requires small { (state_of D.state part.old).size ≤ 65536 }
     requires fits { at + length items.now + length from.now ≤ (state_of D.state part.old).size }
     requires all { count_of items.now ≡ length from.now }
-    ensures ok { (front tail : List Block) → length front ≡ at → (state_of D.state part.old).values ≡ Some (only (front ++ tail)) → EndsLog tail
-        → OnOk result ((rest : List Block) × EndsLog rest × ((state_of D.state part.new).values ≡ Some (only (front ++ (without_heads items.now from.now ++ rest))))) }
+    ensures ok { (front tail : List Block) → length front ≡ at
+        → (state_of D.state part.old).values ≡ Some (only (front ++ tail)) → EndsLog tail
+        → OnOk result ((rest : List Block) × EndsLog rest
+        × ((state_of D.state part.new).values
+        ≡ Some (only (front ++ (without_heads items.now from.now ++ rest))))) }
     ensures any_moment { (bs : List Block) → (state_of D.state part.old).values ≡ Some (only bs)
-        → LeavesOnly (state_of D.state part.old) (state_of D.state part.new) (λ c. take (at + 1) c ≡ take (at + 1) bs) }
+        → LeavesOnly (state_of D.state part.old) (state_of D.state part.new)
+        (λ c. take (at + 1) c ≡ take (at + 1) bs) }
     ensures size { (state_of D.state part.new).size ≡ (state_of D.state part.old).size }
-    ensures cause { IsErr result → Rose (state_of D.state part.old).faults (state_of D.state part.new).faults }
-    ensures calm { OnOk result ((state_of D.state part.new).faults ≡ (state_of D.state part.old).faults) }
+    ensures cause { IsErr result
+        → Rose (state_of D.state part.old).faults (state_of D.state part.new).faults }
+    ensures calm { OnOk result
+        ((state_of D.state part.new).faults ≡ (state_of D.state part.old).faults) }
     ensures volume { volume_of part.new ≡ volume_of part.old }
 {
     let mut place = at;
@@ -101,12 +113,16 @@ fn put_head<D: Disk>(
     requires fits { at + 1 ≤ (state_of D.state part.old).size }
     requires head { IsRecordHead (record_head head.now) }
     ensures ok { (bs : List Block) → reads_as (state_of D.state part.old) ≡ Some bs
-        → OnOk result (reads_as (state_of D.state part.new) ≡ Some (put at (head_block (record_head head.now) ∷ []) bs)) }
+        → OnOk result (reads_as (state_of D.state part.new)
+        ≡ Some (put at (head_block (record_head head.now) ∷ []) bs)) }
     ensures any_moment { LeavesOnly (state_of D.state part.old) (state_of D.state part.new)
-        (λ c. (d : List Block) × IsImageOf (state_of D.state part.old).values d × ((c ≡ d) ⊎ (c ≡ put at (head_block (record_head head.now) ∷ []) d))) }
+        (λ c. (d : List Block) × IsImageOf (state_of D.state part.old).values d
+        × ((c ≡ d) ⊎ (c ≡ put at (head_block (record_head head.now) ∷ []) d))) }
     ensures size { (state_of D.state part.new).size ≡ (state_of D.state part.old).size }
-    ensures cause { IsErr result → Rose (state_of D.state part.old).faults (state_of D.state part.new).faults }
-    ensures calm { OnOk result ((state_of D.state part.new).faults ≡ (state_of D.state part.old).faults) }
+    ensures cause { IsErr result
+        → Rose (state_of D.state part.old).faults (state_of D.state part.new).faults }
+    ensures calm { OnOk result
+        ((state_of D.state part.new).faults ≡ (state_of D.state part.old).faults) }
     ensures volume { volume_of part.new ≡ volume_of part.old }
 {
     let mut block = [0; 512];
@@ -128,16 +144,25 @@ fn lay_heads<D: Disk>(
     requires fits { at + length items.now + count_of items.now ≤ (state_of D.state part.old).size }
     requires items { AreItems items.now }
     requires version { (1 ≤ version) × (version + length items.now ≤ 2 ^ 63) }
-    ensures ok { (front rest from : List Block) → length front ≡ at → count_of items.now ≡ length from
-        → (state_of D.state part.old).values ≡ Some (only (front ++ (without_heads items.now from ++ rest)))
-        → OnOk result ((state_of D.state part.new).values ≡ Some (only (front ++ (flat_map written (group_of owner version items.now from) ++ rest)))) }
-    ensures any_moment { (front rest from : List Block) → length front ≡ at → count_of items.now ≡ length from
-        → (state_of D.state part.old).values ≡ Some (only (front ++ (without_heads items.now from ++ rest)))
+    ensures ok { (front rest from : List Block) → length front ≡ at
+        → count_of items.now ≡ length from
+        → (state_of D.state part.old).values
+        ≡ Some (only (front ++ (without_heads items.now from ++ rest)))
+        → OnOk result ((state_of D.state part.new).values
+        ≡ Some (only
+        (front ++ (flat_map written (group_of owner version items.now from) ++ rest)))) }
+    ensures any_moment { (front rest from : List Block) → length front ≡ at
+        → count_of items.now ≡ length from
+        → (state_of D.state part.old).values
+        ≡ Some (only (front ++ (without_heads items.now from ++ rest)))
         → LeavesOnly (state_of D.state part.old) (state_of D.state part.new)
-        (IsBlend (front ++ (without_heads items.now from ++ rest)) (front ++ (flat_map written (group_of owner version items.now from) ++ rest))) }
+        (IsBlend (front ++ (without_heads items.now from ++ rest))
+        (front ++ (flat_map written (group_of owner version items.now from) ++ rest))) }
     ensures size { (state_of D.state part.new).size ≡ (state_of D.state part.old).size }
-    ensures cause { IsErr result → Rose (state_of D.state part.old).faults (state_of D.state part.new).faults }
-    ensures calm { OnOk result ((state_of D.state part.new).faults ≡ (state_of D.state part.old).faults) }
+    ensures cause { IsErr result
+        → Rose (state_of D.state part.old).faults (state_of D.state part.new).faults }
+    ensures calm { OnOk result
+        ((state_of D.state part.new).faults ≡ (state_of D.state part.old).faults) }
     ensures volume { volume_of part.new ≡ volume_of part.old }
 {
     let mut place = at;
@@ -169,12 +194,17 @@ pub fn append_records<D: Disk>(
     requires items { AreItems items.now }
     requires version { (1 ≤ version) × (version + length items.now ≤ 2 ^ 63) }
     ensures ok { (rs : List Record) → Keeps (state_of D.state part.old) owner rs → at ≡ end_of rs
-        → OnOk result (Keeps (state_of D.state part.new) owner (rs ++ group_of owner version items.now from.now)) }
-    ensures any_moment { (rs : List Record) → Keeps (state_of D.state part.old) owner rs → at ≡ end_of rs
-        → LeavesOnly (state_of D.state part.old) (state_of D.state part.new) (λ c. HasFirstOf c owner rs (group_of owner version items.now from.now)) }
+        → OnOk result (Keeps (state_of D.state part.new) owner
+        (rs ++ group_of owner version items.now from.now)) }
+    ensures any_moment { (rs : List Record) → Keeps (state_of D.state part.old) owner rs
+        → at ≡ end_of rs
+        → LeavesOnly (state_of D.state part.old) (state_of D.state part.new)
+        (λ c. HasFirstOf c owner rs (group_of owner version items.now from.now)) }
     ensures size { (state_of D.state part.new).size ≡ (state_of D.state part.old).size }
-    ensures cause { IsErr result → Rose (state_of D.state part.old).faults (state_of D.state part.new).faults }
-    ensures calm { OnOk result ((state_of D.state part.new).faults ≡ (state_of D.state part.old).faults) }
+    ensures cause { IsErr result
+        → Rose (state_of D.state part.old).faults (state_of D.state part.new).faults }
+    ensures calm { OnOk result
+        ((state_of D.state part.new).faults ≡ (state_of D.state part.old).faults) }
     ensures volume { volume_of part.new ≡ volume_of part.old }
 {
     lay_group(part, token, at, items, from)?;

@@ -16,12 +16,15 @@ use wol_disk::{Block, Disk, Failed};
 pub fn claim_part<D: Disk>(part: &mut Spun<D>, token: &Awake, owner: u32) -> Result<(), Failed>
     requires volume { token_volume token.now ≡ volume_of part.old }
     requires size { 2 ≤ (state_of D.state part.old).size }
-    ensures ok { (vs : List (Values Block)) → (state_of D.state part.old).values ≡ Some vs → OnOk result (Keeps (state_of D.state part.new) owner []) }
+    ensures ok { (vs : List (Values Block)) → (state_of D.state part.old).values ≡ Some vs
+        → OnOk result (Keeps (state_of D.state part.new) owner []) }
     ensures any_moment { IsFreeInAll (state_of D.state part.old)
         → LeavesOnly (state_of D.state part.old) (state_of D.state part.new) (IsIdleOrClaimed owner) }
     ensures size { (state_of D.state part.new).size ≡ (state_of D.state part.old).size }
-    ensures cause { IsErr result → Rose (state_of D.state part.old).faults (state_of D.state part.new).faults }
-    ensures calm { OnOk result ((state_of D.state part.new).faults ≡ (state_of D.state part.old).faults) }
+    ensures cause { IsErr result
+        → Rose (state_of D.state part.old).faults (state_of D.state part.new).faults }
+    ensures calm { OnOk result
+        ((state_of D.state part.new).faults ≡ (state_of D.state part.old).faults) }
     ensures volume { volume_of part.new ≡ volume_of part.old }
 {
     let mut block = [0; 512];
@@ -41,8 +44,10 @@ pub fn retire_part<D: Disk>(part: &mut Spun<D>, token: &Awake) -> Result<(), Fai
     ensures any_moment { (owner : ℕ) (rs : List Record) → Keeps (state_of D.state part.old) owner rs
         → LeavesOnly (state_of D.state part.old) (state_of D.state part.new) (IsKeptOrIdle owner rs) }
     ensures size { (state_of D.state part.new).size ≡ (state_of D.state part.old).size }
-    ensures cause { IsErr result → Rose (state_of D.state part.old).faults (state_of D.state part.new).faults }
-    ensures calm { OnOk result ((state_of D.state part.new).faults ≡ (state_of D.state part.old).faults) }
+    ensures cause { IsErr result
+        → Rose (state_of D.state part.old).faults (state_of D.state part.new).faults }
+    ensures calm { OnOk result
+        ((state_of D.state part.new).faults ≡ (state_of D.state part.old).faults) }
     ensures volume { volume_of part.new ≡ volume_of part.old }
 {
     let mut block = [0; 512];
@@ -60,15 +65,21 @@ pub fn store_head<D: Disk>(
     requires volume { token_volume token.now ≡ volume_of part.old }
     requires fits { at < (state_of D.state part.old).size }
     requires head { IsRecordHead (record_head head.now) }
-    ensures ok { (rs : List Record) (k : ℕ) (r : Record) → Keeps (state_of D.state part.old) head.now.owner rs
+    ensures ok { (rs : List Record) (k : ℕ) (r : Record)
+        → Keeps (state_of D.state part.old) head.now.owner rs
         → slice_get rs k ≡ Some r → at ≡ position_of rs k → head.now.count ≡ r.head.count
-        → OnOk result (Keeps (state_of D.state part.new) head.now.owner (slice_set rs k (record r { head = record_head head.now }))) }
-    ensures any_moment { (rs : List Record) (k : ℕ) (r : Record) → Keeps (state_of D.state part.old) head.now.owner rs
+        → OnOk result (Keeps (state_of D.state part.new) head.now.owner
+        (slice_set rs k (record r { head = record_head head.now }))) }
+    ensures any_moment { (rs : List Record) (k : ℕ) (r : Record)
+        → Keeps (state_of D.state part.old) head.now.owner rs
         → slice_get rs k ≡ Some r → at ≡ position_of rs k → head.now.count ≡ r.head.count
-        → LeavesOnly (state_of D.state part.old) (state_of D.state part.new) (IsKeptOrTrimmed head.now.owner rs k (record r { head = record_head head.now })) }
+        → LeavesOnly (state_of D.state part.old) (state_of D.state part.new)
+        (IsKeptOrTrimmed head.now.owner rs k (record r { head = record_head head.now })) }
     ensures size { (state_of D.state part.new).size ≡ (state_of D.state part.old).size }
-    ensures cause { IsErr result → Rose (state_of D.state part.old).faults (state_of D.state part.new).faults }
-    ensures calm { OnOk result ((state_of D.state part.new).faults ≡ (state_of D.state part.old).faults) }
+    ensures cause { IsErr result
+        → Rose (state_of D.state part.old).faults (state_of D.state part.new).faults }
+    ensures calm { OnOk result
+        ((state_of D.state part.new).faults ≡ (state_of D.state part.old).faults) }
     ensures volume { volume_of part.new ≡ volume_of part.old }
 {
     let mut block = [0; 512];

@@ -33,7 +33,14 @@ impl<D: Disk> Segment<D> {
 
     // A segment without a record.
     pub(crate) fn with(part: Spun<D>, owner: u32, blocks: u32, broken: bool) -> Segment<D>
-        ensures { result ≡ record { part = part; owner = owner; blocks = blocks; end = 1; valid = 0; broken = broken } }
+        ensures { result ≡ record {
+          part = part;
+          owner = owner;
+          blocks = blocks;
+          end = 1;
+          valid = 0;
+          broken = broken;
+        } }
     {
         Segment {
             part,
@@ -47,7 +54,8 @@ impl<D: Disk> Segment<D> {
 
     /// The segment that a scan of its part found: its records end in front of `end`, and so many of them keep a block.
     pub fn restored(part: Spun<D>, owner: u32, end: u32, valid: u32) -> Segment<D>
-        requires size { (4 ≤ (state_of D.state part).size) × ((state_of D.state part).size ≤ 65536) }
+        requires size { (4 ≤ (state_of D.state part).size)
+            × ((state_of D.state part).size ≤ 65536) }
         requires place { (1 ≤ end) × (end ≤ (state_of D.state part).size) }
         requires few { valid < end }
         ensures shape { IsSegment D.state result }
@@ -56,7 +64,8 @@ impl<D: Disk> Segment<D> {
         ensures owner { owner_of result ≡ owner }
         ensures place { place_of result ≡ end }
         ensures valid { valid_of result ≡ valid }
-        ensures holds { (rs : List Record) → Keeps (state_of D.state part) owner rs → end ≡ end_of rs → valid ≡ count_valid rs → Holds D.state result rs }
+        ensures holds { (rs : List Record) → Keeps (state_of D.state part) owner rs
+            → end ≡ end_of rs → valid ≡ count_valid rs → Holds D.state result rs }
     {
         let blocks = part.blocks() as u32;
         Segment {
@@ -136,12 +145,17 @@ impl<D: Disk> Segment<D> {
         ensures valid { OnOk result (valid_of self.new ≡ valid_of self.old + 1) }
         ensures whole { OnOk result (IsWhole self.new) }
         ensures ok { (rs : List Record) → Holds D.state self.old rs
-            → OnOk result (Holds D.state self.new (rs ++ new_record (owner_of self.old) version lbn from.now ∷ [])) }
+            → OnOk result (Holds D.state self.new
+            (rs ++ new_record (owner_of self.old) version lbn from.now ∷ [])) }
         ensures err { OnErr result (Breaks self.old self.new) }
         ensures any_moment { (rs : List Record) → Holds D.state self.old rs
-            → LeavesOnly (disk_of D.state self.old) (disk_of D.state self.new) (IsWithOrWithout (owner_of self.old) rs (new_record (owner_of self.old) version lbn from.now)) }
-        ensures cause { IsErr result → Rose (disk_of D.state self.old).faults (disk_of D.state self.new).faults }
-        ensures calm { OnOk result ((disk_of D.state self.new).faults ≡ (disk_of D.state self.old).faults) }
+            → LeavesOnly (disk_of D.state self.old) (disk_of D.state self.new)
+            (IsWithOrWithout (owner_of self.old) rs
+            (new_record (owner_of self.old) version lbn from.now)) }
+        ensures cause { IsErr result
+            → Rose (disk_of D.state self.old).faults (disk_of D.state self.new).faults }
+        ensures calm { OnOk result
+            ((disk_of D.state self.new).faults ≡ (disk_of D.state self.old).faults) }
     {
         let item = Item {
             lbn,
@@ -171,16 +185,22 @@ impl<D: Disk> Segment<D> {
         ensures shape { IsSegment D.state self.new }
         ensures same { IsSame self.old self.new }
         ensures position { IfOk result (λ pos. pos ≡ place_of self.old) }
-        ensures place { OnOk result (place_of self.new ≡ place_of self.old + length items.now + length from.now) }
+        ensures place { OnOk result
+            (place_of self.new ≡ place_of self.old + length items.now + length from.now) }
         ensures valid { OnOk result (valid_of self.new ≡ valid_of self.old + length items.now) }
         ensures whole { OnOk result (IsWhole self.new) }
         ensures ok { (rs : List Record) → Holds D.state self.old rs
-            → OnOk result (Holds D.state self.new (rs ++ group_of (owner_of self.old) version items.now from.now)) }
+            → OnOk result (Holds D.state self.new
+            (rs ++ group_of (owner_of self.old) version items.now from.now)) }
         ensures err { OnErr result (Breaks self.old self.new) }
         ensures any_moment { (rs : List Record) → Holds D.state self.old rs
-            → LeavesOnly (disk_of D.state self.old) (disk_of D.state self.new) (λ c. HasFirstOf c (owner_of self.old) rs (group_of (owner_of self.old) version items.now from.now)) }
-        ensures cause { IsErr result → Rose (disk_of D.state self.old).faults (disk_of D.state self.new).faults }
-        ensures calm { OnOk result ((disk_of D.state self.new).faults ≡ (disk_of D.state self.old).faults) }
+            → LeavesOnly (disk_of D.state self.old) (disk_of D.state self.new)
+            (λ c. HasFirstOf c (owner_of self.old) rs
+            (group_of (owner_of self.old) version items.now from.now)) }
+        ensures cause { IsErr result
+            → Rose (disk_of D.state self.old).faults (disk_of D.state self.new).faults }
+        ensures calm { OnOk result
+            ((disk_of D.state self.new).faults ≡ (disk_of D.state self.old).faults) }
     {
         let at = self.end;
         let added = items.len() as u32;
@@ -215,12 +235,18 @@ impl<D: Disk> Segment<D> {
         ensures place { place_of self.new ≡ place_of self.old }
         ensures valid { valid_of self.new ≡ valid_of self.old }
         ensures whole { IsWhole self.new }
-        ensures content { (rs : List Record) (k : ℕ) (r : Record) → Holds D.state self.old rs → slice_get rs k ≡ Some r → pos ≡ position_of rs k
-            → skip + length out.old ≤ length r.blocks → OnOk result (out.new ≡ take (length out.old) (drop skip r.blocks)) }
+        ensures content { (rs : List Record) (k : ℕ) (r : Record) → Holds D.state self.old rs
+            → slice_get rs k ≡ Some r → pos ≡ position_of rs k
+            → skip + length out.old ≤ length r.blocks
+            → OnOk result (out.new ≡ take (length out.old) (drop skip r.blocks)) }
         ensures holds { (rs : List Record) → Holds D.state self.old rs → Holds D.state self.new rs }
-        ensures any_moment { (rs : List Record) → Holds D.state self.old rs → LeavesOnly (disk_of D.state self.old) (disk_of D.state self.new) (λ c. IsLog c (owner_of self.old) rs) }
-        ensures cause { IsErr result → Rose (disk_of D.state self.old).faults (disk_of D.state self.new).faults }
-        ensures calm { OnOk result ((disk_of D.state self.new).faults ≡ (disk_of D.state self.old).faults) }
+        ensures any_moment { (rs : List Record) → Holds D.state self.old rs
+            → LeavesOnly (disk_of D.state self.old) (disk_of D.state self.new)
+            (λ c. IsLog c (owner_of self.old) rs) }
+        ensures cause { IsErr result
+            → Rose (disk_of D.state self.old).faults (disk_of D.state self.new).faults }
+        ensures calm { OnOk result
+            ((disk_of D.state self.new).faults ≡ (disk_of D.state self.old).faults) }
     {
         self.part.read(token, pos as u64 + 1 + skip as u64, out)
     }
@@ -244,15 +270,23 @@ impl<D: Disk> Segment<D> {
         ensures shape { IsSegment D.state self.new }
         ensures same { IsSame self.old self.new }
         ensures place { place_of self.new ≡ place_of self.old }
-        ensures valid { OnOk result (valid_of self.new ≡ valid_of self.old - (if keep == 0 then 1 else 0)) }
+        ensures valid { OnOk result
+            (valid_of self.new ≡ valid_of self.old - (if keep == 0 then 1 else 0)) }
         ensures whole { OnOk result (IsWhole self.new) }
-        ensures ok { (rs : List Record) (k : ℕ) (r : Record) → Holds D.state self.old rs → slice_get rs k ≡ Some r → pos ≡ position_of rs k
-            → IsSameHead (record_head head.now) r.head → OnOk result (Holds D.state self.new (slice_set rs k (trimmed keep r))) }
+        ensures ok { (rs : List Record) (k : ℕ) (r : Record) → Holds D.state self.old rs
+            → slice_get rs k ≡ Some r → pos ≡ position_of rs k
+            → IsSameHead (record_head head.now) r.head
+            → OnOk result (Holds D.state self.new (slice_set rs k (trimmed keep r))) }
         ensures err { OnErr result (Breaks self.old self.new) }
-        ensures any_moment { (rs : List Record) (k : ℕ) (r : Record) → Holds D.state self.old rs → slice_get rs k ≡ Some r → pos ≡ position_of rs k
-            → IsSameHead (record_head head.now) r.head → LeavesOnly (disk_of D.state self.old) (disk_of D.state self.new) (IsKeptOrTrimmed (owner_of self.old) rs k (trimmed keep r)) }
-        ensures cause { IsErr result → Rose (disk_of D.state self.old).faults (disk_of D.state self.new).faults }
-        ensures calm { OnOk result ((disk_of D.state self.new).faults ≡ (disk_of D.state self.old).faults) }
+        ensures any_moment { (rs : List Record) (k : ℕ) (r : Record) → Holds D.state self.old rs
+            → slice_get rs k ≡ Some r → pos ≡ position_of rs k
+            → IsSameHead (record_head head.now) r.head
+            → LeavesOnly (disk_of D.state self.old) (disk_of D.state self.new)
+            (IsKeptOrTrimmed (owner_of self.old) rs k (trimmed keep r)) }
+        ensures cause { IsErr result
+            → Rose (disk_of D.state self.old).faults (disk_of D.state self.new).faults }
+        ensures calm { OnOk result
+            ((disk_of D.state self.new).faults ≡ (disk_of D.state self.old).faults) }
     {
         let left = RecHead {
             form: 2,
@@ -283,14 +317,22 @@ impl<D: Disk> Segment<D> {
         ensures shape { IfOk result (IsFree D.state) }
         ensures volume { IfOk result (λ f. free_volume f ≡ segment_volume self) }
         ensures blocks { IfOk result (λ f. free_blocks f ≡ blocks_of self) }
-        ensures told { (vs : List (Values Block)) → (disk_of D.state self).values ≡ Some vs → IfOk result (λ f. (ws : List (Values Block)) × ((free_disk D.state f).values ≡ Some ws)) }
+        ensures told { (vs : List (Values Block)) → (disk_of D.state self).values ≡ Some vs
+            → IfOk result
+            (λ f. (ws : List (Values Block)) × ((free_disk D.state f).values ≡ Some ws)) }
         ensures err { IfErr result (λ e. Breaks self e.1) }
         ensures shape_err { IfErr result (λ e. IsSegment D.state e.1) }
         ensures same_err { IfErr result (λ e. IsSame self e.1) }
-        ensures any_moment { (rs : List Record) → Holds D.state self rs → IfOk result (λ f. LeavesOnly (disk_of D.state self) (free_disk D.state f) (IsKeptOrIdle (owner_of self) rs)) }
-        ensures any_moment_err { (rs : List Record) → Holds D.state self rs → IfErr result (λ e. LeavesOnly (disk_of D.state self) (disk_of D.state e.1) (IsKeptOrIdle (owner_of self) rs)) }
-        ensures cause { IfErr result (λ e. Rose (disk_of D.state self).faults (disk_of D.state e.1).faults) }
-        ensures calm { IfOk result (λ f. (free_disk D.state f).faults ≡ (disk_of D.state self).faults) }
+        ensures any_moment { (rs : List Record) → Holds D.state self rs
+            → IfOk result (λ f. LeavesOnly (disk_of D.state self) (free_disk D.state f)
+            (IsKeptOrIdle (owner_of self) rs)) }
+        ensures any_moment_err { (rs : List Record) → Holds D.state self rs
+            → IfErr result (λ e. LeavesOnly (disk_of D.state self) (disk_of D.state e.1)
+            (IsKeptOrIdle (owner_of self) rs)) }
+        ensures cause { IfErr result
+            (λ e. Rose (disk_of D.state self).faults (disk_of D.state e.1).faults) }
+        ensures calm { IfOk result
+            (λ f. (free_disk D.state f).faults ≡ (disk_of D.state self).faults) }
     {
         let Segment {
             mut part,

@@ -15,16 +15,24 @@ pub fn store_block<D: Disk>(
 ) -> Result<(), Failed>
     requires volume { token_volume token.now ≡ volume_of part.old }
     requires fits { at + 1 ≤ (state_of D.state part.old).size }
-    ensures ok { (bs : List Block) → (state_of D.state part.old).values ≡ Some (only bs) → OnOk result ((state_of D.state part.new).values ≡ Some (only (put at (block.now ∷ []) bs))) }
+    ensures ok { (bs : List Block) → (state_of D.state part.old).values ≡ Some (only bs)
+        → OnOk result
+        ((state_of D.state part.new).values ≡ Some (only (put at (block.now ∷ []) bs))) }
     ensures any_moment { (bs : List Block) → (state_of D.state part.old).values ≡ Some (only bs)
-        → LeavesOnly (state_of D.state part.old) (state_of D.state part.new) (λ c. (c ≡ bs) ⊎ (c ≡ put at (block.now ∷ []) bs)) }
+        → LeavesOnly (state_of D.state part.old) (state_of D.state part.new)
+        (λ c. (c ≡ bs) ⊎ (c ≡ put at (block.now ∷ []) bs)) }
     // the same whatever the disk's images are: each comes of one at the call's start
-    ensures settles { OnOk result ((state_of D.state part.new).values ≡ option_map (λ vs. only (put at (block.now ∷ []) (reads vs))) (state_of D.state part.old).values) }
+    ensures settles { OnOk result ((state_of D.state part.new).values
+        ≡ option_map (λ vs. only (put at (block.now ∷ []) (reads vs)))
+        (state_of D.state part.old).values) }
     ensures from_images { LeavesOnly (state_of D.state part.old) (state_of D.state part.new)
-        (λ c. (d : List Block) × IsImageOf (state_of D.state part.old).values d × ((c ≡ d) ⊎ (c ≡ put at (block.now ∷ []) d))) }
+        (λ c. (d : List Block) × IsImageOf (state_of D.state part.old).values d
+        × ((c ≡ d) ⊎ (c ≡ put at (block.now ∷ []) d))) }
     ensures size { (state_of D.state part.new).size ≡ (state_of D.state part.old).size }
-    ensures cause { IsErr result → Rose (state_of D.state part.old).faults (state_of D.state part.new).faults }
-    ensures calm { OnOk result ((state_of D.state part.new).faults ≡ (state_of D.state part.old).faults) }
+    ensures cause { IsErr result
+        → Rose (state_of D.state part.old).faults (state_of D.state part.new).faults }
+    ensures calm { OnOk result
+        ((state_of D.state part.new).faults ≡ (state_of D.state part.old).faults) }
     ensures volume { volume_of part.new ≡ volume_of part.old }
 {
     part.write(token, at, &[*block])?;

@@ -68,16 +68,21 @@ module _ {D : Type 0} where
 
   -- the indexes of its segments
   abbrev pub indexes_in : Lane D → List ℕ
-  indexes_in l = map (λ (h : HeldSegment D). h.index) l.held.items ++ map (λ (t : ℕ × FreeSegment D). t.0) (option_to_list l.taken)
+  indexes_in l = map (λ (h : HeldSegment D). h.index) l.held.items
+      ++ map (λ (t : ℕ × FreeSegment D). t.0) (option_to_list l.taken)
 
 -- ---- What holds of a lane between its calls, whether or not its disks tell their content
 
--- these entries of a spindle's lock are of accesses alone: in each turn the disk was needed, or it was done
+-- these entries of a spindle's lock are of accesses alone: in each turn the disk was needed, or it
+-- was done
 abbrev pub AreAccesses : List Entry → Type 0
-AreAccesses entries = AllByRecursion (λ (e : Entry). (spindle.use_of e.1 ≡ Needed) ⊎ (spindle.use_of e.1 ≡ Done)) entries
+AreAccesses entries = AllByRecursion
+    (λ (e : Entry). (spindle.use_of e.1 ≡ Needed) ⊎ (spindle.use_of e.1 ≡ Done)) entries
 
--- a held segment of this logger and owner: it is as long as the pool's, and the pass holds its index
-pub record IsHeld {D : Type 0} (state : D → State) (logger owner segments : ℕ) (pass : PassOf (Pool (FreeSegment D)) PoolBase) (h : HeldSegment D) : Type 0 where
+-- a held segment of this logger and owner: it is as long as the pool's, and the pass holds its
+-- index
+pub record IsHeld {D : Type 0} (state : D → State) (logger owner segments : ℕ)
+    (pass : PassOf (Pool (FreeSegment D)) PoolBase) (h : HeldSegment D) : Type 0 where
   pub shape : IsSegment state h.segment
   pub volume : segment_volume h.segment ≡ logger
   pub owned : owner_of h.segment ≡ owner
@@ -86,7 +91,8 @@ pub record IsHeld {D : Type 0} (state : D → State) (logger owner segments : �
   pub holding : holds (pass_lock pass).base (pass_number pass) (pass_mine pass) h.index ≡ true
 
 -- the same of a segment that is free and not claimed yet
-pub record IsTaken {D : Type 0} (state : D → State) (logger segments : ℕ) (pass : PassOf (Pool (FreeSegment D)) PoolBase) (t : ℕ × FreeSegment D) : Type 0 where
+pub record IsTaken {D : Type 0} (state : D → State) (logger segments : ℕ)
+    (pass : PassOf (Pool (FreeSegment D)) PoolBase) (t : ℕ × FreeSegment D) : Type 0 where
   pub blank : IsBlank state logger (pass_lock pass).base.blocks t.1
   pub below : t.0 < segments
   pub holding : holds (pass_lock pass).base (pass_number pass) (pass_mine pass) t.0 ≡ true
@@ -106,9 +112,11 @@ pub record IsLane {D : Type 0} (state : D → State) (l : Lane D) : Type 0 where
   pub room : length (pass_lock l.pool).base.holders ≤ segments_in l
   pub handing : (l.parts.items ≡ []) × (segments_in l ≤ vec_capacity l.parts)
 
--- its pass of the pool holds no index but those of its segments; this is no part of `IsLane`, since at an opening the pass holds segments before the lane does
+-- its pass of the pool holds no index but those of its segments; this is no part of `IsLane`, since
+-- at an opening the pass holds segments before the lane does
 abbrev pub HoldsAll : {D : Type 0} → Lane D → Type 0
-HoldsAll l = (index : ℕ) → holds (pass_lock l.pool).base (pass_number l.pool) (pass_mine l.pool) index ≡ true → Contains (indexes_in l) index
+HoldsAll l = (index : ℕ) → holds (pass_lock l.pool).base (pass_number l.pool) (pass_mine l.pool)
+    index ≡ true → Contains (indexes_in l) index
 
 -- what no call of a lane changes
 pub record IsSameLane {D : Type 0} (old new : Lane D) : Type 0 where
@@ -123,7 +131,8 @@ pub record IsAt {D : Type 0} (shared : Shared D) (l : Lane D) : Type 0 where
   pub pool_in : l.logger < vec_len shared.pools
   pub spindle_in : l.logger < vec_len shared.spindles
   pub pool : (d : _) → pass_lock l.pool ≡ lock_id (slice_index_or shared.pools.items l.logger d)
-  pub spindle : (d : _) → pass_lock l.spindle ≡ lock_id (slice_index_or shared.spindles.items l.logger d)
+  pub spindle : (d : _)
+      → pass_lock l.spindle ≡ lock_id (slice_index_or shared.spindles.items l.logger d)
 
 -- no call of these segments failed
 abbrev pub AreWhole : {D : Type 0} → List (HeldSegment D) → Type 0
@@ -131,7 +140,9 @@ AreWhole {D} hs = AllByRecursion (λ (h : HeldSegment D). IsWhole h.segment) hs
 
 -- the spindle's pass has made two turns: the disk was needed, and it was done
 abbrev pub HasUsed : {D : Type 0} → (old new : Lane D) → Type 0
-HasUsed old new = pass_mine new.spindle ≡ pass_mine old.spindle ++ (pass_number old.spindle, spindle.operation_of Needed) ∷ (pass_number old.spindle, spindle.operation_of Done) ∷ []
+HasUsed old new = pass_mine new.spindle
+    ≡ pass_mine old.spindle ++ (pass_number old.spindle, spindle.operation_of Needed)
+    ∷ (pass_number old.spindle, spindle.operation_of Done) ∷ []
 
 -- ---- Room
 
@@ -140,7 +151,8 @@ abbrev pub HasNoRoom : {D : Type 0} → (count : ℕ) → List (HeldSegment D) �
 HasNoRoom {D} count hs = All (λ (h : HeldSegment D). room_of h.segment < count) hs
 
 -- the segment at place k has room for so many blocks, and none before it has
-pub record IsFirstWithRoom {D : Type 0} (count : ℕ) (hs : List (HeldSegment D)) (k : ℕ) : Type 0 where
+pub record IsFirstWithRoom {D : Type 0} (count : ℕ) (hs : List (HeldSegment D)) (k : ℕ) :
+    Type 0 where
   pub segment : HeldSegment D
   pub there : slice_get hs k ≡ Some segment
   pub room : count ≤ room_of segment.segment
@@ -150,11 +162,15 @@ pub record IsFirstWithRoom {D : Type 0} (count : ℕ) (hs : List (HeldSegment D)
 abbrev pub HasRoom : {D : Type 0} → (count : ℕ) → List (HeldSegment D) → Type 0
 HasRoom count hs = (k : ℕ) × IsFirstWithRoom count hs k
 
--- What a lane did that was asked for room: nothing where a held segment has it, else one turn of the pool.
+-- What a lane did that was asked for room: nothing where a held segment has it, else one turn of
+-- the pool.
 pub data Secured {D : Type 0} (old new : Lane D) (count : ℕ) (answer : Bool) : Type 0 where
-  had_room : HasRoom count (held_in old) → answer ≡ true → taken_in new ≡ None → pass_mine (pool_of new) ≡ pass_mine (pool_of old) → Secured old new count answer
+  had_room : HasRoom count (held_in old) → answer ≡ true → taken_in new ≡ None
+      → pass_mine (pool_of new) ≡ pass_mine (pool_of old) → Secured old new count answer
   asked : HasNoRoom count (held_in old) → answer ≡ is_some (taken_in new)
-      → pass_mine (pool_of new) ≡ pass_mine (pool_of old) ++ (pass_number (pool_of old), pool.operation_of (taken (taken_in new))) ∷ [] → Secured old new count answer
+      → pass_mine (pool_of new) ≡ pass_mine (pool_of old)
+      ++ (pass_number (pool_of old), pool.operation_of (taken (taken_in new))) ∷ []
+      → Secured old new count answer
 
 -- the segment that a write of so many blocks goes to has room for `fit` blocks
 pub record IsFit {D : Type 0} (count fit : ℕ) (l : Lane D) : Type 0 where
@@ -179,39 +195,56 @@ spot_result index (Ok pos) = Ok (record { segment = index; pos = pos })
 spot_result index (Err failed) = Err (index, failed)
 
 -- a held segment before and after a call that adds these records to it
-pub record Grown {D T E : Type 0} (state : D → State) (old new : HeldSegment D) (added : List Record) (res : Result T E) : Type 0 where
+pub record Grown {D T E : Type 0} (state : D → State) (old new : HeldSegment D)
+    (added : List Record) (res : Result T E) : Type 0 where
   pub index : new.index ≡ old.index
   pub same : IsSame old.segment new.segment
-  pub ok : (rs : List Record) → Holds state old.segment rs → OnOk res (Holds state new.segment (rs ++ added))
+  pub ok : (rs : List Record) → Holds state old.segment rs
+      → OnOk res (Holds state new.segment (rs ++ added))
   pub valid : OnOk res (valid_of new.segment ≡ valid_of old.segment + length added)
   pub whole : OnOk res (IsWhole new.segment)
   pub broken : OnErr res (IsBroken new.segment)
-  pub any_moment : (rs : List Record) → Holds state old.segment rs → LeavesOnly (disk_of state old.segment) (disk_of state new.segment) (λ c. HasFirstOf c (owner_of old.segment) rs added)
+  pub any_moment : (rs : List Record) → Holds state old.segment rs
+      → LeavesOnly (disk_of state old.segment) (disk_of state new.segment)
+      (λ c. HasFirstOf c (owner_of old.segment) rs added)
   pub cause : OnErr res (Rose (disk_of state old.segment).faults (disk_of state new.segment).faults)
   pub calm : OnOk res ((disk_of state new.segment).faults ≡ (disk_of state old.segment).faults)
 
 -- a taken segment before and after it was claimed and these records were added
-pub record Claimed {D T E : Type 0} (state : D → State) (owner : ℕ) (old : FreeSegment D) (new : Segment D) (added : List Record) (res : Result T E) : Type 0 where
+pub record Claimed {D T E : Type 0} (state : D → State) (owner : ℕ) (old : FreeSegment D)
+    (new : Segment D) (added : List Record) (res : Result T E) : Type 0 where
   pub shape : IsSegment state new
   pub volume : segment_volume new ≡ free_volume old
   pub owned : owner_of new ≡ owner
   pub blocks : blocks_of new ≡ free_blocks old
   -- it had no record once it was claimed
-  pub claimed : (vs : List (Values Block)) → (free_disk state old).values ≡ Some vs → OnOk res ((s : Segment D) × IsSegment state s × IsSame s new × IsWhole s × Holds state s [])
-  pub ok : (vs : List (Values Block)) → (free_disk state old).values ≡ Some vs → OnOk res (Holds state new added)
+  pub claimed : (vs : List (Values Block)) → (free_disk state old).values ≡ Some vs
+      → OnOk res ((s : Segment D) × IsSegment state s × IsSame s new × IsWhole s × Holds state s [])
+  pub ok : (vs : List (Values Block)) → (free_disk state old).values ≡ Some vs
+      → OnOk res (Holds state new added)
   pub valid : OnOk res (valid_of new ≡ length added)
   pub whole : OnOk res (IsWhole new)
   pub broken : OnErr res (IsBroken new)
-  pub any_moment : (vs : List (Values Block)) → (free_disk state old).values ≡ Some vs → LeavesOnly (free_disk state old) (disk_of state new) (λ c. IsIdle c ⊎ HasFirstOf c owner [] added)
+  pub any_moment : (vs : List (Values Block)) → (free_disk state old).values ≡ Some vs
+      → LeavesOnly (free_disk state old) (disk_of state new)
+      (λ c. IsIdle c ⊎ HasFirstOf c owner [] added)
   pub cause : OnErr res (Rose (free_disk state old).faults (disk_of state new).faults)
   pub calm : OnOk res ((disk_of state new).faults ≡ (free_disk state old).faults)
 
--- What a write did: it added the records to the first held segment with room for `count` blocks, or to the taken one, which it claimed.
-pub data Wrote {D : Type 0} (state : D → State) (old new : Lane D) (count : ℕ) (added : List Record) (res : Result Spot (ℕ × Failed)) : Type 0 where
-  to_held : (k : ℕ) (o n : HeldSegment D) → IsFirstWithRoom count (held_in old) k → slice_get (held_in old) k ≡ Some o → held_in new ≡ slice_set (held_in old) k n → taken_in new ≡ taken_in old
-      → Grown state o n added res → IsSpot o.index (place_of o.segment) res → Wrote state old new count added res
-  to_taken : (index : ℕ) (f : FreeSegment D) (n : HeldSegment D) → HasNoRoom count (held_in old) → taken_in old ≡ Some (index, f) → held_in new ≡ held_in old ++ n ∷ [] → n.index ≡ index → taken_in new ≡ None
-      → Claimed state (lane_owner old) f n.segment added res → IsSpot index 1 res → Wrote state old new count added res
+-- What a write did: it added the records to the first held segment with room for `count` blocks, or
+-- to the taken one, which it claimed.
+pub data Wrote {D : Type 0} (state : D → State) (old new : Lane D) (count : ℕ) (added : List Record)
+    (res : Result Spot (ℕ × Failed)) : Type 0 where
+  to_held : (k : ℕ) (o n : HeldSegment D) → IsFirstWithRoom count (held_in old) k
+      → slice_get (held_in old) k ≡ Some o → held_in new ≡ slice_set (held_in old) k n
+      → taken_in new ≡ taken_in old
+      → Grown state o n added res → IsSpot o.index (place_of o.segment) res
+      → Wrote state old new count added res
+  to_taken : (index : ℕ) (f : FreeSegment D) (n : HeldSegment D) → HasNoRoom count (held_in old)
+      → taken_in old ≡ Some (index, f) → held_in new ≡ held_in old ++ n ∷ [] → n.index ≡ index
+      → taken_in new ≡ None
+      → Claimed state (lane_owner old) f n.segment added res → IsSpot index 1 res
+      → Wrote state old new count added res
 
 -- ---- Reads
 
@@ -231,7 +264,8 @@ pub record IsReadable {D : Type 0} (l : Lane D) (spot : Spot) (skip count : ℕ)
   pub fits : spot.pos + 1 + skip + count ≤ blocks_of segment.segment
 
 -- What a read did: whatever came of it, the segment is as before, and its disk keeps what it kept.
-pub record ReadFrom {D T E : Type 0} (state : D → State) (old new : Lane D) (spot : Spot) (skip : ℕ) (before after : List Block) (res : Result T E) : Type 0 where
+pub record ReadFrom {D T E : Type 0} (state : D → State) (old new : Lane D) (spot : Spot) (skip : ℕ)
+    (before after : List Block) (res : Result T E) : Type 0 where
   pub place : ℕ
   pub old_segment : HeldSegment D
   pub new_segment : HeldSegment D
@@ -243,12 +277,19 @@ pub record ReadFrom {D T E : Type 0} (state : D → State) (old new : Lane D) (s
   pub end : place_of new_segment.segment ≡ place_of old_segment.segment
   pub valid : valid_of new_segment.segment ≡ valid_of old_segment.segment
   pub whole : IsWhole new_segment.segment
-  pub keeps : (rs : List Record) → Holds state old_segment.segment rs → Holds state new_segment.segment rs
-  pub content : (rs : List Record) (j : ℕ) (r : Record) → Holds state old_segment.segment rs → slice_get rs j ≡ Some r → spot.pos ≡ position_of rs j → skip + length before ≤ length r.blocks
+  pub keeps : (rs : List Record) → Holds state old_segment.segment rs
+      → Holds state new_segment.segment rs
+  pub content : (rs : List Record) (j : ℕ) (r : Record) → Holds state old_segment.segment rs
+      → slice_get rs j ≡ Some r → spot.pos ≡ position_of rs j
+      → skip + length before ≤ length r.blocks
       → OnOk res (after ≡ take (length before) (drop skip r.blocks))
-  pub any_moment : (rs : List Record) → Holds state old_segment.segment rs → LeavesOnly (disk_of state old_segment.segment) (disk_of state new_segment.segment) (λ c. IsLog c (owner_of old_segment.segment) rs)
-  pub cause : OnErr res (Rose (disk_of state old_segment.segment).faults (disk_of state new_segment.segment).faults)
-  pub calm : OnOk res ((disk_of state new_segment.segment).faults ≡ (disk_of state old_segment.segment).faults)
+  pub any_moment : (rs : List Record) → Holds state old_segment.segment rs
+      → LeavesOnly (disk_of state old_segment.segment) (disk_of state new_segment.segment)
+      (λ c. IsLog c (owner_of old_segment.segment) rs)
+  pub cause : OnErr res
+      (Rose (disk_of state old_segment.segment).faults (disk_of state new_segment.segment).faults)
+  pub calm : OnOk res
+      ((disk_of state new_segment.segment).faults ≡ (disk_of state old_segment.segment).faults)
 
 -- ---- Giving up
 
@@ -262,7 +303,8 @@ pub record IsTrimmable {D : Type 0} (l : Lane D) (spot : Spot) : Type 0 where
   pub fits : spot.pos < blocks_of segment.segment
 
 -- record j of a segment that holds rs has its head at this position, and this head in some form
-pub record IsHeadAt (rs : List Record) (j : ℕ) (r : Record) (pos : ℕ) (head : RecordHead) : Type 0 where
+pub record IsHeadAt (rs : List Record) (j : ℕ) (r : Record) (pos : ℕ) (head : RecordHead) :
+    Type 0 where
   pub there : slice_get rs j ≡ Some r
   pub position : pos ≡ position_of rs j
   pub same_head : IsSameHead head r.head
@@ -272,51 +314,73 @@ abbrev pub IsKeptTrimmedOrIdle : (owner : ℕ) → List Record → (j : ℕ) →
 IsKeptTrimmedOrIdle owner rs j s c = IsKeptOrTrimmed owner rs j s c ⊎ IsIdle c
 
 -- a held segment before and after a call that gave up blocks of the record at this position
-pub record CutDown {D T E : Type 0} (state : D → State) (old new : HeldSegment D) (pos : ℕ) (head : RecordHead) (keep : ℕ) (res : Result T E) : Type 0 where
+pub record CutDown {D T E : Type 0} (state : D → State) (old new : HeldSegment D) (pos : ℕ)
+    (head : RecordHead) (keep : ℕ) (res : Result T E) : Type 0 where
   pub index : new.index ≡ old.index
   pub same : IsSame old.segment new.segment
   pub end : place_of new.segment ≡ place_of old.segment
-  pub ok : (rs : List Record) (j : ℕ) (r : Record) → Holds state old.segment rs → IsHeadAt rs j r pos head → OnOk res (Holds state new.segment (slice_set rs j (trimmed keep r)))
+  pub ok : (rs : List Record) (j : ℕ) (r : Record) → Holds state old.segment rs
+      → IsHeadAt rs j r pos head
+      → OnOk res (Holds state new.segment (slice_set rs j (trimmed keep r)))
   pub whole : OnOk res (IsWhole new.segment)
   pub valid : OnOk res (0 < valid_of new.segment)
   pub fewer : OnOk res (valid_of new.segment ≡ valid_of old.segment - (if keep == 0 then 1 else 0))
   pub broken : OnErr res (IsBroken new.segment)
-  pub any_moment : (rs : List Record) (j : ℕ) (r : Record) → Holds state old.segment rs → IsHeadAt rs j r pos head
-      → LeavesOnly (disk_of state old.segment) (disk_of state new.segment) (IsKeptOrTrimmed (owner_of old.segment) rs j (trimmed keep r))
+  pub any_moment : (rs : List Record) (j : ℕ) (r : Record) → Holds state old.segment rs
+      → IsHeadAt rs j r pos head
+      → LeavesOnly (disk_of state old.segment) (disk_of state new.segment)
+      (IsKeptOrTrimmed (owner_of old.segment) rs j (trimmed keep r))
   pub cause : OnErr res (Rose (disk_of state old.segment).faults (disk_of state new.segment).faults)
   pub calm : OnOk res ((disk_of state new.segment).faults ≡ (disk_of state old.segment).faults)
 
 -- no record keeps a block once the record at this position is trimmed
-abbrev pub IsBareAfter : {D : Type 0} → (D → State) → Segment D → (pos : ℕ) → RecordHead → (keep : ℕ) → Type 0
-IsBareAfter state old pos head keep = (rs : List Record) (j : ℕ) (r : Record) → Holds state old rs → IsHeadAt rs j r pos head → count_valid (slice_set rs j (trimmed keep r)) ≡ 0
+abbrev pub IsBareAfter : {D : Type 0} → (D → State) → Segment D → (pos : ℕ) → RecordHead
+    → (keep : ℕ) → Type 0
+IsBareAfter state old pos head keep = (rs : List Record) (j : ℕ) (r : Record) → Holds state old rs
+    → IsHeadAt rs j r pos head → count_valid (slice_set rs j (trimmed keep r)) ≡ 0
 
 -- a held segment before such a call, and what was given to the pool in it
-pub record GaveUp {D : Type 0} (state : D → State) (old : HeldSegment D) (blocks : ℕ) (given : FreeSegment D) (pos : ℕ) (head : RecordHead) (keep : ℕ) : Type 0 where
+pub record GaveUp {D : Type 0} (state : D → State) (old : HeldSegment D) (blocks : ℕ)
+    (given : FreeSegment D) (pos : ℕ) (head : RecordHead) (keep : ℕ) : Type 0 where
   pub blank : IsBlank state (segment_volume old.segment) blocks given
   pub bare : IsBareAfter state old.segment pos head keep
   pub fewer : valid_of old.segment - (if keep == 0 then 1 else 0) ≡ 0
-  pub any_moment : (rs : List Record) (j : ℕ) (r : Record) → Holds state old.segment rs → IsHeadAt rs j r pos head
-      → LeavesOnly (disk_of state old.segment) (free_disk state given) (IsKeptTrimmedOrIdle (owner_of old.segment) rs j (trimmed keep r))
+  pub any_moment : (rs : List Record) (j : ℕ) (r : Record) → Holds state old.segment rs
+      → IsHeadAt rs j r pos head
+      → LeavesOnly (disk_of state old.segment) (free_disk state given)
+      (IsKeptTrimmedOrIdle (owner_of old.segment) rs j (trimmed keep r))
   pub calm : (free_disk state given).faults ≡ (disk_of state old.segment).faults
 
 -- a held segment before and after such a call, in which it could not be freed
-pub record Stayed {D : Type 0} (state : D → State) (old new : HeldSegment D) (pos : ℕ) (head : RecordHead) (keep : ℕ) : Type 0 where
+pub record Stayed {D : Type 0} (state : D → State) (old new : HeldSegment D) (pos : ℕ)
+    (head : RecordHead) (keep : ℕ) : Type 0 where
   pub index : new.index ≡ old.index
   pub same : IsSame old.segment new.segment
   pub end : place_of new.segment ≡ place_of old.segment
   pub broken : IsBroken new.segment
   pub bare : IsBareAfter state old.segment pos head keep
   pub fewer : valid_of old.segment - (if keep == 0 then 1 else 0) ≡ 0
-  pub any_moment : (rs : List Record) (j : ℕ) (r : Record) → Holds state old.segment rs → IsHeadAt rs j r pos head
-      → LeavesOnly (disk_of state old.segment) (disk_of state new.segment) (IsKeptTrimmedOrIdle (owner_of old.segment) rs j (trimmed keep r))
+  pub any_moment : (rs : List Record) (j : ℕ) (r : Record) → Holds state old.segment rs
+      → IsHeadAt rs j r pos head
+      → LeavesOnly (disk_of state old.segment) (disk_of state new.segment)
+      (IsKeptTrimmedOrIdle (owner_of old.segment) rs j (trimmed keep r))
   pub cause : Rose (disk_of state old.segment).faults (disk_of state new.segment).faults
 
--- What giving up blocks did to the segment of the spot: other records keep blocks, or the call failed before the segment was to go;
--- or it went to the pool; or it could not be freed.
-pub data Trimmed {D T E : Type 0} (state : D → State) (old new : Lane D) (spot : Spot) (head : RecordHead) (keep : ℕ) (res : Result T E) : Type 0 where
-  in_place : (k : ℕ) (o n : HeldSegment D) → slice_get (held_in old) k ≡ Some o → o.index ≡ spot.segment → held_in new ≡ slice_set (held_in old) k n → pass_mine (pool_of new) ≡ pass_mine (pool_of old)
+-- What giving up blocks did to the segment of the spot: other records keep blocks, or the call
+-- failed before the segment was to go; or it went to the pool; or it could not be freed.
+pub data Trimmed {D T E : Type 0} (state : D → State) (old new : Lane D) (spot : Spot)
+    (head : RecordHead) (keep : ℕ) (res : Result T E) : Type 0 where
+  in_place : (k : ℕ) (o n : HeldSegment D) → slice_get (held_in old) k ≡ Some o
+      → o.index ≡ spot.segment → held_in new ≡ slice_set (held_in old) k n
+      → pass_mine (pool_of new) ≡ pass_mine (pool_of old)
       → CutDown state o n spot.pos head keep res → Trimmed state old new spot head keep res
-  to_pool : (k : ℕ) (o : HeldSegment D) (given : FreeSegment D) → slice_get (held_in old) k ≡ Some o → o.index ≡ spot.segment → held_in new ≡ remove (held_in old) k
-      → pass_mine (pool_of new) ≡ pass_mine (pool_of old) ++ (pass_number (pool_of old), pool.operation_of (Gave spot.segment)) ∷ [] → IsOk res → GaveUp state o (pool_blocks old) given spot.pos head keep → Trimmed state old new spot head keep res
-  not_freed : (k : ℕ) (o n : HeldSegment D) → slice_get (held_in old) k ≡ Some o → o.index ≡ spot.segment → held_in new ≡ slice_set (held_in old) k n → pass_mine (pool_of new) ≡ pass_mine (pool_of old)
+  to_pool : (k : ℕ) (o : HeldSegment D) (given : FreeSegment D) → slice_get (held_in old) k ≡ Some o
+      → o.index ≡ spot.segment → held_in new ≡ remove (held_in old) k
+      → pass_mine (pool_of new) ≡ pass_mine (pool_of old)
+      ++ (pass_number (pool_of old), pool.operation_of (Gave spot.segment)) ∷ [] → IsOk res
+      → GaveUp state o (pool_blocks old) given spot.pos head keep
+      → Trimmed state old new spot head keep res
+  not_freed : (k : ℕ) (o n : HeldSegment D) → slice_get (held_in old) k ≡ Some o
+      → o.index ≡ spot.segment → held_in new ≡ slice_set (held_in old) k n
+      → pass_mine (pool_of new) ≡ pass_mine (pool_of old)
       → IsErr res → Stayed state o n spot.pos head keep → Trimmed state old new spot head keep res

@@ -75,14 +75,16 @@ impl<D: Disk> Lane<D> {
         requires lane { IsLane D.state self.old }
         requires below { index < segments_in self.old }
         requires apart { AllByRecursion (λ i. index ≢ i) (indexes_in self.old) }
-        requires holds { holds (pass_lock (pool_of self.old)).base (pass_number (pool_of self.old)) (pass_mine (pool_of self.old)) index ≡ true }
+        requires holds { holds (pass_lock (pool_of self.old)).base (pass_number (pool_of self.old))
+            (pass_mine (pool_of self.old)) index ≡ true }
         requires shape { IsSegment D.state segment }
         requires volume { segment_volume segment ≡ logger_of self.old }
         requires owner { owner_of segment ≡ lane_owner self.old }
         requires blocks { blocks_of segment ≡ pool_blocks self.old }
         ensures lane { IsLane D.state self.new }
         ensures same { IsSameLane self.old self.new }
-        ensures held { held_in self.new ≡ held_in self.old ++ (record { index = index; segment = segment }) ∷ [] }
+        ensures held { held_in self.new
+            ≡ held_in self.old ++ (record { index = index; segment = segment }) ∷ [] }
         ensures taken { taken_in self.new ≡ taken_in self.old }
         ensures pool { pass_mine (pool_of self.new) ≡ pass_mine (pool_of self.old) }
         ensures spindle { pass_mine (spindle_of self.new) ≡ pass_mine (spindle_of self.old) }
@@ -95,7 +97,8 @@ impl<D: Disk> Lane<D> {
         requires lane { IsLane D.state self }
         requires taken { taken_in self ≡ None }
         ensures logger { result.logger ≡ logger_of self }
-        ensures held { result.held.items ≡ map (λ (h : HeldSegment D). (h.index, part_of h.segment)) (held_in self) }
+        ensures held { result.held.items
+            ≡ map (λ (h : HeldSegment D). (h.index, part_of h.segment)) (held_in self) }
         ensures pool { result.pool ≡ pool_of self }
         ensures spindle { result.spindle ≡ spindle_of self }
     {

@@ -42,7 +42,8 @@ impl<D: Disk> Lane<D> {
         ensures held { held_in self.new ≡ held_in self.old }
         ensures spindle { pass_mine (spindle_of self.new) ≡ pass_mine (spindle_of self.old) }
         ensures moved { Secured self.old self.new count result }
-        ensures secured { result ≡ true → HasRoom count (held_in self.new) ⊎ IsSome (taken_in self.new) }
+        ensures secured { result ≡ true
+            → HasRoom count (held_in self.new) ⊎ IsSome (taken_in self.new) }
     {
         if first_with_room(&self.held, count).is_some() {
             return true;

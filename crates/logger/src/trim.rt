@@ -49,10 +49,12 @@ fn trim_held<D: Disk>(
     head: &RecHead,
     keep: u128,
 ) -> Result<Option<FreeSegment<D>>, Failed>
-    requires segment { IsCuttable D.state (token_volume token.now) held.old.items place pos head.now.owner }
+    requires segment { IsCuttable D.state (token_volume token.now) held.old.items place pos
+        head.now.owner }
     requires head { IsRecordHead (record_head head.now) }
     requires keep { IsProperPart keep head.now.keep }
-    ensures cut { Cut D.state held.old.items held.new.items place pos (record_head head.now) keep result }
+    ensures cut { Cut D.state held.old.items held.new.items place pos (record_head head.now) keep
+        result }
     ensures room { vec_capacity held.new ≡ vec_capacity held.old }
 {
     let segment = &mut held[place].segment;
@@ -88,7 +90,8 @@ impl<D: Disk> Lane<D> {
         ensures at { IsAt shared.now self.new }
         ensures taken { taken_in self.new ≡ taken_in self.old }
         ensures used { HasUsed self.old self.new }
-        ensures moved { Trimmed D.state self.old self.new spot.now (record_head head.now) keep result }
+        ensures moved { Trimmed D.state self.old self.new spot.now (record_head head.now) keep
+            result }
     {
         let lock = &shared.spindles[self.logger as usize];
         let place = place_of_index(&self.held, spot.segment);

@@ -42,7 +42,8 @@ fn claim_and_append<D: Disk>(
     requires items { AreItems items.now }
     requires blocks { count_of items.now ≡ length from.now }
     requires room { length from.now + (length items.now - 1) + 2 ≤ free_blocks free }
-    ensures claimed { Claimed D.state owner free result.0 (group_of owner version items.now from.now) result.1 }
+    ensures claimed { Claimed D.state owner free result.0
+        (group_of owner version items.now from.now) result.1 }
     ensures position { IfOk result.1 (λ pos. pos ≡ 1) }
 {
     match free.claim(token, owner) {
@@ -69,7 +70,8 @@ impl<D: Disk> Lane<D> {
         requires lane { IsLane D.state self.old }
         requires at { IsAt shared.now self.old }
         requires whole { AreWhole (held_in self.old) }
-        requires secured { HasRoom (length from.now) (held_in self.old) ⊎ IsSome (taken_in self.old) }
+        requires secured { HasRoom (length from.now) (held_in self.old)
+            ⊎ IsSome (taken_in self.old) }
         requires fits { length from.now + 2 ≤ pool_blocks self.old }
         requires version { (1 ≤ version) × (version < 2 ^ 63) }
         requires count { (1 ≤ length from.now) × (length from.now ≤ 128) }
@@ -80,7 +82,8 @@ impl<D: Disk> Lane<D> {
         ensures at { IsAt shared.now self.new }
         ensures pool { pass_mine (pool_of self.new) ≡ pass_mine (pool_of self.old) }
         ensures used { HasUsed self.old self.new }
-        ensures moved { Wrote D.state self.old self.new (length from.now) (new_record (lane_owner self.old) version lbn from.now ∷ []) result }
+        ensures moved { Wrote D.state self.old self.new (length from.now)
+            (new_record (lane_owner self.old) version lbn from.now ∷ []) result }
     {
         let item = Item {
             lbn,
@@ -104,8 +107,10 @@ impl<D: Disk> Lane<D> {
         requires lane { IsLane D.state self.old }
         requires at { IsAt shared.now self.old }
         requires whole { AreWhole (held_in self.old) }
-        requires secured { HasRoom (first_count items.now) (held_in self.old) ⊎ IsSome (taken_in self.old) }
-        requires fits { (fit : ℕ) × IsFit (first_count items.now) fit self.old × (length from.now + (length items.now - 1) ≤ fit) }
+        requires secured { HasRoom (first_count items.now) (held_in self.old)
+            ⊎ IsSome (taken_in self.old) }
+        requires fits { (fit : ℕ) × IsFit (first_count items.now) fit self.old
+            × (length from.now + (length items.now - 1) ≤ fit) }
         requires version { (1 ≤ version) × (version + length items.now ≤ 2 ^ 63) }
         requires some { 1 ≤ length items.now }
         requires items { AreItems items.now }
@@ -116,7 +121,8 @@ impl<D: Disk> Lane<D> {
         ensures at { IsAt shared.now self.new }
         ensures pool { pass_mine (pool_of self.new) ≡ pass_mine (pool_of self.old) }
         ensures used { HasUsed self.old self.new }
-        ensures moved { Wrote D.state self.old self.new (first_count items.now) (group_of (lane_owner self.old) version items.now from.now) result }
+        ensures moved { Wrote D.state self.old self.new (first_count items.now)
+            (group_of (lane_owner self.old) version items.now from.now) result }
     {
         match first_with_room(&self.held, items[0].count) {
             Some(place) => self.write_held(rt, shared, place, version, items, from),
@@ -137,7 +143,8 @@ impl<D: Disk> Lane<D> {
         requires at { IsAt shared.now self.old }
         requires whole { AreWhole (held_in self.old) }
         requires place { IsFirstWithRoom (first_count items.now) (held_in self.old) place }
-        requires room { (o : HeldSegment D) → slice_get (held_in self.old) place ≡ Some o → length from.now + (length items.now - 1) ≤ room_of o.segment }
+        requires room { (o : HeldSegment D) → slice_get (held_in self.old) place ≡ Some o
+            → length from.now + (length items.now - 1) ≤ room_of o.segment }
         requires version { (1 ≤ version) × (version + length items.now ≤ 2 ^ 63) }
         requires some { 1 ≤ length items.now }
         requires items { AreItems items.now }
@@ -147,7 +154,8 @@ impl<D: Disk> Lane<D> {
         ensures all { HoldsAll self.old → HoldsAll self.new }
         ensures pool { pass_mine (pool_of self.new) ≡ pass_mine (pool_of self.old) }
         ensures used { HasUsed self.old self.new }
-        ensures moved { Wrote D.state self.old self.new (first_count items.now) (group_of (lane_owner self.old) version items.now from.now) result }
+        ensures moved { Wrote D.state self.old self.new (first_count items.now)
+            (group_of (lane_owner self.old) version items.now from.now) result }
     {
         let lock = &shared.spindles[self.logger as usize];
         let token = take_token(rt, lock, &mut self.spindle);
@@ -181,7 +189,8 @@ impl<D: Disk> Lane<D> {
         ensures all { HoldsAll self.old → HoldsAll self.new }
         ensures pool { pass_mine (pool_of self.new) ≡ pass_mine (pool_of self.old) }
         ensures used { HasUsed self.old self.new }
-        ensures moved { Wrote D.state self.old self.new (first_count items.now) (group_of (lane_owner self.old) version items.now from.now) result }
+        ensures moved { Wrote D.state self.old self.new (first_count items.now)
+            (group_of (lane_owner self.old) version items.now from.now) result }
     {
         let before = mem::replace(&mut self.taken, None);
         let Some((index, free)) = before else {

@@ -32,7 +32,8 @@ NamesItself own bs = (ids : List ℕ) × HasView bs ids × Contains ids own
 -- block 0 is no label; or it is one, and block 1 is no view or names its own volume
 abbrev pub IsFirstFault : (own : ℕ) → List Block → (block : ℕ) → Type 0
 IsFirstFault own bs block =
-    ((block ≡ 0) × HasNoLabel bs) ⊎ ((block ≡ 1) × ((id : ℕ) × (shape : Shape) × HasLabel bs id shape) × (HasNoView bs ⊎ NamesItself own bs))
+    ((block ≡ 0) × HasNoLabel bs) ⊎ ((block ≡ 1)
+    × ((id : ℕ) × (shape : Shape) × HasLabel bs id shape) × (HasNoView bs ⊎ NamesItself own bs))
 
 -- ---- Stores
 

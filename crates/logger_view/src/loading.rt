@@ -33,15 +33,21 @@ impl From<Failed> for ViewFault {
 fn read_blocks<D: Disk>(token: &Awake, part: &mut Spun<D>) -> Result<[Block; 2], Failed>
     requires volume { token_volume token.now ≡ volume_of part.old }
     requires size { (state_of D.state part.old).size ≡ 2 }
-    ensures content { (vs : List (Values Block)) → (state_of D.state part.old).values ≡ Some vs → IfOk result (λ blocks. blocks ≡ reads vs) }
-    ensures settled { OnOk result ((state_of D.state part.new).values ≡ option_map settled (state_of D.state part.old).values) }
+    ensures content { (vs : List (Values Block)) → (state_of D.state part.old).values ≡ Some vs
+        → IfOk result (λ blocks. blocks ≡ reads vs) }
+    ensures settled { OnOk result ((state_of D.state part.new).values
+        ≡ option_map settled (state_of D.state part.old).values) }
     ensures values { ((state_of D.state part.new).values ≡ (state_of D.state part.old).values)
-        ⊎ ((state_of D.state part.new).values ≡ option_map settled (state_of D.state part.old).values) }
+        ⊎ ((state_of D.state part.new).values
+        ≡ option_map settled (state_of D.state part.old).values) }
     ensures size { (state_of D.state part.new).size ≡ (state_of D.state part.old).size }
     ensures volume { volume_of part.new ≡ volume_of part.old }
-    ensures cause { IsErr result → Rose (state_of D.state part.old).faults (state_of D.state part.new).faults }
-    ensures calm { OnOk result ((state_of D.state part.new).faults ≡ (state_of D.state part.old).faults) }
-    ensures any_moment { LeavesOnly (state_of D.state part.old) (state_of D.state part.new) (IsImageOf (state_of D.state part.old).values) }
+    ensures cause { IsErr result
+        → Rose (state_of D.state part.old).faults (state_of D.state part.new).faults }
+    ensures calm { OnOk result
+        ((state_of D.state part.new).faults ≡ (state_of D.state part.old).faults) }
+    ensures any_moment { LeavesOnly (state_of D.state part.old) (state_of D.state part.new)
+        (IsImageOf (state_of D.state part.old).values) }
 {
     part.sync(token)?;
     let mut blocks = [[0; 512]; 2];
@@ -76,26 +82,36 @@ pub fn load<D: Disk>(
 ) -> Result<(Label, View), ViewFault>
     requires volume { token_volume token.now ≡ volume_of part.old }
     requires size { (state_of D.state part.old).size ≡ 2 }
-    ensures label { (vs : List (Values Block)) → (state_of D.state part.old).values ≡ Some vs → IfOk result (λ r. HasLabel (reads vs) r.0.id (shape_of r.0)) }
-    ensures view { (vs : List (Values Block)) → (state_of D.state part.old).values ≡ Some vs → IfOk result (λ r. HasView (reads vs) r.1) }
-    ensures damaged { (vs : List (Values Block)) (block : ℕ) → (state_of D.state part.old).values ≡ Some vs
+    ensures label { (vs : List (Values Block)) → (state_of D.state part.old).values ≡ Some vs
+        → IfOk result (λ r. HasLabel (reads vs) r.0.id (shape_of r.0)) }
+    ensures view { (vs : List (Values Block)) → (state_of D.state part.old).values ≡ Some vs
+        → IfOk result (λ r. HasView (reads vs) r.1) }
+    ensures damaged { (vs : List (Values Block)) (block : ℕ)
+        → (state_of D.state part.old).values ≡ Some vs
         → IsErrOf result (fault.Damaged block) → IsFirstFault own (reads vs) block }
     // also where the part doesn't tell its content
     ensures shape { IfOk result (λ r. IsShape (shape_of r.0)) }
     ensures others { IfOk result (λ r. Contains r.1 own → ⊥) }
     ensures block { (block : ℕ) → IsErrOf result (fault.Damaged block) → block < 2 }
     // what the part holds stays
-    ensures settled { OnOk result ((state_of D.state part.new).values ≡ option_map settled (state_of D.state part.old).values) }
+    ensures settled { OnOk result ((state_of D.state part.new).values
+        ≡ option_map settled (state_of D.state part.old).values) }
     ensures settled_damaged { (block : ℕ) → IsErrOf result (fault.Damaged block)
-        → (state_of D.state part.new).values ≡ option_map settled (state_of D.state part.old).values }
+        → (state_of D.state part.new).values
+        ≡ option_map settled (state_of D.state part.old).values }
     ensures values { ((state_of D.state part.new).values ≡ (state_of D.state part.old).values)
-        ⊎ ((state_of D.state part.new).values ≡ option_map settled (state_of D.state part.old).values) }
-    ensures any_moment { LeavesOnly (state_of D.state part.old) (state_of D.state part.new) (IsImageOf (state_of D.state part.old).values) }
+        ⊎ ((state_of D.state part.new).values
+        ≡ option_map settled (state_of D.state part.old).values) }
+    ensures any_moment { LeavesOnly (state_of D.state part.old) (state_of D.state part.new)
+        (IsImageOf (state_of D.state part.old).values) }
     ensures size { (state_of D.state part.new).size ≡ (state_of D.state part.old).size }
     ensures volume { volume_of part.new ≡ volume_of part.old }
-    ensures cause { IsErrOf result fault.Failed → Rose (state_of D.state part.old).faults (state_of D.state part.new).faults }
-    ensures calm { OnOk result ((state_of D.state part.new).faults ≡ (state_of D.state part.old).faults) }
-    ensures quiet { (block : ℕ) → IsErrOf result (fault.Damaged block) → (state_of D.state part.new).faults ≡ (state_of D.state part.old).faults }
+    ensures cause { IsErrOf result fault.Failed
+        → Rose (state_of D.state part.old).faults (state_of D.state part.new).faults }
+    ensures calm { OnOk result
+        ((state_of D.state part.new).faults ≡ (state_of D.state part.old).faults) }
+    ensures quiet { (block : ℕ) → IsErrOf result (fault.Damaged block)
+        → (state_of D.state part.new).faults ≡ (state_of D.state part.old).faults }
 {
     let blocks = read_blocks(token, part)?;
     match label_and_view(&blocks, own) {

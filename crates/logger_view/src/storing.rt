@@ -20,13 +20,19 @@ fn store_block<D: Disk>(
 ) -> Result<(), Failed>
     requires volume { token_volume token.now ≡ volume_of part.old }
     requires fits { at < (state_of D.state part.old).size }
-    ensures settles { OnOk result ((state_of D.state part.new).values ≡ option_map (λ vs. only (put at (block.now ∷ []) (reads vs))) (state_of D.state part.old).values) }
-    ensures err { OnErr result (AddsSomeOf at (block.now ∷ []) (state_of D.state part.old).values (state_of D.state part.new).values) }
-    ensures any_moment { LeavesOnly (state_of D.state part.old) (state_of D.state part.new) (IsWithOrWithout (put at (block.now ∷ [])) (state_of D.state part.old)) }
+    ensures settles { OnOk result ((state_of D.state part.new).values
+        ≡ option_map (λ vs. only (put at (block.now ∷ []) (reads vs)))
+        (state_of D.state part.old).values) }
+    ensures err { OnErr result (AddsSomeOf at (block.now ∷ []) (state_of D.state part.old).values
+        (state_of D.state part.new).values) }
+    ensures any_moment { LeavesOnly (state_of D.state part.old) (state_of D.state part.new)
+        (IsWithOrWithout (put at (block.now ∷ [])) (state_of D.state part.old)) }
     ensures size { (state_of D.state part.new).size ≡ (state_of D.state part.old).size }
     ensures volume { volume_of part.new ≡ volume_of part.old }
-    ensures cause { IsErr result → Rose (state_of D.state part.old).faults (state_of D.state part.new).faults }
-    ensures calm { OnOk result ((state_of D.state part.new).faults ≡ (state_of D.state part.old).faults) }
+    ensures cause { IsErr result
+        → Rose (state_of D.state part.old).faults (state_of D.state part.new).faults }
+    ensures calm { OnOk result
+        ((state_of D.state part.new).faults ≡ (state_of D.state part.old).faults) }
 {
     part.write(token, at, &[*block])?;
     part.sync(token)
@@ -39,15 +45,21 @@ pub fn store_label<D: Disk>(token: &Awake, part: &mut Spun<D>, label: &Label) ->
     requires volume { token_volume token.now ≡ volume_of part.old }
     requires size { (state_of D.state part.old).size ≡ 2 }
     requires label { IsShape (shape_of label.now) }
-    ensures ok { OnOk result ((c : List Block) → IsImageOf (state_of D.state part.new).values c → HasLabel c label.now.id (shape_of label.now)) }
-    ensures settles { OnOk result ((state_of D.state part.new).values ≡ option_map (λ vs. only (with_label label.now.id (shape_of label.now) (reads vs))) (state_of D.state part.old).values) }
-    ensures err { OnErr result (AddsSomeOf 0 (label_block label.now.id (shape_of label.now) ∷ []) (state_of D.state part.old).values (state_of D.state part.new).values) }
+    ensures ok { OnOk result ((c : List Block) → IsImageOf (state_of D.state part.new).values c
+        → HasLabel c label.now.id (shape_of label.now)) }
+    ensures settles { OnOk result ((state_of D.state part.new).values
+        ≡ option_map (λ vs. only (with_label label.now.id (shape_of label.now) (reads vs)))
+        (state_of D.state part.old).values) }
+    ensures err { OnErr result (AddsSomeOf 0 (label_block label.now.id (shape_of label.now) ∷ [])
+        (state_of D.state part.old).values (state_of D.state part.new).values) }
     ensures any_moment { LeavesOnly (state_of D.state part.old) (state_of D.state part.new)
         (IsWithOrWithout (with_label label.now.id (shape_of label.now)) (state_of D.state part.old)) }
     ensures size { (state_of D.state part.new).size ≡ (state_of D.state part.old).size }
     ensures volume { volume_of part.new ≡ volume_of part.old }
-    ensures cause { IsErr result → Rose (state_of D.state part.old).faults (state_of D.state part.new).faults }
-    ensures calm { OnOk result ((state_of D.state part.new).faults ≡ (state_of D.state part.old).faults) }
+    ensures cause { IsErr result
+        → Rose (state_of D.state part.old).faults (state_of D.state part.new).faults }
+    ensures calm { OnOk result
+        ((state_of D.state part.new).faults ≡ (state_of D.state part.old).faults) }
 {
     // a number behind a reference is known to be in its range once it is read
     let _id = label.id;
@@ -62,14 +74,21 @@ pub fn store_label<D: Disk>(token: &Awake, part: &mut Spun<D>, label: &Label) ->
 pub fn store_view<D: Disk>(token: &Awake, part: &mut Spun<D>, view: &View) -> Result<(), Failed>
     requires volume { token_volume token.now ≡ volume_of part.old }
     requires size { (state_of D.state part.old).size ≡ 2 }
-    ensures ok { OnOk result ((c : List Block) → IsImageOf (state_of D.state part.new).values c → HasView c view.now) }
-    ensures settles { OnOk result ((state_of D.state part.new).values ≡ option_map (λ vs. only (with_view view.now (reads vs))) (state_of D.state part.old).values) }
-    ensures err { OnErr result (AddsSomeOf 1 (view_block view.now ∷ []) (state_of D.state part.old).values (state_of D.state part.new).values) }
-    ensures any_moment { LeavesOnly (state_of D.state part.old) (state_of D.state part.new) (IsWithOrWithout (with_view view.now) (state_of D.state part.old)) }
+    ensures ok { OnOk result
+        ((c : List Block) → IsImageOf (state_of D.state part.new).values c → HasView c view.now) }
+    ensures settles { OnOk result ((state_of D.state part.new).values
+        ≡ option_map (λ vs. only (with_view view.now (reads vs)))
+        (state_of D.state part.old).values) }
+    ensures err { OnErr result (AddsSomeOf 1 (view_block view.now ∷ [])
+        (state_of D.state part.old).values (state_of D.state part.new).values) }
+    ensures any_moment { LeavesOnly (state_of D.state part.old) (state_of D.state part.new)
+        (IsWithOrWithout (with_view view.now) (state_of D.state part.old)) }
     ensures size { (state_of D.state part.new).size ≡ (state_of D.state part.old).size }
     ensures volume { volume_of part.new ≡ volume_of part.old }
-    ensures cause { IsErr result → Rose (state_of D.state part.old).faults (state_of D.state part.new).faults }
-    ensures calm { OnOk result ((state_of D.state part.new).faults ≡ (state_of D.state part.old).faults) }
+    ensures cause { IsErr result
+        → Rose (state_of D.state part.old).faults (state_of D.state part.new).faults }
+    ensures calm { OnOk result
+        ((state_of D.state part.new).faults ≡ (state_of D.state part.old).faults) }
 {
     // and ids to be those of a view once the view tells them
     let _ids = view.ids();
@@ -85,14 +104,21 @@ pub fn store_view<D: Disk>(token: &Awake, part: &mut Spun<D>, view: &View) -> Re
 pub fn store_free<D: Disk>(token: &Awake, part: &mut Spun<D>) -> Result<(), Failed>
     requires volume { token_volume token.now ≡ volume_of part.old }
     requires size { 1 ≤ (state_of D.state part.old).size }
-    ensures ok { OnOk result ((c : List Block) → IsImageOf (state_of D.state part.new).values c → IsIdle c) }
-    ensures settles { OnOk result ((state_of D.state part.new).values ≡ option_map (λ vs. only (with_free_head (reads vs))) (state_of D.state part.old).values) }
-    ensures err { OnErr result (AddsSomeOf 0 (free_block ∷ []) (state_of D.state part.old).values (state_of D.state part.new).values) }
-    ensures any_moment { LeavesOnly (state_of D.state part.old) (state_of D.state part.new) (IsWithOrWithout with_free_head (state_of D.state part.old)) }
+    ensures ok { OnOk result
+        ((c : List Block) → IsImageOf (state_of D.state part.new).values c → IsIdle c) }
+    ensures settles { OnOk result ((state_of D.state part.new).values
+        ≡ option_map (λ vs. only (with_free_head (reads vs)))
+        (state_of D.state part.old).values) }
+    ensures err { OnErr result (AddsSomeOf 0 (free_block ∷ []) (state_of D.state part.old).values
+        (state_of D.state part.new).values) }
+    ensures any_moment { LeavesOnly (state_of D.state part.old) (state_of D.state part.new)
+        (IsWithOrWithout with_free_head (state_of D.state part.old)) }
     ensures size { (state_of D.state part.new).size ≡ (state_of D.state part.old).size }
     ensures volume { volume_of part.new ≡ volume_of part.old }
-    ensures cause { IsErr result → Rose (state_of D.state part.old).faults (state_of D.state part.new).faults }
-    ensures calm { OnOk result ((state_of D.state part.new).faults ≡ (state_of D.state part.old).faults) }
+    ensures cause { IsErr result
+        → Rose (state_of D.state part.old).faults (state_of D.state part.new).faults }
+    ensures calm { OnOk result
+        ((state_of D.state part.new).faults ≡ (state_of D.state part.old).faults) }
 {
     let mut block = [0; 512];
     write_seg(&SegHead::Free, &mut block);

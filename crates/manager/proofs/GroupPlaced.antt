@@ -33,7 +33,7 @@ use Rattle.manager.proofs.Asking.{Asking}
 use Rattle.volume_parts.proofs.Claims.{no_more_same}
 use Rattle.manager.proofs.Placed.{look_same, claimed_before, stops_before, passed_log, passed_unplaced}
 use Rattle.manager.specs.Joining.{GoTogether}
-use Rattle.manager.specs.Groups.{first_lbn, first_blocks, home_writes, run_writes, run_written, ruled_run, HasRun, IsGroup, AreItemsOf, given_out, log_writes, placed_all}
+use Rattle.manager.specs.Groups.{first_lbn, first_blocks, writes_to_home, run_writes, run_written, ruled_run, HasRun, IsGroup, AreItemsOf, given_out, log_writes, placed_all}
 use Rattle.volume_parts.proofs.Places.{group_writes, group_group}
 use Rattle.volume_parts.proofs.Records.{first_long}
 use Rattle.wol_model.specs.Placing as placing
@@ -156,8 +156,8 @@ module _ {D : Type 0} (tells : Bool) (state : D → State) (shared : Shared D) (
     placed_at : place_of (passed_in new.rooms.items) (look_of_manager old) w ≡ AtHome
     placed_at = (λ t. place_of (passed_in new.rooms.items) (look_of_manager old) (home_write (first_lbn (sym first t)) (first_blocks (sym first t) from))) ∙ at_home
 
-    home_rule_is : AreWrites (passed_in new.rooms.items) (look_of_manager old) (home_writes (take 1 items) from) (placed_all (ruled_run old new items from) (look_of_manager old) (home_writes (take 1 items) from))
-    home_rule_is = subst (λ (gs : List Item). AreWrites (passed_in new.rooms.items) (look_of_manager old) (home_writes gs from) (placed_all (ruled_run old new items from) (look_of_manager old) (home_writes gs from))) (sym alone) (
+    home_rule_is : AreWrites (passed_in new.rooms.items) (look_of_manager old) (writes_to_home (take 1 items) from) (placed_all (ruled_run old new items from) (look_of_manager old) (writes_to_home (take 1 items) from))
+    home_rule_is = subst (λ (gs : List Item). AreWrites (passed_in new.rooms.items) (look_of_manager old) (writes_to_home gs from) (placed_all (ruled_run old new items from) (look_of_manager old) (writes_to_home gs from))) (sym alone) (
       (λ full. let no : AtHome ≡ Nowhere = sym placed_at ∙ full in cc),
       ap (λ (p : placing.Place). version_at p (look_of_manager old)) (sym placed_at),
       ap (λ (p : placing.Place). placed p (look_of_manager old) w) (at_home ∙ sym placed_at),
@@ -173,15 +173,15 @@ module _ {D : Type 0} (tells : Bool) (state : D → State) (shared : Shared D) (
 
     home_look_is : (r : Result Place WriteRefusal) → IsHomeAnswer id r → (r ≡ Ok place.Home → look_of_manager new ≡ placed AtHome (look_of_manager old) w) → OnOk r (look_of_manager new ≡ placed_all (ruled_run old new items from) (look_of_manager old) (run_writes old.next (take 1 items) from r))
     home_look_is r (inl home) look = subst (λ (q : Result Place WriteRefusal). OnOk q (look_of_manager new ≡ placed_all (ruled_run old new items from) (look_of_manager old) (run_writes old.next (take 1 items) from q))) (sym home)
-        (look home ∙ (λ t. placed_all (sym at_home t) (look_of_manager old) (home_writes (sym alone t) from)))
+        (look home ∙ (λ t. placed_all (sym at_home t) (look_of_manager old) (writes_to_home (sym alone t) from)))
     home_look_is r (inr fault) look = subst (λ (q : Result Place WriteRefusal). OnOk q (look_of_manager new ≡ placed_all (ruled_run old new items from) (look_of_manager old) (run_writes old.next (take 1 items) from q))) (sym fault) tt
 
     -- one write is a group
     home_group : (r : Result Place WriteRefusal) → IsHomeAnswer id r → IsGroup (passed_in new.rooms.items) (run_writes old.next (take 1 items) from r)
     home_group r (inl home) = subst (λ (q : Result Place WriteRefusal). IsGroup (passed_in new.rooms.items) (run_writes old.next (take 1 items) from q)) (sym home)
-        (subst (λ (gs : List Item). IsGroup (passed_in new.rooms.items) (home_writes gs from)) (sym alone) (inr tt))
+        (subst (λ (gs : List Item). IsGroup (passed_in new.rooms.items) (writes_to_home gs from)) (sym alone) (inr tt))
     home_group r (inr fault) = subst (λ (q : Result Place WriteRefusal). IsGroup (passed_in new.rooms.items) (run_writes old.next (take 1 items) from q)) (sym fault)
-        (subst (λ (gs : List Item). IsGroup (passed_in new.rooms.items) (home_writes gs from)) (sym alone) (inr tt))
+        (subst (λ (gs : List Item). IsGroup (passed_in new.rooms.items) (writes_to_home gs from)) (sym alone) (inr tt))
 
     pub run_home : Leaves tells state old new (written old.next i.lbn blocks answer) (passed_in new.rooms.items) worker → (answer ≡ Ok place.Home → look_of_manager new ≡ placed AtHome (look_of_manager old) w) → new.next ≡ old.next
         → TellsClaim tells state (IsOk answer) old.lanes.items new.lanes.items None → (IsTrue tells → (b : ManagerBase) (notes : List Noted) → Keeps tells state old b notes → Stops state old new None b notes (in_flight old.next i.lbn blocks answer))

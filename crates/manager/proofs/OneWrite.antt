@@ -11,7 +11,7 @@ use Rattle.wol_promise.specs.Ruled.{Noted}
 use Rattle.log_segment.specs.declared.item.Item.{Item}
 use Rattle.logger.specs.Lanes.{logger_of}
 use Rattle.manager.specs.Answers.{home_write, log_write, written, IsPlaceOf}
-use Rattle.manager.specs.Groups.{HasRun, home_writes, log_writes, run_writes, run_written, placed_all, ruled_run}
+use Rattle.manager.specs.Groups.{HasRun, writes_to_home, log_writes, run_writes, run_written, placed_all, ruled_run}
 use Rattle.manager.specs.Seen.{look_of_manager, down_of}
 use Rattle.manager.specs.Stands.{Keeps, Leaves, passed_in}
 use Rattle.manager.specs.Stops.{Stops, TellsClaim}
@@ -33,7 +33,7 @@ all_of from = take_all (length from) from (omega arith)
 
 -- ---- The writes of one item
 
-home_one : (lbn : ℕ) (from : List Block) → home_writes (one lbn from) from ≡ home_write lbn from ∷ []
+home_one : (lbn : ℕ) (from : List Block) → writes_to_home (one lbn from) from ≡ home_write lbn from ∷ []
 home_one lbn from = ap (λ (bs : List Block). home_write lbn bs ∷ []) (all_of from)
 
 log_one : (next lbn : ℕ) (from : List Block) → log_writes next (one lbn from) from ≡ log_write next lbn from ∷ []
@@ -41,9 +41,9 @@ log_one next lbn from = ap (λ (bs : List Block). log_write next lbn bs ∷ []) 
 
 module _ (next lbn : ℕ) (from : List Block) (gs : List Item) where
   flight : (r : Result Place WriteRefusal) → (was_tried r ≡ true → gs ≡ one lbn from) → run_writes next gs from r ≡ in_flight next lbn from r
-  flight (Ok place.Home) is = ap (λ (xs : List Item). home_writes xs from) (is refl) ∙ home_one lbn from
+  flight (Ok place.Home) is = ap (λ (xs : List Item). writes_to_home xs from) (is refl) ∙ home_one lbn from
   flight (Ok (place.Log logger)) is = ap (λ (xs : List Item). log_writes next xs from) (is refl) ∙ log_one next lbn from
-  flight (Err (DiskFault (part.Home volume))) is = ap (λ (xs : List Item). home_writes xs from) (is refl) ∙ home_one lbn from
+  flight (Err (DiskFault (part.Home volume))) is = ap (λ (xs : List Item). writes_to_home xs from) (is refl) ∙ home_one lbn from
   flight (Err (DiskFault (part.Segment volume index))) is = ap (λ (xs : List Item). log_writes next xs from) (is refl) ∙ log_one next lbn from
   flight (Err Full) is = refl
   flight (Err (Down p)) is = refl

@@ -40,10 +40,12 @@ was_read first reply (Err (refused_read.Down p)) = Kept
 -- the place that an answer tells is this one of the rule; loggers go by their place in the view
 abbrev pub IsPlaceOf : (view : List ℕ) → Result Place WriteRefusal → placing.Place → Type 0
 IsPlaceOf view (Ok place.Home) p = p ≡ AtHome
-IsPlaceOf view (Ok (place.Log logger)) p = (lane : ℕ) × (slice_get view lane ≡ Some logger) × (p ≡ InLog lane)
+IsPlaceOf view (Ok (place.Log logger)) p =
+    (lane : ℕ) × (slice_get view lane ≡ Some logger) × (p ≡ InLog lane)
 IsPlaceOf view (Err Full) p = p ≡ Nowhere
 IsPlaceOf view (Err (DiskFault (part.Home volume))) p = p ≡ AtHome
-IsPlaceOf view (Err (DiskFault (part.Segment logger index))) p = (lane : ℕ) × (slice_get view lane ≡ Some logger) × (p ≡ InLog lane)
+IsPlaceOf view (Err (DiskFault (part.Segment logger index))) p =
+    (lane : ℕ) × (slice_get view lane ≡ Some logger) × (p ≡ InLog lane)
 IsPlaceOf view (Err (Down d)) p = ⊤
 IsPlaceOf view (Err VersionsSpent) p = ⊤
 IsPlaceOf view (Err NoMemory) p = ⊤

@@ -14,7 +14,8 @@ use Rattle.manager.specs.declared.part.Part.TheVariants.{Home, Segment}
 pub use Rattle.volume_parts.specs.Reads.{AreCalm}
 
 -- the count of a segment that a lane of this logger holds
-pub record SegmentRose {D : Type 0} (state : D → State) (old new : Manager D) (logger index : ℕ) : Type 0 where
+pub record SegmentRose {D : Type 0} (state : D → State) (old new : Manager D) (logger index : ℕ) :
+    Type 0 where
   pub lane : ℕ
   pub place : ℕ
   pub old_lane : Lane D
@@ -26,10 +27,12 @@ pub record SegmentRose {D : Type 0} (state : D → State) (old new : Manager D) 
   pub was_there : slice_get (held_in old_lane) place ≡ Some old_segment
   pub is_there : slice_get (held_in new_lane) place ≡ Some new_segment
   pub named : (logger ≡ logger_of old_lane) × (index ≡ old_segment.index)
-  pub rose : Rose (disk_of state old_segment.segment).faults (disk_of state new_segment.segment).faults
+  pub rose : Rose (disk_of state old_segment.segment).faults
+      (disk_of state new_segment.segment).faults
 
 -- the count of a segment that was free, and was claimed in the call by a lane of this logger
-pub record ClaimRose {D : Type 0} (state : D → State) (old new : Manager D) (logger index : ℕ) : Type 0 where
+pub record ClaimRose {D : Type 0} (state : D → State) (old new : Manager D) (logger index : ℕ) :
+    Type 0 where
   pub lane : ℕ
   pub old_lane : Lane D
   pub new_lane : Lane D
@@ -45,17 +48,21 @@ pub record ClaimRose {D : Type 0} (state : D → State) (old new : Manager D) (l
 
 -- the count of this part
 abbrev pub PartRose : {D : Type 0} → (D → State) → (old new : Manager D) → Part → Type 0
-PartRose state old new (Home volume) = (volume ≡ old.id) × Rose (state_of state old.home).faults (state_of state new.home).faults
+PartRose state old new (Home volume) =
+    (volume ≡ old.id) × Rose (state_of state old.home).faults (state_of state new.home).faults
 PartRose state old new (Segment volume index) = SegmentRose state old new volume index
 
 -- the count of this part, which may have been claimed in the call
 abbrev pub PartRoseOrClaimed : {D : Type 0} → (D → State) → (old new : Manager D) → Part → Type 0
 PartRoseOrClaimed state old new (Home volume) = PartRose state old new (Home volume)
-PartRoseOrClaimed state old new (Segment volume index) = SegmentRose state old new volume index ⊎ ClaimRose state old new volume index
+PartRoseOrClaimed state old new (Segment volume index) =
+    SegmentRose state old new volume index ⊎ ClaimRose state old new volume index
 
 -- ---- Where none rose
 
--- No disk call failed: home's count is as before, and so is that of each segment that was held and is.
+-- No disk call failed: home's count is as before, and so is that of each segment that was held and
+-- is.
 pub record NoneRose {D : Type 0} (state : D → State) (old new : Manager D) : Type 0 where
   pub home : (state_of state new.home).faults ≡ (state_of state old.home).faults
-  pub held : (k : ℕ) (o n : Lane D) → slice_get old.lanes.items k ≡ Some o → slice_get new.lanes.items k ≡ Some n → AreCalm state (held_in o) (held_in n)
+  pub held : (k : ℕ) (o n : Lane D) → slice_get old.lanes.items k ≡ Some o
+      → slice_get new.lanes.items k ≡ Some n → AreCalm state (held_in o) (held_in n)

@@ -1,4 +1,5 @@
--- What reads make of a manager and its parts: none of them has other records or an image that it didn't have.
+-- What reads make of a manager and its parts: none of them has other records or an image that it
+-- didn't have.
 use Rattle.std.specs.Prelude.{◌≡◌, ◌≤◌, ℕ, slice_get, Some}
 use Rattle.std.specs.List.{AllZip}
 use Rattle.turn_lock.specs.Passes.{IsSamePass}
@@ -13,11 +14,15 @@ pub use Rattle.volume_parts.specs.Reads.{needs_of, HasNeeded, NeedsWhere, Counte
 
 -- ---- Waking
 
--- Home is needed exactly where a block of the range isn't covered, and a logger exactly where it has the newest record of a block.
+-- Home is needed exactly where a block of the range isn't covered, and a logger exactly where it
+-- has the newest record of a block.
 pub record NeedsSources {D : Type 0} (old new : Manager D) (first count : ℕ) : Type 0 where
-  pub home : NeedsWhere old.spindle new.spindle (reads_home (listed_in old.index.entries) first count)
-  pub lanes : (k : ℕ) (o n : Lane D) → slice_get old.lanes.items k ≡ Some o → slice_get new.lanes.items k ≡ Some n
-      → NeedsWhere (spindle_of o) (spindle_of n) (reads_lane (listed_in old.index.entries) k first count)
+  pub home : NeedsWhere old.spindle new.spindle
+      (reads_home (listed_in old.index.entries) first count)
+  pub lanes : (k : ℕ) (o n : Lane D) → slice_get old.lanes.items k ≡ Some o
+      → slice_get new.lanes.items k ≡ Some n
+      → NeedsWhere (spindle_of o) (spindle_of n)
+      (reads_lane (listed_in old.index.entries) k first count)
 
 -- so it is for some first blocks of the range
 pub record NeedsFirstOf {D : Type 0} (old new : Manager D) (first count : ℕ) : Type 0 where

@@ -42,69 +42,107 @@ OnFailed (Ok x) P = ⊤
 OnFailed (Err (DiskFault p)) P = P
 OnFailed (Err (Down p)) P = ⊤
 
--- Refused as down exactly where the manager was down, with the part that it keeps and with nothing changed. After a disk call failed its part is told as down,
--- and its count rose; after a step that was done nothing is down.
-abbrev pub TellsStep : {D T : Type 0} → (D → State) → Result T StepFault → (old new : Manager D) → Type 0
+-- Refused as down exactly where the manager was down, with the part that it keeps and with nothing
+-- changed. After a disk call failed its part is told as down, and its count rose; after a step that
+-- was done nothing is down.
+abbrev pub TellsStep : {D T : Type 0} → (D → State) → Result T StepFault → (old new : Manager D)
+    → Type 0
 TellsStep state (Ok x) old new = (old.down ≡ None) × (new.down ≡ None)
-TellsStep state (Err (DiskFault p)) old new = (old.down ≡ None) × (new.down ≡ Some p) × PartRose state old new p
+TellsStep state (Err (DiskFault p)) old new =
+    (old.down ≡ None) × (new.down ≡ Some p) × PartRose state old new p
 TellsStep state (Err (Down p)) old new = (old.down ≡ Some p) × (new ≡ old)
 
 -- ---- What the manager stands for
 
--- What the manager kept up it keeps up still, for the same entries, where this holds of what it began with and of them.
-abbrev pub KeepsOn : {D : Type 0} → (tells : Bool) → (D → State) → (old new : Manager D) → (ManagerBase → List Noted → Type 0) → Type 0
-KeepsOn tells state old new Where = (b : ManagerBase) (notes : List Noted) → Where b notes → Keeps tells state old b notes → Keeps tells state new b notes
+-- What the manager kept up it keeps up still, for the same entries, where this holds of what it
+-- began with and of them.
+abbrev pub KeepsOn : {D : Type 0} → (tells : Bool) → (D → State) → (old new : Manager D)
+    → (ManagerBase → List Noted → Type 0) → Type 0
+KeepsOn tells state old new Where = (b : ManagerBase) (notes : List Noted) → Where b notes
+    → Keeps tells state old b notes → Keeps tells state new b notes
 
 -- It stands for an entry more, which has nothing in flight.
-abbrev pub BreaksOff : {D : Type 0} → (tells : Bool) → (D → State) → (old new : Manager D) → (ManagerBase → List Noted → Type 0) → Type 0
-BreaksOff tells state old new Where = (b : ManagerBase) (notes : List Noted) (n : Noted) → Where b notes → IsNote (last_look b.volume.began.look notes) (Broke []) [] (look_of_manager new) n
+abbrev pub BreaksOff : {D : Type 0} → (tells : Bool) → (D → State) → (old new : Manager D)
+    → (ManagerBase → List Noted → Type 0) → Type 0
+BreaksOff tells state old new Where = (b : ManagerBase) (notes : List Noted) (n : Noted)
+    → Where b notes
+    → IsNote (last_look b.volume.began.look notes) (Broke []) [] (look_of_manager new) n
     → Keeps tells state old b notes → Stands tells state new b (notes ++ n ∷ [])
 
--- Stopped at any moment since an earlier one, after which there were reads alone, what is recovered is what it stood for then.
-abbrev pub StopsSince : {D : Type 0} → (tells : Bool) → (D → State) → (old new : Manager D) → (ManagerBase → List Noted → Type 0) → Type 0
-StopsSince {D} tells state old new Where = (was : Manager D) → IsReadThrough state was old → (b : ManagerBase) (notes : List Noted) → Where b notes → Keeps tells state was b notes → Stops state was new None b notes []
+-- Stopped at any moment since an earlier one, after which there were reads alone, what is recovered
+-- is what it stood for then.
+abbrev pub StopsSince : {D : Type 0} → (tells : Bool) → (D → State) → (old new : Manager D)
+    → (ManagerBase → List Noted → Type 0) → Type 0
+StopsSince {D} tells state old new Where =
+    (was : Manager D) → IsReadThrough state was old → (b : ManagerBase) (notes : List Noted)
+    → Where b notes → Keeps tells state was b notes → Stops state was new None b notes []
 
 -- whatever it began with
 abbrev pub Always : ManagerBase → List Noted → Type 0
 Always b notes = ⊤
 
 -- the blocks are those of this version
-abbrev pub AreOf : (tells : Bool) → List Indexed → (version : ℕ) → List Block → ManagerBase → List Noted → Type 0
-AreOf tells es version blocks b notes = IsTrue tells → ForSome (entry_at es version) (λ e. IsDataOf b.volume.began (writes (entries_of notes)) version e.listed.first blocks)
+abbrev pub AreOf : (tells : Bool) → List Indexed → (version : ℕ) → List Block → ManagerBase
+    → List Noted → Type 0
+AreOf tells es version blocks b notes =
+    IsTrue tells → ForSome (entry_at es version)
+    (λ e. IsDataOf b.volume.began (writes (entries_of notes)) version e.listed.first blocks)
 
 -- ---- Reads of a record
 
 -- Of the manager nothing changed but the lane at this place, whose logger counts as awake.
 pub record HasFetched {D : Type 0} (lane : ℕ) (old new : Manager D) : Type 0 where
-  pub rest : new ≡ record old { lanes = new.lanes; ups = record { items = slice_set old.ups.items lane true }; down = new.down }
+  pub rest : new ≡ record old {
+    lanes = new.lanes;
+    ups = record { items = slice_set old.ups.items lane true };
+    down = new.down;
+  }
   pub lanes : ChangesLane IsUsed lane old.lanes.items new.lanes.items
 
 -- ---- Blocks that are put home
 
--- Of the manager nothing changed but home, which took these blocks and counts as awake, and the marks of home of this version.
-pub record HasStored {D T : Type 0} (state : D → State) (version mask : ℕ) (blocks : List Block) (old new : Manager D) (res : Result T StepFault) : Type 0 where
-  pub rest : new ≡ record old { home = new.home; spindle = new.spindle; index = new.index; home_up = true; down = new.down }
+-- Of the manager nothing changed but home, which took these blocks and counts as awake, and the
+-- marks of home of this version.
+pub record HasStored {D T : Type 0} (state : D → State) (version mask : ℕ) (blocks : List Block)
+    (old new : Manager D) (res : Result T StepFault) : Type 0 where
+  pub rest : new ≡ record old
+      { home = new.home; spindle = new.spindle; index = new.index; home_up = true; down = new.down }
   pub used : HasUsedOnce old.spindle new.spindle
-  pub home : ForSome (entry_at old.index.entries version) (λ e. IsPut state old.home new.home (put_block e.listed.first mask blocks) res)
+  pub home : ForSome (entry_at old.index.entries version)
+      (λ e. IsPut state old.home new.home (put_block e.listed.first mask blocks) res)
   pub ok : OnOk res (new.index.entries ≡ changed version (with_put mask) old.index.entries)
   pub err : OnErr res (new.index ≡ old.index)
 
 -- ---- Blocks that are given up
 
--- Of the manager nothing changed but the lane at this place, whose logger counts as awake, and the index. The record's segment went to its pool
--- exactly where no record is left in it.
-pub record HasDropped {D T : Type 0} (version : ℕ) (e : Indexed) (old new : Manager D) (res : Result T StepFault) : Type 0 where
-  pub rest : new ≡ record old { lanes = new.lanes; index = new.index; ups = record { items = slice_set old.ups.items e.listed.lane true }; down = new.down }
-  pub lanes : ChangesLane (IsTrimmedLane e.index (entries_at e.listed.lane e.index new.index.entries ≡ 0)) e.listed.lane old.lanes.items new.lanes.items
+-- Of the manager nothing changed but the lane at this place, whose logger counts as awake, and the
+-- index. The record's segment went to its pool exactly where no record is left in it.
+pub record HasDropped {D T : Type 0} (version : ℕ) (e : Indexed) (old new : Manager D)
+    (res : Result T StepFault) : Type 0 where
+  pub rest : new ≡ record old {
+    lanes = new.lanes;
+    index = new.index;
+    ups = record { items = slice_set old.ups.items e.listed.lane true };
+    down = new.down;
+  }
+  pub lanes : ChangesLane (IsTrimmedLane e.index
+      (entries_at e.listed.lane e.index new.index.entries ≡ 0)) e.listed.lane old.lanes.items
+      new.lanes.items
   pub ok : OnOk res (new.index.entries ≡ given_of version old.index.entries)
   pub err : OnErr res (new.index ≡ old.index)
 
 -- ---- Segments that are given up with all their records
 
--- Of the manager nothing changed but the lane at this place, whose logger counts as awake, and the index. The segment went to its pool with all its
--- records, or it is held still, with all of them.
-pub record HasDroppedSegment {D T : Type 0} (lane index : ℕ) (old new : Manager D) (res : Result T StepFault) : Type 0 where
-  pub rest : new ≡ record old { lanes = new.lanes; index = new.index; ups = record { items = slice_set old.ups.items lane true }; down = new.down }
+-- Of the manager nothing changed but the lane at this place, whose logger counts as awake, and the
+-- index. The segment went to its pool with all its records, or it is held still, with all of them.
+pub record HasDroppedSegment {D T : Type 0} (lane index : ℕ) (old new : Manager D)
+    (res : Result T StepFault) : Type 0 where
+  pub rest : new ≡ record old {
+    lanes = new.lanes;
+    index = new.index;
+    ups = record { items = slice_set old.ups.items lane true };
+    down = new.down;
+  }
   pub lanes : ChangesLane (IsTrimmedLane index (IsOk res)) lane old.lanes.items new.lanes.items
   pub ok : OnOk res (new.index.entries ≡ filter (lies_elsewhere lane index) old.index.entries)
   pub err : OnErr res (new.index ≡ old.index)

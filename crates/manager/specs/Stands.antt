@@ -31,7 +31,7 @@ pub use Rattle.volume_parts.specs.Lanes.{IsReadyLane, Ready, IsPlacedIn, AreCoun
 pub use Rattle.listed_records.specs.Entries.{entries_at, IsInVolume, StandsAt, AreStill}
 pub use Rattle.volume_parts.specs.Offers.{passed_in}
 
--- ---- Safety: what holds of each manager between its calls, whether or not its disks tell their content
+-- ---- Safety: what holds of each manager between its calls, whatever its disks tell
 
 pub record IsReady {D : Type 0} (state : D → State) (m : Manager D) : Type 0 where
   pub ready : Ready state m.id m.most m.home m.spindle m.lanes.items m.ups.items m.rooms.items
@@ -41,7 +41,8 @@ pub record IsReady {D : Type 0} (state : D → State) (m : Manager D) : Type 0 w
   pub up : m.down ≡ None → IsUp m.lanes.items m.index.entries
 
 -- a manager that was just opened: home and all loggers are awake for it
-abbrev pub opened : {D : Type 0} → (id : ℕ) → Spun D → PassOf Spindle SpindleBase → Vec (Lane D) Global → Contents → (next most : ℕ) → Manager D
+abbrev pub opened : {D : Type 0} → (id : ℕ) → Spun D → PassOf Spindle SpindleBase
+    → Vec (Lane D) Global → Contents → (next most : ℕ) → Manager D
 opened {D} id home spindle lanes index next most = record {
   id = id;
   home = home;
@@ -92,7 +93,8 @@ takes_of (l ∷ ls) [] = 0
 takes_of (l ∷ ls) (b ∷ bs) = (takes_in (pass_mine (pool_of l)) - b.takes) + takes_of ls bs
 
 -- the manager is the one that the base names
-pub record Locks {D : Type 0} (id most : ℕ) (spindle : PassOf Spindle SpindleBase) (lanes : List (Lane D)) (b : ManagerBase) : Type 0 where
+pub record Locks {D : Type 0} (id most : ℕ) (spindle : PassOf Spindle SpindleBase)
+    (lanes : List (Lane D)) (b : ManagerBase) : Type 0 where
   pub pass : pass_lock spindle ≡ b.spindle.id
   pub number : pass_number spindle ≡ b.spindle_number
   pub each : AreNamed lanes b.lanes
@@ -112,35 +114,46 @@ pub record IsLaneShared {D : Type 0} (shared : Shared D) (b : LaneBase) : Type 0
 
 pub record IsShared {D : Type 0} (shared : Shared D) (b : ManagerBase) : Type 0 where
   pub spindle_in : b.volume.began.owner < vec_len shared.spindles
-  pub spindle : (d : _) → b.spindle.id ≡ lock_id (slice_index_or shared.spindles.items b.volume.began.owner d)
+  pub spindle : (d : _)
+      → b.spindle.id ≡ lock_id (slice_index_or shared.spindles.items b.volume.began.owner d)
   pub lanes : AllByRecursion (IsLaneShared shared) b.lanes
 
--- its passes took at most a segment for each version that it gave since the opening, and one that it may have been at when it failed
+-- its passes took at most a segment for each version that it gave since the opening, and one that
+-- it may have been at when it failed
 abbrev pub HasTakenFew : {D : Type 0} → Manager D → ManagerBase → Type 0
-HasTakenFew m b = takes_of m.lanes.items b.lanes + b.volume.began.next ≤ m.next + cond (is_some m.down) 1 0
+HasTakenFew m b =
+    takes_of m.lanes.items b.lanes + b.volume.began.next ≤ m.next + cond (is_some m.down) 1 0
 
 -- ---- The whole
 
--- What a manager keeps up for what it began with and the entries since, at the end of a step of a turn.
-pub record Keeps {D : Type 0} (tells : Bool) (state : D → State) (m : Manager D) (b : ManagerBase) (notes : List Noted) : Type 0 where
+-- What a manager keeps up for what it began with and the entries since, at the end of a step of a
+-- turn.
+pub record Keeps {D : Type 0} (tells : Bool) (state : D → State) (m : Manager D) (b : ManagerBase)
+    (notes : List Noted) : Type 0 where
   -- the records of each held segment
   pub logs : Logs
-  -- each held segment has its place among them, also after a failed call; while nothing failed its disk keeps them, where it tells its content
-  pub held : AllLanesHold (λ h rs. IsTrue tells → m.down ≡ None → Holds state h.segment rs) m.lanes.items logs
-  pub upholds : Upholds (parts_of tells state) b.volume.began (seen m logs) notes (writes (entries_of notes)) (flight_of (entries_of notes))
+  -- each held segment has its place among them, also after a failed call; while nothing failed its
+  -- disk keeps them, where it tells its content
+  pub held : AllLanesHold (λ h rs. IsTrue tells → m.down ≡ None → Holds state h.segment rs)
+      m.lanes.items logs
+  pub upholds : Upholds (parts_of tells state) b.volume.began (seen m logs) notes
+      (writes (entries_of notes)) (flight_of (entries_of notes))
   -- each held segment has a valid record
   pub in_use : IsTrue tells → m.down ≡ None → AreInUse (all_held 0 m.lanes.items logs)
   -- no pool was said to be empty more often than it was found so
   pub passed : HasPassed (nones_at m.lanes.items b.lanes) notes
-  -- no more segments were taken than there were writes to logs, each of which is one version, and one more where a call failed
+  -- no more segments were taken than there were writes to logs, each of which is one version, and
+  -- one more where a call failed
   pub taken : HasTakenFew m b
   -- no record that was listed at the opening has moved
   pub still : AreStill b.volume.places b.volume.began.next m.index.entries
   pub ready : IsReady state m
   pub locks : HasLocks m b
 
--- What a manager stands for at the end of a turn: this, and the last entry left the look that it has.
-pub record Stands {D : Type 0} (tells : Bool) (state : D → State) (m : Manager D) (b : ManagerBase) (notes : List Noted) : Type 0 where
+-- What a manager stands for at the end of a turn: this, and the last entry left the look that it
+-- has.
+pub record Stands {D : Type 0} (tells : Bool) (state : D → State) (m : Manager D) (b : ManagerBase)
+    (notes : List Noted) : Type 0 where
   pub keeps : Keeps tells state m b notes
   pub look : last_look b.volume.began.look notes ≡ look_of_manager m
 
@@ -149,23 +162,29 @@ abbrev pub notes_of : List Entry → List Noted
 notes_of entries = map (λ (e : Entry). noted_of e.0 e.1) entries
 
 -- what the manager stands for, as its lock has it
-abbrev pub StandsCoded : {D : Type 0} → (tells : Bool) → (D → State) → Manager D → ManagerBase → List Entry → Type 0
+abbrev pub StandsCoded : {D : Type 0} → (tells : Bool) → (D → State) → Manager D → ManagerBase
+    → List Entry → Type 0
 StandsCoded tells state m b entries = Stands tells state m b (notes_of entries)
 
 -- ---- What a call leaves
 
--- An entry with its notes, behind entries the last of which left the look l: its operation, the look that it leaves, the pools that were found empty;
--- and where it is ruled it goes by the rules.
-pub record IsNote (l : Look) (operation : Operation) (passed : List ℕ) (m : Look) (n : Noted) : Type 0 where
+-- An entry with its notes, behind entries the last of which left the look l: its operation, the
+-- look that it leaves, the pools that were found empty; and where it is ruled it goes by the rules.
+pub record IsNote (l : Look) (operation : Operation) (passed : List ℕ) (m : Look) (n : Noted) :
+    Type 0 where
   pub operation_is : n.entry.operation ≡ operation
   pub look_is : n.look ≡ m
   pub passed_is : n.passed ≡ passed
   pub drain : n.after_drain ≡ false
   pub follows : IsTrue n.ruled → IsStep n n.entry.pass n.entry.operation l n.look
 
--- a call leaves this entry: what the manager kept up for the entries before, it stands for with the entry
-abbrev pub Leaves : {D : Type 0} → (tells : Bool) → (D → State) → (old new : Manager D) → Operation → (passed : List ℕ) → (pass : ℕ) → Type 0
-Leaves tells state old new operation passed pass = (b : ManagerBase) (notes : List Noted) (n : Noted) → n.entry.pass ≡ pass → IsNote (last_look b.volume.began.look notes) operation passed (look_of_manager new) n
+-- a call leaves this entry: what the manager kept up for the entries before, it stands for with the
+-- entry
+abbrev pub Leaves : {D : Type 0} → (tells : Bool) → (D → State) → (old new : Manager D) → Operation
+    → (passed : List ℕ) → (pass : ℕ) → Type 0
+Leaves tells state old new operation passed pass =
+    (b : ManagerBase) (notes : List Noted) (n : Noted) → n.entry.pass ≡ pass
+    → IsNote (last_look b.volume.began.look notes) operation passed (look_of_manager new) n
     → Keeps tells state old b notes → Stands tells state new b (notes ++ n ∷ [])
 
 -- what no call of a manager changes

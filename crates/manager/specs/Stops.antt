@@ -1,4 +1,5 @@
--- A call that is stopped at any moment of it: each part may be any of its images since the call began.
+-- A call that is stopped at any moment of it: each part may be any of its images since the call
+-- began.
 use Rattle.std.specs.Prelude.{⊤, List, Option}
 use Rattle.wol_disk.specs.Disk.{State}
 use Rattle.spin_model.specs.declared.spun.Spun.{Spun}
@@ -11,8 +12,13 @@ use Rattle.manager.specs.declared.manager.Manager.{Manager}
 pub use Rattle.volume_parts.specs.Held.{ImageSince, HeldSince, was_held, was_free}
 pub use Rattle.volume_parts.specs.Claims.{HoldNoMore, WasClaimed, TellsClaim}
 
--- Stopped at any moment of it, the call leaves a cut: whichever images since its beginning each part has, they recover to the
--- acknowledged writes, perhaps with some of those in flight.
-abbrev pub Stops : {D : Type 0} → (D → State) → (old new : Manager D) → (claimed : Option (Spun D)) → ManagerBase → List Noted → (flight : List Write) → Type 0
-Stops state old new claimed b notes flight = (before after : Logs) → AllLanesHold (λ h rs. ⊤) old.lanes.items before → AllLanesHold (λ h rs. ⊤) new.lanes.items after
-    → StopsSafely (ImageSince state old.home new.home) (HeldSince state (all_held 0 old.lanes.items before) claimed) b.volume.began (entries_of notes) (all_held 0 new.lanes.items after) flight
+-- Stopped at any moment of it, the call leaves a cut: whichever images since its beginning each
+-- part has, they recover to the acknowledged writes, perhaps with some of those in flight.
+abbrev pub Stops : {D : Type 0} → (D → State) → (old new : Manager D) → (claimed : Option (Spun D))
+    → ManagerBase → List Noted → (flight : List Write) → Type 0
+Stops state old new claimed b notes flight =
+    (before after : Logs) → AllLanesHold (λ h rs. ⊤) old.lanes.items before
+    → AllLanesHold (λ h rs. ⊤) new.lanes.items after
+    → StopsSafely (ImageSince state old.home new.home)
+    (HeldSince state (all_held 0 old.lanes.items before) claimed) b.volume.began
+    (entries_of notes) (all_held 0 new.lanes.items after) flight

@@ -34,9 +34,12 @@ was_tried (Err (Down p)) = false
 was_tried (Err VersionsSpent) = false
 was_tried (Err NoMemory) = false
 
--- where the rule places a write of these blocks, with room in each lane but those that are noted to have none
-abbrev pub ruled_place : {D : Type 0} → (old new : Manager D) → (first : ℕ) → List Block → placing.Place
-ruled_place old new first blocks = place_of (passed_in new.rooms.items) (look_of_manager old) (home_write first blocks)
+-- where the rule places a write of these blocks, with room in each lane but those that are noted to
+-- have none
+abbrev pub ruled_place : {D : Type 0} → (old new : Manager D) → (first : ℕ) → List Block
+    → placing.Place
+ruled_place old new first blocks =
+    place_of (passed_in new.rooms.items) (look_of_manager old) (home_write first blocks)
 
 -- whether the lane at place k took a write that has this place and this answer
 abbrev pub takes_at : placing.Place → Result Place WriteRefusal → (k : ℕ) → Bool
@@ -44,7 +47,8 @@ takes_at p answer k = was_tried answer && is_in_log k p
 
 -- ---- Looks and disks
 
--- An answered write leaves the look of its place, and one that was refused before a disk was tried leaves the look as it was.
+-- An answered write leaves the look of its place, and one that was refused before a disk was tried
+-- leaves the look as it was.
 abbrev pub HasLook : placing.Place → Write → Result Place WriteRefusal → (old new : Look) → Type 0
 HasLook p w (Ok answer) old new = new ≡ placed p old w
 HasLook p w (Err (DiskFault fault)) old new = ⊤
@@ -54,20 +58,28 @@ HasLook p w (Err VersionsSpent) old new = new ≡ old
 HasLook p w (Err NoMemory) old new = new ≡ old
 
 -- home's spindle was needed exactly where home took the write
-abbrev pub NeedsHome : {D : Type 0} → placing.Place → Result Place WriteRefusal → (old new : Manager D) → Type 0
-NeedsHome p answer old new = MatchBool (was_tried answer && is_at_home p) (HasUsedOnce old.spindle new.spindle) (pass_mine new.spindle ≡ pass_mine old.spindle)
+abbrev pub NeedsHome : {D : Type 0} → placing.Place → Result Place WriteRefusal
+    → (old new : Manager D) → Type 0
+NeedsHome p answer old new = MatchBool (was_tried answer && is_at_home p)
+    (HasUsedOnce old.spindle new.spindle) (pass_mine new.spindle ≡ pass_mine old.spindle)
 
 -- and a logger's exactly where its log took it
-abbrev pub NeedsLogs : {D : Type 0} → placing.Place → Result Place WriteRefusal → (old new : Manager D) → Type 0
-NeedsLogs {D} p answer old new = (k : ℕ) (o n : Lane D) → slice_get old.lanes.items k ≡ Some o → slice_get new.lanes.items k ≡ Some n
-    → MatchBool (takes_at p answer k) (HasUsed o n) (pass_mine (spindle_of n) ≡ pass_mine (spindle_of o))
+abbrev pub NeedsLogs : {D : Type 0} → placing.Place → Result Place WriteRefusal
+    → (old new : Manager D) → Type 0
+NeedsLogs {D} p answer old new = (k : ℕ) (o n : Lane D) → slice_get old.lanes.items k ≡ Some o
+    → slice_get new.lanes.items k ≡ Some n
+    → MatchBool (takes_at p answer k) (HasUsed o n)
+    (pass_mine (spindle_of n) ≡ pass_mine (spindle_of o))
 
 -- ---- Refusals
 
--- After a disk call failed its part is told as down, and its count rose; after each other answer nothing else is down than before.
-abbrev pub TellsFault : {D : Type 0} → (D → State) → Result Place WriteRefusal → (old new : Manager D) → Type 0
+-- After a disk call failed its part is told as down, and its count rose; after each other answer
+-- nothing else is down than before.
+abbrev pub TellsFault : {D : Type 0} → (D → State) → Result Place WriteRefusal
+    → (old new : Manager D) → Type 0
 TellsFault state (Ok p) old new = new.down ≡ old.down
-TellsFault state (Err (DiskFault p)) old new = (new.down ≡ Some p) × PartRoseOrClaimed state old new p
+TellsFault state (Err (DiskFault p)) old new =
+    (new.down ≡ Some p) × PartRoseOrClaimed state old new p
 TellsFault state (Err Full) old new = new.down ≡ old.down
 TellsFault state (Err (Down p)) old new = new.down ≡ old.down
 TellsFault state (Err VersionsSpent) old new = new.down ≡ old.down
@@ -109,7 +121,8 @@ in_flight next first blocks (Err NoMemory) = []
 
 -- a write went home, or home failed
 abbrev pub IsHomeAnswer : (volume : ℕ) → Result Place WriteRefusal → Type 0
-IsHomeAnswer volume answer = (answer ≡ Ok place.Home) ⊎ (answer ≡ Err (DiskFault (part.Home volume)))
+IsHomeAnswer volume answer =
+    (answer ≡ Ok place.Home) ⊎ (answer ≡ Err (DiskFault (part.Home volume)))
 
 -- a write went to the logger at this place of the view, or a segment on it failed
 abbrev pub IsLogAnswer : (view : List ℕ) → (lane : ℕ) → Result Place WriteRefusal → Type 0

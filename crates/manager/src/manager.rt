@@ -100,8 +100,11 @@ impl<D: Disk> Manager<D> {
         requires flags { length ups.now ≡ length self.old.lanes.items }
         ensures ready { IsReady D.state self.new }
         ensures stands { (pass : ℕ) → Leaves D.tells D.state self.old self.new Kept [] pass }
-        ensures unchanged { self.new ≡ record self.old { home_up = home; ups = record { items = ups.now } } }
-        ensures any_moment { IsTrue D.tells → (b : ManagerBase) (notes : List Noted) → Keeps D.tells D.state self.old b notes → Stops D.state self.old self.new None b notes [] }
+        ensures unchanged { self.new
+            ≡ record self.old { home_up = home; ups = record { items = ups.now } } }
+        ensures any_moment { IsTrue D.tells → (b : ManagerBase) (notes : List Noted)
+            → Keeps D.tells D.state self.old b notes
+            → Stops D.state self.old self.new None b notes [] }
     {
         self.home_up = home;
         self.ups.copy_from_slice(ups);
@@ -114,10 +117,13 @@ impl<D: Disk> Manager<D> {
         ensures ready { IsReady D.state self.new }
         ensures at { IsHome shared.now self.new }
         ensures stands { (pass : ℕ) → Leaves D.tells D.state self.old self.new Kept [] pass }
-        ensures unchanged { self.new ≡ record self.old { home_up = true; spindle = self.new.spindle } }
+        ensures unchanged { self.new
+            ≡ record self.old { home_up = true; spindle = self.new.spindle } }
         ensures read { IsReadThrough D.state self.old self.new }
         ensures waking { HasUsedOnce self.old.spindle self.new.spindle }
-        ensures any_moment { IsTrue D.tells → (b : ManagerBase) (notes : List Noted) → Keeps D.tells D.state self.old b notes → Stops D.state self.old self.new None b notes [] }
+        ensures any_moment { IsTrue D.tells → (b : ManagerBase) (notes : List Noted)
+            → Keeps D.tells D.state self.old b notes
+            → Stops D.state self.old self.new None b notes [] }
     {
         let lock = &shared.spindles[self.id as usize];
         let token = take_token(rt, lock, &mut self.spindle);

@@ -52,9 +52,13 @@ impl<D: Disk> Manager<D> {
         ensures ready { IsReady D.state self.new }
         ensures at { IsHome shared.now self.new }
         ensures same { IsSameManager self.old self.new }
-        ensures stands { Leaves D.tells D.state self.old self.new (was_read lbn out.new result) [] worker }
-        ensures look { OnOk result (look_of_manager self.new ≡ woken (look_of_manager self.old) lbn (length out.old)) }
-        ensures logged { IfOk result (λ s. s.logged ≡ count_by (is_covered (listed_in self.old.index.entries)) (range_with_len lbn (length out.old))) }
+        ensures stands { Leaves D.tells D.state self.old self.new (was_read lbn out.new result) []
+            worker }
+        ensures look { OnOk result
+            (look_of_manager self.new ≡ woken (look_of_manager self.old) lbn (length out.old)) }
+        ensures logged { IfOk result (λ s.
+            s.logged ≡ count_by (is_covered (listed_in self.old.index.entries))
+            (range_with_len lbn (length out.old))) }
         ensures all { IfOk result (λ s. s.home + s.logged ≡ length out.old) }
 
         // Home is needed exactly where a block isn't covered, and a logger exactly where it has the newest record of one.
@@ -65,13 +69,16 @@ impl<D: Disk> Manager<D> {
         ensures down { (p : Part) → (result ≡ Err (ReadRefusal.Down p)) ↔ (self.old.down ≡ Some p) }
         ensures unchanged { IsSome self.old.down → (self.new ≡ self.old) × (out.new ≡ out.old) }
         ensures read { HasOnlyRead D.state self.old self.new }
-        ensures cause { (p : Part) → result ≡ Err (ReadRefusal.DiskFault p) → (self.new.down ≡ Some p) × PartRose D.state self.old self.new p }
+        ensures cause { (p : Part) → result ≡ Err (ReadRefusal.DiskFault p)
+            → (self.new.down ≡ Some p) × PartRose D.state self.old self.new p }
         ensures up { OnOk result (self.new.down ≡ None) }
 
         // Where it is answered no disk call failed in it.
         ensures calm { OnOk result (NoneRose D.state self.old self.new) }
 
-        ensures any_moment { IsTrue D.tells → (b : ManagerBase) (notes : List Noted) → Keeps D.tells D.state self.old b notes → Stops D.state self.old self.new None b notes [] }
+        ensures any_moment { IsTrue D.tells → (b : ManagerBase) (notes : List Noted)
+            → Keeps D.tells D.state self.old b notes
+            → Stops D.state self.old self.new None b notes [] }
     {
         if let Some(part) = self.down {
             return Err(ReadRefusal::Down(part));
@@ -102,10 +109,13 @@ impl<D: Disk> Manager<D> {
         ensures ready { IsReady D.state self.new }
         ensures at { IsHome shared.now self.new }
         ensures read { IsReadThrough D.state self.old self.new }
-        ensures look { look_of_manager self.new ≡ woken (look_of_manager self.old) lbn (length out.old) }
+        ensures look { look_of_manager self.new
+            ≡ woken (look_of_manager self.old) lbn (length out.old) }
         ensures needs { NeedsSources self.old self.new lbn (length out.old) }
-        ensures content { IsTrue D.tells → (b : ManagerBase) (notes : List Noted) → Keeps D.tells D.state self.old b notes
-            → OnOk result (out.new ≡ slice_range (after b.volume.began.array (writes (entries_of notes))) lbn (lbn + length out.old)) }
+        ensures content { IsTrue D.tells → (b : ManagerBase) (notes : List Noted)
+            → Keeps D.tells D.state self.old b notes
+            → OnOk result (out.new ≡ slice_range
+            (after b.volume.began.array (writes (entries_of notes))) lbn (lbn + length out.old)) }
         ensures cause { IfErr result (PartRose D.state self.old self.new) }
         ensures calm { OnOk result (NoneRose D.state self.old self.new) }
     {
@@ -134,10 +144,13 @@ impl<D: Disk> Manager<D> {
         ensures ready { IsReady D.state self.new }
         ensures at { IsHome shared.now self.new }
         ensures read { IsReadThrough D.state self.old self.new }
-        ensures look { look_of_manager self.new ≡ woken (look_of_manager self.old) lbn (length out.old) }
+        ensures look { look_of_manager self.new
+            ≡ woken (look_of_manager self.old) lbn (length out.old) }
         ensures needs { NeedsSources self.old self.new lbn (length out.old) }
-        ensures content { IsTrue D.tells → (b : ManagerBase) (notes : List Noted) → Keeps D.tells D.state self.old b notes
-            → OnOk result (out.new ≡ slice_range (after b.volume.began.array (writes (entries_of notes))) lbn (lbn + length out.old)) }
+        ensures content { IsTrue D.tells → (b : ManagerBase) (notes : List Noted)
+            → Keeps D.tells D.state self.old b notes
+            → OnOk result (out.new ≡ slice_range
+            (after b.volume.began.array (writes (entries_of notes))) lbn (lbn + length out.old)) }
         ensures cause { IfErr result (PartRose D.state self.old self.new) }
         ensures calm { OnOk result (NoneRose D.state self.old self.new) }
     {
@@ -175,11 +188,16 @@ impl<D: Disk> Manager<D> {
         ensures ready { IsReady D.state self.new }
         ensures at { IsHome shared.now self.new }
         ensures read { IsReadThrough D.state self.old self.new }
-        ensures look { look_of_manager self.new ≡ woken (look_of_manager self.old) lbn (length out.old) }
+        ensures look { look_of_manager self.new
+            ≡ woken (look_of_manager self.old) lbn (length out.old) }
         ensures needs { NeedsSources self.old self.new lbn (length out.old) }
-        ensures content { IsTrue D.tells → (b : ManagerBase) (notes : List Noted) → Keeps D.tells D.state self.old b notes
-            → OnOk result (out.new ≡ slice_range (after b.volume.began.array (writes (entries_of notes))) lbn (lbn + length out.old)) }
-        ensures logged { IfOk result (λ s. s.logged ≡ count_by (is_covered (listed_in self.old.index.entries)) (range_with_len lbn (length out.old))) }
+        ensures content { IsTrue D.tells → (b : ManagerBase) (notes : List Noted)
+            → Keeps D.tells D.state self.old b notes
+            → OnOk result (out.new ≡ slice_range
+            (after b.volume.began.array (writes (entries_of notes))) lbn (lbn + length out.old)) }
+        ensures logged { IfOk result (λ s.
+            s.logged ≡ count_by (is_covered (listed_in self.old.index.entries))
+            (range_with_len lbn (length out.old))) }
         ensures all { IfOk result (λ s. s.home + s.logged ≡ length out.old) }
         ensures cause { IfErr result (PartRose D.state self.old self.new) }
         ensures calm { OnOk result (NoneRose D.state self.old self.new) }
@@ -219,12 +237,17 @@ impl<D: Disk> Manager<D> {
         ensures ready { IsReady D.state self.new }
         ensures at { IsHome shared.now self.new }
         ensures read { IsReadThrough D.state self.old self.new }
-        ensures look { OnOk result (look_of_manager self.new ≡ woken (look_of_manager self.old) lbn (length out.old)) }
+        ensures look { OnOk result
+            (look_of_manager self.new ≡ woken (look_of_manager self.old) lbn (length out.old)) }
         ensures needs { NeedsFirstOf self.old self.new lbn (length out.old) }
         ensures needs_all { OnOk result (NeedsSources self.old self.new lbn (length out.old)) }
-        ensures content { IsTrue D.tells → (b : ManagerBase) (notes : List Noted) → Keeps D.tells D.state self.old b notes
-            → OnOk result (out.new ≡ slice_range (after b.volume.began.array (writes (entries_of notes))) lbn (lbn + length out.old)) }
-        ensures logged { IfOk result (λ s. s.logged ≡ count_by (is_covered (listed_in self.old.index.entries)) (range_with_len lbn (length out.old))) }
+        ensures content { IsTrue D.tells → (b : ManagerBase) (notes : List Noted)
+            → Keeps D.tells D.state self.old b notes
+            → OnOk result (out.new ≡ slice_range
+            (after b.volume.began.array (writes (entries_of notes))) lbn (lbn + length out.old)) }
+        ensures logged { IfOk result (λ s.
+            s.logged ≡ count_by (is_covered (listed_in self.old.index.entries))
+            (range_with_len lbn (length out.old))) }
         ensures all { IfOk result (λ s. s.home + s.logged ≡ length out.old) }
         ensures cause { IfErr result (PartRose D.state self.old self.new) }
         ensures calm { OnOk result (NoneRose D.state self.old self.new) }

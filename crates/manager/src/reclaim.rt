@@ -32,17 +32,23 @@ impl<D: Disk> Manager<D> {
         requires ready { IsReady D.state self.old }
         requires at { IsHome shared.now self.old }
         requires there { HasVersion self.old.index.entries version }
-        requires count { ForSome (entry_at self.old.index.entries version) (λ e. length out.old ≡ length e.listed.keep) }
+        requires count { ForSome (entry_at self.old.index.entries version)
+            (λ e. length out.old ≡ length e.listed.keep) }
         ensures ready { IsReady D.state self.new }
         ensures at { IsHome shared.now self.new }
         ensures fault { TellsStep D.state result self.old self.new }
         ensures calm { OnOk result (NoneRose D.state self.old self.new) }
-        ensures fetched { OnTried result (ForSome (entry_at self.old.index.entries version) (λ e. HasFetched e.listed.lane self.old self.new)) }
+        ensures fetched { OnTried result
+            (ForSome (entry_at self.old.index.entries version)
+            (λ e. HasFetched e.listed.lane self.old self.new)) }
         ensures read { OnOk result (IsReadThrough D.state self.old self.new) }
-        ensures content { (b : ManagerBase) (notes : List Noted) → Keeps D.tells D.state self.old b notes → OnOk result (AreOf D.tells self.old.index.entries version out.new b notes) }
+        ensures content { (b : ManagerBase) (notes : List Noted)
+            → Keeps D.tells D.state self.old b notes
+            → OnOk result (AreOf D.tells self.old.index.entries version out.new b notes) }
         ensures keeps { OnKept result (KeepsOn D.tells D.state self.old self.new Always) }
         ensures broke { OnFailed result (BreaksOff D.tells D.state self.old self.new Always) }
-        ensures any_moment { OnTried result (IsTrue D.tells → StopsSince D.tells D.state self.old self.new Always) }
+        ensures any_moment { OnTried result
+            (IsTrue D.tells → StopsSince D.tells D.state self.old self.new Always) }
     {
         if let Some(part) = self.down {
             return Err(StepFault::Down(part));
@@ -74,16 +80,24 @@ impl<D: Disk> Manager<D> {
         requires at { IsHome shared.now self.old }
         requires there { HasVersion self.old.index.entries version }
         requires due { ForSome (entry_at self.old.index.entries version)
-            (λ e. (i : ℕ) → has_bit mask i ≡ true → is_due (listed_in self.old.index.entries) e.listed (e.listed.first + i) ≡ true) }
-        requires count { ForSome (entry_at self.old.index.entries version) (λ e. length from.now ≡ length e.listed.keep) }
+            (λ e. (i : ℕ) → has_bit mask i ≡ true
+            → is_due (listed_in self.old.index.entries) e.listed (e.listed.first + i) ≡ true) }
+        requires count { ForSome (entry_at self.old.index.entries version)
+            (λ e. length from.now ≡ length e.listed.keep) }
         ensures ready { IsReady D.state self.new }
         ensures at { IsHome shared.now self.new }
         ensures fault { TellsStep D.state result self.old self.new }
         ensures calm { OnOk result (NoneRose D.state self.old self.new) }
-        ensures stored { OnTried result (HasStored D.state version mask from.now self.old self.new result) }
-        ensures keeps { OnKept result (KeepsOn D.tells D.state self.old self.new (AreOf D.tells self.old.index.entries version from.now)) }
-        ensures broke { OnFailed result (BreaksOff D.tells D.state self.old self.new (AreOf D.tells self.old.index.entries version from.now)) }
-        ensures any_moment { OnTried result (IsTrue D.tells → StopsSince D.tells D.state self.old self.new (AreOf D.tells self.old.index.entries version from.now)) }
+        ensures stored { OnTried result
+            (HasStored D.state version mask from.now self.old self.new result) }
+        ensures keeps { OnKept result (KeepsOn D.tells D.state self.old self.new
+            (AreOf D.tells self.old.index.entries version from.now)) }
+        ensures broke { OnFailed result
+            (BreaksOff D.tells D.state self.old self.new
+            (AreOf D.tells self.old.index.entries version from.now)) }
+        ensures any_moment { OnTried result
+            (IsTrue D.tells → StopsSince D.tells D.state self.old self.new
+            (AreOf D.tells self.old.index.entries version from.now)) }
     {
         if let Some(part) = self.down {
             return Err(StepFault::Down(part));
@@ -128,16 +142,21 @@ impl<D: Disk> Manager<D> {
         requires ready { IsReady D.state self.old }
         requires at { IsHome shared.now self.old }
         requires there { HasVersion self.old.index.entries version }
-        requires goes { ForSome (entry_at self.old.index.entries version) (λ e. has_going (listed_in self.old.index.entries) e.listed ≡ true) }
+        requires goes { ForSome (entry_at self.old.index.entries version)
+            (λ e. has_going (listed_in self.old.index.entries) e.listed ≡ true) }
         ensures ready { IsReady D.state self.new }
         ensures at { IsHome shared.now self.new }
         ensures fault { TellsStep D.state result self.old self.new }
         ensures calm { OnOk result (NoneRose D.state self.old self.new) }
-        ensures gone { IfOk result (λ gone. gone ≡ is_none (entry_at self.new.index.entries version)) }
-        ensures dropped { OnTried result (ForSome (entry_at self.old.index.entries version) (λ e. HasDropped version e self.old self.new result)) }
+        ensures gone { IfOk result
+            (λ gone. gone ≡ is_none (entry_at self.new.index.entries version)) }
+        ensures dropped { OnTried result
+            (ForSome (entry_at self.old.index.entries version)
+            (λ e. HasDropped version e self.old self.new result)) }
         ensures keeps { OnKept result (KeepsOn D.tells D.state self.old self.new Always) }
         ensures broke { OnFailed result (BreaksOff D.tells D.state self.old self.new Always) }
-        ensures any_moment { OnTried result (IsTrue D.tells → StopsSince D.tells D.state self.old self.new Always) }
+        ensures any_moment { OnTried result
+            (IsTrue D.tells → StopsSince D.tells D.state self.old self.new Always) }
     {
         if let Some(part) = self.down {
             return Err(StepFault::Down(part));

@@ -28,13 +28,17 @@ impl<D: Disk> Manager<D> {
         requires at { IsHome shared.now self.old }
         requires up { self.old.down ≡ None }
         requires index { IsIndex self.old.index.entries }
-        requires there { IsAnswer (entry_at self.old.index.entries «record».now.version) (Some «record».now) }
+        requires there { IsAnswer (entry_at self.old.index.entries «record».now.version)
+            (Some «record».now) }
         requires count { length out.old ≡ «record».now.count }
         ensures ready { IsReady D.state self.new }
         ensures at { IsHome shared.now self.new }
         ensures read { IsReadThrough D.state self.old self.new }
         ensures fetched { HasFetched «record».now.lane self.old self.new }
-        ensures content { (b : ManagerBase) (notes : List Noted) → Keeps D.tells D.state self.old b notes → OnOk result (AreOf D.tells self.old.index.entries «record».now.version out.new b notes) }
+        ensures content { (b : ManagerBase) (notes : List Noted)
+            → Keeps D.tells D.state self.old b notes
+            → OnOk result
+            (AreOf D.tells self.old.index.entries «record».now.version out.new b notes) }
         ensures cause { IfErr result (PartRose D.state self.old self.new) }
         ensures calm { OnOk result (NoneRose D.state self.old self.new) }
     {

@@ -25,15 +25,19 @@ impl<D: Disk> Manager<D> {
         requires ready { IsReady D.state self.old }
         requires at { IsHome shared.now self.old }
         requires there { HasVersion self.old.index.entries version }
-        requires covered { ForSome (entry_at self.old.index.entries version) (λ e. NoneLiveIn e.listed.lane e.index self.old.index.entries) }
+        requires covered { ForSome (entry_at self.old.index.entries version)
+            (λ e. NoneLiveIn e.listed.lane e.index self.old.index.entries) }
         ensures ready { IsReady D.state self.new }
         ensures at { IsHome shared.now self.new }
         ensures fault { TellsStep D.state result self.old self.new }
         ensures calm { OnOk result (NoneRose D.state self.old self.new) }
-        ensures dropped { OnTried result (ForSome (entry_at self.old.index.entries version) (λ e. HasDroppedSegment e.listed.lane e.index self.old self.new result)) }
+        ensures dropped { OnTried result
+            (ForSome (entry_at self.old.index.entries version)
+            (λ e. HasDroppedSegment e.listed.lane e.index self.old self.new result)) }
         ensures keeps { OnKept result (KeepsOn D.tells D.state self.old self.new Always) }
         ensures broke { OnFailed result (BreaksOff D.tells D.state self.old self.new Always) }
-        ensures any_moment { OnTried result (IsTrue D.tells → StopsSince D.tells D.state self.old self.new Always) }
+        ensures any_moment { OnTried result
+            (IsTrue D.tells → StopsSince D.tells D.state self.old self.new Always) }
     {
         if let Some(part) = self.down {
             return Err(StepFault::Down(part));

@@ -75,25 +75,52 @@ impl<D: Disk> Manager<D> {
         requires reserved { length items.now ≤ self.old.index.reserved }
         ensures ready { IsReady D.state self.new }
         ensures at { IsHome shared.now self.new }
-        ensures no_room { result ≡ Taken.NoRoom → (self.new ≡ record self.old { lanes = self.new.lanes })
-            × ChangesLane (IsTurnedAway (first_count items.now)) lane self.old.lanes.items self.new.lanes.items }
-        ensures keeps { result ≡ Taken.NoRoom → (b : ManagerBase) (notes : List Noted) → Keeps D.tells D.state self.old b notes → Keeps D.tells D.state self.new b notes }
-        ensures taken { result ≢ Taken.NoRoom → (self.new ≡ record self.old { lanes = self.new.lanes; index = self.new.index; next = self.new.next; ups = self.new.ups; down = self.new.down })
+        ensures no_room { result ≡ Taken.NoRoom
+            → (self.new ≡ record self.old { lanes = self.new.lanes })
+            × ChangesLane (IsTurnedAway (first_count items.now)) lane self.old.lanes.items
+            self.new.lanes.items }
+        ensures keeps { result ≡ Taken.NoRoom → (b : ManagerBase) (notes : List Noted)
+            → Keeps D.tells D.state self.old b notes → Keeps D.tells D.state self.new b notes }
+        ensures taken { result ≢ Taken.NoRoom
+            → (self.new ≡ record self.old {
+              lanes = self.new.lanes;
+              index = self.new.index;
+              next = self.new.next;
+              ups = self.new.ups;
+              down = self.new.down;
+            })
             × ChangesLane HasTakenWrite lane self.old.lanes.items self.new.lanes.items }
-        ensures tried { result ≢ Taken.NoRoom → (1 ≤ tried_by result) × (tried_by result ≤ length items.now) }
-        ensures stands { result ≢ Taken.NoRoom → (b : ManagerBase) (notes : List Noted) (passed : List ℕ) (n : Noted) → n.entry.pass ≡ worker
-            → IsNote (last_look b.volume.began.look notes) (offered_group self.old.next items.now from.now result) passed (look_of_manager self.new) n
-            → HasPassed (nones_at self.new.lanes.items b.lanes) (notes ++ n ∷ []) → Keeps D.tells D.state self.old b notes → Stands D.tells D.state self.new b (notes ++ n ∷ []) }
-        ensures look { (count : ℕ) → result ≡ Taken.Written count → look_of_manager self.new ≡ placed_all (InLog lane) (look_of_manager self.old) (log_writes self.old.next (take count items.now) from.now) }
+        ensures tried { result ≢ Taken.NoRoom
+            → (1 ≤ tried_by result) × (tried_by result ≤ length items.now) }
+        ensures stands { result ≢ Taken.NoRoom
+            → (b : ManagerBase) (notes : List Noted) (passed : List ℕ) (n : Noted)
+            → n.entry.pass ≡ worker
+            → IsNote (last_look b.volume.began.look notes)
+            (offered_group self.old.next items.now from.now result) passed
+            (look_of_manager self.new) n
+            → HasPassed (nones_at self.new.lanes.items b.lanes) (notes ++ n ∷ [])
+            → Keeps D.tells D.state self.old b notes
+            → Stands D.tells D.state self.new b (notes ++ n ∷ []) }
+        ensures look { (count : ℕ) → result ≡ Taken.Written count
+            → look_of_manager self.new ≡ placed_all (InLog lane) (look_of_manager self.old)
+            (log_writes self.old.next (take count items.now) from.now) }
         ensures up { (count : ℕ) → result ≡ Taken.Written count → self.new.down ≡ None }
         ensures next { self.new.next ≡ self.old.next + entered_by result }
-        ensures down { (count : ℕ) (p : Part) → result ≡ Taken.Failed count p → self.new.down ≡ Some p }
-        ensures named { (count : ℕ) (p : Part) → result ≡ Taken.Failed count p → IsOn (map logger_of self.old.lanes.items) lane p }
-        ensures cause { (count : ℕ) (p : Part) → result ≡ Taken.Failed count p → PartRoseOrClaimed D.state self.old self.new p }
-        ensures calm { (count : ℕ) → result ≡ Taken.Written count → NoneRose D.state self.old self.new }
-        ensures any_moment { (claimed : Option (Spun _)) × TellsClaim D.tells D.state (told_of result) self.old.lanes.items self.new.lanes.items claimed
-            × (IsTrue D.tells → (b : ManagerBase) (notes : List Noted) → Keeps D.tells D.state self.old b notes
-            → Stops D.state self.old self.new claimed b notes (log_writes self.old.next (take (tried_by result) items.now) from.now)) }
+        ensures down { (count : ℕ) (p : Part) → result ≡ Taken.Failed count p
+            → self.new.down ≡ Some p }
+        ensures named { (count : ℕ) (p : Part) → result ≡ Taken.Failed count p
+            → IsOn (map logger_of self.old.lanes.items) lane p }
+        ensures cause { (count : ℕ) (p : Part) → result ≡ Taken.Failed count p
+            → PartRoseOrClaimed D.state self.old self.new p }
+        ensures calm { (count : ℕ) → result ≡ Taken.Written count
+            → NoneRose D.state self.old self.new }
+        ensures any_moment { (claimed : Option (Spun _))
+            × TellsClaim D.tells D.state (told_of result) self.old.lanes.items self.new.lanes.items
+            claimed
+            × (IsTrue D.tells → (b : ManagerBase) (notes : List Noted)
+            → Keeps D.tells D.state self.old b notes
+            → Stops D.state self.old self.new claimed b notes
+            (log_writes self.old.next (take (tried_by result) items.now) from.now)) }
     {
         let reached = &mut self.lanes[lane];
         let logger = reached.logger();
@@ -144,25 +171,55 @@ impl<D: Disk> Manager<D> {
         requires reserved { length items.now ≤ self.old.index.reserved }
         ensures ready { IsReady D.state self.new }
         ensures at { IsHome shared.now self.new }
-        ensures turned_away { IsNone result → (self.new ≡ record self.old { lanes = self.new.lanes; rooms = record { items = slice_set self.old.rooms.items lane Room.No } })
-            × ChangesLane (IsTurnedAway (first_count items.now)) lane self.old.lanes.items self.new.lanes.items }
-        ensures keeps { IsNone result → (b : ManagerBase) (notes : List Noted) → Keeps D.tells D.state self.old b notes → Keeps D.tells D.state self.new b notes }
-        ensures taken { IsSome result → (self.new ≡ record self.old { lanes = self.new.lanes; index = self.new.index; next = self.new.next; ups = self.new.ups; down = self.new.down })
+        ensures turned_away { IsNone result
+            → (self.new ≡ record self.old {
+              lanes = self.new.lanes;
+              rooms = record { items = slice_set self.old.rooms.items lane Room.No };
+            })
+            × ChangesLane (IsTurnedAway (first_count items.now)) lane self.old.lanes.items
+            self.new.lanes.items }
+        ensures keeps { IsNone result → (b : ManagerBase) (notes : List Noted)
+            → Keeps D.tells D.state self.old b notes → Keeps D.tells D.state self.new b notes }
+        ensures taken { IsSome result → (self.new
+            ≡ record self.old {
+              lanes = self.new.lanes;
+              index = self.new.index;
+              next = self.new.next;
+              ups = self.new.ups;
+              down = self.new.down;
+            })
             × ChangesLane HasTakenWrite lane self.old.lanes.items self.new.lanes.items }
         ensures tried { IfSome result (λ r. (1 ≤ r.items) × (r.items ≤ length items.now)) }
-        ensures joins { IfSome result (λ r. GoTogether self.old.home_up (listed_in self.old.index.entries) (passed_in self.old.rooms.items) items.now r.items) }
-        ensures answer { IfSome result (λ r. IsLogAnswer (map logger_of self.old.lanes.items) lane r.answer) }
-        ensures stands { IfSome result (λ r. (b : ManagerBase) (notes : List Noted) (passed : List ℕ) (n : Noted) → n.entry.pass ≡ worker
-            → IsNote (last_look b.volume.began.look notes) (run_written (run_writes self.old.next (take r.items items.now) from.now r.answer) r.answer) passed (look_of_manager self.new) n
+        ensures joins { IfSome result (λ r.
+            GoTogether self.old.home_up (listed_in self.old.index.entries)
+            (passed_in self.old.rooms.items) items.now r.items) }
+        ensures answer { IfSome result
+            (λ r. IsLogAnswer (map logger_of self.old.lanes.items) lane r.answer) }
+        ensures stands { IfSome result (λ r.
+            (b : ManagerBase) (notes : List Noted) (passed : List ℕ) (n : Noted)
+            → n.entry.pass ≡ worker
+            → IsNote (last_look b.volume.began.look notes)
+            (run_written (run_writes self.old.next (take r.items items.now) from.now r.answer)
+            r.answer) passed (look_of_manager self.new) n
             → HasPassed (nones_at self.new.lanes.items b.lanes) (notes ++ n ∷ [])
-            → Keeps D.tells D.state self.old b notes → Stands D.tells D.state self.new b (notes ++ n ∷ [])) }
-        ensures look { IfSome result (λ r. OnOk r.answer (look_of_manager self.new ≡ placed_all (InLog lane) (look_of_manager self.old) (log_writes self.old.next (take r.items items.now) from.now))) }
-        ensures next { IfSome result (λ r. self.new.next ≡ self.old.next + given_out r.answer r.items) }
+            → Keeps D.tells D.state self.old b notes
+            → Stands D.tells D.state self.new b (notes ++ n ∷ [])) }
+        ensures look { IfSome result (λ r.
+            OnOk r.answer (look_of_manager self.new
+            ≡ placed_all (InLog lane) (look_of_manager self.old)
+            (log_writes self.old.next (take r.items items.now) from.now))) }
+        ensures next { IfSome result
+            (λ r. self.new.next ≡ self.old.next + given_out r.answer r.items) }
         ensures fault { IfSome result (λ r. TellsFault D.state r.answer self.old self.new) }
         ensures calm { IfSome result (λ r. OnOk r.answer (NoneRose D.state self.old self.new)) }
-        ensures any_moment { IfSome result (λ r. (claimed : Option (Spun _)) × TellsClaim D.tells D.state (IsOk r.answer) self.old.lanes.items self.new.lanes.items claimed
-            × (IsTrue D.tells → (b : ManagerBase) (notes : List Noted) → Keeps D.tells D.state self.old b notes
-            → Stops D.state self.old self.new claimed b notes (run_writes self.old.next (take r.items items.now) from.now r.answer))) }
+        ensures any_moment { IfSome result
+            (λ r. (claimed : Option (Spun _))
+            × TellsClaim D.tells D.state (IsOk r.answer) self.old.lanes.items
+            self.new.lanes.items claimed
+            × (IsTrue D.tells → (b : ManagerBase) (notes : List Noted)
+            → Keeps D.tells D.state self.old b notes
+            → Stops D.state self.old self.new claimed b notes
+            (run_writes self.old.next (take r.items items.now) from.now r.answer))) }
     {
         let joining = together(&self.index, self.home_up, &self.rooms, items);
         let front = &items[..joining];
@@ -198,21 +255,28 @@ impl<D: Disk> Manager<D> {
         requires ready { IsReady D.state self.old }
         requires at { IsHome shared.now self.old }
         requires up { self.old.down ≡ None }
-        requires unasked { self.old.rooms.items ≡ replicate (length self.old.lanes.items) Room.Unknown }
+        requires unasked { self.old.rooms.items
+            ≡ replicate (length self.old.lanes.items) Room.Unknown }
         requires some { 1 ≤ length items.now }
         requires items { AreItemsOf self.old.most (state_of D.state self.old.home).size items.now }
         requires blocks { count_of items.now ≤ length from.now }
-        requires covered { covered ≡ list_any (is_covered (listed_in self.old.index.entries)) (range_with_len (first_lbn items.now) (length (first_blocks items.now from.now))) }
+        requires covered { covered ≡ list_any (is_covered (listed_in self.old.index.entries))
+            (range_with_len (first_lbn items.now) (length (first_blocks items.now from.now))) }
         requires next { self.old.next + length items.now ≤ 2 ^ 63 }
         requires reserved { length items.now ≤ self.old.index.reserved }
         ensures ready { IsReady D.state self.new }
         ensures at { IsHome shared.now self.new }
         ensures same { IsSameManager self.old self.new }
         ensures answer { IsPlacedAnswer result.answer }
-        ensures run { HasRun D.tells D.state items.now from.now result.items result.answer (ruled_run self.old self.new items.now from.now) self.old self.new }
-        ensures placed { IsPlaceOf (map logger_of self.old.lanes.items) result.answer (ruled_run self.old self.new items.now from.now) }
-        ensures answered { HaveAnswered (first_count items.now) (takes_at (ruled_run self.old self.new items.now from.now) result.answer) self.new.rooms.items self.old.lanes.items self.new.lanes.items }
-        ensures waking { NeedsHome (ruled_run self.old self.new items.now from.now) result.answer self.old self.new }
+        ensures run { HasRun D.tells D.state items.now from.now result.items result.answer
+            (ruled_run self.old self.new items.now from.now) self.old self.new }
+        ensures placed { IsPlaceOf (map logger_of self.old.lanes.items) result.answer
+            (ruled_run self.old self.new items.now from.now) }
+        ensures answered { HaveAnswered (first_count items.now)
+            (takes_at (ruled_run self.old self.new items.now from.now) result.answer)
+            self.new.rooms.items self.old.lanes.items self.new.lanes.items }
+        ensures waking { NeedsHome (ruled_run self.old self.new items.now from.now) result.answer
+            self.old self.new }
         ensures fault { TellsFault D.state result.answer self.old self.new }
         ensures calm { OnOk result.answer (NoneRose D.state self.old self.new) }
         ensures unchanged { IsAsBefore result.answer self.old self.new }
@@ -263,18 +327,27 @@ impl<D: Disk> Manager<D> {
 
         // What the manager stood for, it stands for with these writes as one entry, or with what the refusal says; wherever the call is
         // stopped, each choice of images recovers to a cut by some first ones of them.
-        ensures run { HasRun D.tells D.state items.now from.now result.items result.answer (ruled_run self.old self.new items.now from.now) self.old self.new }
+        ensures run { HasRun D.tells D.state items.now from.now result.items result.answer
+            (ruled_run self.old self.new items.now from.now) self.old self.new }
 
         // The place of the first is the rule's, with room in each lane but those that were turned away in this call.
-        ensures placed { IsPlaceOf (map logger_of self.old.lanes.items) result.answer (ruled_run self.old self.new items.now from.now) }
-        ensures answered { HaveAnswered (first_count items.now) (takes_at (ruled_run self.old self.new items.now from.now) result.answer) self.new.rooms.items self.old.lanes.items self.new.lanes.items }
+        ensures placed { IsPlaceOf (map logger_of self.old.lanes.items) result.answer
+            (ruled_run self.old self.new items.now from.now) }
+        ensures answered { HaveAnswered (first_count items.now)
+            (takes_at (ruled_run self.old self.new items.now from.now) result.answer)
+            self.new.rooms.items self.old.lanes.items self.new.lanes.items }
 
-        ensures waking_home { NeedsHome (ruled_run self.old self.new items.now from.now) result.answer self.old self.new }
-        ensures waking_logs { NeedsLogs (ruled_run self.old self.new items.now from.now) result.answer self.old self.new }
+        ensures waking_home { NeedsHome (ruled_run self.old self.new items.now from.now)
+            result.answer self.old self.new }
+        ensures waking_logs { NeedsLogs (ruled_run self.old self.new items.now from.now)
+            result.answer self.old self.new }
 
-        ensures down { (p : Part) → (result.answer ≡ Err (WriteRefusal.Down p)) ↔ (self.old.down ≡ Some p) }
-        ensures versions { (result.answer ≡ Err WriteRefusal.VersionsSpent) ↔ ((self.old.down ≡ None) × (self.old.next ≡ 2 ^ 63)) }
-        ensures memory { result.answer ≡ Err WriteRefusal.NoMemory → (self.old.down ≡ None) × (self.old.next < 2 ^ 63) × (self.old.index.reserved < 1) }
+        ensures down { (p : Part) → (result.answer ≡ Err (WriteRefusal.Down p))
+            ↔ (self.old.down ≡ Some p) }
+        ensures versions { (result.answer ≡ Err WriteRefusal.VersionsSpent)
+            ↔ ((self.old.down ≡ None) × (self.old.next ≡ 2 ^ 63)) }
+        ensures memory { result.answer ≡ Err WriteRefusal.NoMemory
+            → (self.old.down ≡ None) × (self.old.next < 2 ^ 63) × (self.old.index.reserved < 1) }
         ensures fault { TellsFault D.state result.answer self.old self.new }
         ensures calm { OnOk result.answer (NoneRose D.state self.old self.new) }
         ensures unchanged { IsAsBefore result.answer self.old self.new }
@@ -330,19 +403,28 @@ impl<D: Disk> Manager<D> {
 
         // What the manager stood for, it stands for with these writes as one entry, or with what the refusal says; wherever the call is
         // stopped, each choice of images recovers to a cut by some first ones of them.
-        ensures run { (tried : ℕ) × HasRun D.tells D.state items.now from.now tried (place_told result) (ruled_run self.old self.new items.now from.now) self.old self.new
+        ensures run { (tried : ℕ) × HasRun D.tells D.state items.now from.now tried
+            (place_told result) (ruled_run self.old self.new items.now from.now) self.old self.new
             × IfOk result (λ told. told.0 ≡ tried) }
 
         // The place of the first is the rule's, with room in each lane but those that were turned away in this call.
-        ensures placed { IsPlaceOf (map logger_of self.old.lanes.items) (place_told result) (ruled_run self.old self.new items.now from.now) }
-        ensures answered { HaveAnswered (first_count items.now) (takes_at (ruled_run self.old self.new items.now from.now) (place_told result)) self.new.rooms.items self.old.lanes.items self.new.lanes.items }
+        ensures placed { IsPlaceOf (map logger_of self.old.lanes.items) (place_told result)
+            (ruled_run self.old self.new items.now from.now) }
+        ensures answered { HaveAnswered (first_count items.now)
+            (takes_at (ruled_run self.old self.new items.now from.now) (place_told result))
+            self.new.rooms.items self.old.lanes.items self.new.lanes.items }
 
-        ensures waking_home { NeedsHome (ruled_run self.old self.new items.now from.now) (place_told result) self.old self.new }
-        ensures waking_logs { NeedsLogs (ruled_run self.old self.new items.now from.now) (place_told result) self.old self.new }
+        ensures waking_home { NeedsHome (ruled_run self.old self.new items.now from.now)
+            (place_told result) self.old self.new }
+        ensures waking_logs { NeedsLogs (ruled_run self.old self.new items.now from.now)
+            (place_told result) self.old self.new }
 
-        ensures down { (p : Part) → (result ≡ Err (WriteRefusal.Down p)) ↔ (self.old.down ≡ Some p) }
-        ensures versions { (result ≡ Err WriteRefusal.VersionsSpent) ↔ ((self.old.down ≡ None) × (self.old.next ≡ 2 ^ 63)) }
-        ensures memory { result ≡ Err WriteRefusal.NoMemory → (self.old.down ≡ None) × (self.old.next < 2 ^ 63) × (self.old.index.reserved < 1) }
+        ensures down { (p : Part) → (result ≡ Err (WriteRefusal.Down p))
+            ↔ (self.old.down ≡ Some p) }
+        ensures versions { (result ≡ Err WriteRefusal.VersionsSpent)
+            ↔ ((self.old.down ≡ None) × (self.old.next ≡ 2 ^ 63)) }
+        ensures memory { result ≡ Err WriteRefusal.NoMemory
+            → (self.old.down ≡ None) × (self.old.next < 2 ^ 63) × (self.old.index.reserved < 1) }
         ensures fault { TellsFault D.state (place_told result) self.old self.new }
         ensures calm { OnOk result (NoneRose D.state self.old self.new) }
         ensures unchanged { IsAsBefore (place_told result) self.old self.new }

@@ -37,20 +37,31 @@ impl<D: Disk> Manager<D> {
         requires at { IsHome shared.now self.old }
         requires up { self.old.down ≡ None }
         requires fits { lbn + length from.now ≤ (state_of D.state self.old.home).size }
-        requires bare { list_any (is_covered (listed_in self.old.index.entries)) (range_with_len lbn (length from.now)) ≡ false }
+        requires bare { list_any (is_covered (listed_in self.old.index.entries))
+            (range_with_len lbn (length from.now)) ≡ false }
         ensures ready { IsReady D.state self.new }
         ensures at { IsHome shared.now self.new }
         ensures answer { IsHomeAnswer self.old.id result }
-        ensures unchanged { self.new ≡ record self.old { home = self.new.home; spindle = self.new.spindle; home_up = true; down = self.new.down } }
-        ensures stands { (b : ManagerBase) (notes : List Noted) (passed : List ℕ) (n : Noted) → n.entry.pass ≡ worker
-            → IsNote (last_look b.volume.began.look notes) (written self.old.next lbn from.now result) passed (look_of_manager self.new) n
+        ensures unchanged { self.new ≡ record self.old {
+          home = self.new.home;
+          spindle = self.new.spindle;
+          home_up = true;
+          down = self.new.down;
+        } }
+        ensures stands { (b : ManagerBase) (notes : List Noted) (passed : List ℕ) (n : Noted)
+            → n.entry.pass ≡ worker
+            → IsNote (last_look b.volume.began.look notes)
+            (written self.old.next lbn from.now result) passed (look_of_manager self.new) n
             → HasPassed (nones_at self.new.lanes.items b.lanes) (notes ++ n ∷ [])
-            → Keeps D.tells D.state self.old b notes → Stands D.tells D.state self.new b (notes ++ n ∷ []) }
+            → Keeps D.tells D.state self.old b notes
+            → Stands D.tells D.state self.new b (notes ++ n ∷ []) }
         ensures waking { HasUsedOnce self.old.spindle self.new.spindle }
         ensures fault { TellsFault D.state result self.old self.new }
         ensures calm { OnOk result (NoneRose D.state self.old self.new) }
-        ensures any_moment { IsTrue D.tells → (b : ManagerBase) (notes : List Noted) → Keeps D.tells D.state self.old b notes
-            → Stops D.state self.old self.new None b notes (in_flight self.old.next lbn from.now result) }
+        ensures any_moment { IsTrue D.tells → (b : ManagerBase) (notes : List Noted)
+            → Keeps D.tells D.state self.old b notes
+            → Stops D.state self.old self.new None b notes
+            (in_flight self.old.next lbn from.now result) }
     {
         let lock = &shared.spindles[self.id as usize];
         self.home_up = true;
@@ -87,28 +98,42 @@ impl<D: Disk> Manager<D> {
         ensures same { IsSameManager self.old self.new }
 
         // What the manager stood for, it stands for with this write, or with what its refusal says.
-        ensures stands { Leaves D.tells D.state self.old self.new (written self.old.next lbn from.now result) (passed_in self.new.rooms.items) worker }
+        ensures stands { Leaves D.tells D.state self.old self.new
+            (written self.old.next lbn from.now result) (passed_in self.new.rooms.items) worker }
 
         // The place is the rule's, with room in each lane but those that were turned away in this call.
-        ensures placed { IsPlaceOf (map logger_of self.old.lanes.items) result (ruled_place self.old self.new lbn from.now) }
-        ensures answered { HaveAnswered (length from.now) (takes_at (ruled_place self.old self.new lbn from.now) result) self.new.rooms.items self.old.lanes.items self.new.lanes.items }
-        ensures look { HasLook (ruled_place self.old self.new lbn from.now) (home_write lbn from.now) result (look_of_manager self.old) (look_of_manager self.new) }
+        ensures placed { IsPlaceOf (map logger_of self.old.lanes.items) result
+            (ruled_place self.old self.new lbn from.now) }
+        ensures answered { HaveAnswered (length from.now)
+            (takes_at (ruled_place self.old self.new lbn from.now) result) self.new.rooms.items
+            self.old.lanes.items self.new.lanes.items }
+        ensures look { HasLook (ruled_place self.old self.new lbn from.now)
+            (home_write lbn from.now) result (look_of_manager self.old) (look_of_manager self.new) }
 
-        ensures waking_home { NeedsHome (ruled_place self.old self.new lbn from.now) result self.old self.new }
-        ensures waking_logs { NeedsLogs (ruled_place self.old self.new lbn from.now) result self.old self.new }
+        ensures waking_home { NeedsHome (ruled_place self.old self.new lbn from.now) result self.old
+            self.new }
+        ensures waking_logs { NeedsLogs (ruled_place self.old self.new lbn from.now) result self.old
+            self.new }
 
-        ensures down { (p : Part) → (result ≡ Err (WriteRefusal.Down p)) ↔ (self.old.down ≡ Some p) }
-        ensures versions { (result ≡ Err WriteRefusal.VersionsSpent) ↔ ((self.old.down ≡ None) × (self.old.next ≡ 2 ^ 63)) }
-        ensures memory { result ≡ Err WriteRefusal.NoMemory → (self.old.down ≡ None) × (self.old.next < 2 ^ 63) × (self.old.index.reserved < 1) }
+        ensures down { (p : Part) → (result ≡ Err (WriteRefusal.Down p))
+            ↔ (self.old.down ≡ Some p) }
+        ensures versions { (result ≡ Err WriteRefusal.VersionsSpent)
+            ↔ ((self.old.down ≡ None) × (self.old.next ≡ 2 ^ 63)) }
+        ensures memory { result ≡ Err WriteRefusal.NoMemory
+            → (self.old.down ≡ None) × (self.old.next < 2 ^ 63) × (self.old.index.reserved < 1) }
         ensures fault { TellsFault D.state result self.old self.new }
         ensures calm { OnOk result (NoneRose D.state self.old self.new) }
         ensures unchanged { IsAsBefore result self.old self.new }
 
         // Wherever the call is stopped, each choice of images recovers to a cut by this call's write; of a segment that it claimed, the images
         // since it was free.
-        ensures any_moment { (claimed : Option (Spun _)) × TellsClaim D.tells D.state (IsOk result) self.old.lanes.items self.new.lanes.items claimed
-            × (IsTrue D.tells → (b : ManagerBase) (notes : List Noted) → Keeps D.tells D.state self.old b notes
-            → Stops D.state self.old self.new claimed b notes (in_flight self.old.next lbn from.now result)) }
+        ensures any_moment { (claimed : Option (Spun _))
+            × TellsClaim D.tells D.state (IsOk result) self.old.lanes.items self.new.lanes.items
+            claimed
+            × (IsTrue D.tells → (b : ManagerBase) (notes : List Noted)
+            → Keeps D.tells D.state self.old b notes
+            → Stops D.state self.old self.new claimed b notes
+            (in_flight self.old.next lbn from.now result)) }
     {
         let item = Item {
             lbn,

@@ -33,7 +33,7 @@ use Rattle.manager.specs.Seen.{look_of_manager}
 use Rattle.manager.specs.Stands.{nones_in, opened, takes_in}
 use Rattle.manager_recovery.specs.Owned.{IsListedOf, Owned, read_of, owned_of, all_owned, records_in, writes_in, recovered_of}
 use Rattle.manager_recovery.specs.Left.{HasGiven, IsUsedLane, IsHandedBack}
-use Rattle.manager_recovery.specs.Opened.{Opens, IsInLane, IsPlaceOf, base_at_opening, lane_at_opening, untold_write}
+use Rattle.manager_recovery.specs.Opened.{Opens, IsInLane, StandsInOwned, base_at_opening, lane_at_opening, untold_write}
 use Rattle.manager_recovery.proofs.Gifts.{counts_takes}
 use Rattle.manager_recovery.proofs.InLanes.{all_in_lanes}
 use Rattle.manager_recovery.specs.Recovery.{IsRecovered}
@@ -306,12 +306,12 @@ module _ {D : Type 0} (tells : Bool) (state : D → State) (shared : Shared D) (
         (subst (λ (v : List ℕ). IsListedOf o.want.id v (all_owned state o.owned.items) entry.listed) view
         (subst (λ (w : Label). IsListedOf w.id n.view (all_owned state o.owned.items) entry.listed) want it))
 
-    place_at : (e : Indexed) → IsAmong r.index.entries e → IsPlaceOf o.want.id o.view (all_owned state o.owned.items) e
+    place_at : (e : Indexed) → IsAmong r.index.entries e → StandsInOwned o.want.id o.view (all_owned state o.owned.items) e
     place_at e has =
         let h = entry_here state n.lanes.items n.want.id n.want.home n.view all_gs c.all c.order c.view_ok.distinct r.index.entries c.same c.rising e has in let g = h.seg in let f = h.found in
         let at = (told_at g h.among).found.each h.k f h.there in
         let entry = entry_for state n.lanes.items n.want.id n.want.home n.view all_gs c.all c.order c.view_ok.distinct r.index.entries c.same c.rising g f in
-        let it : IsPlaceOf n.want.id n.view (all_owned state o.owned.items) entry = record {
+        let it : StandsInOwned n.want.id n.view (all_owned state o.owned.items) entry = record {
           segment = owned_of state g.part;
           owned = contains_among (all_owned state o.owned.items) (owned_of state g.part) (was_owned g h.among);
           lane = lane_named n.view g.part.logger h.is_seg.named;
@@ -323,12 +323,12 @@ module _ {D : Type 0} (tells : Bool) (state : D → State) (shared : Shared D) (
           first = ap (λ (x : RecordHead). x.first) at.head;
           pos = at.pos;
         } in
-        subst (IsPlaceOf o.want.id o.view (all_owned state o.owned.items)) (sym h.is)
-        (subst (λ (v : List ℕ). IsPlaceOf o.want.id v (all_owned state o.owned.items) entry) view
-        (subst (λ (w : Label). IsPlaceOf w.id n.view (all_owned state o.owned.items) entry) want it))
+        subst (StandsInOwned o.want.id o.view (all_owned state o.owned.items)) (sym h.is)
+        (subst (λ (v : List ℕ). StandsInOwned o.want.id v (all_owned state o.owned.items) entry) view
+        (subst (λ (w : Label). StandsInOwned w.id n.view (all_owned state o.owned.items) entry) want it))
 
-    places_told : AllByRecursion (IsPlaceOf o.want.id o.view (all_owned state o.owned.items)) r.index.entries
-    places_told = all_from (IsPlaceOf o.want.id o.view (all_owned state o.owned.items)) r.index.entries place_at
+    places_told : AllByRecursion (StandsInOwned o.want.id o.view (all_owned state o.owned.items)) r.index.entries
+    places_told = all_from (StandsInOwned o.want.id o.view (all_owned state o.owned.items)) r.index.entries place_at
 
     listed_told : AllByRecursion (IsListedOf o.want.id o.view (all_owned state o.owned.items)) (listed_in r.index.entries)
     listed_told = all_mapped (IsListedOf o.want.id o.view (all_owned state o.owned.items)) (λ (e : Indexed). e.listed) r.index.entries
@@ -397,7 +397,7 @@ module _ {D : Type 0} (tells : Bool) (state : D → State) (shared : Shared D) (
     finish : (ws : List Write) (array : List Block) → (b : IsBeginning state n r all_gs tells ws array) → array ≡ arrays → ws ≡ records → (IsTrue tells → array ≡ recovered_of o.want.id (read_of (state_of state o.home)) (all_owned state o.owned.items)) → (IsTrue tells → ws ≡ writes_in o.want.id (all_owned state o.owned.items))
         → (IsTrue tells → r.next ≡ next_version (records_in o.want.id (all_owned state o.owned.items))) → length r.index.entries ≡ length ws
         → (IsTrue tells → AllByRecursion (IsListedOf o.want.id o.view (all_owned state o.owned.items)) (listed_in r.index.entries))
-        → (IsTrue tells → AllByRecursion (IsPlaceOf o.want.id o.view (all_owned state o.owned.items)) r.index.entries) → Opens tells state shared o (opened n.want.id n.home n.spindle lanes r.index r.next n.most)
+        → (IsTrue tells → AllByRecursion (StandsInOwned o.want.id o.view (all_owned state o.owned.items)) r.index.entries) → Opens tells state shared o (opened n.want.id n.home n.spindle lanes r.index r.next n.most)
     finish ws array b array_is ws_is is_array is_writes is_next many found placed = record {
       base = opened_base tells state shared n r lanes all_gs c ws array b;
       is_base = same_base ws array b array_is ws_is;

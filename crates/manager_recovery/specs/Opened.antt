@@ -25,29 +25,41 @@ use Rattle.manager_recovery.specs.Left.{Fate, HasGiven, LeavesParts, kept_of}
 use Rattle.manager_recovery.specs.declared.opening.Opening.{Opening}
 use Rattle.manager_recovery.specs.declared.opening.OwnedPart.{OwnedPart}
 
--- What a volume begins with: the array that home and its segments recover to as they read, the records in these that keep blocks,
--- and the version above all of theirs. As many records are listed, each of them one of these.
-pub record Begins {D : Type 0} (tells : Bool) (state : D → State) (o : Opening D) (b : Base) : Type 0 where
+-- What a volume begins with: the array that home and its segments recover to as they read, the
+-- records in these that keep blocks, and the version above all of theirs. As many records are
+-- listed, each of them one of these.
+pub record Begins {D : Type 0} (tells : Bool) (state : D → State) (o : Opening D) (b : Base) :
+    Type 0 where
   pub owner : b.owner ≡ o.want.id
   pub home_blocks : b.home_blocks ≡ o.want.home
   pub most : b.most ≡ o.most
   pub view : b.view ≡ o.view
-  pub array : IsTrue tells → b.array ≡ recovered_of o.want.id (read_of (state_of state o.home)) (all_owned state o.owned.items)
+  pub array : IsTrue tells → b.array
+      ≡ recovered_of o.want.id (read_of (state_of state o.home)) (all_owned state o.owned.items)
   pub records : IsTrue tells → b.records ≡ writes_in o.want.id (all_owned state o.owned.items)
-  pub next : IsTrue tells → b.next ≡ next_version (records_in o.want.id (all_owned state o.owned.items))
+  pub next : IsTrue tells
+      → b.next ≡ next_version (records_in o.want.id (all_owned state o.owned.items))
   pub listed : length b.look.listed ≡ length b.records
-  pub found : IsTrue tells → AllByRecursion (IsListedOf o.want.id o.view (all_owned state o.owned.items)) b.look.listed
+  pub found : IsTrue tells
+      → AllByRecursion (IsListedOf o.want.id o.view (all_owned state o.owned.items)) b.look.listed
 
 -- a write of which only the place and the version are told
 abbrev pub untold_write : Indexed → Write
-untold_write e = record { first = e.listed.first; blocks = replicate (length e.listed.keep) []; version = Some e.listed.version }
+untold_write e = record {
+  first = e.listed.first;
+  blocks = replicate (length e.listed.keep) [];
+  version = Some e.listed.version;
+}
 
 module _ {D : Type 0} (tells : Bool) (state : D → State) (o : Opening D) (m : Manager D) where
-  -- What a manager that was opened of these parts began with; where disks tell no content, some array and records.
+  -- What a manager that was opened of these parts began with; where disks tell no content, some
+  -- array and records.
   abbrev pub beginning : Base
   beginning = record {
-    array = cond tells (recovered_of o.want.id (read_of (state_of state o.home)) (all_owned state o.owned.items)) (replicate o.want.home []);
-    records = cond tells (writes_in o.want.id (all_owned state o.owned.items)) (map untold_write m.index.entries);
+    array = cond tells (recovered_of o.want.id (read_of (state_of state o.home))
+        (all_owned state o.owned.items)) (replicate o.want.home []);
+    records = cond tells (writes_in o.want.id (all_owned state o.owned.items))
+        (map untold_write m.index.entries);
     next = m.next;
     look = look_of_manager m;
     owner = o.want.id;
@@ -81,9 +93,9 @@ module _ {D : Type 0} (tells : Bool) (state : D → State) (o : Opening D) (m : 
 abbrev pub CountsTakes : {D : Type 0} → Lane D → LaneBase → Type 0
 CountsTakes l b = b.takes ≡ takes_in (pass_mine (pool_of l))
 
--- A listed record stands in an owned segment of its lane's logger: the segment has that index, and a record of that version and first block
--- has its head at that position.
-pub record IsPlaceOf (id : ℕ) (view : List ℕ) (ss : List Owned) (e : Indexed) : Type 0 where
+-- A listed record stands in an owned segment of its lane's logger: the segment has that index, and
+-- a record of that version and first block has its head at that position.
+pub record StandsInOwned (id : ℕ) (view : List ℕ) (ss : List Owned) (e : Indexed) : Type 0 where
   pub segment : Owned
   pub owned : Contains ss segment
   pub lane : slice_get view e.listed.lane ≡ Some segment.logger
@@ -106,12 +118,14 @@ pub record IsInLane {D : Type 0} (lanes : List (Lane D)) (o : OwnedPart D) : Typ
   pub part : part_of segment.segment ≡ o.part
 
 -- The manager stands for that beginning and no entries, over the locks and passes of the opening.
-pub record Opens {D : Type 0} (tells : Bool) (state : D → State) (shared : Shared D) (o : Opening D) (m : Manager D) : Type 0 where
+pub record Opens {D : Type 0} (tells : Bool) (state : D → State) (shared : Shared D) (o : Opening D)
+    (m : Manager D) : Type 0 where
   pub base : ManagerBase
   pub is_base : base ≡ base_at_opening tells state o m
   pub begins : Begins tells state o base.volume.began
   -- each listed record stands where the segments, as they read, have it
-  pub placed : IsTrue tells → AllByRecursion (IsPlaceOf o.want.id o.view (all_owned state o.owned.items)) base.volume.places
+  pub placed : IsTrue tells → AllByRecursion
+      (StandsInOwned o.want.id o.view (all_owned state o.owned.items)) base.volume.places
   pub stands : Stands tells state m base []
   pub at : IsHome shared m
   pub spindle : IsSamePass o.spindle m.spindle
@@ -127,8 +141,12 @@ pub record Opens {D : Type 0} (tells : Bool) (state : D → State) (shared : Sha
   pub takes : AllZip CountsTakes o.lanes.items base.lanes
   pub parts : LeavesParts tells state o.want.id o.home m.home o.owned.items fates
 
--- No disk call failed: home's count of faults is as before, and so is that of each owned segment that a lane holds now.
-pub record NoneRoseAtOpening {D : Type 0} (state : D → State) (o : Opening D) (m : Manager D) : Type 0 where
+-- No disk call failed: home's count of faults is as before, and so is that of each owned segment
+-- that a lane holds now.
+pub record NoneRoseAtOpening {D : Type 0} (state : D → State) (o : Opening D) (m : Manager D) :
+    Type 0 where
   pub home : (state_of state m.home).faults ≡ (state_of state o.home).faults
-  pub held : (p : OwnedPart D) (l : Lane D) (h : HeldSegment D) → Contains o.owned.items p → Contains m.lanes.items l → Contains (held_in l) h → logger_of l ≡ p.logger → h.index ≡ p.index
+  pub held : (p : OwnedPart D) (l : Lane D) (h : HeldSegment D) → Contains o.owned.items p
+      → Contains m.lanes.items l → Contains (held_in l) h → logger_of l ≡ p.logger
+      → h.index ≡ p.index
       → (disk_of state h.segment).faults ≡ (state_of state p.part).faults

@@ -16,7 +16,8 @@ use Rattle.manager_recovery.specs.declared.opening.Opening.{Opening}
 use Rattle.manager_recovery.specs.declared.opening.OwnedPart.{OwnedPart}
 
 -- a lane of the volume that holds nothing yet, with segments that have room for any write
-pub record IsOpeningLane {D : Type 0} (state : D → State) (shared : Shared D) (id most : ℕ) (l : Lane D) : Type 0 where
+pub record IsOpeningLane {D : Type 0} (state : D → State) (shared : Shared D) (id most : ℕ)
+    (l : Lane D) : Type 0 where
   pub lane : IsLane state l
   pub at : IsAt shared l
   pub owner : lane_owner l ≡ id
@@ -29,10 +30,13 @@ pub record IsHeldIn {D : Type 0} (state : D → State) (o : OwnedPart D) (l : La
   pub volume : volume_of o.part ≡ logger_of l
   pub blocks : (state_of state o.part).size ≡ pool_blocks l
   pub below : o.index < segments_in l
-  pub holding : holds (pass_lock (pool_of l)).base (pass_number (pool_of l)) (pass_mine (pool_of l)) o.index ≡ true
+  pub holding : holds (pass_lock (pool_of l)).base (pass_number (pool_of l)) (pass_mine (pool_of l))
+      o.index ≡ true
 
--- an owned segment has its size, lies in an image, and is held by the lane of its logger where there is one
-pub record IsOwned {D : Type 0} (state : D → State) (lanes : List (Lane D)) (o : OwnedPart D) : Type 0 where
+-- an owned segment has its size, lies in an image, and is held by the lane of its logger where
+-- there is one
+pub record IsOwned {D : Type 0} (state : D → State) (lanes : List (Lane D)) (o : OwnedPart D) :
+    Type 0 where
   pub size : (4 ≤ (state_of state o.part).size) × ((state_of state o.part).size ≤ 65536)
   pub last : o.first_block + (state_of state o.part).size ≤ 2 ^ 64 - 1
   pub held : AllByRecursion (λ (l : Lane D). logger_of l ≡ o.logger → IsHeldIn state o l) lanes
@@ -52,14 +56,17 @@ place_of o = (o.logger, o.index)
 
 -- each segment that the lane's pass of its pool holds is among the owned ones
 abbrev pub HoldsOwned : {D : Type 0} → List (OwnedPart D) → Lane D → Type 0
-HoldsOwned os l = (index : ℕ) → holds (pass_lock (pool_of l)).base (pass_number (pool_of l)) (pass_mine (pool_of l)) index ≡ true → Contains (map place_of os) (logger_of l, index)
+HoldsOwned os l = (index : ℕ) → holds (pass_lock (pool_of l)).base (pass_number (pool_of l))
+    (pass_mine (pool_of l)) index ≡ true → Contains (map place_of os) (logger_of l, index)
 
 -- the first block reads as owned by the volume
 abbrev pub SaysOwner : {D : Type 0} → (D → State) → (id : ℕ) → OwnedPart D → Type 0
-SaysOwner state id o = (vs : List (Values Block)) → (state_of state o.part).values ≡ Some vs → (rest : List Block) × (reads vs ≡ owned_block id ∷ rest)
+SaysOwner state id o = (vs : List (Values Block)) → (state_of state o.part).values ≡ Some vs
+    → (rest : List Block) × (reads vs ≡ owned_block id ∷ rest)
 
 -- the whole condition: sizes, locks, lanes and segments
-pub record CanOpen {D : Type 0} (state : D → State) (shared : Shared D) (o : Opening D) : Type 0 where
+pub record CanOpen {D : Type 0} (state : D → State) (shared : Shared D) (o : Opening D) :
+    Type 0 where
   pub want : IsShape (shape_of o.want)
   pub home_volume : volume_of o.home ≡ o.want.id
   pub home_size : (state_of state o.home).size ≡ o.want.home
@@ -70,7 +77,8 @@ pub record CanOpen {D : Type 0} (state : D → State) (shared : Shared D) (o : O
   pub at : At shared o.want.id o.spindle o.lanes.items
   pub lanes : AllByRecursion (IsOpeningLane state shared o.want.id o.most) o.lanes.items
   -- one for each logger of the view that is present, in view order
-  pub loggers : map logger_of o.lanes.items ≡ filter (λ id. slice_index_or o.present.items id false) o.view
+  pub loggers : map logger_of o.lanes.items
+      ≡ filter (λ id. slice_index_or o.present.items id false) o.view
   pub most : (1 ≤ o.most) × (o.most ≤ 128)
   pub in_order : AreInOrder (map place_of o.owned.items)
   pub owned : AllByRecursion (IsOwned state o.lanes.items) o.owned.items

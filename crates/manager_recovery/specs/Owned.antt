@@ -1,4 +1,5 @@
--- The segments that a volume owns, as they read: what is wrong with them, and what the volume recovers to.
+-- The segments that a volume owns, as they read: what is wrong with them, and what the volume
+-- recovers to.
 use Rattle.std.specs.Prelude.{◌≡◌, ◌<◌, ◌≤◌, ◌+◌, ◌==◌, if◌then◌else◌, ℕ, not, List, [], ◌∷◌, ◌++◌, map, filter, take, length, slice_get, unwrap_or, Some, option_map, Contains}
 use Rattle.std.specs.List.{AllByRecursion, flat_map}
 use Rattle.wol_disk.specs.Disk.{Block, State, reads}
@@ -25,7 +26,12 @@ pub record Owned : Type 0 where
   pub blocks : List Block
 
 abbrev pub owned_of : {D : Type 0} → (D → State) → OwnedPart D → Owned
-owned_of state o = record { logger = o.logger; index = o.index; first = o.first_block; blocks = read_of (state_of state o.part) }
+owned_of state o = record {
+  logger = o.logger;
+  index = o.index;
+  first = o.first_block;
+  blocks = read_of (state_of state o.part);
+}
 
 abbrev pub all_owned : {D : Type 0} → (D → State) → List (OwnedPart D) → List Owned
 all_owned state os = map (owned_of state) os
@@ -57,11 +63,13 @@ pub record PassesEnd (home : ℕ) (rs : List Record) (k : ℕ) : Type 0 where
   pub passes : home < record_.head.first + record_.head.count
   pub before : AllByRecursion (LiesWithin home) (take k rs)
 
--- this block of its logger's image is at fault: the first place of a head in the segment that has none of its volume's,
--- or the head of the first record that passes the volume's end
+-- this block of its logger's image is at fault: the first place of a head in the segment that has
+-- none of its volume's, or the head of the first record that passes the volume's end
 pub data IsFault (id home : ℕ) (s : Owned) (block : ℕ) : Type 0 where
-  no_head : (p : ℕ) → IsDamaged s.blocks → scan.IsFirstFault s.blocks p → block ≡ s.first + p → IsFault id home s block
-  past_end : (rs : List Record) (k : ℕ) → IsLog s.blocks id rs → PassesEnd home rs k → block ≡ s.first + position_of rs k → IsFault id home s block
+  no_head : (p : ℕ) → IsDamaged s.blocks → scan.IsFirstFault s.blocks p → block ≡ s.first + p
+      → IsFault id home s block
+  past_end : (rs : List Record) (k : ℕ) → IsLog s.blocks id rs → PassesEnd home rs k
+      → block ≡ s.first + position_of rs k → IsFault id home s block
 
 abbrev pub AreIntact : (id home : ℕ) → List Owned → Type 0
 AreIntact id home ss = AllByRecursion (IsIntact id home) ss
@@ -84,12 +92,14 @@ pub record Head : Type 0 where
   pub volume : ℕ
   pub block : ℕ
 
--- the heads of those records that keep a block, the first record's head being at this position of the segment
+-- the heads of those records that keep a block, the first record's head being at this position of
+-- the segment
 abbrev pub heads_from : Owned → (pos : ℕ) → List Record → List Head
 heads_from s pos [] = []
 heads_from s pos (r ∷ rs) =
     let rest = heads_from s (pos + 1 + length r.blocks) rs in
-    if r.head.mask == 0 then rest else record { version = r.head.version; volume = s.logger; block = s.first + pos } ∷ rest
+    if r.head.mask == 0 then rest
+    else record { version = r.head.version; volume = s.logger; block = s.first + pos } ∷ rest
 
 abbrev pub heads_of : (id : ℕ) → Owned → List Head
 heads_of id s = heads_from s 1 (records_of id s)
@@ -126,8 +136,8 @@ writes_in id ss = map (λ r. write_of (extent_of r)) (valid_in id ss)
 abbrev pub recovered_of : (id : ℕ) → (home : List Block) → List Owned → List Block
 recovered_of id home ss = recovered id home (map (λ (s : Owned). s.blocks) ss)
 
--- A listed record is one of an owned segment that lies on its lane's logger: it has the version, the first block and the kept blocks
--- of that record's head, and none of its blocks is home yet.
+-- A listed record is one of an owned segment that lies on its lane's logger: it has the version,
+-- the first block and the kept blocks of that record's head, and none of its blocks is home yet.
 pub record IsListedOf (id : ℕ) (view : List ℕ) (ss : List Owned) (e : Listed) : Type 0 where
   pub segment : Owned
   pub owned : Contains ss segment

@@ -31,12 +31,15 @@ IsIndexRefusal found (LoggerMissing id) = ⊥
 IsIndexRefusal found (OutsideView logger segment) = ⊥
 IsIndexRefusal found (Damaged volume block) = ⊥
 IsIndexRefusal found (Twins first_volume first second_volume second) =
-    (version : ℕ) × AreFirstTwins (map head_of found) (head_at version first_volume first) (head_at version second_volume second)
+    (version : ℕ) × AreFirstTwins (map head_of found) (head_at version first_volume first)
+    (head_at version second_volume second)
 IsIndexRefusal found (DiskFault part) = ⊥
 IsIndexRefusal found NoMemory = ⊤
 
--- What was read back: the scans of the segments that are left, each with a record that keeps a block, the index and the next version.
-pub record IsRecovered {D : Type 0} (tells : Bool) (state : D → State) (shared : Shared D) (o n : Opening D) (r : Recovered) : Type 0 where
+-- What was read back: the scans of the segments that are left, each with a record that keeps a
+-- block, the index and the next version.
+pub record IsRecovered {D : Type 0} (tells : Bool) (state : D → State) (shared : Shared D)
+    (o n : Opening D) (r : Recovered) : Type 0 where
   pub named : IsNamesAnswer o None
   pub recoverable : IsTrue tells → IsRecoverable state o
   pub home : (state_of state n.home).values ≡ option_map settled (state_of state o.home).values

@@ -43,7 +43,8 @@ fn next_after(next: u64, found: &[Found]) -> u64
 
 /// One above the greatest version of all records, whether they keep blocks or not, and 1 where there is none.
 pub fn next_version(scans: &[Scan]) -> u64
-    requires { AllByRecursion (λ (s : Scan). AllByRecursion (λ (f : Found). f.head.version < 2 ^ 63) s.records.items) scans.now }
+    requires { AllByRecursion (λ (s : Scan).
+        AllByRecursion (λ (f : Found). f.head.version < 2 ^ 63) s.records.items) scans.now }
     ensures value { result ≡ next_of 1 scans.now }
     ensures range { (1 ≤ result) × (result ≤ 2 ^ 63) }
 {

@@ -15,10 +15,13 @@ use wol_disk::Disk;
 pub fn hold_all<D: Disk>(shared: &Shared<D>, opening: &mut Opening<D>, scans: &[Scan])
     requires ready { CanOpen D.state shared.now opening.old }
     requires named { IsNamesAnswer opening.old None }
-    requires scanned { AllZip (IsScanned D.state opening.old.want.id opening.old.want.home) opening.old.owned.items scans.now }
-    ensures same { opening.new ≡ record opening.old { lanes = opening.new.lanes; owned = opening.new.owned } }
+    requires scanned { AllZip (IsScanned D.state opening.old.want.id opening.old.want.home)
+        opening.old.owned.items scans.now }
+    ensures same { opening.new
+        ≡ record opening.old { lanes = opening.new.lanes; owned = opening.new.owned } }
     ensures none { opening.new.owned.items ≡ [] }
-    ensures held { AreHeld D.state shared.now opening.old.want.id opening.old.most opening.old.owned.items scans.now opening.old.lanes.items opening.new.lanes.items }
+    ensures held { AreHeld D.state shared.now opening.old.want.id opening.old.most
+        opening.old.owned.items scans.now opening.old.lanes.items opening.new.lanes.items }
 {
     let _ = shared;
     opening.owned.reverse();

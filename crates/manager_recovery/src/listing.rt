@@ -54,7 +54,8 @@ fn list_segment<D: Disk>(
     found: &[Found],
 ) -> Result<(), NoMemory>
     requires { AllByRecursion (λ (f : Found). owned.now.first_block + f.pos < 2 ^ 64) found.now }
-    ensures { OnOk result (listed.new.items ≡ listed.old.items ++ map (record_in lane owned.now) (filter keeps_some found.now)) }
+    ensures { OnOk result (listed.new.items
+        ≡ listed.old.items ++ map (record_in lane owned.now) (filter keeps_some found.now)) }
 {
     for one in found {
         if one.head.keep != 0 {
@@ -72,8 +73,11 @@ pub fn list_all<D: Disk>(
     scans: &[Scan],
 ) -> Result<Vec<FoundRecord>, NoMemory>
     requires counted { length scans.now ≡ length owned.now }
-    requires named { AllByRecursion (λ (o : OwnedPart D). lane_of view.now o.logger < length view.now) owned.now }
-    requires fits { AllZip (λ (o : OwnedPart D) (s : Scan). AllByRecursion (λ (f : Found). o.first_block + f.pos < 2 ^ 64) s.records.items) owned.now scans.now }
+    requires named { AllByRecursion
+        (λ (o : OwnedPart D). lane_of view.now o.logger < length view.now) owned.now }
+    requires fits { AllZip (λ (o : OwnedPart D) (s : Scan).
+        AllByRecursion (λ (f : Found). o.first_block + f.pos < 2 ^ 64) s.records.items)
+        owned.now scans.now }
     ensures { IfOk result (λ listed. listed.items ≡ all_found view.now owned.now scans.now) }
 {
     let mut listed = Vec::new(alloc);

@@ -31,7 +31,8 @@ pub fn place_of(ids: &[u32], logger: u32) -> Option<usize>
 // The first segment of a logger that the view doesn't name.
 fn outside_view<D: Disk>(ids: &[u32], owned: &[OwnedPart<D>]) -> Option<(u32, u32)>
     ensures { MatchOption result (first_outside ids.now owned.now ≡ None)
-        (λ r. (part : OwnedPart D) × (first_outside ids.now owned.now ≡ Some part) × (r.0 ≡ part.logger) × (r.1 ≡ part.index)) }
+        (λ r. (part : OwnedPart D) × (first_outside ids.now owned.now ≡ Some part)
+        × (r.0 ≡ part.logger) × (r.1 ≡ part.index)) }
 {
     for part in owned {
         if place_of(ids, part.logger).is_none() {

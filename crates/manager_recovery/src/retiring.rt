@@ -46,9 +46,12 @@ pub fn sync_part<R: Wait, D: Disk>(
     ensures settled { has_token (pass_mine spindle.new) ≡ false }
     ensures accesses { AreAccesses (pass_mine spindle.new) }
     ensures part { IsAsBefore D.state part.old part.new }
-    ensures values { OnOk result ((state_of D.state part.new).values ≡ option_map settled (state_of D.state part.old).values) }
-    ensures cause { IsErr result → Rose (state_of D.state part.old).faults (state_of D.state part.new).faults }
-    ensures calm { OnOk result ((state_of D.state part.new).faults ≡ (state_of D.state part.old).faults) }
+    ensures values { OnOk result ((state_of D.state part.new).values
+        ≡ option_map settled (state_of D.state part.old).values) }
+    ensures cause { IsErr result
+        → Rose (state_of D.state part.old).faults (state_of D.state part.new).faults }
+    ensures calm { OnOk result
+        ((state_of D.state part.new).faults ≡ (state_of D.state part.old).faults) }
 {
     let token = take_token(rt, lock, spindle);
     let synced = part.sync(&token);
@@ -73,7 +76,8 @@ fn free_segment<R: Wait, D: Disk>(
 ) -> Result<(), (Failed, Segment<D>)>
     requires lane { IsLane D.state lane.old }
     requires at { IsAt shared.now lane.old }
-    requires holds { holds (pass_lock (pool_of lane.old)).base (pass_number (pool_of lane.old)) (pass_mine (pool_of lane.old)) index ≡ true }
+    requires holds { holds (pass_lock (pool_of lane.old)).base (pass_number (pool_of lane.old))
+        (pass_mine (pool_of lane.old)) index ≡ true }
     requires empty { held_in lane.old ≡ [] }
     requires shape { IsSegment D.state segment }
     requires whole { IsWhole segment }
@@ -86,9 +90,13 @@ fn free_segment<R: Wait, D: Disk>(
     ensures spindle_free { IsFree lane.new.spindle }
     ensures settled { has_token (pass_mine lane.new.spindle) ≡ false }
     ensures accesses { AreAccesses (pass_mine lane.new.spindle) }
-    ensures kept { (i : ℕ) → i ≢ index → holds (pass_lock (pool_of lane.old)).base (pass_number (pool_of lane.old)) (pass_mine (pool_of lane.old)) i ≡ true
-        → holds (pass_lock (pool_of lane.new)).base (pass_number (pool_of lane.new)) (pass_mine (pool_of lane.new)) i ≡ true }
-    ensures gave { OnOk result (pass_mine (pool_of lane.new) ≡ pass_mine (pool_of lane.old) ++ (pass_number (pool_of lane.old), operation_of (Gave index)) ∷ []) }
+    ensures kept { (i : ℕ) → i ≢ index → holds (pass_lock (pool_of lane.old)).base
+        (pass_number (pool_of lane.old)) (pass_mine (pool_of lane.old)) i ≡ true
+        → holds (pass_lock (pool_of lane.new)).base (pass_number (pool_of lane.new))
+        (pass_mine (pool_of lane.new)) i ≡ true }
+    ensures gave { OnOk result (pass_mine (pool_of lane.new)
+        ≡ pass_mine (pool_of lane.old)
+        ++ (pass_number (pool_of lane.old), operation_of (Gave index)) ∷ []) }
     ensures gave_none { OnErr result (HasGivenNone lane.old lane.new) }
     ensures ok { OnOk result ((f : FreeSegment D) × IsFreedOf D.state segment f) }
     ensures err { IfErr result (λ r. IsUnfreed D.state segment r.1) }
@@ -121,9 +129,12 @@ fn retire_at<R: Wait, D: Disk>(
     requires at { IsAt shared.now lane.old }
     requires empty { held_in lane.old ≡ [] }
     requires within { k < length owned.old.items }
-    requires held { (o : OwnedPart D) → slice_get owned.old.items k ≡ Some o → IsHeldIn D.state o lane.old }
-    requires size { (o : OwnedPart D) → slice_get owned.old.items k ≡ Some o → (4 ≤ (state_of D.state o.part).size) × ((state_of D.state o.part).size ≤ 65536) }
-    requires scanned { (o : OwnedPart D) → slice_get owned.old.items k ≡ Some o → (home : ℕ) × IsScanned D.state id home o scan.now }
+    requires held { (o : OwnedPart D) → slice_get owned.old.items k ≡ Some o
+        → IsHeldIn D.state o lane.old }
+    requires size { (o : OwnedPart D) → slice_get owned.old.items k ≡ Some o
+        → (4 ≤ (state_of D.state o.part).size) × ((state_of D.state o.part).size ≤ 65536) }
+    requires scanned { (o : OwnedPart D) → slice_get owned.old.items k ≡ Some o
+        → (home : ℕ) × IsScanned D.state id home o scan.now }
     requires bare { has_some scan.now ≡ false }
     ensures same { IsSameLane lane.old lane.new }
     ensures rest { lane.new ≡ record lane.old { pool = lane.new.pool; spindle = lane.new.spindle } }
@@ -132,15 +143,22 @@ fn retire_at<R: Wait, D: Disk>(
     ensures settled { has_token (pass_mine lane.new.spindle) ≡ false }
     ensures accesses { AreAccesses (pass_mine lane.new.spindle) }
     ensures kept { (o : OwnedPart D) (i : ℕ) → slice_get owned.old.items k ≡ Some o → i ≢ o.index
-        → holds (pass_lock (pool_of lane.old)).base (pass_number (pool_of lane.old)) (pass_mine (pool_of lane.old)) i ≡ true
-        → holds (pass_lock (pool_of lane.new)).base (pass_number (pool_of lane.new)) (pass_mine (pool_of lane.new)) i ≡ true }
+        → holds (pass_lock (pool_of lane.old)).base (pass_number (pool_of lane.old))
+        (pass_mine (pool_of lane.old)) i ≡ true
+        → holds (pass_lock (pool_of lane.new)).base (pass_number (pool_of lane.new))
+        (pass_mine (pool_of lane.new)) i ≡ true }
     ensures gave { OnOk result ((o : OwnedPart D) → slice_get owned.old.items k ≡ Some o
-        → pass_mine (pool_of lane.new) ≡ pass_mine (pool_of lane.old) ++ (pass_number (pool_of lane.old), operation_of (Gave o.index)) ∷ []) }
+        → pass_mine (pool_of lane.new) ≡ pass_mine (pool_of lane.old)
+        ++ (pass_number (pool_of lane.old), operation_of (Gave o.index)) ∷ []) }
     ensures gave_none { OnErr result (HasGivenNone lane.old lane.new) }
     ensures ok { OnOk result ((owned.new.items ≡ remove owned.old.items k)
-        × ((o : OwnedPart D) → slice_get owned.old.items k ≡ Some o → (f : FreeSegment D) × IsFateOf D.state id o (Freed f))) }
-    ensures err { IfErr result (λ refusal. (o : OwnedPart D) → slice_get owned.old.items k ≡ Some o → (n : OwnedPart D) × (owned.new.items ≡ slice_set owned.old.items k n)
-        × IsFateOf D.state id o (Kept n) × (refusal ≡ OpenRefusal.DiskFault (Part.Segment o.logger o.index)) × Rose (state_of D.state o.part).faults (state_of D.state n.part).faults) }
+        × ((o : OwnedPart D) → slice_get owned.old.items k ≡ Some o
+        → (f : FreeSegment D) × IsFateOf D.state id o (Freed f))) }
+    ensures err { IfErr result (λ refusal. (o : OwnedPart D) → slice_get owned.old.items k ≡ Some o
+        → (n : OwnedPart D) × (owned.new.items ≡ slice_set owned.old.items k n)
+        × IsFateOf D.state id o (Kept n)
+        × (refusal ≡ OpenRefusal.DiskFault (Part.Segment o.logger o.index))
+        × Rose (state_of D.state o.part).faults (state_of D.state n.part).faults) }
 {
     let OwnedPart {
         logger,
@@ -184,12 +202,16 @@ pub fn retire_bare<R: Wait, D: Disk>(
 ) -> Result<(), OpenRefusal>
     requires ready { CanOpen D.state shared.now opening.old }
     requires named { IsNamesAnswer opening.old None }
-    requires scanned { AllZip (IsScanned D.state opening.old.want.id opening.old.want.home) opening.old.owned.items scans.old.items }
+    requires scanned { AllZip (IsScanned D.state opening.old.want.id opening.old.want.home)
+        opening.old.owned.items scans.old.items }
     requires recoverable { IsTrue D.tells → IsRecoverable D.state opening.old }
     ensures parts { IsThinning D.state shared.now opening.old opening.new }
-    ensures ok { OnOk result (CanOpen D.state shared.now opening.new × (opening.new.owned.items ≡ thinned opening.old.owned.items scans.old.items)
+    ensures ok { OnOk result (CanOpen D.state shared.now opening.new
+        × (opening.new.owned.items ≡ thinned opening.old.owned.items scans.old.items)
         × (scans.new.items ≡ filter has_some scans.old.items)) }
-    ensures err { IfErr result (λ refusal. (logger : ℕ) × (index : ℕ) × (refusal ≡ OpenRefusal.DiskFault (Part.Segment logger index))
+    ensures err { IfErr result (λ refusal.
+        (logger : ℕ) × (index : ℕ)
+        × (refusal ≡ OpenRefusal.DiskFault (Part.Segment logger index))
         × SegmentRose D.tells D.state opening.old opening.new.owned.items logger index) }
 {
     let mut k = opening.owned.len();

@@ -34,7 +34,8 @@ fn scan_part<R: Wait, D: Disk>(
     requires lane { IsLane D.state lane.old }
     requires at { IsAt shared.now lane.old }
     requires volume { volume_of part.old ≡ logger_of lane.old }
-    requires size { (4 ≤ (state_of D.state part.old).size) × ((state_of D.state part.old).size ≤ 65536) }
+    requires size { (4 ≤ (state_of D.state part.old).size)
+        × ((state_of D.state part.old).size ≤ 65536) }
     ensures lane { IsLane D.state lane.new }
     ensures same { IsSameLane lane.old lane.new }
     ensures rest { lane.new ≡ record lane.old { spindle = lane.new.spindle } }
@@ -50,8 +51,10 @@ fn scan_part<R: Wait, D: Disk>(
 // The position of the first record that passes the volume's end.
 fn first_past(found: &[Found], home: u64) -> Option<u32>
     requires { AllByRecursion (λ (f : Found). f.head.lbn + f.head.count ≤ 2 ^ 32) found.now }
-    ensures { MatchOption result (AllByRecursion (λ (f : Found). f.head.lbn + f.head.count ≤ home) found.now)
-        (λ pos. (k : ℕ) × (f : Found) × (slice_get found.now k ≡ Some f) × (pos ≡ f.pos) × (home < f.head.lbn + f.head.count)
+    ensures { MatchOption result
+        (AllByRecursion (λ (f : Found). f.head.lbn + f.head.count ≤ home) found.now)
+        (λ pos. (k : ℕ) × (f : Found) × (slice_get found.now k ≡ Some f) × (pos ≡ f.pos)
+        × (home < f.head.lbn + f.head.count)
         × AllByRecursion (λ (g : Found). g.head.lbn + g.head.count ≤ home) (take k found.now)) }
 {
     for one in found {
@@ -66,7 +69,9 @@ fn first_past(found: &[Found], home: u64) -> Option<u32>
 // of it: its head, where it has another owner or none, or the head of the first record that passes the volume's end.
 fn past_end(scan: &Scan, id: u32, home: u64) -> Option<u32>
     requires { (blocks : ℕ) × IsScan blocks scan.now }
-    ensures { MatchOption result ((scan.now.owner ≡ Some id) × AllByRecursion (λ (f : Found). f.head.lbn + f.head.count ≤ home) scan.now.records.items)
+    ensures { MatchOption result ((scan.now.owner ≡ Some id)
+        × AllByRecursion (λ (f : Found). f.head.lbn + f.head.count ≤ home)
+        scan.now.records.items)
         (IsPastEnd scan.now id home) }
 {
     match scan.owner {
@@ -84,8 +89,10 @@ fn past_end(scan: &Scan, id: u32, home: u64) -> Option<u32>
 // Why a segment was not read back. The sum is exact where the block lies in the image.
 fn refusal_of(logger: u32, index: u32, first_block: u64, fault: ScanFault) -> OpenRefusal
     ensures damaged { (block : ℕ) → fault ≡ ScanFault.Damaged block
-        → (place : ℕ) × (result ≡ OpenRefusal.Damaged logger place) × (first_block + block < 2 ^ 64 → place ≡ first_block + block) }
-    ensures failed { fault ≡ ScanFault.Failed → result ≡ OpenRefusal.DiskFault (Part.Segment logger index) }
+        → (place : ℕ) × (result ≡ OpenRefusal.Damaged logger place)
+        × (first_block + block < 2 ^ 64 → place ≡ first_block + block) }
+    ensures failed { fault ≡ ScanFault.Failed
+        → result ≡ OpenRefusal.DiskFault (Part.Segment logger index) }
     ensures no_memory { fault ≡ ScanFault.NoMemory → result ≡ OpenRefusal.NoMemory }
 {
     match fault {
@@ -114,14 +121,16 @@ fn scan_owned<R: Wait, D: Disk>(
     requires lane { IsLane D.state lane.old }
     requires at { IsAt shared.now lane.old }
     requires volume { volume_of owned.old.part ≡ logger_of lane.old }
-    requires size { (4 ≤ (state_of D.state owned.old.part).size) × ((state_of D.state owned.old.part).size ≤ 65536) }
+    requires size { (4 ≤ (state_of D.state owned.old.part).size)
+        × ((state_of D.state owned.old.part).size ≤ 65536) }
     requires last { owned.old.first_block + (state_of D.state owned.old.part).size < 2 ^ 64 }
     requires head { SaysOwner D.state id owned.old }
     ensures lane { IsLane D.state lane.new }
     ensures same { IsSameLane lane.old lane.new }
     ensures rest { lane.new ≡ record lane.old { spindle = lane.new.spindle } }
     ensures part { IsSameOwned D.state owned.old owned.new }
-    ensures any_moment { LeavesOnly (state_of D.state owned.old.part) (state_of D.state owned.new.part) (IsImageOf (state_of D.state owned.old.part).values) }
+    ensures any_moment { LeavesOnly (state_of D.state owned.old.part)
+        (state_of D.state owned.new.part) (IsImageOf (state_of D.state owned.old.part).values) }
     ensures scanned { IfOk result (IsScanned D.state id home owned.new) }
     ensures settled { OnOk result (IsSettledPart D.state owned.old owned.new) }
     ensures intact { IsTrue D.tells → OnOk result (IsIntact id home (owned_of D.state owned.old)) }
@@ -174,7 +183,8 @@ pub fn scan_all<R: Wait, D: Disk>(
     requires ready { CanOpen D.state shared.now opening.old }
     requires named { IsNamesAnswer opening.old None }
     ensures parts { IsReadBack D.state shared.now opening.old opening.new }
-    ensures ok { IfOk result (λ scans. AreReadBack D.tells D.state shared.now opening.old opening.new scans.items) }
+    ensures ok { IfOk result
+        (λ scans. AreReadBack D.tells D.state shared.now opening.old opening.new scans.items) }
     ensures err { IfErr result (Refuses D.tells D.state opening.old opening.new) }
 {
     let mut scans = Vec::new(alloc);

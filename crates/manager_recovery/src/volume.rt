@@ -41,10 +41,14 @@ fn index_of<D: Disk>(
     scans: &[Scan],
 ) -> Result<Index, OpenRefusal>
     requires named { IsNamesAnswer opening.now None }
-    requires fits { AllByRecursion (λ o. o.first_block + (state_of D.state o.part).size < 2 ^ 64) opening.now.owned.items }
-    requires scanned { AllZip (IsScanned D.state opening.now.want.id opening.now.want.home) opening.now.owned.items scans.now }
-    ensures ok { IfOk result (λ index. IsIndexOf (all_found opening.now.view opening.now.owned.items scans.now) index.entries) }
-    ensures err { IfErr result (IsIndexRefusal (all_found opening.now.view opening.now.owned.items scans.now)) }
+    requires fits { AllByRecursion (λ o. o.first_block + (state_of D.state o.part).size < 2 ^ 64)
+        opening.now.owned.items }
+    requires scanned { AllZip (IsScanned D.state opening.now.want.id opening.now.want.home)
+        opening.now.owned.items scans.now }
+    ensures ok { IfOk result (λ index.
+        IsIndexOf (all_found opening.now.view opening.now.owned.items scans.now) index.entries) }
+    ensures err { IfErr result
+        (IsIndexRefusal (all_found opening.now.view opening.now.owned.items scans.now)) }
 {
     let Ok(mut listed) = list_all(alloc, &opening.view, &opening.owned, scans) else {
         return Err(OpenRefusal::NoMemory);
@@ -105,9 +109,14 @@ fn recover<R: Wait, D: Disk>(
 
 // The manager of a volume that was read back.
 fn manager_of<D: Disk>(shared: &Shared<D>, opening: Opening<D>, recovered: Recovered) -> Manager<D>
-    requires ready { (o : Opening D) × IsRecovered D.tells D.state shared.now o opening recovered × IsHandedBack D.tells D.state shared.now o opening }
-    ensures opens { (o : Opening D) → IsRecovered D.tells D.state shared.now o opening recovered → IsHandedBack D.tells D.state shared.now o opening → Opens D.tells D.state shared.now o result }
-    ensures calm { (o : Opening D) → CanOpen D.state shared.now o → IsRecovered D.tells D.state shared.now o opening recovered → NoneRoseAtOpening D.state o result }
+    requires ready { (o : Opening D) × IsRecovered D.tells D.state shared.now o opening recovered
+        × IsHandedBack D.tells D.state shared.now o opening }
+    ensures opens { (o : Opening D) → IsRecovered D.tells D.state shared.now o opening recovered
+        → IsHandedBack D.tells D.state shared.now o opening
+        → Opens D.tells D.state shared.now o result }
+    ensures calm { (o : Opening D) → CanOpen D.state shared.now o
+        → IsRecovered D.tells D.state shared.now o opening recovered
+        → NoneRoseAtOpening D.state o result }
 {
     let mut opening = opening;
     // a view names at most sixteen loggers, none of them twice

@@ -13,7 +13,8 @@ abbrev pub to_give : {S : Type 0} → (S → Option (List ℕ)) → Held S → O
 to_give left h = prepend_known h.bytes (left h.source)
 
 -- bytes may have been taken, and none was given
-pub record Takes {S : Type 0} (left : S → Option (List ℕ)) (faults borrow : S → ℕ) (old new : Held S) : Type 0 where
+pub record Takes {S : Type 0} (left : S → Option (List ℕ)) (faults borrow : S → ℕ)
+    (old new : Held S) : Type 0 where
   pub kept : Keeps (to_give left old) (to_give left new)
   pub more : (more : List ℕ) × (new.bytes ≡ old.bytes ++ more)
   pub later : faults old.source ≤ faults new.source

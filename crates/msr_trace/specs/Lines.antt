@@ -1,4 +1,5 @@
--- How bytes are read as the lines of a trace: where lines end, what a line has, and which refusal comes first.
+-- How bytes are read as the lines of a trace: where lines end, what a line has, and which refusal
+-- comes first.
 use Rattle.std.specs.Prelude.{◌≡◌, ℕ, ◌+◌, ◌-◌, ◌^◌, ◌≤◌, ◌<◌, ◌==◌, ◌||◌, nat_lt, nat_le, Bool, not, List, [], ◌∷◌, length, take, codes, slice_index, slice_get, Option, None, Some, Result, Ok, Err, if◌then◌else◌, ⊤}
 use Rattle.std.specs.List.{slice_split, list_any}
 use Rattle.std.specs.Option.{ok_or}
@@ -30,13 +31,22 @@ lines_of bytes = without_empty_last (slice_split is_feed bytes)
 
 -- the line without one carriage return at its end
 abbrev pub without_return : List ℕ → List ℕ
-without_return line = if slice_index line (length line - 1) == 13 then take (length line - 1) line else line
+without_return line =
+    if slice_index line (length line - 1) == 13 then take (length line - 1) line else line
 
 -- ---- What a line has
 
 -- what the Rust value tells
 abbrev pub trace_line : Line → TraceLine
-trace_line l = record { time = l.time; host = l.host; disk = l.disk; kind = l.kind; offset = l.offset; size = l.size; response = l.response }
+trace_line l = record {
+  time = l.time;
+  host = l.host;
+  disk = l.disk;
+  kind = l.kind;
+  offset = l.offset;
+  size = l.size;
+  response = l.response;
+}
 
 -- the first refusal, or what was read goes on
 infixl 10 ◌>>=◌
@@ -57,10 +67,12 @@ unfoldable pub number_in : List (List ℕ) → ℕ → ℕ → Result ℕ BadLin
 number_in fields at name = field_at fields at >>= λ f. ok_or (number_of f) (bad.Number name)
 
 unfoldable pub disk_in : List (List ℕ) → Result ℕ BadLine
-disk_in fields = number_in fields 2 3 >>= λ n. if nat_lt n (2 ^ 32) then Ok n else Err (bad.Number 3)
+disk_in fields =
+    number_in fields 2 3 >>= λ n. if nat_lt n (2 ^ 32) then Ok n else Err (bad.Number 3)
 
 unfoldable pub kind_in : List (List ℕ) → Result Kind BadLine
-kind_in fields = field_at fields 3 >>= λ f. if bytes_eq f (codes "Read") then Ok kind.Read else if bytes_eq f (codes "Write") then Ok kind.Write else Err bad.Kind
+kind_in fields = field_at fields 3 >>= λ f. if bytes_eq f (codes "Read") then Ok kind.Read
+    else if bytes_eq f (codes "Write") then Ok kind.Write else Err bad.Kind
 
 -- seven fields are a line
 unfoldable pub line_in : List (List ℕ) → Result TraceLine BadLine
@@ -74,7 +86,16 @@ line_in fields =
     number_in fields 6 7 >>= λ response.
     if nat_lt 67108864 size then Err bad.TooLarge
     else (if nat_le (2 ^ 64) (offset + size) then Err bad.PastEnd
-    else (field_at fields 1 >>= λ host. Ok (record { time = time; host = host; disk = disk; kind = kind; offset = offset; size = size; response = response })))
+    else (field_at fields 1 >>= λ host.
+    Ok (record {
+      time = time;
+      host = host;
+      disk = disk;
+      kind = kind;
+      offset = offset;
+      size = size;
+      response = response;
+    })))
 
 -- a quotation mark or a carriage return
 abbrev pub is_mark : ℕ → Bool
@@ -87,9 +108,11 @@ body_of body =
     else (if list_any is_mark body then Err bad.Quote
     else (line_in (fields_of body) >>= λ line. Ok (Some line)))
 
--- what a line is read as, without its line feed: nothing where it is blank, what it has, or the first refusal
+-- what a line is read as, without its line feed: nothing where it is blank, what it has, or the
+-- first refusal
 unfoldable pub read_of : List ℕ → Result (Option TraceLine) BadLine
-read_of line = if nat_lt 4096 (length line) then Err bad.LineTooLong else body_of (without_return line)
+read_of line =
+    if nat_lt 4096 (length line) then Err bad.LineTooLong else body_of (without_return line)
 
 -- a line's bounds: its size is at most 2^26 bytes, and it ends at or before byte 2^64 - 1
 pub record Fits (l : TraceLine) : Type 0 where

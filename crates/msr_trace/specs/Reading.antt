@@ -23,15 +23,18 @@ abbrev pub pending : {S : Type 0} → (S → Option (List ℕ)) → Reading S �
 pending left r = prepend_known r.held (left r.source)
 
 -- one line is taken off the front of known bytes, and this is what it reads as
-abbrev pub TakesLine : Option (List ℕ) → Option (List ℕ) → Result (Option TraceLine) BadLine → Type 0
+abbrev pub TakesLine : Option (List ℕ) → Option (List ℕ) → Result (Option TraceLine) BadLine
+    → Type 0
 TakesLine None new read = ⊤
 TakesLine (Some bytes) None read = ⊥
-TakesLine (Some bytes) (Some rest) read = (text : List ℕ) × (lines_of bytes ≡ text ∷ lines_of rest) × (read_of text ≡ read)
+TakesLine (Some bytes) (Some rest) read =
+    (text : List ℕ) × (lines_of bytes ≡ text ∷ lines_of rest) × (read_of text ≡ read)
 
 -- the first line of known bytes is refused
 abbrev pub RefusesLine : Option (List ℕ) → BadLine → Type 0
 RefusesLine None why = ⊤
-RefusesLine (Some bytes) why = (text : List ℕ) × (others : List (List ℕ)) × (lines_of bytes ≡ text ∷ others) × (read_of text ≡ Err why)
+RefusesLine (Some bytes) why = (text : List ℕ) × (others : List (List ℕ))
+    × (lines_of bytes ≡ text ∷ others) × (read_of text ≡ Err why)
 
 -- nothing is left to give
 pub record IsDone {S : Type 0} (left : S → Option (List ℕ)) (old new : Reading S) : Type 0 where

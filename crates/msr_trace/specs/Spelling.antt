@@ -1,4 +1,5 @@
--- How a line of a trace is spelled: seven fields with commas between them, maybe with a carriage return behind.
+-- How a line of a trace is spelled: seven fields with commas between them, maybe with a carriage
+-- return behind.
 use Rattle.std.specs.Prelude.{◌≡◌, ℕ, ◌≤◌, ◌<◌, ◌^◌, ◌⊎◌, ◌==◌, ◌||◌, Bool, false, List, [], ◌∷◌, ◌++◌, length, codes, decimal, None, Some, Ok}
 use Rattle.std.specs.List.{list_any}
 use Rattle.wol_model.specs.Trace.{TraceLine}
@@ -21,7 +22,8 @@ pub record Digits : Type 0 where
 
 -- the fields with these digits, with commas between them
 abbrev pub fields_text : TraceLine → Digits → List ℕ
-fields_text l d = d.time ++ 44 ∷ (l.host ++ 44 ∷ (d.disk ++ 44 ∷ (kind_text l.kind ++ 44 ∷ (d.offset ++ 44 ∷ (d.size ++ 44 ∷ d.response)))))
+fields_text l d = d.time ++ 44 ∷ (l.host ++ 44 ∷ (d.disk ++ 44 ∷ (kind_text l.kind ++ 44 ∷ (d.offset
+    ++ 44 ∷ (d.size ++ 44 ∷ d.response)))))
 
 -- a comma, a quotation mark or a carriage return, none of which a host has
 abbrev pub is_reserved : ℕ → Bool
@@ -46,11 +48,13 @@ pub record Spells (text : List ℕ) (l : TraceLine) (d : Digits) : Type 0 where
 
 -- what is spelled is read
 abbrev pub SpelledIsRead : Type 0
-SpelledIsRead = (text : List ℕ) (l : TraceLine) (d : Digits) → Spells text l d → read_of text ≡ Ok (Some l)
+SpelledIsRead =
+    (text : List ℕ) (l : TraceLine) (d : Digits) → Spells text l d → read_of text ≡ Ok (Some l)
 
 -- what is read is spelled
 abbrev pub ReadIsSpelled : Type 0
-ReadIsSpelled = (text : List ℕ) (l : TraceLine) → read_of text ≡ Ok (Some l) → (d : Digits) × Spells text l d
+ReadIsSpelled =
+    (text : List ℕ) (l : TraceLine) → read_of text ≡ Ok (Some l) → (d : Digits) × Spells text l d
 
 -- exactly an empty line and a carriage return alone are blank
 abbrev pub BlankIsRead : Type 0
@@ -61,7 +65,13 @@ BlankIsEmpty = (text : List ℕ) → read_of text ≡ Ok None → (text ≡ []) 
 
 -- the text that is written for a line: no leading zeros, and no carriage return
 abbrev pub digits_of : TraceLine → Digits
-digits_of l = record { time = decimal l.time; disk = decimal l.disk; offset = decimal l.offset; size = decimal l.size; response = decimal l.response }
+digits_of l = record {
+  time = decimal l.time;
+  disk = decimal l.disk;
+  offset = decimal l.offset;
+  size = decimal l.size;
+  response = decimal l.response;
+}
 
 abbrev pub line_text : TraceLine → List ℕ
 line_text l = fields_text l (digits_of l)

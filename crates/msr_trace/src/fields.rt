@@ -164,7 +164,9 @@ fn comma_in(bytes: &[u8]) -> Option<usize>
 
 // The first record of a text that has no header row, if it has one.
 fn first_record(alloc: Global, text: &[u8]) -> Result<Option<ByteRecord>, NoMemory>
-    ensures { IfOk result (λ o. option_map records.fields_of o ≡ option_map (λ p. p.0) (next_record default_config st.StartRecord [] [] (strip_bom text.now))) }
+    ensures { IfOk result (λ o. option_map records.fields_of o
+        ≡ option_map (λ p. p.0)
+        (next_record default_config st.StartRecord [] [] (strip_bom text.now))) }
 {
     let mut reader = ReaderBuilder::new()
         .has_headers(false)

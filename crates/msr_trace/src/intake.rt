@@ -79,7 +79,11 @@ impl<S: Source> Intake<S> {
     /// Gives the first bytes.
     pub fn skip(&mut self, count: usize)
         requires { count ≤ length self.old.bytes }
-        ensures { self.new ≡ record { source = self.old.source; bytes = drop count self.old.bytes; ended = self.old.ended } }
+        ensures { self.new ≡ record {
+          source = self.old.source;
+          bytes = drop count self.old.bytes;
+          ended = self.old.ended;
+        } }
     {
         self.start += count;
     }
@@ -89,7 +93,8 @@ impl<S: Source> Intake<S> {
         requires room { length self.old.bytes < 8192 }
         requires open { self.old.ended ≡ false }
         ensures takes { Takes S.left S.faults S.borrow self.old self.new }
-        ensures grows { OnOk result ((self.new.ended ≡ true) ⊎ (length self.old.bytes < length self.new.bytes)) }
+        ensures grows { OnOk result
+            ((self.new.ended ≡ true) ⊎ (length self.old.bytes < length self.new.bytes)) }
         ensures size { length self.new.bytes ≤ 8192 }
         ensures err { OnErr result (self.new.bytes ≡ self.old.bytes) }
         ensures cause { OnErr result (Rose (S.faults self.old.source) (S.faults self.new.source)) }
@@ -108,7 +113,9 @@ impl<S: Source> Intake<S> {
     // Whether the first line goes on behind what is held, where this is the place of the first line feed or the length.
     fn is_cut(&self, end: usize) -> bool
         requires { end ≤ length self.now.bytes }
-        ensures { MatchBool result ((end ≡ length self.now.bytes) × (end ≤ 4096) × (self.now.ended ≡ false)) ((end < length self.now.bytes) ⊎ ((self.now.ended ≡ true) ⊎ (4096 < end))) }
+        ensures { MatchBool result ((end ≡ length self.now.bytes) × (end ≤ 4096)
+            × (self.now.ended ≡ false))
+            ((end < length self.now.bytes) ⊎ ((self.now.ended ≡ true) ⊎ (4096 < end))) }
     {
         end == self.bytes().len() && end <= LINE_MAX && !self.has_ended()
     }
@@ -133,7 +140,8 @@ impl<S: Source> Intake<S> {
     pub fn take_line(&mut self) -> Result<usize, Failed>
         ensures takes { Takes S.left S.faults S.borrow self.old self.new }
         ensures first { IfOk result (λ length. length ≡ position_or_len is_feed self.new.bytes) }
-        ensures whole { IfOk result (λ count. (count < length self.new.bytes) ⊎ ((self.new.ended ≡ true) ⊎ (4096 < count))) }
+        ensures whole { IfOk result (λ count.
+            (count < length self.new.bytes) ⊎ ((self.new.ended ≡ true) ⊎ (4096 < count))) }
         ensures err { OnErr result (list_any is_feed self.new.bytes ≡ false) }
         ensures size { length self.new.bytes ≤ 8192 }
         ensures cause { OnErr result (Rose (S.faults self.old.source) (S.faults self.new.source)) }
@@ -163,7 +171,8 @@ fn read_after<S: Source>(source: &mut S, buffer: &mut [u8], held: usize) -> Resu
     requires { held < length buffer.old }
     ensures size { IfOk result (λ count. held + count ≤ length buffer.new) }
     ensures held { take held buffer.new ≡ take held buffer.old }
-    ensures content { IfOk result (λ count. Consumes (S.left source.old) (S.left source.new) (take count (drop held buffer.new))) }
+    ensures content { IfOk result (λ count.
+        Consumes (S.left source.old) (S.left source.new) (take count (drop held buffer.new))) }
     ensures end { IfOk result (λ count. count ≡ 0 → IsAtEnd (S.left source.new)) }
     ensures kept { OnErr result (Keeps (S.left source.old) (S.left source.new)) }
     ensures later { S.faults source.old ≤ S.faults source.new }

@@ -61,20 +61,29 @@ impl<S: Source> Lines<S> {
     pub fn next(&mut self) -> Result<Option<(u64, Option<Line>)>, TraceFault>
         requires { self.old.live ≡ true }
         ensures size { length self.new.held ≤ 8192 }
-        ensures number { IfOk result (λ o. IfSome o (λ p. (p.0 ≡ self.old.given + 1) × (self.new.given ≡ p.0))) }
+        ensures number { IfOk result
+            (λ o. IfSome o (λ p. (p.0 ≡ self.old.given + 1) × (self.new.given ≡ p.0))) }
         ensures most { self.new.given ≤ 2 ^ 32 }
-        ensures line { IfOk result (λ o. IfSome o (λ p. TakesLine (pending S.left self.old) (pending S.left self.new) (Ok (option_map trace_line p.1)))) }
+        ensures line { IfOk result (λ o.
+            IfSome o (λ p. TakesLine (pending S.left self.old) (pending S.left self.new)
+            (Ok (option_map trace_line p.1)))) }
         ensures fits { IfOk result (λ o. IfSome o (λ p. IfSome p.1 (λ l. Fits (trace_line l)))) }
         ensures end { IfOk result (λ o. IfNone o (IsDone S.left self.old self.new)) }
-        ensures bad { (line : _) (why : _) → result ≡ Err (TraceFault.Bad line why) → (line ≡ self.old.given + 1) × (line ≤ 2 ^ 32) × RefusesLine (pending S.left self.old) why }
-        ensures spent { (result ≡ Err TraceFault.Spent) ↔ ((self.old.given ≡ 2 ^ 32) × (0 < length self.new.held)) }
+        ensures bad { (line : _) (why : _) → result ≡ Err (TraceFault.Bad line why)
+            → (line ≡ self.old.given + 1) × (line ≤ 2 ^ 32)
+            × RefusesLine (pending S.left self.old) why }
+        ensures spent { (result ≡ Err TraceFault.Spent)
+            ↔ ((self.old.given ≡ 2 ^ 32) × (0 < length self.new.held)) }
         ensures cut { result ≡ Err TraceFault.Source → list_any is_feed self.new.held ≡ false }
         ensures kept { OnErr result (Keeps (pending S.left self.old) (pending S.left self.new)) }
         ensures given { OnErr result (self.new.given ≡ self.old.given) }
-        ensures live { MatchResult result (λ _. self.new.live ≡ true) (λ e. self.new.live ≡ is_no_memory e) }
+        ensures live { MatchResult result (λ _. self.new.live ≡ true)
+            (λ e. self.new.live ≡ is_no_memory e) }
         ensures later { S.faults self.old.source ≤ S.faults self.new.source }
-        ensures cause { result ≡ Err TraceFault.Source → Rose (S.faults self.old.source) (S.faults self.new.source) }
-        ensures calm { result ≢ Err TraceFault.Source → S.faults self.new.source ≡ S.faults self.old.source }
+        ensures cause { result ≡ Err TraceFault.Source
+            → Rose (S.faults self.old.source) (S.faults self.new.source) }
+        ensures calm { result ≢ Err TraceFault.Source
+            → S.faults self.new.source ≡ S.faults self.old.source }
         ensures same_borrow { S.borrow self.new.source ≡ S.borrow self.old.source }
     {
         if self.intake.take_first().is_err() {
@@ -138,9 +147,11 @@ fn give_first<S: Source>(
     requires some { 0 < length intake.old.bytes }
     requires first { end ≡ position_or_len is_feed intake.old.bytes }
     requires whole { (end < length intake.old.bytes) ⊎ ((intake.old.ended ≡ true) ⊎ (4096 < end)) }
-    ensures line { IfOk result (λ o. TakesLine (to_give S.left intake.old) (to_give S.left intake.new) (Ok (option_map trace_line o))) }
+    ensures line { IfOk result (λ o. TakesLine (to_give S.left intake.old)
+        (to_give S.left intake.new) (Ok (option_map trace_line o))) }
     ensures fits { IfOk result (λ o. IfSome o (λ l. Fits (trace_line l))) }
-    ensures bad { (why : _) → result ≡ Err (LineFault.Bad why) → RefusesLine (to_give S.left intake.old) why }
+    ensures bad { (why : _) → result ≡ Err (LineFault.Bad why)
+        → RefusesLine (to_give S.left intake.old) why }
     ensures err { OnErr result (intake.new ≡ intake.old) }
     ensures source { intake.new.source ≡ intake.old.source }
     ensures size { length intake.new.bytes ≤ 8192 }

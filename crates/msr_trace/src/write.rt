@@ -13,7 +13,8 @@ use wol_model::Kind;
 /// read as the line again where the host has no comma, quotation mark, carriage return or line feed, size and offset are
 /// within a line's bounds, and the text has at most 4,096 bytes. `NoMemory` appends nothing.
 pub fn write_line(line: &Line, out: &mut Vec<u8>) -> Result<(), NoMemory>
-    ensures ok { OnOk result (out.new.items ≡ out.old.items ++ (line_text (trace_line line.now) ++ 10 ∷ [])) }
+    ensures ok { OnOk result
+        (out.new.items ≡ out.old.items ++ (line_text (trace_line line.now) ++ 10 ∷ [])) }
     ensures err { OnErr result (out.new.items ≡ out.old.items) }
 {
     let start = out.len();
@@ -28,7 +29,8 @@ pub fn write_line(line: &Line, out: &mut Vec<u8>) -> Result<(), NoMemory>
 
 // The same, but a front of the text may be left behind.
 fn append_line(line: &Line, out: &mut Vec<u8>) -> Result<(), NoMemory>
-    ensures ok { OnOk result (out.new.items ≡ out.old.items ++ (line_text (trace_line line.now) ++ 10 ∷ [])) }
+    ensures ok { OnOk result
+        (out.new.items ≡ out.old.items ++ (line_text (trace_line line.now) ++ 10 ∷ [])) }
     ensures starts { StartsWith out.new.items out.old.items }
 {
     append_number(line.time, b',', out)?;

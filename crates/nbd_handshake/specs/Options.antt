@@ -35,7 +35,8 @@ pub record IsOption (a : Asked) (bytes : List ℕ) : Type 0 where
 
 -- what the option of a number asks for
 abbrev pub kind_of : ℕ → Kind
-kind_of n = if n == 1 then asked.ExportName else if n == 2 then asked.Abort else if n == 3 then asked.List else if n == 6 then asked.Info else if n == 7 then asked.Go else asked.Other
+kind_of n = if n == 1 then asked.ExportName else if n == 2 then asked.Abort else if n == 3
+    then asked.List else if n == 6 then asked.Info else if n == 7 then asked.Go else asked.Other
 
 -- a name is that of the export, or none, which stands for it
 abbrev pub is_offered : (name other : List ℕ) → Bool
@@ -45,9 +46,12 @@ is_offered name other = (length other == 0) || bytes_eq name other
 abbrev pub name_in : List ℕ → List ℕ
 name_in given = take (big_number 4 given) (drop 4 given)
 
--- the data are a name with its length before it, and a list of facts of 2 bytes each with their number before them
+-- the data are a name with its length before it, and a list of facts of 2 bytes each with their
+-- number before them
 abbrev pub is_asking : List ℕ → Bool
-is_asking given = nat_le 6 (length given) && nat_le (6 + big_number 4 given) (length given) && (length given == 6 + big_number 4 given + 2 * big_number 2 (drop (4 + big_number 4 given) given))
+is_asking given = nat_le 6 (length given) && nat_le (6 + big_number 4 given) (length given)
+    && (length given == 6 + big_number 4 given
+    + 2 * big_number 2 (drop (4 + big_number 4 given) given))
 
 -- .. and the name is the export's
 abbrev pub asks_for_export : (name given : List ℕ) → Bool
@@ -55,15 +59,17 @@ asks_for_export name given = is_asking given && is_offered name (name_in given)
 
 -- ---- Replies
 
--- what each reply to an option begins with: its magic, the option's number, what kind of reply it is, and how many bytes follow
+-- what each reply to an option begins with: its magic, the option's number, what kind of reply it
+-- is, and how many bytes follow
 abbrev pub reply_head : (number kind len : ℕ) → List ℕ
-reply_head number kind len = big_bytes 8 0x3e889045565a9 ++ big_bytes 4 number ++ big_bytes 4 kind ++ big_bytes 4 len
+reply_head number kind len =
+    big_bytes 8 0x3e889045565a9 ++ big_bytes 4 number ++ big_bytes 4 kind ++ big_bytes 4 len
 
 abbrev pub reply : (number kind : ℕ) → (given : List ℕ) → List ℕ
 reply number kind given = reply_head number kind (length given) ++ given
 
--- the size of the export in bytes, and what may be asked of it: it has flags, FLUSH, and writes that are durable before their
--- reply
+-- the size of the export in bytes, and what may be asked of it: it has flags, FLUSH, and writes
+-- that are durable before their reply
 abbrev pub export_bytes : (blocks : ℕ) → List ℕ
 export_bytes blocks = big_bytes 8 (512 * blocks) ++ big_bytes 2 13
 
@@ -84,17 +90,24 @@ export_replies blocks zeroes = export_bytes blocks ++ (if zeroes then replicate 
 
 -- what there is to know of the export
 abbrev pub info_replies : (blocks number : ℕ) → List ℕ
-info_replies blocks number = reply number 3 (told_bytes blocks) ++ reply number 3 size_bytes ++ reply number 1 []
+info_replies blocks number =
+    reply number 3 (told_bytes blocks) ++ reply number 3 size_bytes ++ reply number 1 []
 
 -- .. where the data ask for it; else why not
 abbrev pub info_or_not : (name : List ℕ) → (blocks number : ℕ) → (given : List ℕ) → List ℕ
-info_or_not name blocks number given = if not (is_asking given) then reply number 0x80000003 [] else if is_offered name (name_in given) then info_replies blocks number else reply number 0x80000006 []
+info_or_not name blocks number given = if not (is_asking given) then reply number 0x80000003 []
+    else if is_offered name (name_in given) then info_replies blocks number
+    else reply number 0x80000006 []
 
 -- the replies to an option, where the export has this name and so many blocks
-abbrev pub replies_of : Kind → (name : List ℕ) → (blocks : ℕ) → (zeroes : Bool) → (number : ℕ) → (given : List ℕ) → List ℕ
-replies_of asked.ExportName name blocks zeroes number given = if is_offered name given then export_replies blocks zeroes else []
+abbrev pub replies_of : Kind → (name : List ℕ) → (blocks : ℕ) → (zeroes : Bool) → (number : ℕ)
+    → (given : List ℕ) → List ℕ
+replies_of asked.ExportName name blocks zeroes number given =
+    if is_offered name given then export_replies blocks zeroes else []
 replies_of asked.Abort name blocks zeroes number given = reply number 1 []
-replies_of asked.List name blocks zeroes number given = if length given == 0 then reply number 2 (name_bytes name) ++ reply number 1 [] else reply number 0x80000003 []
+replies_of asked.List name blocks zeroes number given =
+    if length given == 0 then reply number 2 (name_bytes name) ++ reply number 1 []
+    else reply number 0x80000003 []
 replies_of asked.Info name blocks zeroes number given = info_or_not name blocks number given
 replies_of asked.Go name blocks zeroes number given = info_or_not name blocks number given
 replies_of asked.Other name blocks zeroes number given = reply number 0x80000001 []
@@ -106,7 +119,8 @@ replies_to name blocks zeroes a = replies_of (kind_of a.number) name blocks zero
 
 -- how a handshake ends at an option, where it does
 abbrev pub end_of : Kind → (name given : List ℕ) → Option Shaken
-end_of asked.ExportName name given = if is_offered name given then Some Agreed else Some (NotAgreed unagreed.Unoffered)
+end_of asked.ExportName name given =
+    if is_offered name given then Some Agreed else Some (NotAgreed unagreed.Unoffered)
 end_of asked.Abort name given = Some (NotAgreed unagreed.Aborted)
 end_of asked.List name given = None
 end_of asked.Info name given = None

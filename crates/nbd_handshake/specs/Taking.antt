@@ -27,9 +27,12 @@ EndsFlags unagreed.BadFlags last left = (length last ≡ 4) × (3 < big_number 4
 EndsFlags why last left = ⊥
 
 -- the flags were taken, and tell whether zeroes are wanted; or others, or none
-abbrev pub TakesFlags : {E : Type 0} → (left left' : Option (List ℕ)) → Result (Result Bool Unagreed) E → Type 0
-TakesFlags left left' (Ok (Ok zeroes)) = (flags : List ℕ) × Consumes left left' flags × AreFlags flags × (zeroes ≡ wants_zeroes flags)
-TakesFlags left left' (Ok (Err why)) = (last : List ℕ) × Consumes left left' last × EndsFlags why last left'
+abbrev pub TakesFlags : {E : Type 0} → (left left' : Option (List ℕ))
+    → Result (Result Bool Unagreed) E → Type 0
+TakesFlags left left' (Ok (Ok zeroes)) =
+    (flags : List ℕ) × Consumes left left' flags × AreFlags flags × (zeroes ≡ wants_zeroes flags)
+TakesFlags left left' (Ok (Err why)) =
+    (last : List ℕ) × Consumes left left' last × EndsFlags why last left'
 TakesFlags left left' (Err e) = (last : List ℕ) × Consumes left left' last × (length last < 4)
 
 -- ---- Options
@@ -62,14 +65,22 @@ EndsOptions unagreed.TooLong last left = (number len : ℕ) × IsHead last numbe
 EndsOptions why last left = ⊥
 
 -- an option was taken, whose data stand in front in a room; or something else, or nothing
-abbrev pub TakesOption : {E : Type 0} → (left left' : Option (List ℕ)) → (room : List ℕ) → Result Next E → Type 0
-TakesOption left left' room (Ok (next.Asked number len)) = (len ≤ 4096) × (bytes : List ℕ) × IsOption (record { number = number; given = take len room }) bytes × Consumes left left' bytes
-TakesOption left left' room (Ok (next.Ended why)) = (last : List ℕ) × Consumes left left' last × EndsOptions why last left'
+abbrev pub TakesOption : {E : Type 0} → (left left' : Option (List ℕ)) → (room : List ℕ)
+    → Result Next E → Type 0
+TakesOption left left' room (Ok (next.Asked number len)) =
+    (len ≤ 4096) × (bytes : List ℕ)
+    × IsOption (record { number = number; given = take len room }) bytes × Consumes left left' bytes
+TakesOption left left' room (Ok (next.Ended why)) =
+    (last : List ℕ) × Consumes left left' last × EndsOptions why last left'
 TakesOption left left' room (Err e) = (last : List ℕ) × Consumes left left' last × IsUnfinished last
 
--- behind a head, the data of its option were taken into the front of a room; or they are too many, or the source ended or
--- failed within them
-abbrev pub TakesGiven : {E : Type 0} → (head : List ℕ) → (left left' : Option (List ℕ)) → (room : List ℕ) → Result Next E → Type 0
-TakesGiven head left left' room (Ok (next.Asked number len)) = IsHead head number len × (len ≤ 4096) × Consumes left left' (take len room)
-TakesGiven head left left' room (Ok (next.Ended why)) = (part : List ℕ) × Consumes left left' part × EndsOptions why (head ++ part) left'
-TakesGiven head left left' room (Err e) = (part : List ℕ) × Consumes left left' part × IsCutData (head ++ part)
+-- behind a head, the data of its option were taken into the front of a room; or they are too many,
+-- or the source ended or failed within them
+abbrev pub TakesGiven : {E : Type 0} → (head : List ℕ) → (left left' : Option (List ℕ))
+    → (room : List ℕ) → Result Next E → Type 0
+TakesGiven head left left' room (Ok (next.Asked number len)) =
+    IsHead head number len × (len ≤ 4096) × Consumes left left' (take len room)
+TakesGiven head left left' room (Ok (next.Ended why)) =
+    (part : List ℕ) × Consumes left left' part × EndsOptions why (head ++ part) left'
+TakesGiven head left left' room (Err e) =
+    (part : List ℕ) × Consumes left left' part × IsCutData (head ++ part)

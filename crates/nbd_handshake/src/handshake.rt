@@ -40,7 +40,8 @@ fn answer<K: Sink>(
     given: &[u8],
     out: &mut K,
 ) -> Result<Option<Shaken>, NbdFault>
-    ensures content { AnswersSo export.now.name.now export.now.blocks zeroes (record { number = number; given = given.now })
+    ensures content { AnswersSo export.now.name.now export.now.blocks zeroes
+        (record { number = number; given = given.now })
         (K.taken out.old) (K.taken out.new) result }
     ensures faults { (n : ℕ) → CountsFaults n n (K.faults out.old) (K.faults out.new) result }
 {
@@ -64,9 +65,11 @@ fn answer_next<S: Source, K: Sink>(
     room: &mut [u8],
 ) -> Result<Option<Shaken>, NbdFault>
     requires { length room.old ≡ 4096 }
-    ensures content { GoesOn export.now.name.now export.now.blocks zeroes (S.left input.old) (S.left input.new)
+    ensures content { GoesOn export.now.name.now export.now.blocks zeroes (S.left input.old)
+        (S.left input.new)
         (K.taken out.old) (K.taken out.new) result }
-    ensures faults { CountsFaults (S.faults input.old) (S.faults input.new) (K.faults out.old) (K.faults out.new) result }
+    ensures faults { CountsFaults (S.faults input.old) (S.faults input.new) (K.faults out.old)
+        (K.faults out.new) result }
 {
     match next_option(input, room) {
         Ok(Next::Asked { number, length }) => {
@@ -85,9 +88,11 @@ fn answer_all<S: Source, K: Sink>(
     input: &mut S,
     out: &mut K,
 ) -> Result<Shaken, NbdFault>
-    ensures content { AsksAlong export.now.name.now export.now.blocks zeroes (S.left input.old) (S.left input.new)
+    ensures content { AsksAlong export.now.name.now export.now.blocks zeroes (S.left input.old)
+        (S.left input.new)
         (K.taken out.old) (K.taken out.new) result }
-    ensures faults { CountsFaults (S.faults input.old) (S.faults input.new) (K.faults out.old) (K.faults out.new) result }
+    ensures faults { CountsFaults (S.faults input.old) (S.faults input.new) (K.faults out.old)
+        (K.faults out.new) result }
 {
     let mut room = [0; MOST_BYTES];
     'options: for _answered in 0..MOST_OPTIONS {
@@ -114,9 +119,11 @@ pub fn shake<S: Source, K: Sink>(
     input: &mut S,
     out: &mut K,
 ) -> Result<Shaken, NbdFault>
-    ensures shake { IsShake export.now.name.now export.now.blocks (S.left input.old) (S.left input.new)
+    ensures shake { IsShake export.now.name.now export.now.blocks (S.left input.old)
+        (S.left input.new)
         (K.taken out.old) (K.taken out.new) result }
-    ensures faults { CountsFaults (S.faults input.old) (S.faults input.new) (K.faults out.old) (K.faults out.new) result }
+    ensures faults { CountsFaults (S.faults input.old) (S.faults input.new) (K.faults out.old)
+        (K.faults out.new) result }
 {
     if let Err(Failed) = greet(out) {
         return Err(NbdFault::Sink);

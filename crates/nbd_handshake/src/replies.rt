@@ -123,7 +123,9 @@ fn append_name(to: &mut Vec<u8>, export: &Export<'_>) -> Result<(), NoMemory>
 
 // Appends the names of all exports, which are one.
 fn append_names(to: &mut Vec<u8>, export: &Export<'_>, number: u32) -> Result<(), NoMemory>
-    ensures { OnOk result (to.new.items ≡ to.old.items ++ (reply number 2 (name_bytes export.now.name.now) ++ reply number 1 [])) }
+    ensures { OnOk result (to.new.items
+        ≡ to.old.items
+        ++ (reply number 2 (name_bytes export.now.name.now) ++ reply number 1 [])) }
 {
     let length = 4 + export.name.len() as u32;
     to.extend_from_slice(&reply_head(number, SERVER, length))?;
@@ -147,7 +149,8 @@ fn append_asked(
     number: u32,
     given: &[u8],
 ) -> Result<(), NoMemory>
-    ensures { OnOk result (to.new.items ≡ to.old.items ++ info_or_not export.now.name.now export.now.blocks number given.now) }
+    ensures { OnOk result (to.new.items
+        ≡ to.old.items ++ info_or_not export.now.name.now export.now.blocks number given.now) }
 {
     if asks_for_export(export, given) {
         append_info(to, export, number)
@@ -167,7 +170,8 @@ pub(crate) fn replies_of(
     number: u32,
     given: &[u8],
 ) -> Result<Vec<u8>, NoMemory>
-    ensures { IfOk result (λ v. v.items ≡ replies_of kind export.now.name.now export.now.blocks zeroes number given.now) }
+    ensures { IfOk result (λ v.
+        v.items ≡ replies_of kind export.now.name.now export.now.blocks zeroes number given.now) }
 {
     let mut to = Vec::new(alloc);
     match kind {

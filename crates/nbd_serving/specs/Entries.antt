@@ -7,10 +7,11 @@ use Rattle.request_turns.specs.Turns.{Stays}
 use Rattle.nbd_session.specs.Turns.{Turn}
 use Rattle.nbd_station.specs.Pieces.{IsTurnAt, pieces_of}
 
--- A turn adds one entry, the worker's, to those of a volume that began with this base. The entry follows the rules of placing and
--- reclaim, from the look that those before it leave; one that changes no content leaves that look, or its turn drained for a write that
--- was then refused.
-pub record AddsEntry (told : Type 0) (base : Base) (turn : Turn) (old new : List Noted) : Type 0 where
+-- A turn adds one entry, the worker's, to those of a volume that began with this base. The entry
+-- follows the rules of placing and reclaim, from the look that those before it leave; one that
+-- changes no content leaves that look, or its turn drained for a write that was then refused.
+pub record AddsEntry (told : Type 0) (base : Base) (turn : Turn) (old new : List Noted) :
+    Type 0 where
   pub note : Noted
   pub adds : new ≡ old ++ note ∷ []
   pub pass : note.entry.pass ≡ worker

@@ -38,21 +38,25 @@ use Rattle.wol_config.specs.Configs.{most_of}
 
 -- ---- Images
 
--- whatever images a crash leaves, the volume recovers to its array at entry after the pieces that stand, or with what was in
--- flight when a call of a disk failed
+-- whatever images a crash leaves, the volume recovers to its array at entry after the pieces that
+-- stand, or with what was in flight when a call of a disk failed
 abbrev pub LeavesServed : Config → (volume : ℕ) → (end : Pieces) → (entry left : Told) → Type 0
 LeavesServed config volume end entry left = (images : Images) → AreLeft config left images
-    → IsCut (recovered_from (shapes_of config) (images_read config entry) volume) end.stand (unwrap_or end.flight []) (recovered_from (shapes_of config) images volume)
+    → IsCut (recovered_from (shapes_of config) (images_read config entry) volume) end.stand
+    (unwrap_or end.flight []) (recovered_from (shapes_of config) images volume)
 
 -- and each other volume was open, and is kept
 abbrev pub LeavesOthers : Config → (volume : ℕ) → (entry left : Told) → Type 0
-LeavesOthers config volume entry left = (v : ℕ) → v < length config.volumes.items → v ≢ volume → IsKept config v entry left
+LeavesOthers config volume entry left =
+    (v : ℕ) → v < length config.volumes.items → v ≢ volume → IsKept config v entry left
 
 -- ---- The session
 
--- All volumes were open, and this one was served: the session was one at a volume that begins with its array at entry, and
--- with the version that the images give next, and each turn added an entry to the volume's.
-pub record ServesOpen (tells : Bool) (config : Config) (volume : ℕ) (old new : BayState) (wire wire' : Wire) (answer : Result Ended NbdFault) : Type 0 where
+-- All volumes were open, and this one was served: the session was one at a volume that begins with
+-- its array at entry, and with the version that the images give next, and each turn added an entry
+-- to the volume's.
+pub record ServesOpen (tells : Bool) (config : Config) (volume : ℕ) (old new : BayState)
+    (wire wire' : Wire) (answer : Result Ended NbdFault) : Type 0 where
   pub conf : VolumeConf
   pub conf_is : slice_get config.volumes.items volume ≡ Some conf
   pub base : Base
@@ -60,36 +64,61 @@ pub record ServesOpen (tells : Bool) (config : Config) (volume : ℕ) (old new :
   pub open_ : IsTrue tells → IsTold (IsOpen config volume conf base) old.told new.told
   pub opening : IsOpening base
   pub notes : List Noted
-  pub session : IsSession (AddsEntry (IsTrue tells) base) conf.home (most_of config) [] notes wire.left wire'.left wire.taken wire'.taken answer
-  pub faults : CountsFaults wire.source_faults wire'.source_faults wire.sink_faults wire'.sink_faults answer
+  pub session : IsSession (AddsEntry (IsTrue tells) base) conf.home (most_of config) [] notes
+      wire.left wire'.left wire.taken wire'.taken answer
+  pub faults :
+      CountsFaults wire.source_faults wire'.source_faults wire.sink_faults wire'.sink_faults answer
   -- no entry passed over a logger but where its free segments were found spent
   pub pools : (k : ℕ) → List Entry
-  pub are_pools : IsTrue tells → IsTold (λ entry left. ArePools config entry pools) old.told new.told
+  pub are_pools : IsTrue tells
+      → IsTold (λ entry left. ArePools config entry pools) old.told new.told
   pub passed : PassesEmpty pools base notes
-  -- a call of a disk that failed is counted, and the part of this volume that is down in the end came back with a fault
+  -- a call of a disk that failed is counted, and the part of this volume that is down in the end
+  -- came back with a fault
   pub cause : IsSome (flight_of (entries_of notes)) → Rose old.faults new.faults
   pub faulty : IsSome (flight_of (entries_of notes))
-      → (name : PartName) × ((last_look base.look notes).down ≡ Some name) × IsTold (HasFaultyPart tells config volume base.view name) old.told new.told
-  pub images : IsTrue tells → IsTold (LeavesServed config volume (pieces_of base.look notes)) old.told new.told
+      → (name : PartName) × ((last_look base.look notes).down ≡ Some name)
+      × IsTold (HasFaultyPart tells config volume base.view name) old.told new.told
+  pub images : IsTrue tells
+      → IsTold (LeavesServed config volume (pieces_of base.look notes)) old.told new.told
   -- where none failed, the records that are left are those of the last look
-  pub records : IsTrue tells → flight_of (entries_of notes) ≡ None → IsTold (λ entry left. LeavesRecords config volume (last_look base.look notes).listed left) old.told new.told
+  pub records : IsTrue tells → flight_of (entries_of notes) ≡ None
+      → IsTold (λ entry left. LeavesRecords config volume (last_look base.look notes).listed left)
+      old.told new.told
   pub others : IsTrue tells → IsTold (LeavesOthers config volume) old.told new.told
 
 -- ---- The command
 
--- A volume was to be served: no volume has the name; or there was no memory to open the volumes; or one of them couldn't be
--- opened; or all were open, and no session began, and all are kept, or the volume was served.
-pub data ServesNamed {D : Type 0} (tells : Bool) (state : D → State) (config : Config) (begins : Beginning) (name : List ℕ) (old new : BayState) (wire wire' : Wire) : Result Ended Stop → Type 0 where
-  unknown : number_named (names_of config.volumes.items) name ≡ None → new ≡ old → wire' ≡ wire → ServesNamed tells state config begins name old new wire wire' (Err stop.Unknown)
-  no_memory : (volume : ℕ) → number_named (names_of config.volumes.items) name ≡ Some volume → LeavesBay tells state config old new → wire' ≡ wire
+-- A volume was to be served: no volume has the name; or there was no memory to open the volumes; or
+-- one of them couldn't be opened; or all were open, and no session began, and all are kept, or the
+-- volume was served.
+pub data ServesNamed {D : Type 0} (tells : Bool) (state : D → State) (config : Config)
+    (begins : Beginning) (name : List ℕ) (old new : BayState) (wire wire' : Wire) :
+    Result Ended Stop → Type 0 where
+  unknown : number_named (names_of config.volumes.items) name ≡ None → new ≡ old → wire' ≡ wire
+      → ServesNamed tells state config begins name old new wire wire' (Err stop.Unknown)
+  no_memory : (volume : ℕ) → number_named (names_of config.volumes.items) name ≡ Some volume
+      → LeavesBay tells state config old new → wire' ≡ wire
       → ServesNamed tells state config begins name old new wire wire' (Err (stop.Fault Memory))
-  closed : (volume k : ℕ) (f : VolumeFault) → number_named (names_of config.volumes.items) name ≡ Some volume → IsFirstClosed tells state config old new k f → LeavesBay tells state config old new → wire' ≡ wire
-      → ServesNamed tells state config begins name old new wire wire' (Err (stop.Fault (Volume k (trouble_of f))))
-  unagreed : (volume : ℕ) (why : Unagreed) → number_named (names_of config.volumes.items) name ≡ Some volume → Begins config volume begins wire wire' (Ok (NotAgreed why)) → KeepsBay tells state config old new
+  closed : (volume k : ℕ) (f : VolumeFault)
+      → number_named (names_of config.volumes.items) name ≡ Some volume
+      → IsFirstClosed tells state config old new k f → LeavesBay tells state config old new
+      → wire' ≡ wire
+      → ServesNamed tells state config begins name old new wire wire'
+      (Err (stop.Fault (Volume k (trouble_of f))))
+  unagreed : (volume : ℕ) (why : Unagreed)
+      → number_named (names_of config.volumes.items) name ≡ Some volume
+      → Begins config volume begins wire wire' (Ok (NotAgreed why))
+      → KeepsBay tells state config old new
       → ServesNamed tells state config begins name old new wire wire' (Err (stop.Unagreed why))
-  unbegun : (volume : ℕ) (f : NbdFault) → number_named (names_of config.volumes.items) name ≡ Some volume → Begins config volume begins wire wire' (Err f) → KeepsBay tells state config old new
+  unbegun : (volume : ℕ) (f : NbdFault)
+      → number_named (names_of config.volumes.items) name ≡ Some volume
+      → Begins config volume begins wire wire' (Err f) → KeepsBay tells state config old new
       → ServesNamed tells state config begins name old new wire wire' (answer_of (Err f))
-  served : (volume : ℕ) (begun : Wire) (answer : Result Ended NbdFault) → number_named (names_of config.volumes.items) name ≡ Some volume → Begins config volume begins wire begun (Ok Agreed) → ServesOpen tells config volume old new begun wire' answer
+  served : (volume : ℕ) (begun : Wire) (answer : Result Ended NbdFault)
+      → number_named (names_of config.volumes.items) name ≡ Some volume
+      → Begins config volume begins wire begun (Ok Agreed)
+      → ServesOpen tells config volume old new begun wire' answer
       → ServesNamed tells state config begins name old new wire wire' (answer_of answer)
 
 -- ---- Completeness

@@ -1,4 +1,5 @@
--- A volume of a bay whose volumes were all open: what it was opened of, and what is left of one to which nothing was done.
+-- A volume of a bay whose volumes were all open: what it was opened of, and what is left of one to
+-- which nothing was done.
 use Rattle.std.specs.Prelude.{◌≡◌, ◌<◌, ℕ, Bool, List, length, Some, IsTrue, slice_get, slice_range}
 use Rattle.std.specs.Option.{option_map}
 use Rattle.wol_disk.specs.Disk.{Block, State}
@@ -21,23 +22,28 @@ front_of image = slice_range image 0 2
 -- whatever images a crash leaves, label and view of volume v are as they were read
 abbrev pub LeavesFront : Config → (v : ℕ) → (entry left : Told) → Type 0
 LeavesFront config v entry left = (images : Images) → AreLeft config left images
-    → option_map front_of (image_of images v) ≡ option_map front_of (image_of (images_read config entry) v)
+    → option_map front_of (image_of images v)
+    ≡ option_map front_of (image_of (images_read config entry) v)
 
--- Volume v was open: its image was accepted, and this base is what the images gave as they were read. Its label and view are left.
-pub record IsOpen (config : Config) (v : ℕ) (conf : VolumeConf) (base : Base) (entry left : Told) : Type 0 where
+-- Volume v was open: its image was accepted, and this base is what the images gave as they were
+-- read. Its label and view are left.
+pub record IsOpen (config : Config) (v : ℕ) (conf : VolumeConf) (base : Base) (entry left : Told) :
+    Type 0 where
   pub accepted_ : WasAccepted config entry v conf
   pub begun : IsBegun config (images_read config entry) base
   pub front : LeavesFront config v entry left
 
--- Volume v was open, and nothing was done to it: whatever images a crash leaves, it recovers to its array at entry, and its records
--- that keep a block are those with which it was opened.
+-- Volume v was open, and nothing was done to it: whatever images a crash leaves, it recovers to its
+-- array at entry, and its records that keep a block are those with which it was opened.
 pub record IsKept (config : Config) (v : ℕ) (entry left : Told) : Type 0 where
   pub conf : VolumeConf
   pub conf_is : slice_get config.volumes.items v ≡ Some conf
   pub base : Base
   pub owner : base.owner ≡ v
   pub open_ : IsOpen config v conf base entry left
-  pub array : (images : Images) → AreLeft config left images → recovered_from (shapes_of config) images v ≡ recovered_from (shapes_of config) (images_read config entry) v
+  pub array : (images : Images) → AreLeft config left images
+      → recovered_from (shapes_of config) images v
+      ≡ recovered_from (shapes_of config) (images_read config entry) v
   pub records : LeavesRecords config v base.look.listed left
 
 -- so it is of each volume
@@ -45,6 +51,7 @@ abbrev pub AreKept : Config → (entry left : Told) → Type 0
 AreKept config entry left = (v : ℕ) → v < length config.volumes.items → IsKept config v entry left
 
 -- All volumes of a bay were open, and nothing was done to them.
-pub record KeepsBay {D : Type 0} (tells : Bool) (state : D → State) (config : Config) (old new : BayState) : Type 0 where
+pub record KeepsBay {D : Type 0} (tells : Bool) (state : D → State) (config : Config)
+    (old new : BayState) : Type 0 where
   pub kept : IsTrue tells → IsTold (AreKept config) old.told new.told
   pub leaves : LeavesBay tells state config old new

@@ -25,7 +25,8 @@ answer_of (Err fault.Source) = Err stop.Source
 answer_of (Err fault.Sink) = Err stop.Sink
 answer_of (Err fault.NoMemory) = Err (stop.Fault Memory)
 
--- the exit status behind a handshake without a session: 0 where the client went away between two options
+-- the exit status behind a handshake without a session: 0 where the client went away between two
+-- options
 abbrev pub unagreed_status : Unagreed → ℕ
 unagreed_status unagreed.Aborted = 0
 unagreed_status unagreed.End = 0

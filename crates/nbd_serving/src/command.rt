@@ -68,9 +68,20 @@ pub fn serve_volume<R: Wait, S: Source, K: Sink, B: Bay>(
     ensures none_out { NoneOut config.now (B.state bay.new) }
     ensures home { outs (B.state bay.new) ≡ outs (B.state bay.old) }
     ensures counts { (B.state bay.old).faults ≤ (B.state bay.new).faults }
-    ensures content { ServesNamed B.Part.tells B.Part.state config.now beginning name.now (B.state bay.old) (B.state bay.new)
-        (record { left = S.left input.old; source_faults = S.faults input.old; taken = K.taken out.old; sink_faults = K.faults out.old })
-        (record { left = S.left input.new; source_faults = S.faults input.new; taken = K.taken out.new; sink_faults = K.faults out.new })
+    ensures content { ServesNamed B.Part.tells B.Part.state config.now beginning name.now
+        (B.state bay.old) (B.state bay.new)
+        (record {
+          left = S.left input.old;
+          source_faults = S.faults input.old;
+          taken = K.taken out.old;
+          sink_faults = K.faults out.old;
+        })
+        (record {
+          left = S.left input.new;
+          source_faults = S.faults input.new;
+          taken = K.taken out.new;
+          sink_faults = K.faults out.new;
+        })
         result }
     // images of names that aren't configured are as they were
     ensures others { IsTrue B.Part.tells
@@ -78,7 +89,8 @@ pub fn serve_volume<R: Wait, S: Source, K: Sink, B: Bay>(
     ensures sound { IsTrue B.Part.tells
         → IsTold (KeepsAllSound config.now) (B.state bay.old).told (B.state bay.new).told }
     ensures complete { (Rose (S.faults input.old) (S.faults input.new) → ⊥)
-        → MayComplete B.Part.tells config.now (B.state bay.old) (B.state bay.new) (K.faults out.old) (K.faults out.new)
+        → MayComplete B.Part.tells config.now (B.state bay.old) (B.state bay.new) (K.faults out.old)
+        (K.faults out.new)
         → Completes result }
 {
     let Some(volume) = number_named(&config.volumes, name.as_bytes()) else {

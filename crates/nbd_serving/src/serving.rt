@@ -70,8 +70,18 @@ fn serve_open<R: Wait, D: Disk, S: Source, K: Sink>(
     requires volume { volume < length config.now.volumes.items }
     ensures again { IsRackAgain rack.old rack.new }
     ensures serves { ServesStation D.tells config.now rack.old rack.new volume
-        (record { left = S.left input.old; source_faults = S.faults input.old; taken = K.taken out.old; sink_faults = K.faults out.old })
-        (record { left = S.left input.new; source_faults = S.faults input.new; taken = K.taken out.new; sink_faults = K.faults out.new })
+        (record {
+          left = S.left input.old;
+          source_faults = S.faults input.old;
+          taken = K.taken out.old;
+          sink_faults = K.faults out.old;
+        })
+        (record {
+          left = S.left input.new;
+          source_faults = S.faults input.new;
+          taken = K.taken out.new;
+          sink_faults = K.faults out.new;
+        })
         result }
 {
     let home = config.volumes[volume as usize].home;
@@ -100,8 +110,18 @@ fn begin<S: Source, K: Sink>(
     requires valid { IsValid config.now }
     requires volume { volume < length config.now.volumes.items }
     ensures { Begins config.now volume beginning
-        (record { left = S.left input.old; source_faults = S.faults input.old; taken = K.taken out.old; sink_faults = K.faults out.old })
-        (record { left = S.left input.new; source_faults = S.faults input.new; taken = K.taken out.new; sink_faults = K.faults out.new })
+        (record {
+          left = S.left input.old;
+          source_faults = S.faults input.old;
+          taken = K.taken out.old;
+          sink_faults = K.faults out.old;
+        })
+        (record {
+          left = S.left input.new;
+          source_faults = S.faults input.new;
+          taken = K.taken out.new;
+          sink_faults = K.faults out.new;
+        })
         result }
 {
     match beginning {

@@ -33,11 +33,13 @@ passes_end home h = nat_lt (512 * home) (h.offset + h.length)
 -- the error of a range
 abbrev pub range_error : Command → (home : ℕ) → Header → Option NbdError
 range_error Read home h = if is_uneven h || passes_end home h then Some Invalid else None
-range_error Write home h = if is_uneven h then Some Invalid else if passes_end home h then Some NoSpace else None
+range_error Write home h =
+    if is_uneven h then Some Invalid else if passes_end home h then Some NoSpace else None
 range_error Disc home h = None
 range_error Flush home h = None
 range_error Unknown home h = Some Invalid
 
--- the error that a request has whatever a volume of so many blocks holds, where it has one: its flags are tried first
+-- the error that a request has whatever a volume of so many blocks holds, where it has one: its
+-- flags are tried first
 abbrev pub known_error : (home : ℕ) → Header → Option NbdError
 known_error home h = if nat_lt 1 h.flags then Some Invalid else range_error h.command home h

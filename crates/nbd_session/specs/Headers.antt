@@ -7,11 +7,18 @@ use Rattle.nbd_session.specs.declared.header.Header.{Header}
 
 -- what a number asks for
 abbrev pub command_of : ℕ → Command
-command_of n = if n == 0 then Read else if n == 1 then Write else if n == 2 then Disc else if n == 3 then Flush else Unknown
+command_of n = if n == 0 then Read else if n == 1 then Write else if n == 2 then Disc else if n == 3
+    then Flush else Unknown
 
 -- the header in 28 bytes, behind the magic of a request
 abbrev pub header_of : List ℕ → Header
-header_of bs = record { flags = big_number 2 (drop 4 bs); command = command_of (big_number 2 (drop 6 bs)); cookie = big_number 8 (drop 8 bs); offset = big_number 8 (drop 16 bs); length = big_number 4 (drop 24 bs) }
+header_of bs = record {
+  flags = big_number 2 (drop 4 bs);
+  command = command_of (big_number 2 (drop 6 bs));
+  cookie = big_number 8 (drop 8 bs);
+  offset = big_number 8 (drop 16 bs);
+  length = big_number 4 (drop 24 bs);
+}
 
 -- they begin as a request does
 abbrev pub HasMagic : List ℕ → Type 0

@@ -12,16 +12,22 @@ abbrev pub TakesFewer : Option (List ℕ) → Option (List ℕ) → ℕ → Type
 TakesFewer old new count = (part : List ℕ) × Consumes old new part × (length part < count)
 
 -- the front of a room was filled, as far as the source had bytes; or a call of it failed
-abbrev pub FillsRoom : {E : Type 0} → Option (List ℕ) → Option (List ℕ) → Result ℕ E → List ℕ → Type 0
-FillsRoom old new result room = MatchResult result (λ n. (n ≤ length room) × Consumes old new (take n room) × (n < length room → IsAtEnd new)) (λ _. TakesFewer old new (length room))
+abbrev pub FillsRoom : {E : Type 0} → Option (List ℕ) → Option (List ℕ) → Result ℕ E → List ℕ
+    → Type 0
+FillsRoom old new result room = MatchResult result
+    (λ n. (n ≤ length room) × Consumes old new (take n room) × (n < length room → IsAtEnd new))
+    (λ _. TakesFewer old new (length room))
 
 -- so many bytes were taken, or all that there were
 abbrev pub TakesCount : Option (List ℕ) → Option (List ℕ) → (count : ℕ) → (whole : Bool) → Type 0
 TakesCount old new count true = (part : List ℕ) × Consumes old new part × (length part ≡ count)
-TakesCount old new count false = (part : List ℕ) × Consumes old new part × (length part < count) × IsAtEnd new
+TakesCount old new count false =
+    (part : List ℕ) × Consumes old new part × (length part < count) × IsAtEnd new
 
-abbrev pub Skips : {E : Type 0} → Option (List ℕ) → Option (List ℕ) → Result Bool E → (count : ℕ) → Type 0
-Skips old new result count = MatchResult result (λ whole. TakesCount old new count whole) (λ _. TakesFewer old new count)
+abbrev pub Skips : {E : Type 0} → Option (List ℕ) → Option (List ℕ) → Result Bool E → (count : ℕ)
+    → Type 0
+Skips old new result count =
+    MatchResult result (λ whole. TakesCount old new count whole) (λ _. TakesFewer old new count)
 
 -- the bytes that begin a header, and end within it
 pub record IsCutHeader (bs : List ℕ) : Type 0 where
@@ -45,12 +51,15 @@ pub record TakesHeader (old new : Option (List ℕ)) (n : Next) : Type 0 where
   pub end : length bs < 28 → IsAtEnd new
 
 abbrev pub TakesNext : {E : Type 0} → Option (List ℕ) → Option (List ℕ) → Result Next E → Type 0
-TakesNext old new result = MatchResult result (λ n. TakesHeader old new n) (λ _. TakesFewer old new 28)
+TakesNext old new result =
+    MatchResult result (λ n. TakesHeader old new n) (λ _. TakesFewer old new 28)
 
 -- the data of a request were taken into the front of a room; or the source ended within them
-abbrev pub TakesData : {E : Type 0} → Option (List ℕ) → Option (List ℕ) → Result Bool E → (count : ℕ) → (room : List ℕ) → Type 0
+abbrev pub TakesData : {E : Type 0} → Option (List ℕ) → Option (List ℕ) → Result Bool E
+    → (count : ℕ) → (room : List ℕ) → Type 0
 TakesData old new (Ok true) count room = Consumes old new (take count room)
-TakesData old new (Ok false) count room = (part : List ℕ) × Consumes old new part × (length part < count) × IsAtEnd new
+TakesData old new (Ok false) count room =
+    (part : List ℕ) × Consumes old new part × (length part < count) × IsAtEnd new
 TakesData old new (Err e) count room = TakesFewer old new count
 
 -- a request that comes next doesn't ask to go away

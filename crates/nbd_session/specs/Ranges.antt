@@ -18,17 +18,28 @@ abbrev pub piece_of : (most count done : ℕ) → ℕ
 piece_of most count done = min most (count - done)
 
 -- the first blocks of a range were read, piece by piece: they hold these bytes
-pub data HasRead {V : Type 0} (turned : Turn → V → V → Type 0) (most at count : ℕ) (v : V) : (done : ℕ) → List ℕ → V → Type 0 where
+pub data HasRead {V : Type 0} (turned : Turn → V → V → Type 0) (most at count : ℕ) (v : V) :
+    (done : ℕ) → List ℕ → V → Type 0 where
   none : HasRead turned most at count v 0 [] v
-  next : (done : ℕ) (got : List ℕ) (m w : V) (blocks : List Block) → HasRead turned most at count v done got m → done < count → length blocks ≡ piece_of most count done → AreWhole blocks → turned (Read (at + done) blocks) m w → HasRead turned most at count v (done + length blocks) (got ++ bytes_of blocks) w
+  next : (done : ℕ) (got : List ℕ) (m w : V) (blocks : List Block)
+      → HasRead turned most at count v done got m → done < count
+      → length blocks ≡ piece_of most count done → AreWhole blocks
+      → turned (Read (at + done) blocks) m w
+      → HasRead turned most at count v (done + length blocks) (got ++ bytes_of blocks) w
 
 -- the first blocks of a range were written, piece by piece: they hold these bytes
-pub data HasWritten {V : Type 0} (turned : Turn → V → V → Type 0) (most at count : ℕ) (v : V) : (done : ℕ) → List ℕ → V → Type 0 where
+pub data HasWritten {V : Type 0} (turned : Turn → V → V → Type 0) (most at count : ℕ) (v : V) :
+    (done : ℕ) → List ℕ → V → Type 0 where
   none : HasWritten turned most at count v 0 [] v
-  next : (done : ℕ) (got : List ℕ) (m w : V) (blocks : List Block) → HasWritten turned most at count v done got m → done < count → length blocks ≡ piece_of most count done → AreWhole blocks → turned (Wrote (at + done) blocks) m w → HasWritten turned most at count v (done + length blocks) (got ++ bytes_of blocks) w
+  next : (done : ℕ) (got : List ℕ) (m w : V) (blocks : List Block)
+      → HasWritten turned most at count v done got m → done < count
+      → length blocks ≡ piece_of most count done → AreWhole blocks
+      → turned (Wrote (at + done) blocks) m w
+      → HasWritten turned most at count v (done + length blocks) (got ++ bytes_of blocks) w
 
 -- the first blocks of a range were read, and then a piece was refused
-pub record HasNotRead {V : Type 0} (turned : Turn → V → V → Type 0) (most at count : ℕ) (v w : V) (refusal : Refusal) : Type 0 where
+pub record HasNotRead {V : Type 0} (turned : Turn → V → V → Type 0) (most at count : ℕ) (v w : V)
+    (refusal : Refusal) : Type 0 where
   pub done : ℕ
   pub got : List ℕ
   pub m : V
@@ -37,7 +48,8 @@ pub record HasNotRead {V : Type 0} (turned : Turn → V → V → Type 0) (most 
   pub last : turned (NotRead (at + done) (piece_of most count done) refusal) m w
 
 -- the first blocks of a range were written, and then a piece was refused
-pub record HasNotWritten {V : Type 0} (turned : Turn → V → V → Type 0) (most at count : ℕ) (given : List ℕ) (v w : V) (refusal : Refusal) : Type 0 where
+pub record HasNotWritten {V : Type 0} (turned : Turn → V → V → Type 0) (most at count : ℕ)
+    (given : List ℕ) (v w : V) (refusal : Refusal) : Type 0 where
   pub done : ℕ
   pub got : List ℕ
   pub m : V
@@ -50,7 +62,11 @@ pub record HasNotWritten {V : Type 0} (turned : Turn → V → V → Type 0) (mo
   pub rest : List ℕ
   pub is : given ≡ got ++ bytes_of blocks ++ rest
 
--- a piece of so many blocks was read, and stands in these bytes behind as many as were done; or it was refused
-abbrev pub ReadsPiece : {V T : Type 0} → (turned : Turn → V → V → Type 0) → (at count done : ℕ) → (old new : List ℕ) → (v w : V) → Result T Refusal → Type 0
-ReadsPiece turned at count done old new v w (Ok x) = (blocks : List Block) × (length blocks ≡ count) × AreWhole blocks × turned (Read at blocks) v w × (take (512 * (done + count)) new ≡ take (512 * done) old ++ bytes_of blocks)
+-- a piece of so many blocks was read, and stands in these bytes behind as many as were done; or it
+-- was refused
+abbrev pub ReadsPiece : {V T : Type 0} → (turned : Turn → V → V → Type 0) → (at count done : ℕ)
+    → (old new : List ℕ) → (v w : V) → Result T Refusal → Type 0
+ReadsPiece turned at count done old new v w (Ok x) =
+    (blocks : List Block) × (length blocks ≡ count) × AreWhole blocks × turned (Read at blocks) v w
+    × (take (512 * (done + count)) new ≡ take (512 * done) old ++ bytes_of blocks)
 ReadsPiece turned at count done old new v w (Err refusal) = turned (NotRead at count refusal) v w

@@ -15,11 +15,16 @@ use Rattle.nbd_session.specs.Headers.{HasMagic, IsHeader, IsRequest, payload_of}
 use Rattle.nbd_session.specs.Intake.{IsCutHeader}
 use Rattle.nbd_session.specs.Turns.{Turn}
 
--- So many whole requests, none of them a DISC, stand in these bytes one after another; these are their replies, one after
--- another, and this is what the volume has become.
-pub data HasServed {V : Type 0} (turned : Turn → V → V → Type 0) (home most : ℕ) (v : V) : (requests : ℕ) → (taken replies : List ℕ) → V → Type 0 where
+-- So many whole requests, none of them a DISC, stand in these bytes one after another; these are
+-- their replies, one after another, and this is what the volume has become.
+pub data HasServed {V : Type 0} (turned : Turn → V → V → Type 0) (home most : ℕ) (v : V) :
+    (requests : ℕ) → (taken replies : List ℕ) → V → Type 0 where
   none : HasServed turned home most v 0 [] [] v
-  next : (n : ℕ) (taken replies : List ℕ) (m w : V) (h : Header) (given bytes : List ℕ) (answer : Answer) → HasServed turned home most v n taken replies m → IsRequest h given bytes → h.command ≢ command.Disc → Serves turned home most h given m answer w → HasServed turned home most v (n + 1) (taken ++ bytes) (replies ++ reply_of h.cookie answer) w
+  next : (n : ℕ) (taken replies : List ℕ) (m w : V) (h : Header) (given bytes : List ℕ)
+      (answer : Answer) → HasServed turned home most v n taken replies m → IsRequest h given bytes
+      → h.command ≢ command.Disc → Serves turned home most h given m answer w
+      → HasServed turned home most v (n + 1) (taken ++ bytes) (replies ++ reply_of h.cookie answer)
+      w
 
 -- a whole header, and a part of the data that follow it
 pub record IsCutData (bs : List ℕ) : Type 0 where
@@ -42,7 +47,8 @@ IsUnfinished bs = (length bs < 28) ⊎ IsCutData bs
 abbrev pub EndsSo : (request : ℕ) → (last : List ℕ) → Ended → Type 0
 EndsSo request last ended.Disc = (h : Header) × IsHeader last h × (h.command ≡ command.Disc)
 EndsSo request last ended.End = last ≡ []
-EndsSo request last (ended.BadMagic at) = (at ≡ request) × (4 ≤ length last) × (length last ≤ 28) × (HasMagic last → ⊥)
+EndsSo request last (ended.BadMagic at) =
+    (at ≡ request) × (4 ≤ length last) × (length last ≤ 28) × (HasMagic last → ⊥)
 EndsSo request last (ended.Cut at) = (at ≡ request) × IsCut last
 
 -- the session ends there only where the source has no more bytes
@@ -52,16 +58,18 @@ NeedsEnd ended.End left = IsAtEnd left
 NeedsEnd (ended.BadMagic at) left = Unit {0}
 NeedsEnd (ended.Cut at) left = IsAtEnd left
 
--- what is left of a session that goes no further, and how its source and its sink are left: after whole requests, an end
--- or a fault
-abbrev pub EndsWith : (request : ℕ) → (last : List ℕ) → (left : Option (List ℕ)) → Result Ended NbdFault → Type 0
+-- what is left of a session that goes no further, and how its source and its sink are left: after
+-- whole requests, an end or a fault
+abbrev pub EndsWith : (request : ℕ) → (last : List ℕ) → (left : Option (List ℕ))
+    → Result Ended NbdFault → Type 0
 EndsWith request last left (Ok e) = EndsSo request last e × NeedsEnd e left
 EndsWith request last left (Err fault.Source) = IsUnfinished last
 EndsWith request last left (Err fault.Sink) = last ≡ []
 EndsWith request last left (Err fault.NoMemory) = (request ≡ 1) × (last ≡ [])
 
 -- the sink failed within the reply to the last of these requests, and the replies before it are out
-pub record IsCutReply {V : Type 0} (turned : Turn → V → V → Type 0) (home most : ℕ) (v w : V) (bytes : List ℕ) (taken taken' : Option (List ℕ)) : Type 0 where
+pub record IsCutReply {V : Type 0} (turned : Turn → V → V → Type 0) (home most : ℕ) (v w : V)
+    (bytes : List ℕ) (taken taken' : Option (List ℕ)) : Type 0 where
   pub n : ℕ
   pub before : List ℕ
   pub replies : List ℕ
@@ -80,14 +88,20 @@ pub record IsCutReply {V : Type 0} (turned : Turn → V → V → Type 0) (home 
   pub out : Appends taken taken' (replies ++ front)
 
 -- the replies are out; where the sink failed, all but the last, of which a front is
-abbrev pub AreOut : {V T : Type 0} → (turned : Turn → V → V → Type 0) → (home most : ℕ) → (v w : V) → (bytes replies : List ℕ) → (taken taken' : Option (List ℕ)) → Result T NbdFault → Type 0
+abbrev pub AreOut : {V T : Type 0} → (turned : Turn → V → V → Type 0) → (home most : ℕ) → (v w : V)
+    → (bytes replies : List ℕ) → (taken taken' : Option (List ℕ)) → Result T NbdFault → Type 0
 AreOut turned home most v w bytes replies taken taken' (Ok x) = Appends taken taken' replies
-AreOut turned home most v w bytes replies taken taken' (Err fault.Source) = Appends taken taken' replies
-AreOut turned home most v w bytes replies taken taken' (Err fault.Sink) = IsCutReply turned home most v w bytes taken taken'
-AreOut turned home most v w bytes replies taken taken' (Err fault.NoMemory) = Appends taken taken' replies
+AreOut turned home most v w bytes replies taken taken' (Err fault.Source) =
+    Appends taken taken' replies
+AreOut turned home most v w bytes replies taken taken' (Err fault.Sink) =
+    IsCutReply turned home most v w bytes taken taken'
+AreOut turned home most v w bytes replies taken taken' (Err fault.NoMemory) =
+    Appends taken taken' replies
 
--- the counts of faults of the source and of the sink, before and behind: a fault rises its own, and nothing else does
-abbrev pub CountsFaults : {T : Type 0} → (source source' sink sink' : ℕ) → Result T NbdFault → Type 0
+-- the counts of faults of the source and of the sink, before and behind: a fault rises its own, and
+-- nothing else does
+abbrev pub CountsFaults : {T : Type 0} → (source source' sink sink' : ℕ) → Result T NbdFault
+    → Type 0
 CountsFaults source source' sink sink' (Ok x) = (source' ≡ source) × (sink' ≡ sink)
 CountsFaults source source' sink sink' (Err fault.Source) = Rose source source' × (sink' ≡ sink)
 CountsFaults source source' sink sink' (Err fault.Sink) = (source' ≡ source) × Rose sink sink'
@@ -97,9 +111,10 @@ CountsFaults source source' sink sink' (Err fault.NoMemory) = (source' ≡ sourc
 abbrev pub request_behind : ℕ → ℕ
 request_behind n = min (n + 1) (2 ^ 64 - 1)
 
--- A session, whatever it ended by: the source gave whole requests and some last bytes, the volume was asked for these
--- requests in order, and the sink took their replies.
-pub record IsSession {V : Type 0} (turned : Turn → V → V → Type 0) (home most : ℕ) (v w : V) (left left' taken taken' : Option (List ℕ)) (result : Result Ended NbdFault) : Type 0 where
+-- A session, whatever it ended by: the source gave whole requests and some last bytes, the volume
+-- was asked for these requests in order, and the sink took their replies.
+pub record IsSession {V : Type 0} (turned : Turn → V → V → Type 0) (home most : ℕ) (v w : V)
+    (left left' taken taken' : Option (List ℕ)) (result : Result Ended NbdFault) : Type 0 where
   pub requests : ℕ
   pub bytes : List ℕ
   pub replies : List ℕ
@@ -110,7 +125,8 @@ pub record IsSession {V : Type 0} (turned : Turn → V → V → Type 0) (home m
   pub out : AreOut turned home most v w bytes replies taken taken' result
 
 -- the bytes of one request were taken, it was asked of the volume, and this is its reply
-pub record ServesOne {V : Type 0} (turned : Turn → V → V → Type 0) (home most : ℕ) (v w : V) (left left' : Option (List ℕ)) (reply : List ℕ) : Type 0 where
+pub record ServesOne {V : Type 0} (turned : Turn → V → V → Type 0) (home most : ℕ) (v w : V)
+    (left left' : Option (List ℕ)) (reply : List ℕ) : Type 0 where
   pub h : Header
   pub given : List ℕ
   pub bytes : List ℕ
@@ -122,19 +138,31 @@ pub record ServesOne {V : Type 0} (turned : Turn → V → V → Type 0) (home m
   pub is : reply ≡ reply_of h.cookie answer
 
 -- what comes of the request with this number: it is served, or it ends the session; or a fault does
-abbrev pub GoesOn : {V : Type 0} → (turned : Turn → V → V → Type 0) → (home most request : ℕ) → (v w : V) → (left left' taken taken' : Option (List ℕ)) → Result (Option Ended) NbdFault → Type 0
-GoesOn turned home most request v w left left' taken taken' (Ok None) = (reply : List ℕ) × ServesOne turned home most v w left left' reply × Appends taken taken' reply
-GoesOn turned home most request v w left left' taken taken' (Ok (Some e)) = (w ≡ v) × ((last : List ℕ) × Consumes left left' last × EndsSo request last e × NeedsEnd e left') × Keeps taken taken'
-GoesOn turned home most request v w left left' taken taken' (Err fault.Source) = (w ≡ v) × ((last : List ℕ) × Consumes left left' last × IsUnfinished last) × Keeps taken taken'
-GoesOn turned home most request v w left left' taken taken' (Err fault.Sink) = (reply : List ℕ) × ServesOne turned home most v w left left' reply × AppendsFront taken taken' reply
+abbrev pub GoesOn : {V : Type 0} → (turned : Turn → V → V → Type 0) → (home most request : ℕ)
+    → (v w : V) → (left left' taken taken' : Option (List ℕ)) → Result (Option Ended) NbdFault
+    → Type 0
+GoesOn turned home most request v w left left' taken taken' (Ok None) =
+    (reply : List ℕ) × ServesOne turned home most v w left left' reply × Appends taken taken' reply
+GoesOn turned home most request v w left left' taken taken' (Ok (Some e)) =
+    (w ≡ v) × ((last : List ℕ) × Consumes left left' last × EndsSo request last e
+    × NeedsEnd e left') × Keeps taken taken'
+GoesOn turned home most request v w left left' taken taken' (Err fault.Source) =
+    (w ≡ v) × ((last : List ℕ) × Consumes left left' last × IsUnfinished last) × Keeps taken taken'
+GoesOn turned home most request v w left left' taken taken' (Err fault.Sink) =
+    (reply : List ℕ) × ServesOne turned home most v w left left' reply
+    × AppendsFront taken taken' reply
 GoesOn turned home most request v w left left' taken taken' (Err fault.NoMemory) = ⊥
 
--- the reply was sent to a request that was answered so, or a front of it where the sink failed; or the source had ended
--- within the data of the request, and that ends the session
-abbrev pub RepliesSo : Header → Option (Result ℕ NbdError) → (room : List ℕ) → (request : ℕ) → (taken taken' : Option (List ℕ)) → Result (Option Ended) NbdFault → Type 0
-RepliesSo h (Some answer) room request taken taken' (Ok None) = Appends taken taken' (reply_of h.cookie (answer_in room answer))
+-- the reply was sent to a request that was answered so, or a front of it where the sink failed; or
+-- the source had ended within the data of the request, and that ends the session
+abbrev pub RepliesSo : Header → Option (Result ℕ NbdError) → (room : List ℕ) → (request : ℕ)
+    → (taken taken' : Option (List ℕ)) → Result (Option Ended) NbdFault → Type 0
+RepliesSo h (Some answer) room request taken taken' (Ok None) =
+    Appends taken taken' (reply_of h.cookie (answer_in room answer))
 RepliesSo h (Some answer) room request taken taken' (Ok (Some e)) = ⊥
-RepliesSo h (Some answer) room request taken taken' (Err f) = (f ≡ fault.Sink) × AppendsFront taken taken' (reply_of h.cookie (answer_in room answer))
+RepliesSo h (Some answer) room request taken taken' (Err f) =
+    (f ≡ fault.Sink) × AppendsFront taken taken' (reply_of h.cookie (answer_in room answer))
 RepliesSo h None room request taken taken' (Ok None) = ⊥
-RepliesSo h None room request taken taken' (Ok (Some e)) = (e ≡ ended.Cut request) × Keeps taken taken'
+RepliesSo h None room request taken taken' (Ok (Some e)) =
+    (e ≡ ended.Cut request) × Keeps taken taken'
 RepliesSo h None room request taken taken' (Err f) = ⊥

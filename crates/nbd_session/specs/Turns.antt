@@ -3,7 +3,8 @@ use Rattle.std.specs.Prelude.{ℕ, List, Result, Ok, Err}
 use Rattle.wol_disk.specs.Disk.{Block}
 use Rattle.nbd_session.specs.declared.volume.Refusal.{Refusal}
 
--- one turn: whether the volume is up, a read and a write of some blocks from a place on; done or refused
+-- one turn: whether the volume is up, a read and a write of some blocks from a place on; done or
+-- refused
 pub data Turn : Type 0 where
   Looked : Turn
   NotLooked : (refusal : Refusal) → Turn

@@ -65,7 +65,8 @@ fn read<V: Volume>(
     ensures ready { V.Ready volume.new }
     ensures same_home { V.home volume.new ≡ V.home volume.old }
     ensures same_most { V.most volume.new ≡ V.most volume.old }
-    ensures read { ReadsSo V.Turned (V.most volume.old) header.now bytes.new volume.old volume.new result }
+    ensures read { ReadsSo V.Turned (V.most volume.old) header.now bytes.new volume.old volume.new
+        result }
     ensures fits { IfOk result (λ n. n ≤ 33554432) }
 {
     let length = header.length as usize;
@@ -90,7 +91,8 @@ fn write<V: Volume>(volume: &mut V, header: &Header, bytes: &[u8]) -> Result<usi
     ensures ready { V.Ready volume.new }
     ensures same_home { V.home volume.new ≡ V.home volume.old }
     ensures same_most { V.most volume.new ≡ V.most volume.old }
-    ensures written { WritesSo V.Turned (V.most volume.old) header.now (take header.now.length bytes.now) volume.old volume.new result }
+    ensures written { WritesSo V.Turned (V.most volume.old) header.now
+        (take header.now.length bytes.now) volume.old volume.new result }
     ensures fits { IfOk result (λ n. n ≤ 33554432) }
 {
     let length = header.length as usize;
@@ -109,7 +111,9 @@ fn ask_nothing<V: Volume>(volume: &mut V, header: &Header) -> Result<usize, NbdE
     ensures ready { V.Ready volume.new }
     ensures same_home { V.home volume.new ≡ V.home volume.old }
     ensures same_most { V.most volume.new ≡ V.most volume.old }
-    ensures serves { (given room : List ℕ) → Serves V.Turned (V.home volume.old) (V.most volume.old) header.now given volume.old (answer_in room result) volume.new }
+    ensures serves { (given room : List ℕ)
+        → Serves V.Turned (V.home volume.old) (V.most volume.old) header.now given volume.old
+        (answer_in room result) volume.new }
     ensures fits { IfOk result (λ n. n ≤ 33554432) }
 {
     let _ = header;
@@ -132,7 +136,8 @@ fn ask_read<V: Volume>(
     ensures ready { V.Ready volume.new }
     ensures same_home { V.home volume.new ≡ V.home volume.old }
     ensures same_most { V.most volume.new ≡ V.most volume.old }
-    ensures serves { (given : List ℕ) → Serves V.Turned (V.home volume.old) (V.most volume.old) header.now given volume.old (answer_in bytes.new result) volume.new }
+    ensures serves { (given : List ℕ) → Serves V.Turned (V.home volume.old) (V.most volume.old)
+        header.now given volume.old (answer_in bytes.new result) volume.new }
     ensures fits { IfOk result (λ n. n ≤ 33554432) }
 {
     read(volume, header, bytes, room)
@@ -148,7 +153,9 @@ fn ask_write<V: Volume>(volume: &mut V, header: &Header, bytes: &[u8]) -> Result
     ensures ready { V.Ready volume.new }
     ensures same_home { V.home volume.new ≡ V.home volume.old }
     ensures same_most { V.most volume.new ≡ V.most volume.old }
-    ensures serves { Serves V.Turned (V.home volume.old) (V.most volume.old) header.now (take (payload_of header.now.command header.now.length) bytes.now) volume.old (answer_in bytes.now result) volume.new }
+    ensures serves { Serves V.Turned (V.home volume.old) (V.most volume.old) header.now
+        (take (payload_of header.now.command header.now.length) bytes.now) volume.old
+        (answer_in bytes.now result) volume.new }
     ensures fits { IfOk result (λ n. n ≤ 33554432) }
 {
     write(volume, header, bytes)
@@ -170,7 +177,9 @@ fn ask<V: Volume>(
     ensures ready { V.Ready volume.new }
     ensures same_home { V.home volume.new ≡ V.home volume.old }
     ensures same_most { V.most volume.new ≡ V.most volume.old }
-    ensures serves { Serves V.Turned (V.home volume.old) (V.most volume.old) header.now (take (payload_of header.now.command header.now.length) bytes.old) volume.old (answer_in bytes.new result) volume.new }
+    ensures serves { Serves V.Turned (V.home volume.old) (V.most volume.old) header.now
+        (take (payload_of header.now.command header.now.length) bytes.old) volume.old
+        (answer_in bytes.new result) volume.new }
     ensures fits { IfOk result (λ n. n ≤ 33554432) }
 {
     if header.length == 0 {
@@ -220,7 +229,8 @@ fn admit<V: Volume, S: Source>(
     ensures ready { V.Ready volume.new }
     ensures same_home { V.home volume.new ≡ V.home volume.old }
     ensures same_most { V.most volume.new ≡ V.most volume.old }
-    ensures content { AnswersTaken V.Turned (V.home volume.old) (V.most volume.old) header.now volume.old volume.new (S.left input.old) (S.left input.new) bytes.new result }
+    ensures content { AnswersTaken V.Turned (V.home volume.old) (V.most volume.old) header.now
+        volume.old volume.new (S.left input.old) (S.left input.new) bytes.new result }
     ensures later { S.faults input.old ≤ S.faults input.new }
     ensures cause { OnErr result (Rose (S.faults input.old) (S.faults input.new)) }
     ensures calm { OnOk result (S.faults input.new ≡ S.faults input.old) }
@@ -245,7 +255,8 @@ pub(crate) fn take_and_ask<V: Volume, S: Source>(
     ensures ready { V.Ready volume.new }
     ensures same_home { V.home volume.new ≡ V.home volume.old }
     ensures same_most { V.most volume.new ≡ V.most volume.old }
-    ensures content { AnswersTaken V.Turned (V.home volume.old) (V.most volume.old) header.now volume.old volume.new (S.left input.old) (S.left input.new) desk.new.bytes.items result }
+    ensures content { AnswersTaken V.Turned (V.home volume.old) (V.most volume.old) header.now
+        volume.old volume.new (S.left input.old) (S.left input.new) desk.new.bytes.items result }
     ensures later { S.faults input.old ≤ S.faults input.new }
     ensures cause { OnErr result (Rose (S.faults input.old) (S.faults input.new)) }
     ensures calm { OnOk result (S.faults input.new ≡ S.faults input.old) }

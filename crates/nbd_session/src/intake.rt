@@ -13,7 +13,8 @@ fn read_behind<S: Source>(input: &mut S, room: &mut [u8], held: usize) -> Result
     requires { held < length room.old }
     ensures size { IfOk result (λ count. held + count ≤ length room.new) }
     ensures held { take held room.new ≡ take held room.old }
-    ensures content { IfOk result (λ count. Consumes (S.left input.old) (S.left input.new) (take count (drop held room.new))) }
+    ensures content { IfOk result (λ count.
+        Consumes (S.left input.old) (S.left input.new) (take count (drop held room.new))) }
     ensures end { IfOk result (λ count. count ≡ 0 → IsAtEnd (S.left input.new)) }
     ensures kept { OnErr result (Keeps (S.left input.old) (S.left input.new)) }
     ensures later { S.faults input.old ≤ S.faults input.new }

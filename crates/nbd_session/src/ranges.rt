@@ -11,7 +11,8 @@ pub(crate) const BLOCK_BYTES: usize = 512;
 // Puts blocks into bytes, behind as many blocks as are done.
 fn put_blocks(bytes: &mut [u8], done: usize, blocks: &[Block])
     requires { 512 * (done + length blocks.now) ≤ length bytes.old }
-    ensures put { take (512 * (done + length blocks.now)) bytes.new ≡ take (512 * done) bytes.old ++ bytes_of blocks.now }
+    ensures put { take (512 * (done + length blocks.now)) bytes.new
+        ≡ take (512 * done) bytes.old ++ bytes_of blocks.now }
     ensures whole { AreWhole blocks.now }
 {
     let from = BLOCK_BYTES * done;
@@ -35,7 +36,8 @@ fn read_piece<V: Volume>(
     ensures ready { V.Ready volume.new }
     ensures same_home { V.home volume.new ≡ V.home volume.old }
     ensures same_most { V.most volume.new ≡ V.most volume.old }
-    ensures read { ReadsPiece V.Turned at (length blocks.old) done bytes.old bytes.new volume.old volume.new result }
+    ensures read { ReadsPiece V.Turned at (length blocks.old) done bytes.old bytes.new volume.old
+        volume.new result }
 {
     volume.read(at, blocks)?;
     put_blocks(bytes, done, blocks);
@@ -82,8 +84,10 @@ fn write_blocks<V: Volume>(volume: &mut V, at: u64, blocks: &[Block]) -> Result<
     ensures same_home { V.home volume.new ≡ V.home volume.old }
     ensures same_most { V.most volume.new ≡ V.most volume.old }
     ensures written { MatchResult result
-        (λ _. HasWritten V.Turned (V.most volume.old) at (length blocks.now) volume.old (length blocks.now) (bytes_of blocks.now) volume.new)
-        (λ refusal. HasNotWritten V.Turned (V.most volume.old) at (length blocks.now) (bytes_of blocks.now) volume.old volume.new refusal) }
+        (λ _. HasWritten V.Turned (V.most volume.old) at (length blocks.now) volume.old
+        (length blocks.now) (bytes_of blocks.now) volume.new)
+        (λ refusal. HasNotWritten V.Turned (V.most volume.old) at (length blocks.now)
+        (bytes_of blocks.now) volume.old volume.new refusal) }
 {
     let most = volume.most() as usize;
     let count = blocks.len();
@@ -111,8 +115,10 @@ pub(crate) fn write_range<V: Volume>(
     ensures same_home { V.home volume.new ≡ V.home volume.old }
     ensures same_most { V.most volume.new ≡ V.most volume.old }
     ensures written { MatchResult result
-        (λ _. HasWritten V.Turned (V.most volume.old) at count volume.old count bytes.now volume.new)
-        (λ refusal. HasNotWritten V.Turned (V.most volume.old) at count bytes.now volume.old volume.new refusal) }
+        (λ _. HasWritten V.Turned (V.most volume.old) at count volume.old count bytes.now
+        volume.new)
+        (λ refusal. HasNotWritten V.Turned (V.most volume.old) at count bytes.now volume.old
+        volume.new refusal) }
 {
     let _ = count;
     let (blocks, _) = bytes.as_chunks();

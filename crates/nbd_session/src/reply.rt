@@ -31,7 +31,8 @@ pub(crate) fn send<K: Sink>(
     bytes: &[u8],
 ) -> Result<(), Failed>
     requires data { IfOk answer (λ n. n ≤ length bytes.now) }
-    ensures content { SinkTakes (K.taken out.old) (K.taken out.new) result (reply_of cookie (answer_in bytes.now answer)) }
+    ensures content { SinkTakes (K.taken out.old) (K.taken out.new) result
+        (reply_of cookie (answer_in bytes.now answer)) }
     ensures later { K.faults out.old ≤ K.faults out.new }
     ensures cause { OnErr result (Rose (K.faults out.old) (K.faults out.new)) }
     ensures calm { OnOk result (K.faults out.new ≡ K.faults out.old) }

@@ -47,7 +47,8 @@ fn reply_or_end<K: Sink>(
     request: u64,
 ) -> Result<Option<Ended>, NbdFault>
     requires data { IfSome answered (λ answer. IfOk answer (λ n. n ≤ length bytes.now)) }
-    ensures content { RepliesSo header.now answered bytes.now request (K.taken out.old) (K.taken out.new) result }
+    ensures content { RepliesSo header.now answered bytes.now request (K.taken out.old)
+        (K.taken out.new) result }
     ensures faults { (n : ℕ) → CountsFaults n n (K.faults out.old) (K.faults out.new) result }
 {
     let Some(answer) = answered else {
@@ -73,9 +74,12 @@ fn serve_request<V: Volume, S: Source, K: Sink>(
     ensures ready { V.Ready volume.new }
     ensures same_home { V.home volume.new ≡ V.home volume.old }
     ensures same_most { V.most volume.new ≡ V.most volume.old }
-    ensures content { (before : Option (List ℕ)) → TakesHeader before (S.left input.old) (Next.Request header.now)
-        → GoesOn V.Turned (V.home volume.old) (V.most volume.old) request volume.old volume.new before (S.left input.new) (K.taken out.old) (K.taken out.new) result }
-    ensures faults { CountsFaults (S.faults input.old) (S.faults input.new) (K.faults out.old) (K.faults out.new) result }
+    ensures content { (before : Option (List ℕ))
+        → TakesHeader before (S.left input.old) (Next.Request header.now)
+        → GoesOn V.Turned (V.home volume.old) (V.most volume.old) request volume.old volume.new
+        before (S.left input.new) (K.taken out.old) (K.taken out.new) result }
+    ensures faults { CountsFaults (S.faults input.old) (S.faults input.new) (K.faults out.old)
+        (K.faults out.new) result }
 {
     match take_and_ask(volume, header, input, desk) {
         Ok(answered) => reply_or_end(out, header, answered, &desk.bytes, request),
@@ -98,8 +102,10 @@ fn serve_this<V: Volume, S: Source, K: Sink>(
     ensures same_home { V.home volume.new ≡ V.home volume.old }
     ensures same_most { V.most volume.new ≡ V.most volume.old }
     ensures content { (before : Option (List ℕ)) → TakesHeader before (S.left input.old) next
-        → GoesOn V.Turned (V.home volume.old) (V.most volume.old) request volume.old volume.new before (S.left input.new) (K.taken out.old) (K.taken out.new) result }
-    ensures faults { CountsFaults (S.faults input.old) (S.faults input.new) (K.faults out.old) (K.faults out.new) result }
+        → GoesOn V.Turned (V.home volume.old) (V.most volume.old) request volume.old volume.new
+        before (S.left input.new) (K.taken out.old) (K.taken out.new) result }
+    ensures faults { CountsFaults (S.faults input.old) (S.faults input.new) (K.faults out.old)
+        (K.faults out.new) result }
 {
     match next {
         Next::Request(header) => serve_request(volume, input, out, desk, &header, request),
@@ -122,8 +128,10 @@ fn serve_next<V: Volume, S: Source, K: Sink>(
     ensures ready { V.Ready volume.new }
     ensures same_home { V.home volume.new ≡ V.home volume.old }
     ensures same_most { V.most volume.new ≡ V.most volume.old }
-    ensures content { GoesOn V.Turned (V.home volume.old) (V.most volume.old) request volume.old volume.new (S.left input.old) (S.left input.new) (K.taken out.old) (K.taken out.new) result }
-    ensures faults { CountsFaults (S.faults input.old) (S.faults input.new) (K.faults out.old) (K.faults out.new) result }
+    ensures content { GoesOn V.Turned (V.home volume.old) (V.most volume.old) request volume.old
+        volume.new (S.left input.old) (S.left input.new) (K.taken out.old) (K.taken out.new) result }
+    ensures faults { CountsFaults (S.faults input.old) (S.faults input.new) (K.faults out.old)
+        (K.faults out.new) result }
 {
     match next_header(input) {
         Ok(next) => serve_this(volume, input, out, desk, next, request),
@@ -152,8 +160,10 @@ pub fn serve<R: Wait, V: Volume, S: Source, K: Sink>(
     ensures ready { V.Ready volume.new }
     ensures same_home { V.home volume.new ≡ V.home volume.old }
     ensures same_most { V.most volume.new ≡ V.most volume.old }
-    ensures session { IsSession V.Turned (V.home volume.old) (V.most volume.old) volume.old volume.new (S.left input.old) (S.left input.new) (K.taken out.old) (K.taken out.new) result }
-    ensures faults { CountsFaults (S.faults input.old) (S.faults input.new) (K.faults out.old) (K.faults out.new) result }
+    ensures session { IsSession V.Turned (V.home volume.old) (V.most volume.old) volume.old
+        volume.new (S.left input.old) (S.left input.new) (K.taken out.old) (K.taken out.new) result }
+    ensures faults { CountsFaults (S.faults input.old) (S.faults input.new) (K.faults out.old)
+        (K.faults out.new) result }
 {
     let mut desk = match Desk::new(alloc) {
         Ok(desk) => desk,

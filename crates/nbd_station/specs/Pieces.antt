@@ -1,4 +1,5 @@
--- What a client knows of a volume that it has for itself: the array that it began with, and what was made of it since.
+-- What a client knows of a volume that it has for itself: the array that it began with, and what
+-- was made of it since.
 use Rattle.std.specs.Prelude.{◌≡◌, ◌⊎◌, ◌<◌, ◌+◌, ◌++◌, ◌∷◌, ◌^◌, ℕ, List, [], length, map, Option, None, Some, slice_range, IsSome}
 use Rattle.wol_disk.specs.Disk.{Block}
 use Rattle.wol_model.specs.ArrayLaws.{unversioned}
@@ -10,8 +11,8 @@ use Rattle.nbd_session.specs.Turns.{Turn, Looked, NotLooked, Read, NotRead, Wrot
 use Rattle.nbd_session.specs.declared.volume.Refusal.{Refusal}
 use Rattle.nbd_session.specs.declared.volume.Refusal.TheVariants as refusal
 
--- The pieces that stand, in order; what was in flight when a call of a disk failed, where one did, under its version; and the
--- version that the next write to a log gets.
+-- The pieces that stand, in order; what was in flight when a call of a disk failed, where one did,
+-- under its version; and the version that the next write to a log gets.
 pub record Pieces : Type 0 where
   pub stand : List Write
   pub flight : Option (List Write)
@@ -50,13 +51,14 @@ RefusesRead refusal.VersionsSpent old new = ⊥
 RefusesRead refusal.NoMemory old new = ⊥
 RefusesRead refusal.Broke old new = IsUp old × BreaksWith [] old new
 
--- a write of this piece was: its cause is the first that applies. In flight was nothing or the piece, under its version where it went
--- to a log
+-- a write of this piece was: its cause is the first that applies. In flight was nothing or the
+-- piece, under its version where it went to a log
 abbrev pub RefusesWrite : Write → Refusal → (old new : Pieces) → Type 0
 RefusesWrite w refusal.Down old new = IsSome old.flight × (new ≡ old)
 RefusesWrite w refusal.VersionsSpent old new = IsUp old × (old.next ≡ 2 ^ 63) × (new ≡ old)
 RefusesWrite w refusal.NoMemory old new = TakesWrites old × (new ≡ old)
-RefusesWrite w refusal.Broke old new = TakesWrites old × (BreaksWith [] old new ⊎ ((v : Write) × (unversioned v ≡ w) × BreaksWith (v ∷ []) old new))
+RefusesWrite w refusal.Broke old new = TakesWrites old
+    × (BreaksWith [] old new ⊎ ((v : Write) × (unversioned v ≡ w) × BreaksWith (v ∷ []) old new))
 
 -- one piece more stands, which took a version or none
 pub record StandsMore (w : Write) (old new : Pieces) : Type 0 where
@@ -65,12 +67,14 @@ pub record StandsMore (w : Write) (old new : Pieces) : Type 0 where
   pub flight_ : new.flight ≡ None
   pub next_ : (new.next ≡ old.next) ⊎ (new.next ≡ old.next + 1)
 
--- a turn of a session at a volume that began with this array; what was read is that of the array after the pieces that stand, where
--- disks tell their content
+-- a turn of a session at a volume that began with this array; what was read is that of the array
+-- after the pieces that stand, where disks tell their content
 abbrev pub IsTurnAt : (told : Type 0) → (array : List Block) → Turn → (old new : Pieces) → Type 0
 IsTurnAt told array Looked old new = IsUp old × (new ≡ old)
 IsTurnAt told array (NotLooked r) old new = (r ≡ refusal.Down) × IsSome old.flight × (new ≡ old)
-IsTurnAt told array (Read at blocks) old new = IsUp old × (new ≡ old) × (told → blocks ≡ slice_range (after array old.stand) at (at + length blocks))
+IsTurnAt told array (Read at blocks) old new =
+    IsUp old × (new ≡ old)
+    × (told → blocks ≡ slice_range (after array old.stand) at (at + length blocks))
 IsTurnAt told array (NotRead at count r) old new = RefusesRead r old new
 IsTurnAt told array (Wrote at blocks) old new = StandsMore (piece at blocks) old new
 IsTurnAt told array (NotWrote at blocks r) old new = RefusesWrite (piece at blocks) r old new

@@ -6,7 +6,8 @@ use Rattle.logger.specs.declared.shared.Shared.{Shared}
 use Rattle.manager.specs.Stands.{IsShared}
 use Rattle.manager.specs.declared.station.Station.{Station}
 
--- its worker's pass is one of its lock, in no turn, and the worker's; the locks are those that it shares; the sizes are its own
+-- its worker's pass is one of its lock, in no turn, and the worker's; the locks are those that it
+-- shares; the sizes are its own
 pub record CanServe {D : Type 0} (s : Station D) (shared : Shared D) (home most : ℕ) : Type 0 where
   pub own : IsPassOf s.lock s.worker
   pub free : IsFree s.worker

@@ -32,11 +32,19 @@ write_refusal refused_write.NoMemory = refusal.NoMemory
 -- the turn was one of the volume's worker, with this answer
 abbrev pub MakesTurn : {D : Type 0} → (tells : Bool) → Turn → (p q : ManagerPass D) → Type 0
 MakesTurn tells Looked p q = HasLooked tells None p q
-MakesTurn tells (NotLooked r) p q = (part : Part) × HasLooked tells (Some part) p q × (r ≡ refusal.Down)
-MakesTurn tells (Read at blocks) p q = (sources : Sources) × HasReadBlocks tells at blocks (Ok sources) p q
-MakesTurn tells (NotRead at count r) p q = (why : ReadRefusal) × (open_ : List Block) × HasReadBlocks tells at open_ (Err why) p q × (length open_ ≡ count) × (r ≡ read_refusal why)
-MakesTurn tells (Wrote at blocks) p q = (place : Place) × (drained : Bool) × HasWrittenBlocks tells at blocks (outcome.Wrote place drained) p q
-MakesTurn tells (NotWrote at blocks r) p q = (why : WriteRefusal) × HasWrittenBlocks tells at blocks (outcome.NoWrite why) p q × (r ≡ write_refusal why)
+MakesTurn tells (NotLooked r) p q =
+    (part : Part) × HasLooked tells (Some part) p q × (r ≡ refusal.Down)
+MakesTurn tells (Read at blocks) p q =
+    (sources : Sources) × HasReadBlocks tells at blocks (Ok sources) p q
+MakesTurn tells (NotRead at count r) p q =
+    (why : ReadRefusal) × (open_ : List Block) × HasReadBlocks tells at open_ (Err why) p q
+    × (length open_ ≡ count) × (r ≡ read_refusal why)
+MakesTurn tells (Wrote at blocks) p q =
+    (place : Place) × (drained : Bool)
+    × HasWrittenBlocks tells at blocks (outcome.Wrote place drained) p q
+MakesTurn tells (NotWrote at blocks r) p q =
+    (why : WriteRefusal) × HasWrittenBlocks tells at blocks (outcome.NoWrite why) p q
+    × (r ≡ write_refusal why)
 
 -- an outcome that a write may have
 abbrev pub IsOfWrite : Outcome → Type 0

@@ -25,10 +25,13 @@ fn serve_volume<R: Wait, D: Disk, S: Source, K: Sink>(
     requires { CanServe volume.old.station.now volume.old.shared.now volume.old.home volume.old.most }
     ensures same_reference { volume.new.station.ghost_name ≡ volume.old.station.ghost_name }
     ensures only { OnlyWorks volume.old.station.now volume.new.station.now }
-    ensures ready { CanServe volume.new.station.now volume.old.shared.now volume.old.home volume.old.most }
-    ensures session { IsSession (MakesTurn D.tells) volume.old.home volume.old.most volume.old.station.now.worker volume.new.station.now.worker
+    ensures ready { CanServe volume.new.station.now volume.old.shared.now volume.old.home
+        volume.old.most }
+    ensures session { IsSession (MakesTurn D.tells) volume.old.home volume.old.most
+        volume.old.station.now.worker volume.new.station.now.worker
         (S.left input.old) (S.left input.new) (K.taken out.old) (K.taken out.new) result }
-    ensures faults { CountsFaults (S.faults input.old) (S.faults input.new) (K.faults out.old) (K.faults out.new) result }
+    ensures faults { CountsFaults (S.faults input.old) (S.faults input.new) (K.faults out.old)
+        (K.faults out.new) result }
 {
     serve(rt, alloc, volume, input, out)
 }
@@ -52,7 +55,8 @@ pub fn serve_station<R: Wait, D: Disk, S: Source, K: Sink>(
     ensures ready { CanServe station.new shared.now home most }
     ensures session { IsSession (MakesTurn D.tells) home most station.old.worker station.new.worker
         (S.left input.old) (S.left input.new) (K.taken out.old) (K.taken out.new) result }
-    ensures faults { CountsFaults (S.faults input.old) (S.faults input.new) (K.faults out.old) (K.faults out.new) result }
+    ensures faults { CountsFaults (S.faults input.old) (S.faults input.new) (K.faults out.old)
+        (K.faults out.new) result }
 {
     let Ok(mut fetch) = Fetch::new(alloc) else {
         return Err(NbdFault::NoMemory);

@@ -92,9 +92,11 @@ fn read_at<R: Wait, D: Disk>(
     requires shared { IsShared shared.now (pass_lock station.old.worker).base }
     requires some { 1 ≤ length out.old }
     requires few { length out.old ≤ (pass_lock station.old.worker).base.volume.began.most }
-    requires fits { at + length out.old ≤ (pass_lock station.old.worker).base.volume.began.home_blocks }
+    requires fits { at + length out.old
+        ≤ (pass_lock station.old.worker).base.volume.began.home_blocks }
     ensures only { OnlyWorks station.old station.new }
-    ensures turned { MakesTurn D.tells (read_turn at (length out.old) out.new result) station.old.worker station.new.worker }
+    ensures turned { MakesTurn D.tells (read_turn at (length out.old) out.new result)
+        station.old.worker station.new.worker }
 {
     let answer = read_blocks(rt, &station.lock, &mut station.worker, shared, at, out);
     match answer {
@@ -118,9 +120,11 @@ fn write_at<R: Wait, D: Disk>(
     requires shared { IsShared shared.now (pass_lock station.old.worker).base }
     requires some { 1 ≤ length from.now }
     requires few { length from.now ≤ (pass_lock station.old.worker).base.volume.began.most }
-    requires fits { at + length from.now ≤ (pass_lock station.old.worker).base.volume.began.home_blocks }
+    requires fits { at + length from.now
+        ≤ (pass_lock station.old.worker).base.volume.began.home_blocks }
     ensures only { OnlyWorks station.old station.new }
-    ensures turned { MakesTurn D.tells (write_turn at from.now result) station.old.worker station.new.worker }
+    ensures turned { MakesTurn D.tells (write_turn at from.now result) station.old.worker
+        station.new.worker }
 {
     let outcome = write_blocks(
         rt,

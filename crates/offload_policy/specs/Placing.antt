@@ -30,12 +30,14 @@ log_or rooms log None other = other
 log_or rooms log (Some lane) other = decided_by (slice_get rooms lane) lane (log lane)
 
 -- home where it is awake and no block is covered; else the first awake logger that may have room;
--- else home, woken, where no block is covered; else the first sleeping logger that may have room, woken
+-- else home, woken, where no block is covered; else the first sleeping logger that may have room,
+-- woken
 abbrev pub step_of : Bool → Bool → List Bool → List Room → Step
 step_of home_up covered ups rooms =
     if home_up && not covered then Home
     else log_or rooms Log (position (is_open true) (zip ups rooms))
-    (if covered then log_or rooms WakeLog (position (is_open false) (zip ups rooms)) Full else WakeHome)
+    (if covered then log_or rooms WakeLog (position (is_open false) (zip ups rooms)) Full
+    else WakeHome)
 
 -- which loggers have room, as far as it is known
 abbrev pub IsRoom : Room → Bool → Type 0

@@ -1,4 +1,5 @@
--- A rack that has again every lock, station and pass with which it came, each pass in no turn, whatever entries were added since.
+-- A rack that has again every lock, station and pass with which it came, each pass in no turn,
+-- whatever entries were added since.
 use Rattle.std.specs.Prelude.{◌≡◌}
 use Rattle.std.specs.List.{AllZip}
 use Rattle.turn_lock.specs.Passes.{IsFree, IsSamePass}

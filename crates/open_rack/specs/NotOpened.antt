@@ -1,4 +1,5 @@
--- The first volume that isn't open, and what a bay is left with where not all volumes could be opened.
+-- The first volume that isn't open, and what a bay is left with where not all volumes could be
+-- opened.
 use Rattle.std.specs.Prelude.{⊤, ◌≡◌, ◌<◌, ◌+◌, ℕ, Bool, List, [], ◌∷◌, length, Option, None, Some, IfSome, slice_get, IsTrue}
 use Rattle.std.specs.List.{AllByRecursion}
 use Rattle.wol_disk.specs.Disk.{Rose, State}
@@ -41,30 +42,40 @@ IsOfCall (fault.Refused (refusal.Damaged volume block)) = ⊥
 IsOfCall (fault.Refused (refusal.Twins first_volume first second_volume second)) = ⊥
 IsOfCall (fault.Refused refusal.NoMemory) = ⊥
 
--- Volume j was opened of these images: its own and those of the loggers of its view were handed out.
-pub record IsOpened {D : Type 0} (config : Config) (out : List (Option (ImageRest D))) (entry : Told) (j : ℕ) : Type 0 where
+-- Volume j was opened of these images: its own and those of the loggers of its view were handed
+-- out.
+pub record IsOpened {D : Type 0} (config : Config) (out : List (Option (ImageRest D)))
+    (entry : Told) (j : ℕ) : Type 0 where
   pub base : Base
   pub owner : base.owner ≡ j
   pub begun : IsBegun config (images_taken config out entry) base
   pub loggers : AllByRecursion (IsImageOut out) base.view
 
--- Volume k is the first that isn't open, and is so for its first cause: those before it were opened, each image that was handed out was
--- there and may be opened as it reads, and each other one was refused. Where a call failed the bay's count rose, and the part that is named came back with a fault.
-pub record IsFirstClosed {D : Type 0} (tells : Bool) (state : D → State) (config : Config) (old new : BayState) (k : ℕ) (f : VolumeFault) : Type 0 where
+-- Volume k is the first that isn't open, and is so for its first cause: those before it were
+-- opened, each image that was handed out was there and may be opened as it reads, and each other
+-- one was refused. Where a call failed the bay's count rose, and the part that is named came back
+-- with a fault.
+pub record IsFirstClosed {D : Type 0} (tells : Bool) (state : D → State) (config : Config)
+    (old new : BayState) (k : ℕ) (f : VolumeFault) : Type 0 where
   pub out : List (Option (ImageRest D))
   pub count : length out ≡ length config.volumes.items
-  pub missing : (j : ℕ) (v : VolumeConf) → slice_get config.volumes.items j ≡ Some v → image_here out j ≡ None → (g : VolumeFault) × RefusesVolume tells state config out old new j v g
+  pub missing : (j : ℕ) (v : VolumeConf) → slice_get config.volumes.items j ≡ Some v
+      → image_here out j ≡ None
+      → (g : VolumeFault) × RefusesVolume tells state config out old new j v g
   pub there : IsTrue tells → IfSome old.told (λ t. WereThere config out t)
-  pub before : (j : ℕ) → j < k → IsImageOut out j × (IsTrue tells → IfSome old.told (λ t. IsOpened config out t j))
+  pub before : (j : ℕ) → j < k
+      → IsImageOut out j × (IsTrue tells → IfSome old.told (λ t. IsOpened config out t j))
   pub conf : VolumeConf
   pub conf_is : slice_get config.volumes.items k ≡ Some conf
   pub refused : RefusesVolume tells state config out old new k conf f
   -- the volumes that it names are configured
   pub names : NamesVolumes (length config.volumes.items) f
   pub cause : IsOfCall f → Rose old.faults new.faults
-  pub part : (p : Part) → f ≡ fault.Refused (refusal.DiskFault p) → IsTold (CameBackFaulty config p) old.told new.told
+  pub part : (p : Part) → f ≡ fault.Refused (refusal.DiskFault p)
+      → IsTold (CameBackFaulty config p) old.told new.told
 
 -- each image that is left recovers to what an image at entry did, and sound images stay sound
-pub record LeavesBay {D : Type 0} (tells : Bool) (state : D → State) (config : Config) (old new : BayState) : Type 0 where
+pub record LeavesBay {D : Type 0} (tells : Bool) (state : D → State) (config : Config)
+    (old new : BayState) : Type 0 where
   pub left : IsTrue tells → IsTold (LeavesAll tells state config old new) old.told new.told
   pub sound : IsTrue tells → IsTold (KeepsAllSound config) old.told new.told

@@ -1,5 +1,5 @@
--- All volumes of a bay are opened, something is done with them, and they are closed. `old` is the bay before, `bay` the bay while
--- they are open, `new` the bay behind.
+-- All volumes of a bay are opened, something is done with them, and they are closed. `old` is the
+-- bay before, `bay` the bay while they are open, `new` the bay behind.
 use Rattle.std.specs.Prelude.{◌≡◌, ◌<◌, ◌≤◌, ◌++◌, ℕ, Bool, List, length, None, Some, All, IfSome, IsTrue, slice_get}
 use Rattle.wol_disk.specs.Disk.{State, Rose}
 use Rattle.wol_model.specs.Images.{AreSound, Images, all_segments}
@@ -30,7 +30,8 @@ LeavesRecords config v records left =
     → AreListedOf records (extents_of v (all_segments (shapes_of config) images))
 
 -- what a rack is that was opened, and what it began with
-pub record IsOpened {D : Type 0} (tells : Bool) (state : D → State) (config : Config) (old bay : BayState) (r : Rack D) : Type 0 where
+pub record IsOpened {D : Type 0} (tells : Bool) (state : D → State) (config : Config)
+    (old bay : BayState) (r : Rack D) : Type 0 where
   pub rack : IsRack state config bay r
   -- no pass was used
   pub fresh : AreUnused r.stations.items
@@ -39,12 +40,16 @@ pub record IsOpened {D : Type 0} (tells : Bool) (state : D → State) (config : 
   pub began : IsTrue tells → IfSome old.told (λ t. BeganWith state config t r)
   pub there : IsTrue tells → IfSome old.told (λ t. WereThere config r.rest.images.items t)
   pub kept : IsTrue tells → IsTold (HadRefused config r.rest.images.items) old.told bay.told
-  -- the list of parts that came back with a fault only grows; it is the same where all images are out
-  pub faulty : IsTold (λ x y. (more : List (Name × ℕ)) × (y.faulty ≡ x.faulty ++ more)) old.told bay.told
-  pub unfaulty : ((k : ℕ) → k < length (shapes_of config) → IsImageOut r.rest.images.items k) → IsTold (λ x y. y.faulty ≡ x.faulty) old.told bay.told
+  -- the list of parts that came back with a fault only grows; it is the same where all images are
+  -- out
+  pub faulty :
+      IsTold (λ x y. (more : List (Name × ℕ)) × (y.faulty ≡ x.faulty ++ more)) old.told bay.told
+  pub unfaulty : ((k : ℕ) → k < length (shapes_of config) → IsImageOut r.rest.images.items k)
+      → IsTold (λ x y. y.faulty ≡ x.faulty) old.told bay.told
 
 -- what closing leaves of a rack, whatever was done with it
-pub record IsClosed {D : Type 0} (tells : Bool) (state : D → State) (config : Config) (bay new : BayState) (r : Rack D) (spindles : List SpindleView) : Type 0 where
+pub record IsClosed {D : Type 0} (tells : Bool) (state : D → State) (config : Config)
+    (bay new : BayState) (r : Rack D) (spindles : List SpindleView) : Type 0 where
   pub count : length spindles ≡ length (shapes_of config)
   pub each : (k : ℕ) (s : SpindleView) → slice_get spindles k ≡ Some s → IsClosedSpindle r k s
   pub stations : All (IsClosedVolume tells config r.rest.images.items bay new) r.stations.items
@@ -54,7 +59,9 @@ pub record IsClosed {D : Type 0} (tells : Bool) (state : D → State) (config : 
   pub lists : IsTold (ListsFaulty state config r.rest) bay.told new.told
 
 -- A rack was opened, this was done with it, and it was closed.
-pub record OpensAndCloses {D : Type 0} (tells : Bool) (state : D → State) (config : Config) (did : (before after : Rack D) → Type 0) (old new : BayState) (spindles : List SpindleView) : Type 0 where
+pub record OpensAndCloses {D : Type 0} (tells : Bool) (state : D → State) (config : Config)
+    (did : (before after : Rack D) → Type 0) (old new : BayState) (spindles : List SpindleView) :
+    Type 0 where
   pub bay : BayState
   pub before : Rack D
   pub after : Rack D
@@ -68,18 +75,25 @@ pub record OpensAndCloses {D : Type 0} (tells : Bool) (state : D → State) (con
   pub later : bay.faults ≤ new.faults
   -- a volume without a station was refused for its fault, and that of a disk is counted
   pub refused : AreRefused tells state config old new before
-  pub failed : (k : ℕ) (p : Part) → slice_get before.faults.items k ≡ Some (Some (Refused (DiskFault p))) → Rose old.faults new.faults
+  pub failed : (k : ℕ) (p : Part) → slice_get before.faults.items k
+      ≡ Some (Some (Refused (DiskFault p))) → Rose old.faults new.faults
   -- and the part that is told came back with a fault
-  pub part : (k : ℕ) (p : Part) → slice_get before.faults.items k ≡ Some (Some (Refused (DiskFault p))) → IsTold (CameBackFaulty config p) old.told new.told
+  pub part : (k : ℕ) (p : Part) → slice_get before.faults.items k
+      ≡ Some (Some (Refused (DiskFault p))) → IsTold (CameBackFaulty config p) old.told new.told
   -- an image that isn't out was refused, and is left only as it might have been left before
-  pub missing : (k : ℕ) (v : VolumeConf) → slice_get config.volumes.items k ≡ Some v → image_here before.rest.images.items k ≡ None
+  pub missing : (k : ℕ) (v : VolumeConf) → slice_get config.volumes.items k ≡ Some v
+      → image_here before.rest.images.items k ≡ None
       → (f : VolumeFault) × RefusesVolume tells state config before.rest.images.items old new k v f
   pub kept : IsTrue tells → IsTold (HadRefused config before.rest.images.items) old.told new.told
   -- where the images are sound as they read, and no call failed, each volume was open
-  pub complete : IsTrue tells → IfSome old.told (λ t. AreSound (shapes_of config) (images_read config t) → (Rose old.faults new.faults → ⊥)
+  pub complete : IsTrue tells → IfSome old.told
+      (λ t. AreSound (shapes_of config) (images_read config t) → (Rose old.faults new.faults → ⊥)
       → (k : ℕ) → k < length (shapes_of config) → slice_get before.faults.items k ≡ Some None)
   -- whatever was written, a volume that wasn't opened recovers to what it might have
   pub left_unopened : IsTrue tells → IsTold (LeavesUnopened config after) old.told new.told
-  -- where nothing was written, each open volume recovers to what the images before recovered to, and each volume to what it might have
-  pub left_open : IsTrue tells → All (λ s. IsQuiet s) after.stations.items → IsTold (LeavesOpen config after) old.told new.told
-  pub left : IsTrue tells → All (λ s. IsQuiet s) after.stations.items → IsTold (LeavesAll tells state config old new) old.told new.told
+  -- where nothing was written, each open volume recovers to what the images before recovered to,
+  -- and each volume to what it might have
+  pub left_open : IsTrue tells → All (λ s. IsQuiet s) after.stations.items
+      → IsTold (LeavesOpen config after) old.told new.told
+  pub left : IsTrue tells → All (λ s. IsQuiet s) after.stations.items
+      → IsTold (LeavesAll tells state config old new) old.told new.told

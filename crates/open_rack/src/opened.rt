@@ -48,11 +48,13 @@ pub fn with_open<R: Wait, B: Bay, S, K, W: Work<R, B::Part, S, K>>(
     ensures others { IsTold (KeepsOthers config.now) (B.state bay.old).told (B.state bay.new).told }
     // the work was done with the rack while it was open
     ensures did { IfOk result (λ c. OpensAndCloses B.Part.tells B.Part.state config.now
-        (λ before after. W.Did work config.now before after given.old given.new out.old out.new c.answer)
+        (λ before after.
+        W.Did work config.now before after given.old given.new out.old out.new c.answer)
         (B.state bay.old) (B.state bay.new) c.spindles.items) }
     // without memory
     ensures left { OnErr result (IsTrue B.Part.tells
-        → IsTold (LeavesAll B.Part.tells B.Part.state config.now (B.state bay.old) (B.state bay.new))
+        → IsTold (LeavesAll B.Part.tells B.Part.state config.now (B.state bay.old)
+        (B.state bay.new))
         (B.state bay.old).told (B.state bay.new).told) }
     ensures unread { OnErr result (given.new ≡ given.old) }
     ensures unwritten { OnErr result (out.new ≡ out.old) }

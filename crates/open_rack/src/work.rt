@@ -39,5 +39,6 @@ pub trait Work<R, D: Disk, S, K>: Drop {
         requires ready { Ready self config.now given.old out.old }
         // the rack has again all that it came with
         ensures again { IsRackAgain rack.old rack.new }
-        ensures did { Did self config.now rack.old rack.new given.old given.new out.old out.new result };
+        ensures did { Did self config.now rack.old rack.new given.old given.new out.old out.new
+            result };
 }

@@ -7,7 +7,7 @@ use Rattle.rack.proofs.Terms.{State, Block, IsImageOf, reads, BayState, Image, T
 use Rattle.rack.proofs.Terms.{place_of, Opening, OwnedPart, shapes_of, shape_in, said_at, HasFaultOf, IsOpeningRack, HasBegun, fault_at}
 use Rattle.rack.proofs.Terms.{TakesOpening, IsOwnedPlace, loggers_out, segment_in, Said, Rack, Rest, Rooms, image_reads, Shape, Images}
 use Rattle.rack.proofs.Terms.{image_of, recovered_from, VolumeConf, Base, TurnLock, PassOf, shape_of, segment_head, HasView, state_of, Spun}
-use Rattle.rack.proofs.Terms.{ManagerBase, Manager, Station, Shared, Begins, IsPlaceOf, Opens, IsListedOf, read_of, all_owned, records_in}
+use Rattle.rack.proofs.Terms.{ManagerBase, Manager, Station, Shared, Begins, StandsInOwned, Opens, IsListedOf, read_of, all_owned, records_in}
 use Rattle.rack.proofs.Terms.{writes_in, heads_in, recovered_of, AreIntact, HaveNoTwins, IsRecoverable, head_place, IsLocked, IsLeftHere}
 use Rattle.rack.proofs.Terms.{IsGone, images_taken, AreOwnedIn, BeganInPlace, IsBegun, IsOpeningOf, base_of_station, image_here}
 use Rattle.rack.proofs.Terms.{segment_here, held_here, IsSegmentHere, ImageRest, VolumeFault}
@@ -99,8 +99,8 @@ placed_of {D} tells state telling config shared out images id o m of opens =
     record {
       owned = segments;
       are_owned = subst (λ (v : ℕ). AreOwnedIn (shapes_of config) images v segments) (sym (opens.begins.owner ∙ of.id)) of.owned;
-      each = subst (λ (v : ℕ). AllByRecursion (IsPlaceOf v began.view segments) opens.base.volume.places) (sym opens.begins.owner)
-          (subst (λ (view : List ℕ). AllByRecursion (IsPlaceOf o.want.id view segments) opens.base.volume.places) (sym opens.begins.view) (opens.placed telling));
+      each = subst (λ (v : ℕ). AllByRecursion (StandsInOwned v began.view segments) opens.base.volume.places) (sym opens.begins.owner)
+          (subst (λ (view : List ℕ). AllByRecursion (StandsInOwned o.want.id view segments) opens.base.volume.places) (sym opens.begins.view) (opens.placed telling));
     }
 
 -- a fault of a volume that was tried is none of the one at hand

@@ -45,7 +45,7 @@ pub use Rattle.manager.specs.declared.part.Part.{Part}
 pub use Rattle.manager.specs.declared.part.Part.TheVariants.{Home, Segment}
 pub use Rattle.manager.specs.declared.station.Station.{Station}
 pub use Rattle.manager_recovery.specs.Left.{Fate, Kept, Freed, IsFateOf, AreFates, HasGiven, freed_on, kept_of, IsHandedBack, IsUsedLane, IsSameOwned}
-pub use Rattle.manager_recovery.specs.Opened.{Opens, IsInLane, CountsTakes, Begins, IsPlaceOf, base_at_opening}
+pub use Rattle.manager_recovery.specs.Opened.{Opens, IsInLane, CountsTakes, Begins, StandsInOwned, base_at_opening}
 pub use Rattle.manager_recovery.specs.Opening.{place_of, CanOpen, AreInOrder, IsBefore, IsOpeningLane, IsHeldIn, IsOwned, SaysOwner, HoldsOwned}
 pub use Rattle.manager_recovery.specs.Owned.{read_of, owned_of, all_owned, IsListedOf, records_in, writes_in, heads_in, recovered_of, AreIntact, HaveNoTwins}
 pub use Rattle.manager_recovery.specs.Refused.{IsNamesAnswer, is_named, Refuses, HandsBackAll, IsRecoverable}

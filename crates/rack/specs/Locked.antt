@@ -14,8 +14,11 @@ use Rattle.manager_recovery.specs.declared.opening.Opening.{Opening}
 use Rattle.rack.specs.declared.volumes.Unopened.{Unopened}
 use Rattle.rack.specs.declared.volumes.Unopened.TheVariants.{Refused, NoRoom}
 
--- the lock's manager was opened of this, the lock begins with what it begins with, and its three passes are new
-pub record IsLocked {D : Type 0} (tells : Bool) (state : D → State) (shared : Shared D) (o : Opening D) (l : TurnLock (Manager D) ManagerBase) (ps : List (PassOf (Manager D) ManagerBase)) : Type 0 where
+-- the lock's manager was opened of this, the lock begins with what it begins with, and its three
+-- passes are new
+pub record IsLocked {D : Type 0} (tells : Bool) (state : D → State) (shared : Shared D)
+    (o : Opening D) (l : TurnLock (Manager D) ManagerBase)
+    (ps : List (PassOf (Manager D) ManagerBase)) : Type 0 where
   pub manager : Manager D
   pub opens : Opens tells state shared o manager
   pub base : (lock_id l).base ≡ opens.base
@@ -24,6 +27,9 @@ pub record IsLocked {D : Type 0} (tells : Bool) (state : D → State) (shared : 
   pub new : AreNewPasses l ps
 
 -- the opening was refused and all is handed back, or the manager is there without a lock
-abbrev pub IsUnopened : {D : Type 0} → (tells : Bool) → (D → State) → Shared D → Opening D → Unopened D → Type 0
-IsUnopened tells state shared o (Refused refusal n) = Refuses tells state o n refusal × IsHandedBack tells state shared o n × HandsBackAll state o n refusal
+abbrev pub IsUnopened : {D : Type 0} → (tells : Bool) → (D → State) → Shared D → Opening D
+    → Unopened D → Type 0
+IsUnopened tells state shared o (Refused refusal n) =
+    Refuses tells state o n refusal × IsHandedBack tells state shared o n
+    × HandsBackAll state o n refusal
 IsUnopened tells state shared o (NoRoom manager) = Opens tells state shared o manager

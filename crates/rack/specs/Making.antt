@@ -51,11 +51,17 @@ pub record AreLists {D : Type 0} (volumes : ℕ) (l : Lists D) : Type 0 where
 
 -- ---- A rack before a volume is opened
 
--- the locks of the spindles and their rows of passes are there, but the keepers' passes stand in a list of their own
-pub record PutsSpindles {D : Type 0} (spindles : List (Issued Spindle SpindleBase)) (old new : Lists D) : Type 0 where
+-- the locks of the spindles and their rows of passes are there, but the keepers' passes stand in a
+-- list of their own
+pub record PutsSpindles {D : Type 0} (spindles : List (Issued Spindle SpindleBase))
+    (old new : Lists D) : Type 0 where
   pub locks : new.shared.spindles.items ≡ map (λ (i : Issued Spindle SpindleBase). i.lock) spindles
-  pub keepers : AllZip (λ (i : Issued Spindle SpindleBase) p. slice_get i.passes.items (length spindles) ≡ Some p) spindles new.keepers.items
-  pub rows : AllZip (λ (i : Issued Spindle SpindleBase) (row : Vec (PassOf Spindle SpindleBase) Global). (row.items ≡ take (length spindles) i.passes.items) × (length spindles + 1 ≤ vec_capacity row)) spindles new.rooms.spindles.items
+  pub keepers : AllZip (λ (i : Issued Spindle SpindleBase) p.
+      slice_get i.passes.items (length spindles) ≡ Some p) spindles new.keepers.items
+  pub rows : AllZip
+      (λ (i : Issued Spindle SpindleBase) (row : Vec (PassOf Spindle SpindleBase) Global).
+      (row.items ≡ take (length spindles) i.passes.items)
+      × (length spindles + 1 ≤ vec_capacity row)) spindles new.rooms.spindles.items
   pub pools : new.shared.pools ≡ old.shared.pools
   pub stations : new.stations ≡ old.stations
   pub passes : new.passes ≡ old.passes
@@ -64,9 +70,12 @@ pub record PutsSpindles {D : Type 0} (spindles : List (Issued Spindle SpindleBas
   pub closed : new.rooms.closed ≡ old.rooms.closed
 
 -- the locks of the pools and their rows of passes are there
-pub record PutsPools {D : Type 0} (pools : List (Issued (Pool (FreeSegment D)) PoolBase)) (old new : Lists D) : Type 0 where
-  pub locks : new.shared.pools.items ≡ map (λ (i : Issued (Pool (FreeSegment D)) PoolBase). i.lock) pools
-  pub rows : new.rooms.pools.items ≡ map (λ (i : Issued (Pool (FreeSegment D)) PoolBase). i.passes) pools
+pub record PutsPools {D : Type 0} (pools : List (Issued (Pool (FreeSegment D)) PoolBase))
+    (old new : Lists D) : Type 0 where
+  pub locks : new.shared.pools.items
+      ≡ map (λ (i : Issued (Pool (FreeSegment D)) PoolBase). i.lock) pools
+  pub rows : new.rooms.pools.items
+      ≡ map (λ (i : Issued (Pool (FreeSegment D)) PoolBase). i.passes) pools
   pub spindles : new.shared.spindles ≡ old.shared.spindles
   pub keepers : new.keepers ≡ old.keepers
   pub stations : new.stations ≡ old.stations
@@ -82,8 +91,11 @@ last_of row = slice_get row.items (length row.items - 1)
 -- each row lost its last element
 pub record ArePopped {T : Type 0} (old new : List (Vec T Global)) : Type 0 where
   pub count : length new ≡ length old
-  pub each : (k : ℕ) (d : Vec T Global) → k < length old → (slice_index_or new k d).items ≡ take (length (slice_index_or old k d).items - 1) (slice_index_or old k d).items
-  pub rooms : (k : ℕ) (d : Vec T Global) → k < length old → vec_capacity (slice_index_or new k d) ≡ vec_capacity (slice_index_or old k d)
+  pub each : (k : ℕ) (d : Vec T Global) → k < length old
+      → (slice_index_or new k d).items
+      ≡ take (length (slice_index_or old k d).items - 1) (slice_index_or old k d).items
+  pub rooms : (k : ℕ) (d : Vec T Global) → k < length old
+      → vec_capacity (slice_index_or new k d) ≡ vec_capacity (slice_index_or old k d)
 
 -- each row has a pass for each volume, and there is room for it
 pub record CanDeal {D : Type 0} (l : Lists D) : Type 0 where
@@ -97,14 +109,20 @@ pub record CanDeal {D : Type 0} (l : Lists D) : Type 0 where
 pub record AreEmptied {T : Type 0} (old new : List (Vec T Global)) : Type 0 where
   pub count : length new ≡ length old
   pub empty : All (λ row. row.items ≡ []) new
-  pub rooms : (k : ℕ) (d : Vec T Global) → k < length old → vec_capacity (slice_index_or new k d) ≡ vec_capacity (slice_index_or old k d)
+  pub rooms : (k : ℕ) (d : Vec T Global) → k < length old
+      → vec_capacity (slice_index_or new k d) ≡ vec_capacity (slice_index_or old k d)
 
 -- volume v has the pass at place v of each row, and the rows are empty
 pub record Deals {D : Type 0} (old new : Lists D) : Type 0 where
   pub count : length new.passes.items ≡ length old.passes.items
-  pub pools : (v : ℕ) (p : VolumePasses D) → slice_get new.passes.items v ≡ Some p → p.pools.items ≡ map (λ (row : Vec (PassOf (Pool (FreeSegment D)) PoolBase) Global). slice_get row.items v) old.rooms.pools.items
-  pub spindles : (v : ℕ) (p : VolumePasses D) → slice_get new.passes.items v ≡ Some p → p.spindles.items ≡ map (λ (row : Vec (PassOf Spindle SpindleBase) Global). slice_get row.items v) old.rooms.spindles.items
-  pub held : (v : ℕ) (p q : VolumePasses D) → slice_get old.passes.items v ≡ Some p → slice_get new.passes.items v ≡ Some q → q.held ≡ p.held
+  pub pools : (v : ℕ) (p : VolumePasses D) → slice_get new.passes.items v ≡ Some p
+      → p.pools.items ≡ map (λ (row : Vec (PassOf (Pool (FreeSegment D)) PoolBase) Global).
+      slice_get row.items v) old.rooms.pools.items
+  pub spindles : (v : ℕ) (p : VolumePasses D) → slice_get new.passes.items v ≡ Some p
+      → p.spindles.items ≡ map (λ (row : Vec (PassOf Spindle SpindleBase) Global).
+      slice_get row.items v) old.rooms.spindles.items
+  pub held : (v : ℕ) (p q : VolumePasses D) → slice_get old.passes.items v ≡ Some p
+      → slice_get new.passes.items v ≡ Some q → q.held ≡ p.held
   pub pool_rows : AreEmptied old.rooms.pools.items new.rooms.pools.items
   pub spindle_rows : AreEmptied old.rooms.spindles.items new.rooms.spindles.items
   pub shared : new.shared ≡ old.shared
@@ -114,16 +132,23 @@ pub record Deals {D : Type 0} (old new : Lists D) : Type 0 where
   pub closed : new.rooms.closed ≡ old.rooms.closed
 
 -- the locks, passes and rooms stand where they belong, and no volume is open
-pub record IsSetUp {D : Type 0} (spindles : List (Issued Spindle SpindleBase)) (pools : List (Issued (Pool (FreeSegment D)) PoolBase)) (volumes : ℕ) (r : Rack D) : Type 0 where
-  pub pool_locks : r.shared.pools.items ≡ map (λ (i : Issued (Pool (FreeSegment D)) PoolBase). i.lock) pools
-  pub spindle_locks : r.shared.spindles.items ≡ map (λ (i : Issued Spindle SpindleBase). i.lock) spindles
+pub record IsSetUp {D : Type 0} (spindles : List (Issued Spindle SpindleBase))
+    (pools : List (Issued (Pool (FreeSegment D)) PoolBase)) (volumes : ℕ) (r : Rack D) :
+    Type 0 where
+  pub pool_locks : r.shared.pools.items
+      ≡ map (λ (i : Issued (Pool (FreeSegment D)) PoolBase). i.lock) pools
+  pub spindle_locks : r.shared.spindles.items
+      ≡ map (λ (i : Issued Spindle SpindleBase). i.lock) spindles
   pub keeper_count : length r.keepers.items ≡ volumes
-  pub keepers : (k : ℕ) (i : Issued Spindle SpindleBase) → slice_get spindles k ≡ Some i → slice_get r.keepers.items k ≡ slice_get i.passes.items volumes
+  pub keepers : (k : ℕ) (i : Issued Spindle SpindleBase) → slice_get spindles k ≡ Some i
+      → slice_get r.keepers.items k ≡ slice_get i.passes.items volumes
   pub stations : (r.stations.items ≡ []) × (volumes ≤ vec_capacity r.stations)
   pub count : length r.rest.passes.items ≡ volumes
   pub rows : All (λ p. IsRow volumes p) r.rest.passes.items
-  pub pool_passes : (v k : ℕ) (i : Issued (Pool (FreeSegment D)) PoolBase) → v < volumes → slice_get pools k ≡ Some i → pool_pass r.rest v k ≡ slice_get i.passes.items v
-  pub spindle_passes : (v k : ℕ) (i : Issued Spindle SpindleBase) → v < volumes → slice_get spindles k ≡ Some i → spindle_pass r.rest v k ≡ slice_get i.passes.items v
+  pub pool_passes : (v k : ℕ) (i : Issued (Pool (FreeSegment D)) PoolBase) → v < volumes
+      → slice_get pools k ≡ Some i → pool_pass r.rest v k ≡ slice_get i.passes.items v
+  pub spindle_passes : (v k : ℕ) (i : Issued Spindle SpindleBase) → v < volumes
+      → slice_get spindles k ≡ Some i → spindle_pass r.rest v k ≡ slice_get i.passes.items v
   pub held : (v k : ℕ) → held_here r.rest v k ≡ []
   pub rooms : AreRooms volumes 0 r.rest.rooms
   pub managers : volumes ≤ vec_capacity r.rest.rooms.managers
@@ -154,7 +179,11 @@ abbrev pub fault_by : {D : Type 0} → Result (Said × ImageRest D) VolumeFault 
 fault_by (Ok pair) = None
 fault_by (Err fault) = Some fault
 
-pub record PushesImage {D : Type 0} (old new : Images D) (opened : Result (Said × ImageRest D) VolumeFault) : Type 0 where
-  pub said : (new.said.items ≡ old.said.items ++ said_by opened ∷ []) × (vec_capacity new.said ≡ vec_capacity old.said)
-  pub out : (new.out.items ≡ old.out.items ++ image_by opened ∷ []) × (vec_capacity new.out ≡ vec_capacity old.out)
-  pub faults : (new.faults.items ≡ old.faults.items ++ fault_by opened ∷ []) × (vec_capacity new.faults ≡ vec_capacity old.faults)
+pub record PushesImage {D : Type 0} (old new : Images D)
+    (opened : Result (Said × ImageRest D) VolumeFault) : Type 0 where
+  pub said : (new.said.items ≡ old.said.items ++ said_by opened ∷ [])
+      × (vec_capacity new.said ≡ vec_capacity old.said)
+  pub out : (new.out.items ≡ old.out.items ++ image_by opened ∷ [])
+      × (vec_capacity new.out ≡ vec_capacity old.out)
+  pub faults : (new.faults.items ≡ old.faults.items ++ fault_by opened ∷ [])
+      × (vec_capacity new.faults ≡ vec_capacity old.faults)

@@ -44,10 +44,14 @@ fn take_out<R: Wait, B: Bay>(
 ) -> Result<Taken<B::Part>, NoMemory>
     requires config { IsValid config.now }
     requires home { NoneOut config.now (B.state bay.old) }
-    ensures taken { IfOk result (IsTaken B.Part.tells B.Part.state config.now (B.state bay.old) (B.state bay.new)) }
+    ensures taken { IfOk result
+        (IsTaken B.Part.tells B.Part.state config.now (B.state bay.old) (B.state bay.new)) }
     ensures home { OnErr result (outs (B.state bay.new) ≡ outs (B.state bay.old)) }
-    ensures left { OnErr result (IsTrue B.Part.tells → IsTold (LeavesAll B.Part.tells B.Part.state config.now (B.state bay.old) (B.state bay.new)) (B.state bay.old).told (B.state bay.new).told) }
-    ensures sound { OnErr result (IsTrue B.Part.tells → IsTold (KeepsAllSound config.now) (B.state bay.old).told (B.state bay.new).told) }
+    ensures left { OnErr result (IsTrue B.Part.tells
+        → IsTold (LeavesAll B.Part.tells B.Part.state config.now (B.state bay.old)
+        (B.state bay.new)) (B.state bay.old).told (B.state bay.new).told) }
+    ensures sound { OnErr result (IsTrue B.Part.tells
+        → IsTold (KeepsAllSound config.now) (B.state bay.old).told (B.state bay.new).told) }
     ensures others { IsTold (KeepsOthers config.now) (B.state bay.old).told (B.state bay.new).told }
     ensures counts { (B.state bay.old).faults ≤ (B.state bay.new).faults }
 {
@@ -91,32 +95,50 @@ pub fn open_all<R: Wait, B: Bay>(
     requires config { IsValid config.now }
     requires home { NoneOut config.now (B.state bay.old) }
     ensures rack { IfOk result (IsRack B.Part.state config.now (B.state bay.new)) }
-    ensures out { IfOk result (λ r. outs (B.state bay.new) ≡ option_map (λ os. os ++ out_names config.now config.now.volumes.items r.rest.images.items) (outs (B.state bay.old))) }
-    ensures began { IfOk result (λ r. IsTrue B.Part.tells → IfSome (B.state bay.old).told (λ t. BeganWith B.Part.state config.now t r)) }
-    ensures there { IfOk result (λ r. IsTrue B.Part.tells → IfSome (B.state bay.old).told (λ t. WereThere config.now r.rest.images.items t)) }
-    ensures refused { IfOk result (AreRefused B.Part.tells B.Part.state config.now (B.state bay.old) (B.state bay.new)) }
+    ensures out { IfOk result (λ r. outs (B.state bay.new)
+        ≡ option_map (λ os. os ++ out_names config.now config.now.volumes.items
+        r.rest.images.items) (outs (B.state bay.old))) }
+    ensures began { IfOk result (λ r. IsTrue B.Part.tells
+        → IfSome (B.state bay.old).told (λ t. BeganWith B.Part.state config.now t r)) }
+    ensures there { IfOk result (λ r. IsTrue B.Part.tells
+        → IfSome (B.state bay.old).told (λ t. WereThere config.now r.rest.images.items t)) }
+    ensures refused { IfOk result
+        (AreRefused B.Part.tells B.Part.state config.now (B.state bay.old) (B.state bay.new)) }
     // a volume used no disk but those of its own image and of the view that this says, also where its opening was refused
-    ensures users { IfOk result (λ r. IsTrue B.Part.tells → IfSome (B.state bay.old).told (λ t. (views : ℕ → List ℕ) × KeepToViews views r
+    ensures users { IfOk result (λ r. IsTrue B.Part.tells
+        → IfSome (B.state bay.old).told (λ t. (views : ℕ → List ℕ) × KeepToViews views r
         × AreViewsAsRead config.now r.rest.images.items t views)) }
     // no pass of a station was used
     ensures fresh { IfOk result (λ r. AreUnused r.stations.items) }
     ensures fresh_keepers { IfOk result (λ r. All (λ p. IsUnused p) r.keepers.items) }
     // the list of parts that came back with a fault only grows; it is the same where all images are out
-    ensures faulty { IfOk result (λ r. IsTold HasFaulty (B.state bay.old).told (B.state bay.new).told) }
-    ensures unfaulty { IfOk result (λ r. ((k : ℕ) → k < length (shapes_of config.now) → IsImageOut r.rest.images.items k)
-        → IsTold (λ old new. new.faulty ≡ old.faulty) (B.state bay.old).told (B.state bay.new).told) }
-    ensures kept { IfOk result (λ r. IsTrue B.Part.tells → IsTold (HadRefused config.now r.rest.images.items) (B.state bay.old).told (B.state bay.new).told) }
+    ensures faulty { IfOk result
+        (λ r. IsTold HasFaulty (B.state bay.old).told (B.state bay.new).told) }
+    ensures unfaulty { IfOk result
+        (λ r. ((k : ℕ) → k < length (shapes_of config.now) → IsImageOut r.rest.images.items k)
+        → IsTold (λ old new. new.faulty ≡ old.faulty) (B.state bay.old).told
+        (B.state bay.new).told) }
+    ensures kept { IfOk result (λ r. IsTrue B.Part.tells
+        → IsTold (HadRefused config.now r.rest.images.items) (B.state bay.old).told
+        (B.state bay.new).told) }
     // the part that refuses a volume whose image is out is here, and had a fault
-    ensures failed { IfOk result (λ r. (k : ℕ) (p : Part) → slice_get r.faults.items k ≡ Some (Some (Refused (DiskFault p)))
+    ensures failed { IfOk result
+        (λ r. (k : ℕ) (p : Part) → slice_get r.faults.items k ≡ Some (Some (Refused (DiskFault p)))
         → IsImageOut r.rest.images.items k → HasFaultAt B.Part.state r.rest p) }
     // where the images at entry are sound as they read, and no call failed, each volume is open
-    ensures complete { IfOk result (λ r. IsTrue B.Part.tells → IfSome (B.state bay.old).told (λ t. AreSound (shapes_of config.now) (images_read config.now t)
-        → (HasFaultIn B.Part.state r.rest → ⊥) → (Rose (B.state bay.old).faults (B.state bay.new).faults → ⊥)
+    ensures complete { IfOk result (λ r. IsTrue B.Part.tells
+        → IfSome (B.state bay.old).told
+        (λ t. AreSound (shapes_of config.now) (images_read config.now t)
+        → (HasFaultIn B.Part.state r.rest → ⊥)
+        → (Rose (B.state bay.old).faults (B.state bay.new).faults → ⊥)
         → (k : ℕ) → k < length (shapes_of config.now) → slice_get r.faults.items k ≡ Some None)) }
     ensures home { OnErr result (outs (B.state bay.new) ≡ outs (B.state bay.old)) }
     // each image left in the bay recovers to what one at entry did, also after a stop within
-    ensures left { OnErr result (IsTrue B.Part.tells → IsTold (LeavesAll B.Part.tells B.Part.state config.now (B.state bay.old) (B.state bay.new)) (B.state bay.old).told (B.state bay.new).told) }
-    ensures sound { OnErr result (IsTrue B.Part.tells → IsTold (KeepsAllSound config.now) (B.state bay.old).told (B.state bay.new).told) }
+    ensures left { OnErr result (IsTrue B.Part.tells
+        → IsTold (LeavesAll B.Part.tells B.Part.state config.now (B.state bay.old)
+        (B.state bay.new)) (B.state bay.old).told (B.state bay.new).told) }
+    ensures sound { OnErr result (IsTrue B.Part.tells
+        → IsTold (KeepsAllSound config.now) (B.state bay.old).told (B.state bay.new).told) }
     ensures others { IsTold (KeepsOthers config.now) (B.state bay.old).told (B.state bay.new).told }
     ensures counts { (B.state bay.old).faults ≤ (B.state bay.new).faults }
 {

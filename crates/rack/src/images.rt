@@ -101,13 +101,19 @@ fn open_next<R: Wait, B: Bay>(
 ) -> Result<Result<(Said, ImageRest<B::Part>), VolumeFault>, NoMemory>
     requires config { IsValid config.now }
     requires within { id < length config.now.volumes.items }
-    requires home { (v : VolumeConf) → slice_get config.now.volumes.items id ≡ Some v → IsHome v.name (B.state bay.old) }
-    requires spindle { IsSpindleLock (length config.now.volumes.items) id config.now.timeout spindle.old.lock }
+    requires home { (v : VolumeConf) → slice_get config.now.volumes.items id ≡ Some v
+        → IsHome v.name (B.state bay.old) }
+    requires spindle { IsSpindleLock (length config.now.volumes.items) id config.now.timeout
+        spindle.old.lock }
     requires passes { IsInOrder spindle.old × AreSettled id spindle.old }
-    ensures opened { IfOk result (λ r. IfOk r (λ pair. (v : VolumeConf) → slice_get config.now.volumes.items id ≡ Some v
-        → IsNextOpened B.Part.tells B.Part.state config.now id v (B.state bay.old) (B.state bay.new) pair.0 pair.1)) }
-    ensures refused { IfOk result (λ r. IfErr r (λ fault. (v : VolumeConf) → slice_get config.now.volumes.items id ≡ Some v
-        → IsNextRefused B.Part.tells B.Part.state config.now id v (B.state bay.old) (B.state bay.new) fault)) }
+    ensures opened { IfOk result
+        (λ r. IfOk r (λ pair. (v : VolumeConf) → slice_get config.now.volumes.items id ≡ Some v
+        → IsNextOpened B.Part.tells B.Part.state config.now id v (B.state bay.old) (B.state bay.new)
+        pair.0 pair.1)) }
+    ensures refused { IfOk result
+        (λ r. IfErr r (λ fault. (v : VolumeConf) → slice_get config.now.volumes.items id ≡ Some v
+        → IsNextRefused B.Part.tells B.Part.state config.now id v (B.state bay.old)
+        (B.state bay.new) fault)) }
     ensures err { OnErr result (IsBackAtOnce (B.state bay.old) (B.state bay.new)) }
     ensures spindle { spindle.new.lock ≡ spindle.old.lock }
     ensures passes { IsInOrder spindle.new × AreSettled id spindle.new }
@@ -143,13 +149,17 @@ pub(crate) fn open_images<R: Wait, B: Bay>(
     requires config { IsValid config.now }
     requires home { NoneOut config.now (B.state bay.old) }
     requires count { length spindles.old ≡ length config.now.volumes.items }
-    requires spindles { AreSpindlesOf (length config.now.volumes.items) config.now.timeout spindles.old }
-    ensures asked { IfOk result (AreAsked B.Part.tells B.Part.state config.now (B.state bay.old) (B.state bay.new) (length config.now.volumes.items)) }
-    ensures out { IfOk result (λ i. HasSentOut config.now i.out.items (length config.now.volumes.items) (B.state bay.old) (B.state bay.new)) }
+    requires spindles { AreSpindlesOf (length config.now.volumes.items) config.now.timeout
+        spindles.old }
+    ensures asked { IfOk result (AreAsked B.Part.tells B.Part.state config.now (B.state bay.old)
+        (B.state bay.new) (length config.now.volumes.items)) }
+    ensures out { IfOk result (λ i. HasSentOut config.now i.out.items
+        (length config.now.volumes.items) (B.state bay.old) (B.state bay.new)) }
     ensures err { OnErr result (HasAllBack B.Part.tells (B.state bay.old) (B.state bay.new)) }
     ensures others { IsTold (KeepsOthers config.now) (B.state bay.old).told (B.state bay.new).told }
     ensures count { length spindles.new ≡ length spindles.old }
-    ensures spindles { AreSpindlesOf (length config.now.volumes.items) config.now.timeout spindles.new }
+    ensures spindles { AreSpindlesOf (length config.now.volumes.items) config.now.timeout
+        spindles.new }
 {
     let mut images = Images::new(alloc, config.volumes.len())?;
     for id in 0..config.volumes.len() {

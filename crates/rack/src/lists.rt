@@ -153,7 +153,8 @@ impl<D: Disk> Lists<D> {
     // The locks of the spindles and their rows of passes, of which the keepers' are taken.
     fn put_spindles(&mut self, mut spindles: Vec<Issued<Spindle>>)
         requires lists { AreLists (length spindles.items) self.old }
-        requires spindles { All (λ i. length i.passes.items ≡ length spindles.items + 1) spindles.items }
+        requires spindles { All (λ i. length i.passes.items ≡ length spindles.items + 1)
+            spindles.items }
         ensures { PutsSpindles spindles.items self.old self.new }
     {
         spindles.reverse();
@@ -170,8 +171,10 @@ impl<D: Disk> Lists<D> {
 
     // The locks of the pools and their rows of passes.
     fn put_pools(&mut self, mut pools: Vec<IssuedPool<D>>)
-        requires shared { (self.old.shared.pools.items ≡ []) × (length pools.items ≤ vec_capacity self.old.shared.pools) }
-        requires rooms { (self.old.rooms.pools.items ≡ []) × (length pools.items ≤ vec_capacity self.old.rooms.pools) }
+        requires shared { (self.old.shared.pools.items ≡ [])
+            × (length pools.items ≤ vec_capacity self.old.shared.pools) }
+        requires rooms { (self.old.rooms.pools.items ≡ [])
+            × (length pools.items ≤ vec_capacity self.old.rooms.pools) }
         ensures { PutsPools pools.items self.old self.new }
     {
         pools.reverse();
@@ -205,7 +208,8 @@ impl<D: Disk> Lists<D> {
         faults: Vec<Option<VolumeFault>>,
     ) -> Rack<D>
         requires lists { AreLists (length spindles.items) self }
-        requires spindles { All (λ i. length i.passes.items ≡ length spindles.items + 1) spindles.items }
+        requires spindles { All (λ i. length i.passes.items ≡ length spindles.items + 1)
+            spindles.items }
         requires pool_count { length pools.items ≡ length spindles.items }
         requires pools { All (λ i. length i.passes.items ≡ length spindles.items) pools.items }
         ensures images { result.rest.images ≡ images }

@@ -65,17 +65,23 @@ fn open_one<R: Wait, D: Disk>(
     requires within { id < length (shapes_of config.now) }
     requires rack { (b : BayState) × IsOpeningRack D.state config.now b said.now id rack.old }
     requires said { (own : Said) × (slice_get said.now id ≡ Some (Some own)) × (own.view ≡ view) }
-    ensures rack { (b : BayState) → IsOpeningRack D.state config.now b said.now id rack.old → OnOk result (IsOpeningRack D.state config.now b said.now (id + 1) rack.new) }
+    ensures rack { (b : BayState) → IsOpeningRack D.state config.now b said.now id rack.old
+        → OnOk result (IsOpeningRack D.state config.now b said.now (id + 1) rack.new) }
     ensures keepers { rack.new.keepers ≡ rack.old.keepers }
     ensures same_out { AreSameOut rack.old rack.new }
     ensures begun { IsTrue D.tells → (t : Told) → HasBegun D.state config.now t said.now id rack.old
         → OnOk result (HasBegun D.state config.now t said.now (id + 1) rack.new) }
-    ensures refused { (b b' : BayState) → (IsTrue D.tells → (t : Told) → b.told ≡ Some t → HasBegun D.state config.now t said.now id rack.old)
+    ensures refused { (b b' : BayState)
+        → (IsTrue D.tells → (t : Told) → b.told ≡ Some t
+        → HasBegun D.state config.now t said.now id rack.old)
         → AreRefusedBelow D.tells D.state config.now b b' id rack.old
         → OnOk result (AreRefusedBelow D.tells D.state config.now b b' (id + 1) rack.new) }
-    ensures failed { HaveFaults D.state said.now id rack.old → OnOk result (HaveFaults D.state said.now (id + 1) rack.new) }
-    ensures stopped { (b : BayState) → IsOpeningRack D.state config.now b said.now id rack.old → OnErr result (IsStopped D.state config.now b rack.old rack.new) }
-    ensures began { IsTrue D.tells → (t : Told) → HasBegun D.state config.now t said.now id rack.old → OnErr result (BeganWith D.state config.now t rack.new) }
+    ensures failed { HaveFaults D.state said.now id rack.old
+        → OnOk result (HaveFaults D.state said.now (id + 1) rack.new) }
+    ensures stopped { (b : BayState) → IsOpeningRack D.state config.now b said.now id rack.old
+        → OnErr result (IsStopped D.state config.now b rack.old rack.new) }
+    ensures began { IsTrue D.tells → (t : Told) → HasBegun D.state config.now t said.now id rack.old
+        → OnErr result (BeganWith D.state config.now t rack.new) }
 {
     let opening = rack.rest.take_opening(alloc, config, id, view, said)?;
     let (lock, mut passes) = match open_locked(alloc, rt, &rack.shared, opening) {
@@ -119,16 +125,22 @@ pub(crate) fn open_volumes<R: Wait, D: Disk>(
     requires config { IsValid config.now }
     requires count { length said.now ≡ length config.now.volumes.items }
     requires rack { (b : BayState) × IsOpeningRack D.state config.now b said.now 0 rack.old }
-    ensures rack { (b : BayState) → IsOpeningRack D.state config.now b said.now 0 rack.old → OnOk result (IsRack D.state config.now b rack.new) }
+    ensures rack { (b : BayState) → IsOpeningRack D.state config.now b said.now 0 rack.old
+        → OnOk result (IsRack D.state config.now b rack.new) }
     ensures keepers { rack.new.keepers ≡ rack.old.keepers }
     ensures fresh { AreUnused rack.new.stations.items }
     ensures users { OnOk result (KeepToViews (view_at said.now) rack.new) }
     ensures same_out { AreSameOut rack.old rack.new }
-    ensures refused { (b b' : BayState) → (IsTrue D.tells → (t : Told) → b.told ≡ Some t → HasBegun D.state config.now t said.now 0 rack.old)
-        → AreRefusedBelow D.tells D.state config.now b b' 0 rack.old → OnOk result (AreRefused D.tells D.state config.now b b' rack.new) }
-    ensures began { IsTrue D.tells → (t : Told) → HasBegun D.state config.now t said.now 0 rack.old → BeganWith D.state config.now t rack.new }
+    ensures refused { (b b' : BayState)
+        → (IsTrue D.tells → (t : Told) → b.told ≡ Some t
+        → HasBegun D.state config.now t said.now 0 rack.old)
+        → AreRefusedBelow D.tells D.state config.now b b' 0 rack.old
+        → OnOk result (AreRefused D.tells D.state config.now b b' rack.new) }
+    ensures began { IsTrue D.tells → (t : Told) → HasBegun D.state config.now t said.now 0 rack.old
+        → BeganWith D.state config.now t rack.new }
     ensures failed { OnOk result (HaveFaults D.state said.now (length said.now) rack.new) }
-    ensures stopped { (b : BayState) → IsOpeningRack D.state config.now b said.now 0 rack.old → OnErr result (IsStopped D.state config.now b rack.old rack.new) }
+    ensures stopped { (b : BayState) → IsOpeningRack D.state config.now b said.now 0 rack.old
+        → OnErr result (IsStopped D.state config.now b rack.old rack.new) }
 {
     for (id, own) in said.iter().enumerate() {
         if let Some(own) = own {

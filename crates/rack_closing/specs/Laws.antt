@@ -28,8 +28,10 @@ use Rattle.rack_parts.specs.declared.volume_fault.VolumeFault.TheVariants.{Absen
 abbrev pub ReadsAreLeft : Type 0
 ReadsAreLeft = (config : Config) (t : Told) → AreLeft config t (images_read config t)
 
--- one rack was closed over a bay, and the next was opened of the images that are in it then; what is out again was out before
-pub record FollowsOn {D : Type 0} (state : D → State) (config : Config) (opened closed after : BayState) (t : Told) (r q : Rack D) : Type 0 where
+-- one rack was closed over a bay, and the next was opened of the images that are in it then; what
+-- is out again was out before
+pub record FollowsOn {D : Type 0} (state : D → State) (config : Config)
+    (opened closed after : BayState) (t : Told) (r q : Rack D) : Type 0 where
   pub entry : Told
   pub entry_is : opened.told ≡ Some entry
   pub left_is : closed.told ≡ Some t
@@ -39,24 +41,36 @@ pub record FollowsOn {D : Type 0} (state : D → State) (config : Config) (opene
   pub parts : AreLeftOfParts state config r t
   pub no_more : (k : ℕ) → IsImageOut q.rest.images.items k → IsImageOut r.rest.images.items k
 
--- Opened again, the loggers of its view being out again, a volume begins with what was written to the array that it began with before, where no call of a disk had failed.
+-- Opened again, the loggers of its view being out again, a volume begins with what was written to
+-- the array that it began with before, where no call of a disk had failed.
 abbrev pub OpensAgain : {D : Type 0} → (tells : Bool) → (D → State) → Type 0
-OpensAgain {D} tells state = IsTrue tells → (config : Config) (opened closed last : BayState) (t : Told) (r q : Rack D) → FollowsOn state config opened closed last t r q
-    → (s n : Station D) → Contains r.stations.items s → Contains q.stations.items n → n.id ≡ s.id → AllByRecursion (IsImageOut q.rest.images.items) (base_of_station s).volume.began.view
-    → (c : IsClosedVolume tells config r.rest.images.items opened closed s) → flight_of (entries_of (notes_of c.entries)) ≡ None
-    → (base_of_station n).volume.began.array ≡ after (base_of_station s).volume.began.array (writes (entries_of (notes_of c.entries)))
+OpensAgain {D} tells state = IsTrue tells
+    → (config : Config) (opened closed last : BayState) (t : Told) (r q : Rack D)
+    → FollowsOn state config opened closed last t r q
+    → (s n : Station D) → Contains r.stations.items s → Contains q.stations.items n → n.id ≡ s.id
+    → AllByRecursion (IsImageOut q.rest.images.items) (base_of_station s).volume.began.view
+    → (c : IsClosedVolume tells config r.rest.images.items opened closed s)
+    → flight_of (entries_of (notes_of c.entries)) ≡ None
+    → (base_of_station n).volume.began.array
+    ≡ after (base_of_station s).volume.began.array (writes (entries_of (notes_of c.entries)))
 
 -- Where one had failed, it begins with a cut of the writes in flight.
 abbrev pub OpensCut : {D : Type 0} → (tells : Bool) → (D → State) → Type 0
-OpensCut {D} tells state = IsTrue tells → (config : Config) (opened closed last : BayState) (t : Told) (r q : Rack D) → FollowsOn state config opened closed last t r q
-    → (s n : Station D) → Contains r.stations.items s → Contains q.stations.items n → n.id ≡ s.id → AllByRecursion (IsImageOut q.rest.images.items) (base_of_station s).volume.began.view
+OpensCut {D} tells state = IsTrue tells
+    → (config : Config) (opened closed last : BayState) (t : Told) (r q : Rack D)
+    → FollowsOn state config opened closed last t r q
+    → (s n : Station D) → Contains r.stations.items s → Contains q.stations.items n → n.id ≡ s.id
+    → AllByRecursion (IsImageOut q.rest.images.items) (base_of_station s).volume.began.view
     → (c : IsClosedVolume tells config r.rest.images.items opened closed s)
-    → IsCut (base_of_station s).volume.began.array (writes (entries_of (notes_of c.entries))) (unwrap_or (flight_of (entries_of (notes_of c.entries))) []) (base_of_station n).volume.began.array
+    → IsCut (base_of_station s).volume.began.array (writes (entries_of (notes_of c.entries)))
+    (unwrap_or (flight_of (entries_of (notes_of c.entries))) [])
+    (base_of_station n).volume.began.array
 
 -- ---- Sound images
 
 -- a call failed, also where a logger isn't out
-abbrev pub IsOfFailedCall : {D : Type 0} → List (Option (ImageRest D)) → (old new : BayState) → VolumeFault → Type 0
+abbrev pub IsOfFailedCall : {D : Type 0} → List (Option (ImageRest D)) → (old new : BayState)
+    → VolumeFault → Type 0
 IsOfFailedCall out old new Absent = ⊥
 IsOfFailedCall out old new (WrongLength bytes) = ⊥
 IsOfFailedCall out old new BayFailed = Rose old.faults new.faults
@@ -71,21 +85,30 @@ IsOfFailedCall out old new (Refused NoMemory) = ⊥
 
 -- Of images that are sound as they read, a volume is refused only for a failed call.
 abbrev pub RefusesSound : {D : Type 0} → (tells : Bool) → (D → State) → Type 0
-RefusesSound {D} tells state = IsTrue tells → (config : Config) → IsValid config → (out : List (Option (ImageRest D))) (old new : BayState) (t : Told) → old.told ≡ Some t
-    → AreSound (shapes_of config) (images_read config t) → (k : ℕ) (v : VolumeConf) (f : VolumeFault) → slice_get config.volumes.items k ≡ Some v → NamesVolumes (length (shapes_of config)) f
+RefusesSound {D} tells state = IsTrue tells → (config : Config) → IsValid config
+    → (out : List (Option (ImageRest D))) (old new : BayState) (t : Told) → old.told ≡ Some t
+    → AreSound (shapes_of config) (images_read config t)
+    → (k : ℕ) (v : VolumeConf) (f : VolumeFault) → slice_get config.volumes.items k ≡ Some v
+    → NamesVolumes (length (shapes_of config)) f
     → RefusesVolume tells state config out old new k v f → IsOfFailedCall out old new f
 
 -- the images that closing a rack left are opened again, and no call fails
-pub record OpensCalm {D : Type 0} (tells : Bool) (state : D → State) (config : Config) (closed after : BayState) (t : Told) (q : Rack D) : Type 0 where
+pub record OpensCalm {D : Type 0} (tells : Bool) (state : D → State) (config : Config)
+    (closed after : BayState) (t : Told) (q : Rack D) : Type 0 where
   pub left_is : closed.told ≡ Some t
   pub rack : IsRack state config after q
   pub refused : AreRefused tells state config closed after q
-  pub failed : (k : ℕ) (p : Part) → slice_get q.faults.items k ≡ Some (Some (Refused (DiskFault p))) → HasFaultIn state q.rest ⊎ Rose closed.faults after.faults
+  pub failed : (k : ℕ) (p : Part) → slice_get q.faults.items k ≡ Some (Some (Refused (DiskFault p)))
+      → HasFaultIn state q.rest ⊎ Rose closed.faults after.faults
   pub no_fault : HasFaultIn state q.rest → ⊥
   pub calm : Rose closed.faults after.faults → ⊥
 
 -- Where the images at the first entry were sound, each volume is open again.
 abbrev pub OpensAllAgain : {D : Type 0} → (tells : Bool) → (D → State) → Type 0
-OpensAllAgain {D} tells state = IsTrue tells → (config : Config) → IsValid config → (closed last : BayState) (entry t : Told) (q : Rack D) → OpensCalm tells state config closed last t q
-    → KeepsAllSound config entry t → ((images : Images) → AreLeft config entry images → AreSound (shapes_of config) images)
-    → (k : ℕ) → k < length (shapes_of config) → (n : Station D) × Contains q.stations.items n × (n.id ≡ k)
+OpensAllAgain {D} tells state = IsTrue tells → (config : Config) → IsValid config
+    → (closed last : BayState) (entry t : Told) (q : Rack D)
+    → OpensCalm tells state config closed last t q
+    → KeepsAllSound config entry t
+    → ((images : Images) → AreLeft config entry images → AreSound (shapes_of config) images)
+    → (k : ℕ) → k < length (shapes_of config)
+    → (n : Station D) × Contains q.stations.items n × (n.id ≡ k)

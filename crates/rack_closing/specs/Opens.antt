@@ -1,4 +1,5 @@
--- What opening all volumes answers: why a volume is refused, what the others begin with, and what is left of the images.
+-- What opening all volumes answers: why a volume is refused, what the others begin with, and what
+-- is left of the images.
 use Rattle.std.specs.Prelude.{⊤, ◌≡◌, ◌≢◌, ◌⊎◌, ◌<◌, ◌+◌, ◌++◌, ℕ, List, [], length, Contains, Bool, true, Option, None, Some, IfSome, slice_get, slice_range, All, IsTrue}
 use Rattle.wol_disk.specs.Disk.{Block, State, Rose, IsImageOf, reads}
 use Rattle.wol_model.specs.Heads.{SegmentHead, Shape, Free, Owned}
@@ -81,127 +82,190 @@ pub record HasNewFault (name : Name) (f : ImageFault) (old new : Told) : Type 0 
   pub more_is : new.faulty ≡ old.faulty ++ more
   pub among : IsFaultAmong name f more
 
--- the image itself is refused: it isn't out; it was there with the configured length, and said so as it read; and where a call failed the bay's count rose, and the part that
--- is named came back with a fault
-pub record RefusesImage {D : Type 0} (config : Config) (out : List (Option (ImageRest D))) (old new : BayState) (k : ℕ) (v : VolumeConf) (f : VolumeFault) : Type 0 where
+-- the image itself is refused: it isn't out; it was there with the configured length, and said so
+-- as it read; and where a call failed the bay's count rose, and the part that is named came back
+-- with a fault
+pub record RefusesImage {D : Type 0} (config : Config) (out : List (Option (ImageRest D)))
+    (old new : BayState) (k : ℕ) (v : VolumeConf) (f : VolumeFault) : Type 0 where
   pub not_out : image_here out k ≡ None
   pub image_fault : ImageFault
   pub is_fault : f ≡ fault_in_image k image_fault
   pub said : (t : Told) → old.told ≡ Some t
-      → (i : Image) × (at_name v.name t.images ≡ Some i) × (i.rest ≡ []) × (length i.blocks ≡ image_size (shape_in config v))
+      → (i : Image) × (at_name v.name t.images ≡ Some i) × (i.rest ≡ [])
+      × (length i.blocks ≡ image_size (shape_in config v))
       × IsImageFault (length (shapes_of config)) k (shape_in config v) (reads i.blocks) image_fault
   pub cause : IsCallFault image_fault → Rose old.faults new.faults
   pub faulty : IsCallFault image_fault → IsTold (HasNewFault v.name image_fault) old.told new.told
 
 -- the image is out, and the opening of its volume was refused: it was opened of what the images say
-pub record RefusesOpening {D : Type 0} (tells : Bool) (state : D → State) (config : Config) (out : List (Option (ImageRest D))) (old : BayState) (k : ℕ) (r : OpenRefusal) : Type 0 where
+pub record RefusesOpening {D : Type 0} (tells : Bool) (state : D → State) (config : Config)
+    (out : List (Option (ImageRest D))) (old : BayState) (k : ℕ) (r : OpenRefusal) : Type 0 where
   pub is_out : IsImageOut out k
   pub before : Opening D
   pub after : Opening D
-  pub of : (t : Told) → IsTrue tells → old.told ≡ Some t → IsOpeningOf state config out (images_taken config out t) k before
+  pub of : (t : Told) → IsTrue tells → old.told ≡ Some t
+      → IsOpeningOf state config out (images_taken config out t) k before
   pub refuses : Refuses tells state before after r
 
 -- the bay didn't hand the image out
-abbrev pub RefusesBay : {D : Type 0} → Config → List (Option (ImageRest D)) → BayState → (k : ℕ) → VolumeConf → Option Rattle.wol_bay.specs.declared.fault.BayFault.BayFault → Type 0
-RefusesBay config out old k v answer = (image_here out k ≡ None) × IfSome old.told (λ t. refusal v.name (part_sizes (shape_in config v)) t ≡ answer)
+abbrev pub RefusesBay : {D : Type 0} → Config → List (Option (ImageRest D)) → BayState → (k : ℕ)
+    → VolumeConf → Option Rattle.wol_bay.specs.declared.fault.BayFault.BayFault → Type 0
+RefusesBay config out old k v answer = (image_here out k ≡ None)
+    × IfSome old.told (λ t. refusal v.name (part_sizes (shape_in config v)) t ≡ answer)
 
 -- why volume k has no station: the first cause
-abbrev pub RefusesVolume : {D : Type 0} → (tells : Bool) → (D → State) → Config → List (Option (ImageRest D)) → (old new : BayState) → (k : ℕ) → VolumeConf → VolumeFault → Type 0
-RefusesVolume tells state config out old new k v Absent = RefusesBay config out old k v (Some bay.Absent)
-RefusesVolume tells state config out old new k v (WrongLength bytes) = RefusesBay config out old k v (Some (bay.WrongLength bytes))
-RefusesVolume tells state config out old new k v BayFailed = RefusesBay config out old k v None × Rose old.faults new.faults
-RefusesVolume tells state config out old new k v LabelFault = RefusesImage config out old new k v LabelFault
-RefusesVolume tells state config out old new k v (Refused r) = RefusesImage config out old new k v (Refused r) ⊎ RefusesOpening tells state config out old k r
+abbrev pub RefusesVolume : {D : Type 0} → (tells : Bool) → (D → State) → Config
+    → List (Option (ImageRest D)) → (old new : BayState) → (k : ℕ) → VolumeConf → VolumeFault
+    → Type 0
+RefusesVolume tells state config out old new k v Absent =
+    RefusesBay config out old k v (Some bay.Absent)
+RefusesVolume tells state config out old new k v (WrongLength bytes) =
+    RefusesBay config out old k v (Some (bay.WrongLength bytes))
+RefusesVolume tells state config out old new k v BayFailed =
+    RefusesBay config out old k v None × Rose old.faults new.faults
+RefusesVolume tells state config out old new k v LabelFault =
+    RefusesImage config out old new k v LabelFault
+RefusesVolume tells state config out old new k v (Refused r) =
+    RefusesImage config out old new k v (Refused r) ⊎ RefusesOpening tells state config out old k r
 
 -- ---- Images
 
 -- each image of the part was one of these blocks of the image at entry
 abbrev pub HadBefore : {D : Type 0} → (D → State) → Image → (first behind : ℕ) → Spun D → Type 0
-HadBefore state i first behind p = (c : List Block) → IsImageOf (state_of state p).values c → IsImageOf (Some (slice_range i.blocks first behind)) c
+HadBefore state i first behind p = (c : List Block) → IsImageOf (state_of state p).values c
+    → IsImageOf (Some (slice_range i.blocks first behind)) c
 
 -- each image of the part is what these blocks of the image at entry read
 abbrev pub IsAsRead : {D : Type 0} → (D → State) → Image → (first behind : ℕ) → Spun D → Type 0
-IsAsRead state i first behind p = (c : List Block) → IsImageOf (state_of state p).values c → c ≡ slice_range (reads i.blocks) first behind
+IsAsRead state i first behind p = (c : List Block) → IsImageOf (state_of state p).values c
+    → c ≡ slice_range (reads i.blocks) first behind
 
--- each image of a segment was one, or where one was a log of a volume that has nothing, is a log of the same records or free
-abbrev pub HadSegmentBefore : {D : Type 0} → (D → State) → Image → (first behind : ℕ) → Spun D → Type 0
-HadSegmentBefore state i first behind p = (c : List Block) → IsImageOf (state_of state p).values c → (owner : ℕ) × IsLeftOf owner (Some (slice_range i.blocks first behind)) c
+-- each image of a segment was one, or where one was a log of a volume that has nothing, is a log of
+-- the same records or free
+abbrev pub HadSegmentBefore : {D : Type 0} → (D → State) → Image → (first behind : ℕ) → Spun D
+    → Type 0
+HadSegmentBefore state i first behind p =
+    (c : List Block) → IsImageOf (state_of state p).values c
+    → (owner : ℕ) × IsLeftOf owner (Some (slice_range i.blocks first behind)) c
 
--- the parts that are here of the image of a volume; label and view are as they read, since they were synced
-pub record IsLeftHere {D : Type 0} (state : D → State) (s : Shape) (before : Image) (r : ImageRest D) : Type 0 where
+-- the parts that are here of the image of a volume; label and view are as they read, since they
+-- were synced
+pub record IsLeftHere {D : Type 0} (state : D → State) (s : Shape) (before : Image)
+    (r : ImageRest D) : Type 0 where
   pub label : IsAsRead state before 0 2 r.label
   pub home : (p : Spun D) → r.home ≡ Some p → HadBefore state before 2 (2 + s.home) p
-  pub segments : (i : ℕ) (p : Spun D) → segment_here r i ≡ Some p → HadSegmentBefore state before (head_place s i) (head_place s (i + 1)) p
+  pub segments : (i : ℕ) (p : Spun D) → segment_here r i ≡ Some p
+      → HadSegmentBefore state before (head_place s i) (head_place s (i + 1)) p
 
--- A segment that is not here any more: an image that it might have had at entry was free, or was owned by a volume with a station, or
--- was a log of records none of which keeps a block.
-pub record IsGone {D : Type 0} (volumes : ℕ) (s : Shape) (before : Image) (stations : List (Station D)) (i : ℕ) : Type 0 where
+-- A segment that is not here any more: an image that it might have had at entry was free, or was
+-- owned by a volume with a station, or was a log of records none of which keeps a block.
+pub record IsGone {D : Type 0} (volumes : ℕ) (s : Shape) (before : Image)
+    (stations : List (Station D)) (i : ℕ) : Type 0 where
   pub was : List Block
   pub had : IsImageOf (Some (slice_range before.blocks (head_place s i) (head_place s (i + 1)))) was
-  pub said : HasHead volumes was Free ⊎ ((station : Station D) × Contains stations station × HasHead volumes was (Owned station.id)) ⊎ ((owner : ℕ) × (rs : List Record) × HasNothing owner rs was)
+  pub said : HasHead volumes was Free ⊎ ((station : Station D) × Contains stations station
+      × HasHead volumes was (Owned station.id))
+      ⊎ ((owner : ℕ) × (rs : List Record) × HasNothing owner rs was)
 
 -- images of names that aren't configured are as they were
 abbrev pub KeepsOthers : Config → Told → Told → Type 0
-KeepsOthers config old new = (name : Name) → ((k : ℕ) (v : VolumeConf) → slice_get config.volumes.items k ≡ Some v → name ≢ v.name) → at_name name new.images ≡ at_name name old.images
+KeepsOthers config old new = (name : Name)
+    → ((k : ℕ) (v : VolumeConf) → slice_get config.volumes.items k ≡ Some v → name ≢ v.name)
+    → at_name name new.images ≡ at_name name old.images
 
 -- ---- The whole
 
--- What a rack began with, whatever its volumes were told since: each volume with a station begins with what the images recovered to
--- as they read, and the parts that are here have images that they had.
-pub record BeganWith {D : Type 0} (state : D → State) (config : Config) (t : Told) (r : Rack D) : Type 0 where
-  pub stations : All (λ s. IsBegun config (images_taken config r.rest.images.items t) (base_of_station s).volume.began) r.stations.items
+-- What a rack began with, whatever its volumes were told since: each volume with a station begins
+-- with what the images recovered to as they read, and the parts that are here have images that they
+-- had.
+pub record BeganWith {D : Type 0} (state : D → State) (config : Config) (t : Told) (r : Rack D) :
+    Type 0 where
+  pub stations : All (λ s. IsBegun config (images_taken config r.rest.images.items t)
+      (base_of_station s).volume.began) r.stations.items
   -- its listed records stood where the images have them
-  pub placed : All (λ s. BeganInPlace config (images_taken config r.rest.images.items t) (base_of_station s)) r.stations.items
-  pub left : (k : ℕ) (v : VolumeConf) (before : Image) (image : ImageRest D) → slice_get config.volumes.items k ≡ Some v → at_name v.name t.images ≡ Some before
-      → image_here r.rest.images.items k ≡ Some image → IsLeftHere state (shape_in config v) before image
+  pub placed : All (λ s. BeganInPlace config (images_taken config r.rest.images.items t)
+      (base_of_station s)) r.stations.items
+  pub left : (k : ℕ) (v : VolumeConf) (before : Image) (image : ImageRest D)
+      → slice_get config.volumes.items k ≡ Some v → at_name v.name t.images ≡ Some before
+      → image_here r.rest.images.items k ≡ Some image
+      → IsLeftHere state (shape_in config v) before image
   -- also those that came back with a lane
-  pub held : (w k i : ℕ) (v : VolumeConf) (before : Image) (p : Spun D) → slice_get config.volumes.items k ≡ Some v → at_name v.name t.images ≡ Some before
-      → Contains (held_here r.rest w k) (i, p) → HadSegmentBefore state before (head_place (shape_in config v) i) (head_place (shape_in config v) (i + 1)) p
-  pub gone : (k i : ℕ) (v : VolumeConf) (before : Image) (image : ImageRest D) → slice_get config.volumes.items k ≡ Some v → at_name v.name t.images ≡ Some before
-      → image_here r.rest.images.items k ≡ Some image → i < v.segments → ((p : Spun D) → IsSegmentHere r.rest k i p → ⊥)
+  pub held : (w k i : ℕ) (v : VolumeConf) (before : Image) (p : Spun D)
+      → slice_get config.volumes.items k ≡ Some v → at_name v.name t.images ≡ Some before
+      → Contains (held_here r.rest w k) (i, p)
+      → HadSegmentBefore state before (head_place (shape_in config v) i)
+      (head_place (shape_in config v) (i + 1)) p
+  pub gone : (k i : ℕ) (v : VolumeConf) (before : Image) (image : ImageRest D)
+      → slice_get config.volumes.items k ≡ Some v → at_name v.name t.images ≡ Some before
+      → image_here r.rest.images.items k ≡ Some image → i < v.segments
+      → ((p : Spun D) → IsSegmentHere r.rest k i p → ⊥)
       → IsGone (length (shapes_of config)) (shape_in config v) before r.stations.items i
-  -- the pools of images that are out began with the segments that were free, and know who held the others
-  pub pools : (k : ℕ) (v : VolumeConf) (l : TurnLock (Pool (FreeSegment D)) PoolBase) (image : ImageRest D) → slice_get config.volumes.items k ≡ Some v → slice_get r.shared.pools.items k ≡ Some l
-      → image_here r.rest.images.items k ≡ Some image → HadSegments config t k v (lock_id l).base.holders
+  -- the pools of images that are out began with the segments that were free, and know who held the
+  -- others
+  pub pools : (k : ℕ) (v : VolumeConf) (l : TurnLock (Pool (FreeSegment D)) PoolBase)
+      (image : ImageRest D) → slice_get config.volumes.items k ≡ Some v
+      → slice_get r.shared.pools.items k ≡ Some l
+      → image_here r.rest.images.items k ≡ Some image
+      → HadSegments config t k v (lock_id l).base.holders
 
--- the image of volume k was there with the blocks of its parts, and as it reads it may be opened: it has the volume's own label, a view
--- and heads of segments
+-- the image of volume k was there with the blocks of its parts, and as it reads it may be opened:
+-- it has the volume's own label, a view and heads of segments
 abbrev pub WasAccepted : Config → Told → (k : ℕ) → VolumeConf → Type 0
-WasAccepted config t k v = (i : Image) × (at_name v.name t.images ≡ Some i) × (i.rest ≡ []) × (length i.blocks ≡ image_size (shape_in config v))
-    × (view : List ℕ) × (heads : List SegmentHead) × IsAccepted (length (shapes_of config)) k (shape_in config v) (reads i.blocks) view heads
+WasAccepted config t k v = (i : Image) × (at_name v.name t.images ≡ Some i) × (i.rest ≡ [])
+    × (length i.blocks ≡ image_size (shape_in config v))
+    × (view : List ℕ) × (heads : List SegmentHead)
+    × IsAccepted (length (shapes_of config)) k (shape_in config v) (reads i.blocks) view heads
 
 -- so was each image that is out
 abbrev pub WereThere : {D : Type 0} → Config → List (Option (ImageRest D)) → Told → Type 0
-WereThere config out t = (k : ℕ) (v : VolumeConf) → slice_get config.volumes.items k ≡ Some v → IsImageOut out k → WasAccepted config t k v
+WereThere config out t = (k : ℕ) (v : VolumeConf) → slice_get config.volumes.items k ≡ Some v
+    → IsImageOut out k → WasAccepted config t k v
 
 -- these are the views of the images that are out, as they read
-abbrev pub AreViewsAsRead : {D : Type 0} → Config → List (Option (ImageRest D)) → Told → (views : ℕ → List ℕ) → Type 0
-AreViewsAsRead config out t views = (k : ℕ) (v : VolumeConf) → slice_get config.volumes.items k ≡ Some v → IsImageOut out k
+abbrev pub AreViewsAsRead : {D : Type 0} → Config → List (Option (ImageRest D)) → Told
+    → (views : ℕ → List ℕ) → Type 0
+AreViewsAsRead config out t views =
+    (k : ℕ) (v : VolumeConf) → slice_get config.volumes.items k ≡ Some v → IsImageOut out k
     → (i : Image) × (at_name v.name t.images ≡ Some i) × HasView (reads i.blocks) (views k)
 
 -- each volume without a station is refused for its fault
-abbrev pub AreRefused : {D : Type 0} → (tells : Bool) → (D → State) → Config → (old new : BayState) → Rack D → Type 0
-AreRefused tells state config old new r = (k : ℕ) (v : VolumeConf) (f : VolumeFault) → slice_get config.volumes.items k ≡ Some v → slice_get r.faults.items k ≡ Some (Some f)
+abbrev pub AreRefused : {D : Type 0} → (tells : Bool) → (D → State) → Config → (old new : BayState)
+    → Rack D → Type 0
+AreRefused tells state config old new r =
+    (k : ℕ) (v : VolumeConf) (f : VolumeFault) → slice_get config.volumes.items k ≡ Some v
+    → slice_get r.faults.items k ≡ Some (Some f)
     → RefusesVolume tells state config r.rest.images.items old new k v f
 
 -- a volume's image is there with the configured length
 abbrev pub IsThere : List Shape → Images → (v : ℕ) → Type 0
-IsThere shapes images v = (s : Shape) × (image : List Block) × (slice_get shapes v ≡ Some s) × (image_of images v ≡ Some image) × (length image ≡ image_size s)
+IsThere shapes images v = (s : Shape) × (image : List Block) × (slice_get shapes v ≡ Some s)
+    × (image_of images v ≡ Some image) × (length image ≡ image_size s)
 
--- Whatever images a crash leaves, each volume that is there recovers to what it might have recovered to before: where the images that
--- were refused give no segments, and also where they do, but for an opened volume of which they have a log.
-pub record LeavesAll {D : Type 0} (tells : Bool) (state : D → State) (config : Config) (b b' : BayState) (old new : Told) : Type 0 where
+-- Whatever images a crash leaves, each volume that is there recovers to what it might have
+-- recovered to before: where the images that were refused give no segments, and also where they do,
+-- but for an opened volume of which they have a log.
+pub record LeavesAll {D : Type 0} (tells : Bool) (state : D → State) (config : Config)
+    (b b' : BayState) (old new : Told) : Type 0 where
   pub refused : ℕ → Bool
-  pub cause : (k : ℕ) (v : VolumeConf) → slice_get config.volumes.items k ≡ Some v → refused k ≡ true → (f : VolumeFault) × RefusesVolume {D = D} tells state config [] b b' k v f
+  pub cause : (k : ℕ) (v : VolumeConf) → slice_get config.volumes.items k ≡ Some v
+      → refused k ≡ true
+      → (f : VolumeFault) × RefusesVolume {D = D} tells state config [] b b' k v f
   -- a refused image may be left only as before
-  pub kept : (k : ℕ) (v : VolumeConf) → slice_get config.volumes.items k ≡ Some v → refused k ≡ true → (c : Option (List Block)) → MayLeave (at_name v.name new.images) c → MayLeave (at_name v.name old.images) c
+  pub kept : (k : ℕ) (v : VolumeConf) → slice_get config.volumes.items k ≡ Some v → refused k ≡ true
+      → (c : Option (List Block)) → MayLeave (at_name v.name new.images) c
+      → MayLeave (at_name v.name old.images) c
   pub opened : ℕ → Bool
   pub are_opened : (v : ℕ) → opened v ≡ true → WasOpened config refused old v
-  pub left : (images : Images) → AreLeft config new images → (v : ℕ) → IsThere (shapes_of config) images v
-      → (before : Images) × AreLeft config old before × RecoversSame config refused (opened v) images before v
+  pub left : (images : Images) → AreLeft config new images → (v : ℕ)
+      → IsThere (shapes_of config) images v
+      → (before : Images) × AreLeft config old before
+      × RecoversSame config refused (opened v) images before v
   -- an image that was there, whatever a crash had left, is there
-  pub there : (images : Images) → AreLeft config new images → (v : ℕ) → ((before : Images) → AreLeft config old before → IsThere (shapes_of config) before v) → IsThere (shapes_of config) images v
+  pub there : (images : Images) → AreLeft config new images → (v : ℕ)
+      → ((before : Images) → AreLeft config old before → IsThere (shapes_of config) before v)
+      → IsThere (shapes_of config) images v
 
 -- where all images that a crash might have left before were sound, all are
 abbrev pub KeepsAllSound : Config → Told → Told → Type 0
-KeepsAllSound config old new = KeepsSound (shapes_of config) (AreLeft config old) (AreLeft config new)
+KeepsAllSound config old new =
+    KeepsSound (shapes_of config) (AreLeft config old) (AreLeft config new)

@@ -1,4 +1,5 @@
--- What the images of a configuration say of one volume as they read: which segments it owns, and what it recovers to.
+-- What the images of a configuration say of one volume as they read: which segments it owns, and
+-- what it recovers to.
 use Rattle.std.specs.Prelude.{false, true, ◌≡◌, ◌⊎◌, ◌<◌, ◌-◌, ℕ, Bool, List, ◌∷◌, length, map, min, Option, None, Some, is_some, not, slice_get, Contains, All}
 use Rattle.std.specs.List.{AllByRecursion}
 use Rattle.wol_disk.specs.Disk.{Block, State}
@@ -16,7 +17,7 @@ use Rattle.log_layout.specs.Values.{shape_of}
 use Rattle.logger_view.specs.Stored.{HasView}
 use Rattle.spin_model.specs.Spun.{state_of}
 use Rattle.manager.specs.declared.base.ManagerBase.{ManagerBase}
-use Rattle.manager_recovery.specs.Opened.{IsPlaceOf}
+use Rattle.manager_recovery.specs.Opened.{StandsInOwned}
 use Rattle.manager_recovery.specs.Opening.{AreInOrder}
 use Rattle.manager_recovery.specs.Owned.{IsListedOf, Owned, all_owned, read_of, records_in, writes_in, heads_in, AreIntact, HaveNoTwins}
 use Rattle.manager_recovery.specs.declared.opening.Opening.{Opening}
@@ -32,22 +33,32 @@ images_taken config out t = accepted (λ k. not (is_some (image_here out k))) (i
 
 -- what volume v recovers to where refused images give no segments
 abbrev pub recovered_but : List Shape → (refused : ℕ → Bool) → Images → (v : ℕ) → List Block
-recovered_but shapes refused images v = recovered v (home_in (slice_get shapes v) (image_of images v)) (all_segments shapes (accepted refused images))
+recovered_but shapes refused images v =
+    recovered v (home_in (slice_get shapes v) (image_of images v))
+    (all_segments shapes (accepted refused images))
 
 -- no image that is refused has a log of volume v
 abbrev pub HasNoLogIn : List Shape → (refused : ℕ → Bool) → Images → (v : ℕ) → Type 0
-HasNoLogIn shapes refused images v = (k : ℕ) (s : Shape) → slice_get shapes k ≡ Some s → refused k ≡ true → AllByRecursion (λ bs. (rs : List Record) → IsLog bs v rs → ⊥) (segments_of s (image_of images k))
+HasNoLogIn shapes refused images v = (k : ℕ) (s : Shape) → slice_get shapes k ≡ Some s
+    → refused k ≡ true → AllByRecursion (λ bs. (rs : List Record) → IsLog bs v rs → ⊥)
+    (segments_of s (image_of images k))
 
--- Volume v recovers to what it recovers to of the images before where refused images give no segments; and where they give theirs, if it
--- wasn't opened or they have no log of it.
-pub record RecoversSame (config : Config) (refused : ℕ → Bool) (opened : Bool) (images before : Images) (v : ℕ) : Type 0 where
-  pub but : recovered_but (shapes_of config) refused images v ≡ recovered_but (shapes_of config) refused before v
-  pub all : (opened ≡ false) ⊎ HasNoLogIn (shapes_of config) refused images v → recovered_from (shapes_of config) images v ≡ recovered_from (shapes_of config) before v
+-- Volume v recovers to what it recovers to of the images before where refused images give no
+-- segments; and where they give theirs, if it wasn't opened or they have no log of it.
+pub record RecoversSame (config : Config) (refused : ℕ → Bool) (opened : Bool)
+    (images before : Images) (v : ℕ) : Type 0 where
+  pub but : recovered_but (shapes_of config) refused images v
+      ≡ recovered_but (shapes_of config) refused before v
+  pub all : (opened ≡ false) ⊎ HasNoLogIn (shapes_of config) refused images v
+      → recovered_from (shapes_of config) images v ≡ recovered_from (shapes_of config) before v
 
 -- of an image that isn't out a crash may leave only what it might have left before
-abbrev pub HadRefused : {D : Type 0} → Config → List (Option (ImageRest D)) → (old new : Told) → Type 0
-HadRefused config out old new = (k : ℕ) (v : VolumeConf) → slice_get config.volumes.items k ≡ Some v → image_here out k ≡ None
-    → (c : Option (List Block)) → MayLeave (at_name v.name new.images) c → MayLeave (at_name v.name old.images) c
+abbrev pub HadRefused : {D : Type 0} → Config → List (Option (ImageRest D)) → (old new : Told)
+    → Type 0
+HadRefused config out old new =
+    (k : ℕ) (v : VolumeConf) → slice_get config.volumes.items k ≡ Some v → image_here out k ≡ None
+    → (c : Option (List Block)) → MayLeave (at_name v.name new.images) c
+    → MayLeave (at_name v.name old.images) c
 
 -- a segment of these images that reads as owned by volume v
 pub record IsOwnedIn (shapes : List Shape) (images : Images) (v : ℕ) (o : Owned) : Type 0 where
@@ -62,14 +73,15 @@ pub record IsOwnedIn (shapes : List Shape) (images : Images) (v : ℕ) (o : Owne
   pub owner : o.blocks ≡ owned_block v ∷ rest
 
 -- all of these, by rising logger and index
-pub record AreOwnedIn (shapes : List Shape) (images : Images) (v : ℕ) (os : List Owned) : Type 0 where
+pub record AreOwnedIn (shapes : List Shape) (images : Images) (v : ℕ) (os : List Owned) :
+    Type 0 where
   pub in_order : AreInOrder (map (λ (o : Owned). (o.logger, o.index)) os)
   pub each : All (IsOwnedIn shapes images v) os
   pub all : (o : Owned) → IsOwnedIn shapes images v o → Contains os o
 
--- What a volume begins with: the array that these images recover to, its records in them that keep blocks, and the version
--- above all of theirs. None of its segments is damaged, and no two of its records have one version; as many are listed, each of them
--- one of these.
+-- What a volume begins with: the array that these images recover to, its records in them that keep
+-- blocks, and the version above all of theirs. None of its segments is damaged, and no two of its
+-- records have one version; as many are listed, each of them one of these.
 pub record IsBegun (config : Config) (images : Images) (b : Base) : Type 0 where
   pub array : b.array ≡ recovered_from (shapes_of config) images b.owner
   pub owned : List Owned
@@ -83,18 +95,21 @@ pub record IsBegun (config : Config) (images : Images) (b : Base) : Type 0 where
   pub view : (image : List Block) → image_of images b.owner ≡ Some image → HasView image b.view
   pub most : b.most ≡ most_of config
 
--- Each of these records of volume v stands where these images have it: in a segment that they have as the volume's, on the logger of its
--- lane, with its head at that position.
-pub record StandAsRead (config : Config) (images : Images) (v : ℕ) (view : List ℕ) (es : List Indexed) : Type 0 where
+-- Each of these records of volume v stands where these images have it: in a segment that they have
+-- as the volume's, on the logger of its lane, with its head at that position.
+pub record StandAsRead (config : Config) (images : Images) (v : ℕ) (view : List ℕ)
+    (es : List Indexed) : Type 0 where
   pub owned : List Owned
   pub are_owned : AreOwnedIn (shapes_of config) images v owned
-  pub each : AllByRecursion (IsPlaceOf v view owned) es
+  pub each : AllByRecursion (StandsInOwned v view owned) es
 
 -- so do the records that a volume had listed when it was opened
 abbrev pub BeganInPlace : Config → Images → ManagerBase → Type 0
-BeganInPlace config images b = StandAsRead config images b.volume.began.owner b.volume.began.view b.volume.places
+BeganInPlace config images b =
+    StandAsRead config images b.volume.began.owner b.volume.began.view b.volume.places
 
--- volume v was opened of the images that weren't refused, among them those of the loggers of its view
+-- volume v was opened of the images that weren't refused, among them those of the loggers of its
+-- view
 pub record WasOpened (config : Config) (refused : ℕ → Bool) (entry : Told) (v : ℕ) : Type 0 where
   pub base : Base
   pub owner : base.owner ≡ v
@@ -102,12 +117,14 @@ pub record WasOpened (config : Config) (refused : ℕ → Bool) (entry : Told) (
   pub loggers : AllByRecursion (λ l. refused l ≡ false) base.view
 
 -- what volume v is opened of: what the configuration and these images say
-pub record IsOpeningOf {D : Type 0} (state : D → State) (config : Config) (out : List (Option (ImageRest D))) (images : Images) (v : ℕ) (o : Opening D) : Type 0 where
+pub record IsOpeningOf {D : Type 0} (state : D → State) (config : Config)
+    (out : List (Option (ImageRest D))) (images : Images) (v : ℕ) (o : Opening D) : Type 0 where
   pub id : o.want.id ≡ v
   pub shape : slice_get (shapes_of config) v ≡ Some (shape_of o.want)
   pub label : o.label ≡ o.want
   pub view : (image : List Block) → image_of images v ≡ Some image → HasView image o.view
   pub present : o.present.items ≡ map (λ (i : Option (ImageRest D)). is_some i) out
   pub most : o.most ≡ most_of config
-  pub home : (image : List Block) → image_of images v ≡ Some image → read_of (state_of state o.home) ≡ home_of (shape_of o.want) image
+  pub home : (image : List Block) → image_of images v ≡ Some image
+      → read_of (state_of state o.home) ≡ home_of (shape_of o.want) image
   pub owned : AreOwnedIn (shapes_of config) images v (all_owned state o.owned.items)

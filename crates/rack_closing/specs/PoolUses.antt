@@ -26,38 +26,47 @@ holder_of (Some Free) = InPool
 holder_of (Some (Owned owner)) = HeldBy owner
 
 -- these have the segments of volume k as the heads in its image said when it was opened
-pub record HadSegments (config : Config) (t : Told) (k : ℕ) (v : VolumeConf) (holders : List Holder) : Type 0 where
+pub record HadSegments (config : Config) (t : Told) (k : ℕ) (v : VolumeConf)
+    (holders : List Holder) : Type 0 where
   pub image : Image
   pub there : at_name v.name t.images ≡ Some image
   pub view : List ℕ
   pub heads : List SegmentHead
-  pub accepted : IsAccepted (length (shapes_of config)) k (shape_in config v) (reads image.blocks) view heads
+  pub accepted :
+      IsAccepted (length (shapes_of config)) k (shape_in config v) (reads image.blocks) view heads
   pub each : (i : ℕ) → holder holders i ≡ holder_of (slice_get heads i)
 
--- The entries of the lock of volume k's pool, by the passes of all volumes: each use could be made where it stands, from where the heads
--- said that the segments were. So none was found free only where each segment was held.
-pub record IsPoolHistory (config : Config) (t : Told) (k : ℕ) (v : VolumeConf) (entries : List Entry) : Type 0 where
+-- The entries of the lock of volume k's pool, by the passes of all volumes: each use could be made
+-- where it stands, from where the heads said that the segments were. So none was found free only
+-- where each segment was held.
+pub record IsPoolHistory (config : Config) (t : Told) (k : ℕ) (v : VolumeConf)
+    (entries : List Entry) : Type 0 where
   pub holders : List Holder
   pub had : HadSegments config t k v holders
   pub legal : ArePoolUses holders (uses_of entries)
 
 -- so of the pool of each volume
 abbrev pub ArePools : Config → (t : Told) → (pools : (k : ℕ) → List Entry) → Type 0
-ArePools config t pools = (k : ℕ) (v : VolumeConf) → slice_get config.volumes.items k ≡ Some v → IsPoolHistory config t k v (pools k)
+ArePools config t pools = (k : ℕ) (v : VolumeConf) → slice_get config.volumes.items k ≡ Some v
+    → IsPoolHistory config t k v (pools k)
 
--- how often the pass of volume v found the pool at this place of its view empty, by the entries of the pools' locks
+-- how often the pass of volume v found the pool at this place of its view empty, by the entries of
+-- the pools' locks
 abbrev pub times_empty : (pools : ℕ → List Entry) → (v : ℕ) → (view : List ℕ) → (place : ℕ) → ℕ
-times_empty pools v view place = option_map_or (λ (logger : ℕ). nones_in (own v (pools logger))) (slice_get view place) 0
+times_empty pools v view place =
+    option_map_or (λ (logger : ℕ). nones_in (own v (pools logger))) (slice_get view place) 0
 
 -- no more of a volume's entries passed over a pool than its pass found that pool empty
 abbrev pub PassesEmpty : (pools : ℕ → List Entry) → Base → List Noted → Type 0
 PassesEmpty pools base notes = HasPassed (times_empty pools base.owner base.view) notes
 
--- how many segments the pass of volume v took of the pools of its view, by the entries of the pools' locks
+-- how many segments the pass of volume v took of the pools of its view, by the entries of the
+-- pools' locks
 abbrev pub times_taken : (pools : ℕ → List Entry) → (v : ℕ) → (view : List ℕ) → ℕ
 times_taken pools v view = sum_by (λ (logger : ℕ). takes_in (own v (pools logger))) view
 
--- Of all pools together a volume's pass took no more segments than the volume wrote to logs, where no call failed: one that wrote nothing
--- to a log took nothing.
+-- Of all pools together a volume's pass took no more segments than the volume wrote to logs, where
+-- no call failed: one that wrote nothing to a log took nothing.
 abbrev pub TakesFew : (pools : ℕ → List Entry) → Base → List Noted → Type 0
-TakesFew pools base notes = flight_of (entries_of notes) ≡ None → times_taken pools base.owner base.view ≤ logged_writes notes
+TakesFew pools base notes = flight_of (entries_of notes) ≡ None
+    → times_taken pools base.owner base.view ≤ logged_writes notes

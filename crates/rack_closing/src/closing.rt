@@ -23,31 +23,52 @@ use wol_config::Config;
 pub fn close_all<B: Bay>(rack: Rack<B::Part>, bay: &mut B, config: &Config) -> Vec<Spindle>
     requires config { IsValid config.now }
     requires rack { IsClosable B.Part.state config.now (B.state bay.old) rack }
-    ensures home { LeavesNoneOut config.now rack.rest.images.items (outs (B.state bay.old)) (outs (B.state bay.new)) }
+    ensures home { LeavesNoneOut config.now rack.rest.images.items (outs (B.state bay.old))
+        (outs (B.state bay.new)) }
     ensures count { length result.items ≡ length (shapes_of config.now) }
-    ensures spindles { (k : ℕ) (s : SpindleView) → slice_get result.items k ≡ Some s → IsClosedSpindle rack k s }
+    ensures spindles { (k : ℕ) (s : SpindleView) → slice_get result.items k ≡ Some s
+        → IsClosedSpindle rack k s }
     // and the pools that they shared
-    ensures stations { AreClosedVolumes B.Part.tells config.now (B.state bay.old) (B.state bay.new) rack }
-    ensures parts { IsTrue B.Part.tells → IsTold (λ old new. AreLeftOfParts B.Part.state config.now rack new) (B.state bay.old).told (B.state bay.new).told }
+    ensures stations { AreClosedVolumes B.Part.tells config.now (B.state bay.old) (B.state bay.new)
+        rack }
+    ensures parts { IsTrue B.Part.tells
+        → IsTold (λ old new. AreLeftOfParts B.Part.state config.now rack new) (B.state bay.old).told
+        (B.state bay.new).told }
     // since the rack was opened, where nothing was written
-    ensures left { (entry : Told) → IsTrue B.Part.tells → BeganWith B.Part.state config.now entry rack → All (λ s. IsQuiet s) rack.stations.items
-        → IsTold (λ old new. LeavesOpen config.now rack entry new) (B.state bay.old).told (B.state bay.new).told }
+    ensures left { (entry : Told) → IsTrue B.Part.tells
+        → BeganWith B.Part.state config.now entry rack → All (λ s. IsQuiet s) rack.stations.items
+        → IsTold (λ old new. LeavesOpen config.now rack entry new) (B.state bay.old).told
+        (B.state bay.new).told }
     // and of all volumes, where images that aren't out were as they are now
-    ensures volumes { (entry : Told) → IsTrue B.Part.tells → BeganWith B.Part.state config.now entry rack → WereThere config.now rack.rest.images.items entry → All (λ s. IsQuiet s) rack.stations.items
-        → IsTold (λ old new. HadRefused config.now rack.rest.images.items entry old → LeavesVolumes config.now rack entry new) (B.state bay.old).told (B.state bay.new).told }
+    ensures volumes { (entry : Told) → IsTrue B.Part.tells
+        → BeganWith B.Part.state config.now entry rack
+        → WereThere config.now rack.rest.images.items entry
+        → All (λ s. IsQuiet s) rack.stations.items
+        → IsTold (λ old new. HadRefused config.now rack.rest.images.items entry old
+        → LeavesVolumes config.now rack entry new) (B.state bay.old).told (B.state bay.new).told }
     // of those that weren't opened, whatever was written to others, and also where a call of a disk failed
-    ensures unopened { (entry : Told) → IsTrue B.Part.tells → BeganWith B.Part.state config.now entry rack → WereThere config.now rack.rest.images.items entry
-        → IsTold (λ old new. HadRefused config.now rack.rest.images.items entry old → LeavesUnopened config.now rack entry new) (B.state bay.old).told (B.state bay.new).told }
+    ensures unopened { (entry : Told) → IsTrue B.Part.tells
+        → BeganWith B.Part.state config.now entry rack
+        → WereThere config.now rack.rest.images.items entry
+        → IsTold (λ old new. HadRefused config.now rack.rest.images.items entry old
+        → LeavesUnopened config.now rack entry new) (B.state bay.old).told
+        (B.state bay.new).told }
     // since then, whatever was written, and also where a call of a disk failed
-    ensures sound { (entry : Told) → IsTrue B.Part.tells → BeganWith B.Part.state config.now entry rack → WereThere config.now rack.rest.images.items entry
-        → IsTold (λ old new. HadRefused config.now rack.rest.images.items entry old → KeepsAllSound config.now entry new) (B.state bay.old).told (B.state bay.new).told }
+    ensures sound { (entry : Told) → IsTrue B.Part.tells
+        → BeganWith B.Part.state config.now entry rack
+        → WereThere config.now rack.rest.images.items entry
+        → IsTold (λ old new. HadRefused config.now rack.rest.images.items entry old
+        → KeepsAllSound config.now entry new) (B.state bay.old).told (B.state bay.new).told }
     // images that aren't out stay as they were
-    ensures kept { IsTrue B.Part.tells → IsTold (HadRefused config.now rack.rest.images.items) (B.state bay.old).told (B.state bay.new).told }
+    ensures kept { IsTrue B.Part.tells → IsTold (HadRefused config.now rack.rest.images.items)
+        (B.state bay.old).told (B.state bay.new).told }
     ensures others { IsTold (KeepsOthers config.now) (B.state bay.old).told (B.state bay.new).told }
     // the parts that came back with a fault are listed
-    ensures faulty { IsTold (ListsFaulty B.Part.state config.now rack.rest) (B.state bay.old).told (B.state bay.new).told }
+    ensures faulty { IsTold (ListsFaulty B.Part.state config.now rack.rest) (B.state bay.old).told
+        (B.state bay.new).told }
     ensures counts { (B.state bay.old).faults ≤ (B.state bay.new).faults }
-    ensures cause { HasFaultIn B.Part.state rack.rest → Rose (B.state bay.old).faults (B.state bay.new).faults }
+    ensures cause { HasFaultIn B.Part.state rack.rest
+        → Rose (B.state bay.old).faults (B.state bay.new).faults }
 {
     let Rack {
         shared,

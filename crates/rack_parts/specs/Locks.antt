@@ -17,18 +17,26 @@ pub record IsWholeLock {T B : Type 0} (i : Issued T B) : Type 0 where
 -- they stand in the order of their numbers
 pub record IsInOrder {T B : Type 0} (i : Issued T B) : Type 0 where
   pub whole : IsWholeLock i
-  pub numbered : (n : ℕ) (d : PassOf T B) → n < length i.passes.items → pass_number (slice_index_or i.passes.items n d) ≡ n
+  pub numbered : (n : ℕ) (d : PassOf T B) → n < length i.passes.items
+      → pass_number (slice_index_or i.passes.items n d) ≡ n
 
--- the passes of the spindle of volume k: no token of them is out, they made accesses only, and of the volumes' passes only k's own was used
+-- the passes of the spindle of volume k: no token of them is out, they made accesses only, and of
+-- the volumes' passes only k's own was used
 pub record AreSettled (k : ℕ) (i : Issued Spindle SpindleBase) : Type 0 where
   pub settled : All (λ p. has_token (pass_mine p) ≡ false) i.passes.items
   pub accesses : All (λ p. AreAccesses (pass_mine p)) i.passes.items
-  pub others : (n : ℕ) (d : PassOf Spindle SpindleBase) → n ≢ k → n < length i.passes.items → pass_mine (slice_index_or i.passes.items n d) ≡ []
+  pub others : (n : ℕ) (d : PassOf Spindle SpindleBase) → n ≢ k → n < length i.passes.items
+      → pass_mine (slice_index_or i.passes.items n d) ≡ []
   -- nor was the last, which is the keeper's
-  pub last : (n : ℕ) (d : PassOf Spindle SpindleBase) → length i.passes.items ≡ n + 1 → (pass_seen (slice_index_or i.passes.items n d) ≡ []) × (pass_mine (slice_index_or i.passes.items n d) ≡ [])
+  pub last : (n : ℕ) (d : PassOf Spindle SpindleBase) → length i.passes.items ≡ n + 1
+      → (pass_seen (slice_index_or i.passes.items n d) ≡ [])
+      × (pass_mine (slice_index_or i.passes.items n d) ≡ [])
 
 -- the locks of the first spindles, without a token out
-pub record AreSpindlesOf (volumes timeout : ℕ) (made : List (Issued Spindle SpindleBase)) : Type 0 where
+pub record AreSpindlesOf (volumes timeout : ℕ) (made : List (Issued Spindle SpindleBase)) :
+    Type 0 where
   pub each : All (λ i. IsInOrder i) made
-  pub spindles : (k : ℕ) (d : Issued Spindle SpindleBase) → k < length made → IsSpindleLock volumes k timeout (slice_index_or made k d).lock
-  pub settled : (k : ℕ) (d : Issued Spindle SpindleBase) → k < length made → AreSettled k (slice_index_or made k d)
+  pub spindles : (k : ℕ) (d : Issued Spindle SpindleBase) → k < length made
+      → IsSpindleLock volumes k timeout (slice_index_or made k d).lock
+  pub settled : (k : ℕ) (d : Issued Spindle SpindleBase) → k < length made
+      → AreSettled k (slice_index_or made k d)

@@ -1,4 +1,5 @@
--- What the leaves of opening and closing do: a pool is filled and emptied, and parts and passes go out of a rest and come back.
+-- What the leaves of opening and closing do: a pool is filled and emptied, and parts and passes go
+-- out of a rest and come back.
 use Rattle.std.specs.Prelude.{⊤, ◌≡◌, ◌≢◌, ◌==◌, ◌<◌, ◌≤◌, ◌+◌, ◌-◌, ◌∷◌, ◌++◌, ℕ, Bool, true, false, List, [], length, map, filter, count_by, sum_by, vec_capacity, Option, None, Some, MatchOption, is_some, slice_get, slice_set, slice_index_or, Contains, All, AllPairs, IsSome}
 use Rattle.wol_disk.specs.Disk.{State}
 use Rattle.wol_model.specs.Blocks.{AreApart}
@@ -80,7 +81,8 @@ pub record IsFilled {D : Type 0} (old new : ImageRest D) (index : ℕ) (part : S
 -- ---- Pools
 
 -- a segment that says in each image that it is free, of this volume and with this number of blocks
-pub record IsBlankPart {D : Type 0} (state : D → State) (volume blocks : ℕ) (p : Spun D) : Type 0 where
+pub record IsBlankPart {D : Type 0} (state : D → State) (volume blocks : ℕ) (p : Spun D) :
+    Type 0 where
   pub part : IsPart state volume blocks p
   pub idle : IsFreeInAll (state_of state p)
 
@@ -90,10 +92,12 @@ holder_said Free = InPool
 holder_said (Owned owner) = HeldBy owner
 
 -- all segments are here, and those with a free head are blank
-pub record AreFillable {D : Type 0} (state : D → State) (volume blocks : ℕ) (heads : List SegHead) (segments : List (Option (Spun D))) : Type 0 where
+pub record AreFillable {D : Type 0} (state : D → State) (volume blocks : ℕ) (heads : List SegHead)
+    (segments : List (Option (Spun D))) : Type 0 where
   pub count : length segments ≡ length heads
   pub here : (i : ℕ) → i < length heads → IsSome (slice_index_or segments i None)
-  pub blank : (i : ℕ) (p : Spun D) → slice_get heads i ≡ Some Free → slice_get segments i ≡ Some (Some p) → IsBlankPart state volume blocks p
+  pub blank : (i : ℕ) (p : Spun D) → slice_get heads i ≡ Some Free
+      → slice_get segments i ≡ Some (Some p) → IsBlankPart state volume blocks p
 
 -- what is left in the place of a segment with this head
 abbrev pub left_by : {D : Type 0} → SegHead → Option (Spun D) → Option (Spun D)
@@ -101,23 +105,32 @@ left_by Free part = None
 left_by (Owned owner) part = part
 
 -- the segments with a free head are gone
-pub record TakesFree {D : Type 0} (heads : List SegHead) (old new : List (Option (Spun D))) : Type 0 where
+pub record TakesFree {D : Type 0} (heads : List SegHead) (old new : List (Option (Spun D))) :
+    Type 0 where
   pub count : length new ≡ length old
-  pub each : (i : ℕ) (h : SegHead) → slice_get heads i ≡ Some h → slice_index_or new i None ≡ left_by h (slice_index_or old i None)
+  pub each : (i : ℕ) (h : SegHead) → slice_get heads i ≡ Some h
+      → slice_index_or new i None ≡ left_by h (slice_index_or old i None)
 
 -- the pool has them, and its notes are the owners
-pub record IsFilledPool {D : Type 0} (heads : List SegHead) (before : List (Option (Spun D))) (p : Pool (FreeSegment D)) : Type 0 where
+pub record IsFilledPool {D : Type 0} (heads : List SegHead) (before : List (Option (Spun D)))
+    (p : Pool (FreeSegment D)) : Type 0 where
   pub room : room_of p ≡ length heads
-  pub holders : (i : ℕ) (h : SegHead) → slice_get heads i ≡ Some h → holder (base_of p).holders i ≡ holder_said h
-  pub items : (i : ℕ) (f : FreeSegment D) → item_at p i ≡ Some f → (slice_get heads i ≡ Some Free) × (slice_get before i ≡ Some (Some (free_part f)))
+  pub holders : (i : ℕ) (h : SegHead) → slice_get heads i ≡ Some h
+      → holder (base_of p).holders i ≡ holder_said h
+  pub items : (i : ℕ) (f : FreeSegment D) → item_at p i ≡ Some f
+      → (slice_get heads i ≡ Some Free) × (slice_get before i ≡ Some (Some (free_part f)))
 
--- the slot of this index has the segment that had this head, or its owner's note; the others are as they were
-pub record FillsSlot {D : Type 0} (index : ℕ) (head : SegHead) (segment : Option (Spun D)) (old new : Pool (FreeSegment D)) : Type 0 where
+-- the slot of this index has the segment that had this head, or its owner's note; the others are as
+-- they were
+pub record FillsSlot {D : Type 0} (index : ℕ) (head : SegHead) (segment : Option (Spun D))
+    (old new : Pool (FreeSegment D)) : Type 0 where
   pub holder_is : holder (base_of new).holders index ≡ holder_said head
-  pub item : (f : FreeSegment D) → item_at new index ≡ Some f → (head ≡ Free) × (segment ≡ Some (free_part f))
+  pub item : (f : FreeSegment D) → item_at new index ≡ Some f
+      → (head ≡ Free) × (segment ≡ Some (free_part f))
   pub items : (i : ℕ) → i ≢ index → item_at new i ≡ item_at old i
   pub notes : (i : ℕ) → i ≢ index → note_at new i ≡ note_at old i
-  pub holders : (i : ℕ) → i ≢ index → holder (base_of new).holders i ≡ holder (base_of old).holders i
+  pub holders : (i : ℕ) → i ≢ index
+      → holder (base_of new).holders i ≡ holder (base_of old).holders i
 
 -- an item of a pool, as the part that it is
 abbrev pub item_part : {D : Type 0} → Option (FreeSegment D) → Option (Spun D)
@@ -145,19 +158,24 @@ pub record IsSameBut {D : Type 0} (old new : ImageRest D) : Type 0 where
 -- the items of the pool stand in their places
 pub record IsRefilled {D : Type 0} (p : Pool (FreeSegment D)) (old new : ImageRest D) : Type 0 where
   pub same : IsSameBut old new
-  pub segments : (i : ℕ) → segment_here new i ≡ either_part (item_part (item_at p i)) (segment_here old i)
+  pub segments : (i : ℕ)
+      → segment_here new i ≡ either_part (item_part (item_at p i)) (segment_here old i)
 
-abbrev pub EmptiesInto : {D : Type 0} → Pool (FreeSegment D) → (old new : Option (ImageRest D)) → Type 0
-EmptiesInto {D} p old new = MatchOption old (new ≡ None) (λ r. (n : ImageRest D) × (new ≡ Some n) × IsRefilled p r n)
+abbrev pub EmptiesInto : {D : Type 0} → Pool (FreeSegment D) → (old new : Option (ImageRest D))
+    → Type 0
+EmptiesInto {D} p old new =
+    MatchOption old (new ≡ None) (λ r. (n : ImageRest D) × (new ≡ Some n) × IsRefilled p r n)
 
 -- a pool may be made of an image that says this
-pub record CanFill {D : Type 0} (state : D → State) (volumes id : ℕ) (s : Shape) (said : Said) (r : ImageRest D) : Type 0 where
+pub record CanFill {D : Type 0} (state : D → State) (volumes id : ℕ) (s : Shape) (said : Said)
+    (r : ImageRest D) : Type 0 where
   pub count : length said.heads.items ≡ s.segments
   pub segments : AreFillable state id s.segment_blocks said.heads.items r.segments.items
   pub owners : (i owner : ℕ) → slice_get said.heads.items i ≡ Some (Owned owner) → owner < volumes
 
 -- the same where the image is out; where it isn't, it says nothing
-abbrev pub CanIssue : {D : Type 0} → (D → State) → (volumes id : ℕ) → Shape → Option Said → Option (ImageRest D) → Type 0
+abbrev pub CanIssue : {D : Type 0} → (D → State) → (volumes id : ℕ) → Shape → Option Said
+    → Option (ImageRest D) → Type 0
 CanIssue state volumes id s None None = ⊤
 CanIssue state volumes id s None (Some r) = ⊥
 CanIssue state volumes id s (Some said) None = ⊥
@@ -174,7 +192,8 @@ holder_by None i = Elsewhere
 holder_by (Some said) i = of_head (slice_get said.heads.items i)
 
 -- a pool's lock with a new pass for each volume
-pub record IsIssuedPool {D : Type 0} (volumes id : ℕ) (s : Shape) (said : Option Said) (i : Issued (Pool (FreeSegment D)) PoolBase) : Type 0 where
+pub record IsIssuedPool {D : Type 0} (volumes id : ℕ) (s : Shape) (said : Option Said)
+    (i : Issued (Pool (FreeSegment D)) PoolBase) : Type 0 where
   pub lock : IsPoolLock volumes id s i.lock
   pub count : length i.passes.items ≡ volumes
   pub passes : AreNewPasses i.lock i.passes.items
@@ -185,50 +204,67 @@ abbrev pub Supplies : {D : Type 0} → Option Said → (old new : Option (ImageR
 Supplies None old new = new ≡ old
 Supplies (Some said) None new = new ≡ None
 Supplies (Some said) (Some r) None = ⊥
-Supplies (Some said) (Some r) (Some n) = IsSameBut r n × TakesFree said.heads.items r.segments.items n.segments.items
+Supplies (Some said) (Some r) (Some n) =
+    IsSameBut r n × TakesFree said.heads.items r.segments.items n.segments.items
 
 -- in each place with a free head stands a blank segment again, and the others are as they were
-pub record IsRestored {D : Type 0} (state : D → State) (id blocks : ℕ) (said : Said) (old new : ImageRest D) : Type 0 where
+pub record IsRestored {D : Type 0} (state : D → State) (id blocks : ℕ) (said : Said)
+    (old new : ImageRest D) : Type 0 where
   pub same : IsSameBut old new
-  pub free : (i : ℕ) → slice_get said.heads.items i ≡ Some Free → (p : Spun D) × (segment_here new i ≡ Some p) × IsBlankPart state id blocks p
-  pub owned : (i owner : ℕ) → slice_get said.heads.items i ≡ Some (Owned owner) → segment_here new i ≡ segment_here old i
+  pub free : (i : ℕ) → slice_get said.heads.items i ≡ Some Free
+      → (p : Spun D) × (segment_here new i ≡ Some p) × IsBlankPart state id blocks p
+  pub owned : (i owner : ℕ) → slice_get said.heads.items i ≡ Some (Owned owner)
+      → segment_here new i ≡ segment_here old i
 
-abbrev pub Restores : {D : Type 0} → (D → State) → (id blocks : ℕ) → Option Said → (old new : Option (ImageRest D)) → Type 0
+abbrev pub Restores : {D : Type 0} → (D → State) → (id blocks : ℕ) → Option Said
+    → (old new : Option (ImageRest D)) → Type 0
 Restores state id blocks None old new = new ≡ old
 Restores state id blocks (Some said) None new = new ≡ None
 Restores state id blocks (Some said) (Some r) None = ⊥
 Restores state id blocks (Some said) (Some r) (Some n) = IsRestored state id blocks said r n
 
 -- an empty pool of these sizes may get the segments of an image that says this
-pub record MaySupply {D : Type 0} (state : D → State) (p : Pool (FreeSegment D)) (said : Option Said) (image : Option (ImageRest D)) : Type 0 where
+pub record MaySupply {D : Type 0} (state : D → State) (p : Pool (FreeSegment D))
+    (said : Option Said) (image : Option (ImageRest D)) : Type 0 where
   pub volumes : ℕ
   pub shape : Shape
   pub room : room_of p ≡ shape.segments
   pub blocks : blocks_of p ≡ shape.segment_blocks
   pub may : CanIssue state volumes (volume_of p) shape said image
 
--- the pool has the free segments of the image, each of which has its place there, and the notes of the others
-pub record IsSupplied {D : Type 0} (state : D → State) (said : Option Said) (old new : Option (ImageRest D)) (p : Pool (FreeSegment D)) : Type 0 where
+-- the pool has the free segments of the image, each of which has its place there, and the notes of
+-- the others
+pub record IsSupplied {D : Type 0} (state : D → State) (said : Option Said)
+    (old new : Option (ImageRest D)) (p : Pool (FreeSegment D)) : Type 0 where
   pub holders : (index : ℕ) → holder (base_of p).holders index ≡ holder_by said index
   pub supplies : Supplies said old new
   pub places : MatchOption new (IsEmptyPool p) (HasPlaces p)
   -- where the pool is emptied again, all is restored
-  pub restorable : (last : Option (ImageRest D)) → EmptiesInto p new last → Restores state (volume_of p) (blocks_of p) said old last
+  pub restorable : (last : Option (ImageRest D)) → EmptiesInto p new last
+      → Restores state (volume_of p) (blocks_of p) said old last
 
--- the lock may be ended: all of its new passes are here, and each free segment has its place in the image
-pub record CanEnd {D : Type 0} (i : Issued (Pool (FreeSegment D)) PoolBase) (image : Option (ImageRest D)) : Type 0 where
+-- the lock may be ended: all of its new passes are here, and each free segment has its place in the
+-- image
+pub record CanEnd {D : Type 0} (i : Issued (Pool (FreeSegment D)) PoolBase)
+    (image : Option (ImageRest D)) : Type 0 where
   pub count : length i.passes.items ≡ lock_passes i.lock
   pub passes : AreNewPasses i.lock i.passes.items
-  pub places : (index : ℕ) → holder (lock_id i.lock).base.holders index ≡ InPool → (r : ImageRest D) × (image ≡ Some r) × (index < length r.segments.items) × (segment_here r index ≡ None)
+  pub places : (index : ℕ) → holder (lock_id i.lock).base.holders index ≡ InPool
+      → (r : ImageRest D) × (image ≡ Some r) × (index < length r.segments.items)
+      × (segment_here r index ≡ None)
 
 -- its free segments, which are blank, are in their places
-pub record IsEndedInto {D : Type 0} (state : D → State) (b : PoolBase) (old new : ImageRest D) : Type 0 where
+pub record IsEndedInto {D : Type 0} (state : D → State) (b : PoolBase) (old new : ImageRest D) :
+    Type 0 where
   pub same : IsSameBut old new
-  pub free : (i : ℕ) → holder b.holders i ≡ InPool → (p : Spun D) × (segment_here new i ≡ Some p) × IsBlankPart state b.volume b.blocks p
+  pub free : (i : ℕ) → holder b.holders i ≡ InPool
+      → (p : Spun D) × (segment_here new i ≡ Some p) × IsBlankPart state b.volume b.blocks p
   pub others : (i : ℕ) → holder b.holders i ≢ InPool → segment_here new i ≡ segment_here old i
 
-abbrev pub EndsInto : {D : Type 0} → (D → State) → PoolBase → (old new : Option (ImageRest D)) → Type 0
-EndsInto {D} state b old new = MatchOption old (new ≡ None) (λ r. (n : ImageRest D) × (new ≡ Some n) × IsEndedInto state b r n)
+abbrev pub EndsInto : {D : Type 0} → (D → State) → PoolBase → (old new : Option (ImageRest D))
+    → Type 0
+EndsInto {D} state b old new =
+    MatchOption old (new ≡ None) (λ r. (n : ImageRest D) × (new ≡ Some n) × IsEndedInto state b r n)
 
 -- ---- Parts and passes go out of a rest and come back
 
@@ -243,7 +279,8 @@ segments_of config k = segment_count (slice_get (shapes_of config) k)
 
 -- a place whose head names the owner v
 abbrev pub IsOwnedPlace : (said : List (Option Said)) → (v k i : ℕ) → Type 0
-IsOwnedPlace said v k i = (s : Said) × (slice_get said k ≡ Some (Some s)) × (slice_get s.heads.items i ≡ Some (Owned v))
+IsOwnedPlace said v k i =
+    (s : Said) × (slice_get said k ≡ Some (Some s)) × (slice_get s.heads.items i ≡ Some (Owned v))
 
 -- whether the head is of the owner v
 abbrev pub is_owned_by : ℕ → SegHead → Bool
@@ -277,7 +314,8 @@ module _ {D : Type 0} where
   -- there are as many rows, and each has its places
   pub record KeepsRows (old new : Rest D) : Type 0 where
     pub count : length new.passes.items ≡ length old.passes.items
-    pub rows : (n : ℕ) → All (λ p. IsRow n p) old.passes.items → All (λ p. IsRow n p) new.passes.items
+    pub rows : (n : ℕ) → All (λ p. IsRow n p) old.passes.items
+        → All (λ p. IsRow n p) new.passes.items
 
   -- volume v has a row with a place for k
   pub record HasPlace (r : Rest D) (v k : ℕ) : Type 0 where
@@ -320,7 +358,8 @@ module _ {D : Type 0} where
     pub others : (w k : ℕ) → (w ≡ v → All (λ l. k ≢ logger_of l) lanes) → KeepsPlace old new w k
 
   -- lanes that may come back: each is whole, and its place is bare
-  pub record CanPutLanes (state : D → State) (r : Rest D) (v : ℕ) (lanes : List (Lane D)) : Type 0 where
+  pub record CanPutLanes (state : D → State) (r : Rest D) (v : ℕ) (lanes : List (Lane D)) :
+      Type 0 where
     pub whole : All (λ l. IsLane state l × (taken_in l ≡ None)) lanes
     pub bare : All (λ l. IsBarePlace r v (logger_of l)) lanes
     pub apart : AllPairs (λ l m. logger_of l ≢ logger_of m) lanes
@@ -339,7 +378,8 @@ module _ {D : Type 0} where
   with_home home (Some r) = Some (record r { home = home })
 
   -- the home of volume v is this, and the pass of its spindle this; all else is as it was
-  pub record ChangesHome (old new : Rest D) (v : ℕ) (home : Option (Spun D)) (spindle : Option (PassOf Spindle SpindleBase)) : Type 0 where
+  pub record ChangesHome (old new : Rest D) (v : ℕ) (home : Option (Spun D))
+      (spindle : Option (PassOf Spindle SpindleBase)) : Type 0 where
     pub count : length new.images.items ≡ length old.images.items
     pub image : image_here new.images.items v ≡ with_home home (image_here old.images.items v)
     pub images : (k : ℕ) → k ≢ v → image_here new.images.items k ≡ image_here old.images.items k
@@ -353,13 +393,15 @@ module _ {D : Type 0} where
   -- what a volume was opened with came back: its home, and its lanes
   pub record PutsManager (old new : Rest D) (v : ℕ) (parts : ManagerParts D) : Type 0 where
     pub count : length new.images.items ≡ length old.images.items
-    pub image : image_here new.images.items v ≡ with_home (Some parts.home) (image_here old.images.items v)
+    pub image : image_here new.images.items v
+        ≡ with_home (Some parts.home) (image_here old.images.items v)
     pub images : (k : ℕ) → k ≢ v → image_here new.images.items k ≡ image_here old.images.items k
     pub rooms : new.rooms ≡ old.rooms
     pub rows : KeepsRows old new
     pub spindle : spindle_pass new v v ≡ Some parts.spindle
     pub back : All (HasBack new v) parts.lanes.items
-    pub others : (w k : ℕ) → (w ≡ v → (k ≢ v) × All (λ l. k ≢ logger_of l) parts.lanes.items) → KeepsPlace old new w k
+    pub others : (w k : ℕ) → (w ≡ v → (k ≢ v) × All (λ l. k ≢ logger_of l) parts.lanes.items)
+        → KeepsPlace old new w k
     pub own_pool : pool_pass new v v ≡ pool_pass old v v
     pub own_held : held_here new v v ≡ held_here old v v
 
@@ -372,7 +414,8 @@ module _ {D : Type 0} where
 
   -- the image at k after a segment went or came: all but its segments is the same
   abbrev pub KeepsImage : (old new : Option (ImageRest D)) → Type 0
-  KeepsImage old new = MatchOption old (new ≡ None) (λ r. (n : ImageRest D) × (new ≡ Some n) × IsSameBut r n)
+  KeepsImage old new =
+      MatchOption old (new ≡ None) (λ r. (n : ImageRest D) × (new ≡ Some n) × IsSameBut r n)
 
   -- segment i of an image, where the image is out and it is here
   abbrev pub in_image : Option (ImageRest D) → ℕ → Option (Spun D)
@@ -388,9 +431,11 @@ module _ {D : Type 0} where
     pub passes : new.passes ≡ old.passes
     pub rooms : new.rooms ≡ old.rooms
     pub count : length new.images.items ≡ length old.images.items
-    pub images : (k : ℕ) → KeepsImage (image_here old.images.items k) (image_here new.images.items k)
+    pub images : (k : ℕ)
+        → KeepsImage (image_here old.images.items k) (image_here new.images.items k)
     pub back : All (λ (o : OwnedPart D). segment_in new o.logger o.index ≡ Some o.part) os
-    pub others : (k i : ℕ) → All (λ (o : OwnedPart D). place_of o ≢ (k, i)) os → segment_in new k i ≡ segment_in old k i
+    pub others : (k i : ℕ) → All (λ (o : OwnedPart D). place_of o ≢ (k, i)) os
+        → segment_in new k i ≡ segment_in old k i
 
   -- owned segments that may come back: the place of each is empty, and no two have one
   pub record CanPutOwned (r : Rest D) (os : List (OwnedPart D)) : Type 0 where
@@ -424,13 +469,15 @@ module _ {D : Type 0} where
     pub image : KeepsImage (image_here old.images.items k) (image_here new.images.items k)
     pub images : (j : ℕ) → j ≢ k → image_here new.images.items j ≡ image_here old.images.items j
     pub back : All (λ (h : ℕ × Spun D). segment_in new k h.0 ≡ Some h.1) (held_here old v k)
-    pub others : (i : ℕ) → (Contains (indexes_here old v k) i → ⊥) → segment_in new k i ≡ segment_in old k i
+    pub others : (i : ℕ) → (Contains (indexes_here old v k) i → ⊥)
+        → segment_in new k i ≡ segment_in old k i
     pub held : held_here new v k ≡ []
     pub held_others : (w j : ℕ) → (w ≡ v → j ≢ k) → held_here new w j ≡ held_here old w j
     pub pools : (w j : ℕ) → pool_pass new w j ≡ pool_pass old w j
     pub spindles : (w j : ℕ) → spindle_pass new w j ≡ spindle_pass old w j
 
-  -- what a volume was to be opened of came back: home, lanes and owned segments, by way of these rests
+  -- what a volume was to be opened of came back: home, lanes and owned segments, by way of these
+  -- rests
   pub record PutsOpening (old new : Rest D) (v : ℕ) (o : Opening D) : Type 0 where
     pub with_home_ : Rest D
     pub home : ChangesHome old with_home_ v (Some o.home) (Some o.spindle)
@@ -440,7 +487,8 @@ module _ {D : Type 0} where
 
   -- ---- A volume's opening is taken out
 
-  -- volume v has its passes at logger k, where both are of the logger's locks, in no turn, without a token
+  -- volume v has its passes at logger k, where both are of the logger's locks, in no turn, without
+  -- a token
   pub record IsUsablePlace (r : Rest D) (v k segments : ℕ) : Type 0 where
     pub place : HasPlace r v k
     pub pool : PassOf (Pool (FreeSegment D)) PoolBase
@@ -471,7 +519,8 @@ module _ {D : Type 0} where
     pub images : new.images ≡ old.images
     pub rooms : new.rooms ≡ old.rooms
     pub rows : KeepsRows old new
-    pub gone : All (λ k. (pool_pass new v k ≡ None) × (spindle_pass new v k ≡ None) × (held_here new v k ≡ [])) loggers
+    pub gone : All (λ k. (pool_pass new v k ≡ None) × (spindle_pass new v k ≡ None)
+        × (held_here new v k ≡ [])) loggers
     pub others : (w k : ℕ) → (w ≡ v → All (λ l. k ≢ l) loggers) → KeepsPlace old new w k
 
   -- nothing changed
@@ -486,53 +535,70 @@ module _ {D : Type 0} where
   loggers_out r view = filter (λ k. is_some (image_here r.images.items k)) view
 
   -- a lane for this logger went behind these, where it is out
-  abbrev pub TakesOneLane : (D → State) → Config → (out : Bool) → (old new : Rest D) → (v k : ℕ) → (before after : List (Lane D)) → Type 0
+  abbrev pub TakesOneLane : (D → State) → Config → (out : Bool) → (old new : Rest D) → (v k : ℕ)
+      → (before after : List (Lane D)) → Type 0
   TakesOneLane state config false old new v k before after = (new ≡ old) × (after ≡ before)
-  TakesOneLane state config true old new v k before after = (l : Lane D) × (after ≡ before ++ l ∷ []) × IsNewLane state old v (segments_of config k) l × (logger_of l ≡ k) × TakesPasses old new v (k ∷ [])
+  TakesOneLane state config true old new v k before after =
+      (l : Lane D) × (after ≡ before ++ l ∷ []) × IsNewLane state old v (segments_of config k) l
+      × (logger_of l ≡ k) × TakesPasses old new v (k ∷ [])
 
   -- lanes of volume v went out, one for each of these loggers, in order
-  pub record TakesLanes (state : D → State) (config : Config) (old new : Rest D) (v : ℕ) (loggers : List ℕ) (lanes : List (Lane D)) : Type 0 where
+  pub record TakesLanes (state : D → State) (config : Config) (old new : Rest D) (v : ℕ)
+      (loggers : List ℕ) (lanes : List (Lane D)) : Type 0 where
     pub loggers_are : map logger_of lanes ≡ loggers
     pub each : All (λ l. IsNewLane state old v (segments_of config (logger_of l)) l) lanes
     pub passes : TakesPasses old new v loggers
 
   -- an owned segment of volume v, as it stood in its place
-  pub record IsTakenOf (config : Config) (r : Rest D) (said : List (Option Said)) (v : ℕ) (o : OwnedPart D) : Type 0 where
+  pub record IsTakenOf (config : Config) (r : Rest D) (said : List (Option Said)) (v : ℕ)
+      (o : OwnedPart D) : Type 0 where
     pub here : segment_in r o.logger o.index ≡ Some o.part
     pub saying : Said
     pub said_is : slice_get said o.logger ≡ Some (Some saying)
     pub head : slice_get saying.heads.items o.index ≡ Some (Owned v)
-    pub first : (s : Shape) → slice_get (shapes_of config) o.logger ≡ Some s → o.first_block ≡ head_place s o.index
+    pub first : (s : Shape) → slice_get (shapes_of config) o.logger ≡ Some s
+        → o.first_block ≡ head_place s o.index
 
   -- each segment with the owner v is in its place
   abbrev pub AreOwnersHere : ImageRest D → (v : ℕ) → List SegHead → Type 0
   AreOwnersHere r v heads = (i : ℕ) → slice_get heads i ≡ Some (Owned v) → IsSome (segment_here r i)
 
   -- the segment of index i went behind these of volume k, where it does
-  abbrev pub TakesOne : Shape → (k : ℕ) → (taken : Bool) → (old new : ImageRest D) → (i : ℕ) → (before after : List (OwnedPart D)) → Type 0
+  abbrev pub TakesOne : Shape → (k : ℕ) → (taken : Bool) → (old new : ImageRest D) → (i : ℕ)
+      → (before after : List (OwnedPart D)) → Type 0
   TakesOne s k false old new i before after = (new ≡ old) × (after ≡ before)
-  TakesOne s k true old new i before after = (o : OwnedPart D) × (after ≡ before ++ o ∷ []) × (place_of o ≡ (k, i)) × (o.first_block ≡ head_place s i) × (segment_here old i ≡ Some o.part)
+  TakesOne s k true old new i before after =
+      (o : OwnedPart D) × (after ≡ before ++ o ∷ []) × (place_of o ≡ (k, i))
+      × (o.first_block ≡ head_place s i) × (segment_here old i ≡ Some o.part)
       × IsSameBut old new × (new.segments.items ≡ slice_set old.segments.items i None)
 
   -- the segments with the owner v went out of the image of volume k, by rising index
-  pub record TakesOwners (s : Shape) (old new : ImageRest D) (v k : ℕ) (heads : List SegHead) (os : List (OwnedPart D)) : Type 0 where
+  pub record TakesOwners (s : Shape) (old new : ImageRest D) (v k : ℕ) (heads : List SegHead)
+      (os : List (OwnedPart D)) : Type 0 where
     pub same : IsSameBut old new
     pub in_order : AreInOrder (map place_of os)
     pub loggers : All (λ (o : OwnedPart D). o.logger ≡ k) os
-    pub each : All (λ (o : OwnedPart D). (slice_get heads o.index ≡ Some (Owned v)) × (segment_here old o.index ≡ Some o.part)) os
+    pub each : All (λ (o : OwnedPart D).
+        (slice_get heads o.index ≡ Some (Owned v)) × (segment_here old o.index ≡ Some o.part))
+        os
     pub first : All (λ (o : OwnedPart D). o.first_block ≡ head_place s o.index) os
     pub all : (i : ℕ) → slice_get heads i ≡ Some (Owned v) → Contains (map place_of os) (k, i)
     pub gone : (i : ℕ) → slice_get heads i ≡ Some (Owned v) → segment_here new i ≡ None
-    pub others : (i : ℕ) → slice_get heads i ≢ Some (Owned v) → segment_here new i ≡ segment_here old i
+    pub others : (i : ℕ) → slice_get heads i ≢ Some (Owned v)
+        → segment_here new i ≡ segment_here old i
 
-  -- where the image of volume k says something it is out, and its segments with the owner v are in their places
+  -- where the image of volume k says something it is out, and its segments with the owner v are in
+  -- their places
   abbrev pub CanTakeOwnedOf : Rest D → (v k : ℕ) → Option Said → Type 0
   CanTakeOwnedOf r v k None = ⊤
-  CanTakeOwnedOf r v k (Some said) = (image : ImageRest D) × (image_here r.images.items k ≡ Some image) × (length said.heads.items ≡ length image.segments.items)
+  CanTakeOwnedOf r v k (Some said) = (image : ImageRest D)
+      × (image_here r.images.items k ≡ Some image)
+      × (length said.heads.items ≡ length image.segments.items)
       × (length said.heads.items ≤ 1024) × AreOwnersHere image v said.heads.items
 
   -- the owned segments of volume v in the image of volume k went out
-  pub record TakesOwnedIn (config : Config) (old new : Rest D) (v k : ℕ) (said : Said) (os : List (OwnedPart D)) : Type 0 where
+  pub record TakesOwnedIn (config : Config) (old new : Rest D) (v k : ℕ) (said : Said)
+      (os : List (OwnedPart D)) : Type 0 where
     pub passes : new.passes ≡ old.passes
     pub rooms : new.rooms ≡ old.rooms
     pub count : length new.images.items ≡ length old.images.items
@@ -545,30 +611,38 @@ module _ {D : Type 0} where
     pub shape_is : slice_get (shapes_of config) k ≡ Some shape
     pub takes : TakesOwners shape before after v k said.heads.items os
 
-  abbrev pub TakesOwnedOf : Config → (old new : Rest D) → (v k : ℕ) → Option Said → List (OwnedPart D) → Type 0
+  abbrev pub TakesOwnedOf : Config → (old new : Rest D) → (v k : ℕ) → Option Said
+      → List (OwnedPart D) → Type 0
   TakesOwnedOf config old new v k None os = (new ≡ old) × (os ≡ [])
   TakesOwnedOf config old new v k (Some said) os = TakesOwnedIn config old new v k said os
 
   -- all owned segments of volume v went out, by rising logger and index
-  pub record TakesOwned (config : Config) (old new : Rest D) (said : List (Option Said)) (v : ℕ) (os : List (OwnedPart D)) : Type 0 where
+  pub record TakesOwned (config : Config) (old new : Rest D) (said : List (Option Said)) (v : ℕ)
+      (os : List (OwnedPart D)) : Type 0 where
     pub passes : new.passes ≡ old.passes
     pub rooms : new.rooms ≡ old.rooms
     pub count : length new.images.items ≡ length old.images.items
-    pub images : (k : ℕ) → KeepsImage (image_here old.images.items k) (image_here new.images.items k)
+    pub images : (k : ℕ)
+        → KeepsImage (image_here old.images.items k) (image_here new.images.items k)
     pub in_order : AreInOrder (map place_of os)
     pub each : All (IsTakenOf config old said v) os
     pub all : (k i : ℕ) → IsOwnedPlace said v k i → Contains (map place_of os) (k, i)
     pub gone : (k i : ℕ) → Contains (map place_of os) (k, i) → segment_in new k i ≡ None
-    pub others : (k i : ℕ) → (Contains (map place_of os) (k, i) → ⊥) → segment_in new k i ≡ segment_in old k i
+    pub others : (k i : ℕ) → (Contains (map place_of os) (k, i) → ⊥)
+        → segment_in new k i ≡ segment_in old k i
 
-  -- an image is out exactly where it says something, and each segment with an owner v is in its place
+  -- an image is out exactly where it says something, and each segment with an owner v is in its
+  -- place
   pub record AreOwnedHere (r : Rest D) (said : List (Option Said)) (v : ℕ) : Type 0 where
     pub count : length said ≡ length r.images.items
-    pub out : (k : ℕ) (s : Said) → slice_get said k ≡ Some (Some s) → (image : ImageRest D) × (image_here r.images.items k ≡ Some image) × (length s.heads.items ≡ length image.segments.items) × (length s.heads.items ≤ 1024)
+    pub out : (k : ℕ) (s : Said) → slice_get said k ≡ Some (Some s)
+        → (image : ImageRest D) × (image_here r.images.items k ≡ Some image)
+        × (length s.heads.items ≡ length image.segments.items) × (length s.heads.items ≤ 1024)
     pub here : (k i : ℕ) → IsOwnedPlace said v k i → IsSome (segment_in r k i)
 
   -- what volume v may be opened of is here
-  pub record CanTake (config : Config) (r : Rest D) (said : List (Option Said)) (v : ℕ) (view : List ℕ) : Type 0 where
+  pub record CanTake (config : Config) (r : Rest D) (said : List (Option Said)) (v : ℕ)
+      (view : List ℕ) : Type 0 where
     pub images : length r.images.items ≡ length (shapes_of config)
     pub own : HasPlace r v v
     pub image : ImageRest D
@@ -580,7 +654,8 @@ module _ {D : Type 0} where
     pub owned : AreOwnedHere r said v
 
   -- the opening of volume v was taken out, by way of these rests
-  pub record TakesOpening (state : D → State) (config : Config) (old new : Rest D) (said : List (Option Said)) (v : ℕ) (view : List ℕ) (o : Opening D) : Type 0 where
+  pub record TakesOpening (state : D → State) (config : Config) (old new : Rest D)
+      (said : List (Option Said)) (v : ℕ) (view : List ℕ) (o : Opening D) : Type 0 where
     pub id : o.want.id ≡ v
     pub shape : slice_get (shapes_of config) v ≡ Some (shape_of o.want)
     pub label : o.label ≡ o.want
@@ -593,6 +668,7 @@ module _ {D : Type 0} where
     pub lanes : TakesLanes state config old without_lanes v (loggers_out old view) o.lanes.items
     pub without_owned : Rest D
     pub owned : TakesOwned config without_lanes without_owned said v o.owned.items
-    pub home_was : (image : ImageRest D) → image_here old.images.items v ≡ Some image → image.home ≡ Some o.home
+    pub home_was : (image : ImageRest D) → image_here old.images.items v ≡ Some image
+        → image.home ≡ Some o.home
     pub spindle_was : spindle_pass old v v ≡ Some o.spindle
     pub home : ChangesHome without_owned new v None None

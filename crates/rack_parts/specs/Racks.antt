@@ -33,10 +33,13 @@ use Rattle.wol_config.specs.Configs.{most_of}
 abbrev pub base_of_station : {D : Type 0} → Station D → ManagerBase
 base_of_station s = (lock_id s.lock).base
 
--- a manager of a volume whose image is out, over the locks of these shared ones and its own passes of them
-pub record IsOpenBase {D : Type 0} (config : Config) (shared : Shared D) (images : List (Rattle.std.specs.Prelude.Option (ImageRest D))) (b : ManagerBase) : Type 0 where
+-- a manager of a volume whose image is out, over the locks of these shared ones and its own passes
+-- of them
+pub record IsOpenBase {D : Type 0} (config : Config) (shared : Shared D)
+    (images : List (Rattle.std.specs.Prelude.Option (ImageRest D))) (b : ManagerBase) : Type 0 where
   pub out : IsImageOut images b.volume.began.owner
-  pub home_blocks : (s : Shape) → slice_get (shapes_of config) b.volume.began.owner ≡ Some s → b.volume.began.home_blocks ≡ s.home
+  pub home_blocks : (s : Shape) → slice_get (shapes_of config) b.volume.began.owner ≡ Some s
+      → b.volume.began.home_blocks ≡ s.home
   pub at : IsShared shared b
   pub loggers : map (λ (l : LaneBase). l.logger) b.lanes ≡ b.volume.began.view
   pub loggers_out : AllByRecursion (IsImageOut images) b.volume.began.view
@@ -45,7 +48,9 @@ pub record IsOpenBase {D : Type 0} (config : Config) (shared : Shared D) (images
   pub apart : AllPairs (λ j k. j ≢ k) b.volume.began.view
   pub most : b.volume.began.most ≡ most_of config
   pub own_spindle : b.spindle_number ≡ b.volume.began.owner
-  pub own_lanes : AllByRecursion (λ (l : LaneBase). (l.pool_number ≡ b.volume.began.owner) × (l.spindle_number ≡ b.volume.began.owner)) b.lanes
+  pub own_lanes : AllByRecursion (λ (l : LaneBase).
+      (l.pool_number ≡ b.volume.began.owner) × (l.spindle_number ≡ b.volume.began.owner))
+      b.lanes
   -- no pass had taken a segment by then
   pub untaken : AllByRecursion (λ (l : LaneBase). l.takes ≡ 0) b.lanes
 
@@ -62,15 +67,20 @@ abbrev pub AreRising : List ℕ → Type 0
 AreRising ns = (i j n m : ℕ) → i < j → slice_get ns i ≡ Some n → slice_get ns j ≡ Some m → n < m
 
 -- a keeper's pass of each spindle's lock, in no turn
-abbrev pub AreKeepers : {D : Type 0} → Config → Shared D → List (PassOf Spindle SpindleBase) → Type 0
+abbrev pub AreKeepers : {D : Type 0} → Config → Shared D → List (PassOf Spindle SpindleBase)
+    → Type 0
 AreKeepers config shared keepers =
     (length keepers ≡ length (shapes_of config))
-    × ((k : ℕ) (l : TurnLock Spindle SpindleBase) (p : PassOf Spindle SpindleBase) → slice_get shared.spindles.items k ≡ Some l → slice_get keepers k ≡ Some p → IsPassAt l (length (shapes_of config)) p)
+    × ((k : ℕ) (l : TurnLock Spindle SpindleBase) (p : PassOf Spindle SpindleBase)
+    → slice_get shared.spindles.items k ≡ Some l → slice_get keepers k ≡ Some p
+    → IsPassAt l (length (shapes_of config)) p)
 
 -- the names of the images that are out are out with the sizes of their parts, and the others aren't
-abbrev pub AreOut : {D : Type 0} → Config → List (Rattle.std.specs.Prelude.Option (ImageRest D)) → BayState → Type 0
+abbrev pub AreOut : {D : Type 0} → Config → List (Rattle.std.specs.Prelude.Option (ImageRest D))
+    → BayState → Type 0
 AreOut config images b = (k : ℕ) (v : VolumeConf) → slice_get config.volumes.items k ≡ Some v
-    → (IsImageOut images k → IsOut v.name (part_sizes (shape_in config v)) b) × (image_here images k ≡ None → IsHome v.name b)
+    → (IsImageOut images k → IsOut v.name (part_sizes (shape_in config v)) b)
+    × (image_here images k ≡ None → IsHome v.name b)
 
 -- a pass that was not used yet
 pub record IsUnused {T B : Type 0} (p : PassOf T B) : Type 0 where
@@ -79,18 +89,24 @@ pub record IsUnused {T B : Type 0} (p : PassOf T B) : Type 0 where
 
 -- no pass of these stations was used yet
 abbrev pub AreUnused : {D : Type 0} → List (Station D) → Type 0
-AreUnused {D} stations = All (λ (s : Station D). IsUnused s.worker × IsUnused s.helper × IsUnused s.keeper) stations
+AreUnused {D} stations =
+    All (λ (s : Station D). IsUnused s.worker × IsUnused s.helper × IsUnused s.keeper) stations
 
--- All that closing needs: each lock, station and pass is there, each pass in no turn, and each part is in one place.
-pub record IsClosable {D : Type 0} (state : D → State) (config : Config) (b : BayState) (r : Rack D) : Type 0 where
+-- All that closing needs: each lock, station and pass is there, each pass in no turn, and each part
+-- is in one place.
+pub record IsClosable {D : Type 0} (state : D → State) (config : Config) (b : BayState)
+    (r : Rack D) : Type 0 where
   pub out : AreOut config r.rest.images.items b
   pub locks : AreLocks config r.shared
   pub keepers : AreKeepers config r.shared r.keepers.items
   pub stations : All (λ s. IsStation s) r.stations.items
   pub rising : AreRising (map (λ (s : Station D). s.id) r.stations.items)
-  pub bases : All (λ s. IsOpenBase config r.shared r.rest.images.items (base_of_station s)) r.stations.items
-  pub rest : IsRest state config r.shared (map (λ (s : Station D). base_of_station s) r.stations.items) r.rest
-  pub foreign : AreForeign state (map (λ (s : Station D). base_of_station s) r.stations.items) r.rest
+  pub bases : All (λ s. IsOpenBase config r.shared r.rest.images.items (base_of_station s))
+      r.stations.items
+  pub rest : IsRest state config r.shared
+      (map (λ (s : Station D). base_of_station s) r.stations.items) r.rest
+  pub foreign :
+      AreForeign state (map (λ (s : Station D). base_of_station s) r.stations.items) r.rest
   pub accesses : OnlyAccess r.rest
 
 -- the volumes that a fault names are among so many; no volume is refused for want of memory
@@ -103,30 +119,40 @@ NamesVolumes n (Refused LabelDiffers) = ⊤
 NamesVolumes n (Refused (LoggerMissing id)) = ⊤
 NamesVolumes n (Refused (OutsideView logger segment)) = logger < n
 NamesVolumes n (Refused (Damaged volume block)) = volume < n
-NamesVolumes n (Refused (Twins first_volume first second_volume second)) = (first_volume < n) × (second_volume < n)
+NamesVolumes n (Refused (Twins first_volume first second_volume second)) =
+    (first_volume < n) × (second_volume < n)
 NamesVolumes n (Refused (DiskFault (Home volume))) = ⊤
 NamesVolumes n (Refused (DiskFault (Segment volume index))) = volume < n
 NamesVolumes n (Refused NoMemory) = ⊥
 
--- Which disks the volumes used, where these are their views: the pass of a volume at another's spindle was used only if its view names
--- that volume. A station's view is the one that it was opened with.
+-- Which disks the volumes used, where these are their views: the pass of a volume at another's
+-- spindle was used only if its view names that volume. A station's view is the one that it was
+-- opened with.
 pub record KeepToViews {D : Type 0} (views : ℕ → List ℕ) (r : Rack D) : Type 0 where
   pub opened : All (λ s. views s.id ≡ (base_of_station s).volume.began.view) r.stations.items
-  pub unused : (v k : ℕ) (p : PassOf Spindle SpindleBase) → v ≢ k → (Contains (views v) k → ⊥) → spindle_pass r.rest v k ≡ Some p → pass_mine p ≡ []
+  pub unused : (v k : ℕ) (p : PassOf Spindle SpindleBase) → v ≢ k → (Contains (views v) k → ⊥)
+      → spindle_pass r.rest v k ≡ Some p → pass_mine p ≡ []
 
 -- The rack is whole: it may be closed, and a volume has a station exactly where it has no fault.
-pub record IsRack {D : Type 0} (state : D → State) (config : Config) (b : BayState) (r : Rack D) : Type 0 where
+pub record IsRack {D : Type 0} (state : D → State) (config : Config) (b : BayState) (r : Rack D) :
+    Type 0 where
   pub out : AreOut config r.rest.images.items b
   pub locks : AreLocks config r.shared
   pub keepers : AreKeepers config r.shared r.keepers.items
   pub stations : All (λ s. IsStation s) r.stations.items
   pub rising : AreRising (map (λ (s : Station D). s.id) r.stations.items)
-  pub bases : All (λ s. IsOpenBase config r.shared r.rest.images.items (base_of_station s)) r.stations.items
+  pub bases : All (λ s. IsOpenBase config r.shared r.rest.images.items (base_of_station s))
+      r.stations.items
   pub fault_count : length r.faults.items ≡ length (shapes_of config)
-  pub faults : (k : ℕ) → k < length (shapes_of config) → (slice_index_or r.faults.items k None ≡ None) ↔ Contains (map (λ (s : Station D). s.id) r.stations.items) k
-  pub known : (k : ℕ) (f : VolumeFault) → slice_get r.faults.items k ≡ Some (Some f) → NamesVolumes (length (shapes_of config)) f
-  pub rest : IsRest state config r.shared (map (λ (s : Station D). base_of_station s) r.stations.items) r.rest
-  pub foreign : AreForeign state (map (λ (s : Station D). base_of_station s) r.stations.items) r.rest
+  pub faults : (k : ℕ) → k < length (shapes_of config)
+      → (slice_index_or r.faults.items k None ≡ None)
+      ↔ Contains (map (λ (s : Station D). s.id) r.stations.items) k
+  pub known : (k : ℕ) (f : VolumeFault) → slice_get r.faults.items k ≡ Some (Some f)
+      → NamesVolumes (length (shapes_of config)) f
+  pub rest : IsRest state config r.shared
+      (map (λ (s : Station D). base_of_station s) r.stations.items) r.rest
+  pub foreign :
+      AreForeign state (map (λ (s : Station D). base_of_station s) r.stations.items) r.rest
   pub accesses : OnlyAccess r.rest
   -- a volume used the disks of its own image and of its view alone
   pub users : (views : ℕ → List ℕ) × KeepToViews views r

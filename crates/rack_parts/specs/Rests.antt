@@ -58,20 +58,24 @@ module _ {D : Type 0} where
 
   -- the pass of volume v at the pool of volume k, where it is here
   abbrev pub pool_pass : Rest D → (v k : ℕ) → Option (PassOf (Pool (FreeSegment D)) PoolBase)
-  pool_pass r v k = option_and_then (λ p. slice_index_or p.pools.items k None) (slice_get r.passes.items v)
+  pool_pass r v k =
+      option_and_then (λ p. slice_index_or p.pools.items k None) (slice_get r.passes.items v)
 
   -- the same at the spindle of volume k
   abbrev pub spindle_pass : Rest D → (v k : ℕ) → Option (PassOf Spindle SpindleBase)
-  spindle_pass r v k = option_and_then (λ p. slice_index_or p.spindles.items k None) (slice_get r.passes.items v)
+  spindle_pass r v k =
+      option_and_then (λ p. slice_index_or p.spindles.items k None) (slice_get r.passes.items v)
 
   -- the list of a row at this place, or an empty one
   abbrev pub list_of : Option (Vec (ℕ × Spun D) Global) → List (ℕ × Spun D)
   list_of None = []
   list_of (Some list) = list.items
 
-  -- the segments of volume k that a lane of volume v had, with their indexes, where the lane came back
+  -- the segments of volume k that a lane of volume v had, with their indexes, where the lane came
+  -- back
   abbrev pub held_here : Rest D → (v k : ℕ) → List (ℕ × Spun D)
-  held_here r v k = list_of (option_and_then (λ p. slice_get p.held.items k) (slice_get r.passes.items v))
+  held_here r v k =
+      list_of (option_and_then (λ p. slice_get p.held.items k) (slice_get r.passes.items v))
 
   -- their indexes
   abbrev pub indexes_here : Rest D → (v k : ℕ) → List ℕ
@@ -79,7 +83,8 @@ module _ {D : Type 0} where
 
 -- segment i of volume k is here, in its place or in a lane's list
 abbrev pub IsSegmentHere : {D : Type 0} → Rest D → (k i : ℕ) → Spun D → Type 0
-IsSegmentHere {D} r k i p = ((image : ImageRest D) × (image_here r.images.items k ≡ Some image) × (segment_here image i ≡ Some p)) ⊎ ((v : ℕ) × Contains (held_here r v k) (i, p))
+IsSegmentHere {D} r k i p = ((image : ImageRest D) × (image_here r.images.items k ≡ Some image)
+    × (segment_here image i ≡ Some p)) ⊎ ((v : ℕ) × Contains (held_here r v k) (i, p))
 
 -- What is away from a rest.
 pub record Away : Type 0 where
@@ -92,17 +97,23 @@ pub record Away : Type 0 where
 
 -- what the managers with these bases have
 abbrev pub away_with : List ManagerBase → Away
-away_with bases = record { homes = map (λ (b : ManagerBase). b.volume.began.owner) bases; lanes = flat_map lanes_of bases; owed = [] }
+away_with bases = record {
+  homes = map (λ (b : ManagerBase). b.volume.began.owner) bases;
+  lanes = flat_map lanes_of bases;
+  owed = [];
+}
   where
     lanes_of : ManagerBase → List (ℕ × ℕ)
     lanes_of b = map (λ k. (b.volume.began.owner, k)) b.volume.began.view
 
 -- the names that are out for the images which are, in order, with the sizes of their parts
-abbrev pub out_names : {D : Type 0} → Config → List VolumeConf → List (Option (ImageRest D)) → List (Name × List ℕ)
+abbrev pub out_names : {D : Type 0} → Config → List VolumeConf → List (Option (ImageRest D))
+    → List (Name × List ℕ)
 out_names config [] images = []
 out_names config (v ∷ vs) [] = []
 out_names config (v ∷ vs) (None ∷ images) = out_names config vs images
-out_names config (v ∷ vs) (Some i ∷ images) = (v.name, part_sizes (shape_in config v)) ∷ out_names config vs images
+out_names config (v ∷ vs) (Some i ∷ images) =
+    (v.name, part_sizes (shape_in config v)) ∷ out_names config vs images
 
 -- ---- The parts
 
@@ -112,17 +123,22 @@ pub record IsPart {D : Type 0} (state : D → State) (k size : ℕ) (p : Spun D)
   pub sized : (state_of state p).size ≡ size
 
 -- the parts that are here of the image of volume k, and the room for all of them
-pub record IsImageRest {D : Type 0} (state : D → State) (k : ℕ) (s : Shape) (r : ImageRest D) : Type 0 where
+pub record IsImageRest {D : Type 0} (state : D → State) (k : ℕ) (s : Shape) (r : ImageRest D) :
+    Type 0 where
   pub label : IsPart state k 2 r.label
   pub home : IfSome r.home (IsPart state k s.home)
   pub count : length r.segments.items ≡ s.segments
-  pub segments : (i : ℕ) (p : Spun D) → segment_here r i ≡ Some p → IsPart state k s.segment_blocks p
+  pub segments : (i : ℕ) (p : Spun D) → segment_here r i ≡ Some p
+      → IsPart state k s.segment_blocks p
   pub row : (r.row.items ≡ []) × (s.segments ≤ vec_capacity r.row)
   pub room : (r.room.items ≡ []) × (2 + s.segments ≤ vec_capacity r.room)
 
-abbrev pub AreImageRests : {D : Type 0} → (D → State) → Config → List (Option (ImageRest D)) → Type 0
+abbrev pub AreImageRests : {D : Type 0} → (D → State) → Config → List (Option (ImageRest D))
+    → Type 0
 AreImageRests {D} state config images =
-    (length images ≡ length (shapes_of config)) × ((k : ℕ) (s : Shape) (r : ImageRest D) → slice_get (shapes_of config) k ≡ Some s → image_here images k ≡ Some r → IsImageRest state k s r)
+    (length images ≡ length (shapes_of config))
+    × ((k : ℕ) (s : Shape) (r : ImageRest D) → slice_get (shapes_of config) k ≡ Some s
+    → image_here images k ≡ Some r → IsImageRest state k s r)
 
 -- ---- The locks
 
@@ -133,7 +149,8 @@ pub record IsPassAt {T B : Type 0} (l : TurnLock T B) (number : ℕ) (p : PassOf
   pub number_is : pass_number p ≡ number
 
 -- the lock of the pool of volume k among so many: a pass for each volume
-pub record IsPoolLock {D : Type 0} (volumes k : ℕ) (s : Shape) (l : TurnLock (Pool (FreeSegment D)) PoolBase) : Type 0 where
+pub record IsPoolLock {D : Type 0} (volumes k : ℕ) (s : Shape)
+    (l : TurnLock (Pool (FreeSegment D)) PoolBase) : Type 0 where
   pub passes : lock_passes l ≡ volumes
   pub volume : (lock_id l).base.volume ≡ k
   pub blocks : (lock_id l).base.blocks ≡ s.segment_blocks
@@ -149,9 +166,12 @@ pub record IsSpindleLock (volumes k timeout : ℕ) (l : TurnLock Spindle Spindle
 pub record AreLocks {D : Type 0} (config : Config) (shared : Shared D) : Type 0 where
   pub pool_count : length shared.pools.items ≡ length (shapes_of config)
   pub spindle_count : length shared.spindles.items ≡ length (shapes_of config)
-  pub pools : (k : ℕ) (s : Shape) (l : TurnLock (Pool (FreeSegment D)) PoolBase) → slice_get (shapes_of config) k ≡ Some s → slice_get shared.pools.items k ≡ Some l
+  pub pools : (k : ℕ) (s : Shape) (l : TurnLock (Pool (FreeSegment D)) PoolBase)
+      → slice_get (shapes_of config) k ≡ Some s → slice_get shared.pools.items k ≡ Some l
       → IsPoolLock (length (shapes_of config)) k s l
-  pub spindles : (k : ℕ) (l : TurnLock Spindle SpindleBase) → slice_get shared.spindles.items k ≡ Some l → IsSpindleLock (length (shapes_of config)) k config.timeout l
+  pub spindles : (k : ℕ) (l : TurnLock Spindle SpindleBase)
+      → slice_get shared.spindles.items k ≡ Some l
+      → IsSpindleLock (length (shapes_of config)) k config.timeout l
 
 -- ---- The passes
 
@@ -161,51 +181,69 @@ pub record IsRow {D : Type 0} (volumes : ℕ) (p : VolumePasses D) : Type 0 wher
   pub spindles : length p.spindles.items ≡ volumes
   pub held : length p.held.items ≡ volumes
 
--- Each volume's pass at each pool is here but where its lane is away; it has the number of its volume.
+-- Each volume's pass at each pool is here but where its lane is away; it has the number of its
+-- volume.
 pub record ArePoolPasses {D : Type 0} (shared : Shared D) (away : Away) (r : Rest D) : Type 0 where
-  pub here : (v k : ℕ) → v < length r.passes.items → k < length shared.pools.items → IsSome (pool_pass r v k) ↔ (Contains away.lanes (v, k) → ⊥)
-  pub each : (v k : ℕ) (l : TurnLock (Pool (FreeSegment D)) PoolBase) (p : PassOf (Pool (FreeSegment D)) PoolBase) → slice_get shared.pools.items k ≡ Some l → pool_pass r v k ≡ Some p
+  pub here : (v k : ℕ) → v < length r.passes.items → k < length shared.pools.items
+      → IsSome (pool_pass r v k) ↔ (Contains away.lanes (v, k) → ⊥)
+  pub each : (v k : ℕ) (l : TurnLock (Pool (FreeSegment D)) PoolBase)
+      (p : PassOf (Pool (FreeSegment D)) PoolBase) → slice_get shared.pools.items k ≡ Some l
+      → pool_pass r v k ≡ Some p
       → IsPassAt l v p
 
 -- The same at the spindles; of its own a volume's manager uses its home. No token is out.
-pub record AreSpindlePasses {D : Type 0} (shared : Shared D) (away : Away) (r : Rest D) : Type 0 where
-  pub here : (v k : ℕ) → v < length r.passes.items → k < length shared.spindles.items → IsSome (spindle_pass r v k) ↔ ((Contains away.lanes (v, k) ⊎ ((v ≡ k) × Contains away.homes v)) → ⊥)
-  pub each : (v k : ℕ) (l : TurnLock Spindle SpindleBase) (p : PassOf Spindle SpindleBase) → slice_get shared.spindles.items k ≡ Some l → spindle_pass r v k ≡ Some p
+pub record AreSpindlePasses {D : Type 0} (shared : Shared D) (away : Away) (r : Rest D) :
+    Type 0 where
+  pub here : (v k : ℕ) → v < length r.passes.items → k < length shared.spindles.items
+      → IsSome (spindle_pass r v k)
+      ↔ ((Contains away.lanes (v, k) ⊎ ((v ≡ k) × Contains away.homes v)) → ⊥)
+  pub each : (v k : ℕ) (l : TurnLock Spindle SpindleBase) (p : PassOf Spindle SpindleBase)
+      → slice_get shared.spindles.items k ≡ Some l → spindle_pass r v k ≡ Some p
       → IsPassAt l v p
-  pub settled : (v k : ℕ) (p : PassOf Spindle SpindleBase) → spindle_pass r v k ≡ Some p → has_token (pass_mine p) ≡ false
+  pub settled : (v k : ℕ) (p : PassOf Spindle SpindleBase) → spindle_pass r v k ≡ Some p
+      → has_token (pass_mine p) ≡ false
 
 -- the passes of spindles made accesses only
 abbrev pub OnlyAccess : {D : Type 0} → Rest D → Type 0
-OnlyAccess r = (v k : ℕ) (p : PassOf Spindle SpindleBase) → spindle_pass r v k ≡ Some p → AreAccesses (pass_mine p)
+OnlyAccess r = (v k : ℕ) (p : PassOf Spindle SpindleBase) → spindle_pass r v k ≡ Some p
+    → AreAccesses (pass_mine p)
 
 -- ---- The segments: each is in one place
 
 -- the pass of volume v is here and holds segment i of volume k
 abbrev pub IsHolding : {D : Type 0} → Rest D → (v k i : ℕ) → Type 0
-IsHolding {D} r v k i = (p : PassOf (Pool (FreeSegment D)) PoolBase) × (pool_pass r v k ≡ Some p) × (holds (pass_lock p).base (pass_number p) (pass_mine p) i ≡ true)
+IsHolding {D} r v k i = (p : PassOf (Pool (FreeSegment D)) PoolBase) × (pool_pass r v k ≡ Some p)
+    × (holds (pass_lock p).base (pass_number p) (pass_mine p) i ≡ true)
 
 -- a pass that is here holds segment i of volume k, and no lane had it
 abbrev pub IsHeldHere : {D : Type 0} → Rest D → (k i : ℕ) → Type 0
 IsHeldHere r k i = (v : ℕ) × IsHolding r v k i × (Contains (indexes_here r v k) i → ⊥)
 
 -- the segments that came back with a lane: each once, and its pass is here and holds it
-pub record AreHandedBack {D : Type 0} (state : D → State) (config : Config) (r : Rest D) : Type 0 where
+pub record AreHandedBack {D : Type 0} (state : D → State) (config : Config) (r : Rest D) :
+    Type 0 where
   pub held : (v k i : ℕ) → Contains (indexes_here r v k) i → IsHolding r v k i
   pub once : (v k : ℕ) → AreApart (indexes_here r v k)
-  pub parts : (v k : ℕ) (s : Shape) → slice_get (shapes_of config) k ≡ Some s → All (λ (h : ℕ × Spun D). IsPart state k s.segment_blocks h.1) (held_here r v k)
+  pub parts : (v k : ℕ) (s : Shape) → slice_get (shapes_of config) k ≡ Some s
+      → All (λ (h : ℕ × Spun D). IsPart state k s.segment_blocks h.1) (held_here r v k)
   pub out : (v k : ℕ) → image_here r.images.items k ≡ None → held_here r v k ≡ []
 
--- Each segment of an image that is out is a pass's or free from the beginning. It is in its place here exactly where a pass that is
--- here holds it, but where it is owed or a lane had it.
+-- Each segment of an image that is out is a pass's or free from the beginning. It is in its place
+-- here exactly where a pass that is here holds it, but where it is owed or a lane had it.
 pub record ArePlaced {D : Type 0} (shared : Shared D) (away : Away) (r : Rest D) : Type 0 where
-  pub known : (k i : ℕ) (l : TurnLock (Pool (FreeSegment D)) PoolBase) (image : ImageRest D) → slice_get shared.pools.items k ≡ Some l → image_here r.images.items k ≡ Some image
+  pub known : (k i : ℕ) (l : TurnLock (Pool (FreeSegment D)) PoolBase) (image : ImageRest D)
+      → slice_get shared.pools.items k ≡ Some l → image_here r.images.items k ≡ Some image
       → i < length image.segments.items → holder (lock_id l).base.holders i ≢ Elsewhere
   -- and who holds one is a pass of the lock
-  pub known_passes : (k i n : ℕ) (l : TurnLock (Pool (FreeSegment D)) PoolBase) → slice_get shared.pools.items k ≡ Some l → holder (lock_id l).base.holders i ≡ HeldBy n → n < lock_passes l
-  pub here : (k i : ℕ) (image : ImageRest D) → image_here r.images.items k ≡ Some image → i < length image.segments.items
+  pub known_passes : (k i n : ℕ) (l : TurnLock (Pool (FreeSegment D)) PoolBase)
+      → slice_get shared.pools.items k ≡ Some l → holder (lock_id l).base.holders i ≡ HeldBy n
+      → n < lock_passes l
+  pub here : (k i : ℕ) (image : ImageRest D) → image_here r.images.items k ≡ Some image
+      → i < length image.segments.items
       → IsSome (segment_here image i) ↔ (IsHeldHere r k i × (Contains away.owed (k, i) → ⊥))
   -- no segment of another volume is known
-  pub others : (k i : ℕ) (l : TurnLock (Pool (FreeSegment D)) PoolBase) → slice_get shared.pools.items k ≡ Some l → image_here r.images.items k ≡ None
+  pub others : (k i : ℕ) (l : TurnLock (Pool (FreeSegment D)) PoolBase)
+      → slice_get shared.pools.items k ≡ Some l → image_here r.images.items k ≡ None
       → holder (lock_id l).base.holders i ≡ Elsewhere
 
 -- ---- The whole
@@ -215,15 +253,18 @@ pub record AreRooms {D : Type 0} (volumes stations : ℕ) (rooms : Rooms D) : Ty
   pub pool_count : length rooms.pools.items ≡ volumes
   pub pools : All (λ row. (row.items ≡ []) × (volumes ≤ vec_capacity row)) rooms.pools.items
   pub spindle_count : length rooms.spindles.items ≡ volumes
-  pub spindles : All (λ row. (row.items ≡ []) × (volumes + 1 ≤ vec_capacity row)) rooms.spindles.items
+  pub spindles :
+      All (λ row. (row.items ≡ []) × (volumes + 1 ≤ vec_capacity row)) rooms.spindles.items
   pub manager_count : length rooms.managers.items ≡ stations
   pub managers : All (λ row. (row.items ≡ []) × (3 ≤ vec_capacity row)) rooms.managers.items
   pub closed : (rooms.closed.items ≡ []) × (volumes ≤ vec_capacity rooms.closed)
 
 -- What is here where this is away. Home is here exactly where it isn't away.
-pub record IsRestBut {D : Type 0} (state : D → State) (config : Config) (shared : Shared D) (away : Away) (r : Rest D) : Type 0 where
+pub record IsRestBut {D : Type 0} (state : D → State) (config : Config) (shared : Shared D)
+    (away : Away) (r : Rest D) : Type 0 where
   pub images : AreImageRests state config r.images.items
-  pub homes : (k : ℕ) (image : ImageRest D) → image_here r.images.items k ≡ Some image → IsSome image.home ↔ (Contains away.homes k → ⊥)
+  pub homes : (k : ℕ) (image : ImageRest D) → image_here r.images.items k ≡ Some image
+      → IsSome image.home ↔ (Contains away.homes k → ⊥)
   pub count : length r.passes.items ≡ length (shapes_of config)
   pub rows : All (λ p. IsRow (length (shapes_of config)) p) r.passes.items
   pub pools : ArePoolPasses shared away r
@@ -232,6 +273,7 @@ pub record IsRestBut {D : Type 0} (state : D → State) (config : Config) (share
   pub placed : ArePlaced shared away r
 
 -- What is here where volumes have managers with these bases.
-pub record IsRest {D : Type 0} (state : D → State) (config : Config) (shared : Shared D) (bases : List ManagerBase) (r : Rest D) : Type 0 where
+pub record IsRest {D : Type 0} (state : D → State) (config : Config) (shared : Shared D)
+    (bases : List ManagerBase) (r : Rest D) : Type 0 where
   pub parts : IsRestBut state config shared (away_with bases) r
   pub rooms : AreRooms (length (shapes_of config)) (length bases) r.rooms

@@ -29,10 +29,14 @@ impl<D: Disk> Rest<D> {
 
     /// Each station's lock is closed, and what its manager had comes back.
     pub fn close_stations(&mut self, stations: Vec<Station<D>>)
-        requires { (config : Config) × (shared : Shared D) × CanCloseStations D.state config shared stations.items self.old }
-        ensures rest { (config : Config) (shared : Shared D) → CanCloseStations D.state config shared stations.items self.old → IsRest D.state config shared [] self.new }
+        requires { (config : Config) × (shared : Shared D)
+            × CanCloseStations D.state config shared stations.items self.old }
+        ensures rest { (config : Config) (shared : Shared D)
+            → CanCloseStations D.state config shared stations.items self.old
+            → IsRest D.state config shared [] self.new }
         ensures closed { ClosesStations D.tells D.state stations.items self.old self.new }
-        ensures accesses { (config : Config) (shared : Shared D) → CanCloseStations D.state config shared stations.items self.old → OnlyAccess self.new }
+        ensures accesses { (config : Config) (shared : Shared D)
+            → CanCloseStations D.state config shared stations.items self.old → OnlyAccess self.new }
     {
         let mut stations = stations;
         while let Some(station) = stations.pop() {
@@ -43,8 +47,11 @@ impl<D: Disk> Rest<D> {
 
     // One station's lock is closed.
     fn close_station(&mut self, station: Station<D>)
-        requires { (config : Config) × (shared : Shared D) × (before : List (Station D)) × CanCloseStations D.state config shared (before ++ station ∷ []) self.old }
-        ensures rest { (config : Config) (shared : Shared D) (before : List (Station D)) → CanCloseStations D.state config shared (before ++ station ∷ []) self.old → CanCloseStations D.state config shared before self.new }
+        requires { (config : Config) × (shared : Shared D) × (before : List (Station D))
+            × CanCloseStations D.state config shared (before ++ station ∷ []) self.old }
+        ensures rest { (config : Config) (shared : Shared D) (before : List (Station D))
+            → CanCloseStations D.state config shared (before ++ station ∷ []) self.old
+            → CanCloseStations D.state config shared before self.new }
         ensures closed { ClosesStation D.tells D.state station self.old self.new }
     {
         let Station {
@@ -71,10 +78,12 @@ impl<D: Disk> Rest<D> {
         lock: TurnLock<Pool<FreeSegment<D>>>,
         room: Vec<PoolPass<D>>,
     )
-        requires pool { (volumes : ℕ) × (s : Shape) × CanClosePool D.state volumes id s lock self.old }
+        requires pool { (volumes : ℕ) × (s : Shape)
+            × CanClosePool D.state volumes id s lock self.old }
         requires empty { room.items ≡ [] }
         requires room { length self.old.passes.items ≤ vec_capacity room }
-        ensures image { RefillsAll D.state (lock_id lock).base.blocks self.old id (image_here self.old.images.items id) (image_here self.new.images.items id) }
+        ensures image { RefillsAll D.state (lock_id lock).base.blocks self.old id
+            (image_here self.old.images.items id) (image_here self.new.images.items id) }
         ensures uses { (entries : List Entry) × IsClosedPool lock self.old id entries }
         ensures held { (v : ℕ) → held_here self.new v id ≡ [] }
         ensures others { (k : ℕ) → k ≢ id → KeepsLogger self.old self.new k }
@@ -102,8 +111,13 @@ impl<D: Disk> Rest<D> {
     /// All pools are closed.
     pub fn close_pools(&mut self, locks: Vec<TurnLock<Pool<FreeSegment<D>>>>)
         requires { (config : Config) × CanClosePools D.state config locks.items self.old }
-        ensures images { (k : ℕ) (lock : TurnLock (Pool (FreeSegment D)) PoolBase) → slice_get locks.items k ≡ Some lock → RefillsAll D.state (lock_id lock).base.blocks self.old k (image_here self.old.images.items k) (image_here self.new.images.items k) }
-        ensures uses { (k : ℕ) (lock : TurnLock (Pool (FreeSegment D)) PoolBase) → slice_get locks.items k ≡ Some lock → (entries : List Entry) × IsClosedPool lock self.old k entries }
+        ensures images { (k : ℕ) (lock : TurnLock (Pool (FreeSegment D)) PoolBase)
+            → slice_get locks.items k ≡ Some lock
+            → RefillsAll D.state (lock_id lock).base.blocks self.old k
+            (image_here self.old.images.items k) (image_here self.new.images.items k) }
+        ensures uses { (k : ℕ) (lock : TurnLock (Pool (FreeSegment D)) PoolBase)
+            → slice_get locks.items k ≡ Some lock
+            → (entries : List Entry) × IsClosedPool lock self.old k entries }
         ensures held { (v k : ℕ) → k < length locks.items → held_here self.new v k ≡ [] }
         ensures others { (k : ℕ) → length locks.items ≤ k → KeepsLogger self.old self.new k }
         ensures spindles { KeepsSpindles self.old self.new }
@@ -134,7 +148,8 @@ impl<D: Disk> Rest<D> {
         ensures images { self.new.images ≡ self.old.images }
         ensures rooms { self.new.rooms ≡ self.old.rooms }
         ensures rows { KeepsOtherRows self.old self.new }
-        ensures others { (v k : ℕ) → k ≢ id → spindle_pass self.new v k ≡ spindle_pass self.old v k }
+        ensures others { (v k : ℕ) → k ≢ id
+            → spindle_pass self.new v k ≡ spindle_pass self.old v k }
     {
         let mut room = gather_spindles(&mut self.passes, id, room);
         room.push_reserved(keeper);
@@ -194,7 +209,8 @@ fn gather_pools<D: Disk>(
     id: usize,
     room: Vec<PoolPass<D>>,
 ) -> Vec<PoolPass<D>>
-    requires there { (v : ℕ) (d : VolumePasses D) → v < length passes.old → IsSome (pool_in (slice_index_or passes.old v d) id) }
+    requires there { (v : ℕ) (d : VolumePasses D) → v < length passes.old
+        → IsSome (pool_in (slice_index_or passes.old v d) id) }
     requires empty { room.items ≡ [] }
     requires room { length passes.old ≤ vec_capacity room }
     ensures { ArePoolsTaken id passes.old passes.new result.items }
@@ -212,7 +228,8 @@ fn gather_spindles<D: Disk>(
     id: usize,
     room: Vec<Pass<Spindle>>,
 ) -> Vec<Pass<Spindle>>
-    requires there { (v : ℕ) (d : VolumePasses D) → v < length passes.old → IsSome (spindle_in (slice_index_or passes.old v d) id) }
+    requires there { (v : ℕ) (d : VolumePasses D) → v < length passes.old
+        → IsSome (spindle_in (slice_index_or passes.old v d) id) }
     requires empty { room.items ≡ [] }
     requires room { length passes.old ≤ vec_capacity room }
     ensures taken { AreSpindlesTaken id passes.old passes.new result.items }

@@ -33,7 +33,8 @@ fn fill_pool<D: Disk>(
     requires empty { IsEmptyPool pool.old }
     requires notes { (index : ℕ) → note_at pool.old index ≡ None }
     requires stands { StandsFor (IsBlank D.state) pool.old (base_of pool.old) [] }
-    requires segments { AreFillable D.state (volume_of pool.old) (blocks_of pool.old) heads.now segments.old }
+    requires segments { AreFillable D.state (volume_of pool.old) (blocks_of pool.old) heads.now
+        segments.old }
     ensures same { IsSamePool pool.old pool.new }
     ensures stands { StandsFor (IsBlank D.state) pool.new (base_of pool.new) [] }
     ensures filled { IsFilledPool heads.now segments.old pool.new }
@@ -58,7 +59,8 @@ fn fill_slot<D: Disk>(
     requires unnoted { note_at pool.old index ≡ None }
     requires stands { StandsFor (IsBlank D.state) pool.old (base_of pool.old) [] }
     requires here { IsSome segment.old }
-    requires blank { head ≡ SegHead.Free → IfSome segment.old (IsBlankPart D.state (volume_of pool.old) (blocks_of pool.old)) }
+    requires blank { head ≡ SegHead.Free
+        → IfSome segment.old (IsBlankPart D.state (volume_of pool.old) (blocks_of pool.old)) }
     ensures same { IsSamePool pool.old pool.new }
     ensures stands { StandsFor (IsBlank D.state) pool.new (base_of pool.new) [] }
     ensures segment { segment.new ≡ left_by head segment.old }
@@ -117,7 +119,8 @@ impl<D: Disk> ImageRest<D> {
         requires empty { IsEmptyPool pool.old }
         requires notes { (index : ℕ) → note_at pool.old index ≡ None }
         requires stands { StandsFor (IsBlank D.state) pool.old (base_of pool.old) [] }
-        requires segments { AreFillable D.state (volume_of pool.old) (blocks_of pool.old) heads.now self.old.segments.items }
+        requires segments { AreFillable D.state (volume_of pool.old) (blocks_of pool.old) heads.now
+            self.old.segments.items }
         ensures same { IsSamePool pool.old pool.new }
         ensures stands { StandsFor (IsBlank D.state) pool.new (base_of pool.new) [] }
         ensures filled { IsFilledPool heads.now self.old.segments.items pool.new }
@@ -138,10 +141,13 @@ fn issue_pool<D: Disk>(
 ) -> Result<IssuedPool<D>, NoMemory>
     requires config { IsValid config.now }
     requires within { id < vec_len config.now.volumes }
-    requires image { (s : Shape) → slice_get (shapes_of config.now) id ≡ Some s → CanIssue D.state (vec_len config.now.volumes) id s said.now image.old }
-    ensures issued { IfOk result (λ i. (s : Shape) → slice_get (shapes_of config.now) id ≡ Some s → IsIssuedPool (vec_len config.now.volumes) id s said.now i) }
+    requires image { (s : Shape) → slice_get (shapes_of config.now) id ≡ Some s
+        → CanIssue D.state (vec_len config.now.volumes) id s said.now image.old }
+    ensures issued { IfOk result (λ i. (s : Shape) → slice_get (shapes_of config.now) id ≡ Some s
+        → IsIssuedPool (vec_len config.now.volumes) id s said.now i) }
     ensures supplies { OnOk result (Supplies said.now image.old image.new) }
-    ensures restores { OnErr result (Restores D.state id config.now.segment_blocks said.now image.old image.new) }
+    ensures restores { OnErr result
+        (Restores D.state id config.now.segment_blocks said.now image.old image.new) }
 {
     let segments = config.volumes[id as usize].segments;
     let mut pool = Pool::new(alloc, segments, id, config.segment_blocks)?;
@@ -185,14 +191,21 @@ pub fn issue_pools<D: Disk>(
     requires config { IsValid config.now }
     requires said { length said.now ≡ vec_len config.now.volumes }
     requires images { length images.old ≡ vec_len config.now.volumes }
-    requires each { (k : ℕ) (s : Shape) → slice_get (shapes_of config.now) k ≡ Some s → CanIssue D.state (vec_len config.now.volumes) k s (slice_index_or said.now k None) (slice_index_or images.old k None) }
+    requires each { (k : ℕ) (s : Shape) → slice_get (shapes_of config.now) k ≡ Some s
+        → CanIssue D.state (vec_len config.now.volumes) k s (slice_index_or said.now k None)
+        (slice_index_or images.old k None) }
     ensures count { IfOk result (λ made. length made.items ≡ vec_len config.now.volumes) }
     ensures images { length images.new ≡ length images.old }
-    ensures issued { IfOk result (λ made. (k : ℕ) (s : Shape) (i : _) → slice_get (shapes_of config.now) k ≡ Some s → slice_get made.items k ≡ Some i
+    ensures issued { IfOk result (λ made. (k : ℕ) (s : Shape) (i : _)
+        → slice_get (shapes_of config.now) k ≡ Some s → slice_get made.items k ≡ Some i
         → IsIssuedPool (vec_len config.now.volumes) k s (slice_index_or said.now k None) i) }
-    ensures supplies { OnOk result ((k : ℕ) → Supplies (slice_index_or said.now k None) (slice_index_or images.old k None) (slice_index_or images.new k None)) }
+    ensures supplies { OnOk result ((k : ℕ)
+        → Supplies (slice_index_or said.now k None) (slice_index_or images.old k None)
+        (slice_index_or images.new k None)) }
     // the parts of free segments may be other blank ones
-    ensures restores { OnErr result ((k : ℕ) → Restores D.state k config.now.segment_blocks (slice_index_or said.now k None) (slice_index_or images.old k None) (slice_index_or images.new k None)) }
+    ensures restores { OnErr result ((k : ℕ)
+        → Restores D.state k config.now.segment_blocks (slice_index_or said.now k None)
+        (slice_index_or images.old k None) (slice_index_or images.new k None)) }
 {
     let count = config.volumes.len();
     let Ok(mut made) = Vec::with_capacity(alloc, count) else {
@@ -222,11 +235,17 @@ fn issue_at<D: Disk>(
     requires within { id < vec_len config.now.volumes }
     requires in_said { id < length said.now }
     requires in_images { id < length images.old }
-    requires image { (s : Shape) → slice_get (shapes_of config.now) id ≡ Some s → CanIssue D.state (vec_len config.now.volumes) id s (slice_index_or said.now id None) (slice_index_or images.old id None) }
+    requires image { (s : Shape) → slice_get (shapes_of config.now) id ≡ Some s
+        → CanIssue D.state (vec_len config.now.volumes) id s (slice_index_or said.now id None)
+        (slice_index_or images.old id None) }
     ensures images { images.new ≡ slice_set images.old id (slice_index_or images.new id None) }
-    ensures issued { IfOk result (λ i. (s : Shape) → slice_get (shapes_of config.now) id ≡ Some s → IsIssuedPool (vec_len config.now.volumes) id s (slice_index_or said.now id None) i) }
-    ensures supplies { OnOk result (Supplies (slice_index_or said.now id None) (slice_index_or images.old id None) (slice_index_or images.new id None)) }
-    ensures restores { OnErr result (Restores D.state id config.now.segment_blocks (slice_index_or said.now id None) (slice_index_or images.old id None) (slice_index_or images.new id None)) }
+    ensures issued { IfOk result (λ i. (s : Shape) → slice_get (shapes_of config.now) id ≡ Some s
+        → IsIssuedPool (vec_len config.now.volumes) id s (slice_index_or said.now id None) i) }
+    ensures supplies { OnOk result (Supplies (slice_index_or said.now id None)
+        (slice_index_or images.old id None) (slice_index_or images.new id None)) }
+    ensures restores { OnErr result (Restores D.state id config.now.segment_blocks
+        (slice_index_or said.now id None) (slice_index_or images.old id None)
+        (slice_index_or images.new id None)) }
 {
     issue_pool(alloc, config, id as u32, &said[id], &mut images[id])
 }
@@ -234,10 +253,14 @@ fn issue_at<D: Disk>(
 /// Ends the locks of pools, of each volume in order, and puts their segments to those that are here.
 pub(crate) fn end_pools<D: Disk>(made: Vec<IssuedPool<D>>, images: &mut [Option<ImageRest<D>>])
     requires count { length made.items ≤ length images.old }
-    requires each { (k : ℕ) (i : _) → slice_get made.items k ≡ Some i → CanEnd i (slice_index_or images.old k None) }
+    requires each { (k : ℕ) (i : _) → slice_get made.items k ≡ Some i
+        → CanEnd i (slice_index_or images.old k None) }
     ensures count { length images.new ≡ length images.old }
-    ensures each { (k : ℕ) (i : _) → slice_get made.items k ≡ Some i → EndsInto D.state (lock_id i.lock).base (slice_index_or images.old k None) (slice_index_or images.new k None) }
-    ensures others { (k : ℕ) → length made.items ≤ k → slice_index_or images.new k None ≡ slice_index_or images.old k None }
+    ensures each { (k : ℕ) (i : _) → slice_get made.items k ≡ Some i
+        → EndsInto D.state (lock_id i.lock).base (slice_index_or images.old k None)
+        (slice_index_or images.new k None) }
+    ensures others { (k : ℕ) → length made.items ≤ k
+        → slice_index_or images.new k None ≡ slice_index_or images.old k None }
 {
     let mut made = made;
     while let Some(issued) = made.pop() {

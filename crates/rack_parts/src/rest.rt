@@ -38,7 +38,8 @@ fn fill<T>(place: &mut Option<T>, value: T)
 /// A segment comes back to what is here of its image.
 pub(crate) fn put_segment<D: Disk>(image: &mut Option<ImageRest<D>>, index: u32, part: Spun<D>)
     requires there { IsSome image.old }
-    requires here { IfSome image.old (λ r. (index < length r.segments.items) × (segment_here r index ≡ None)) }
+    requires here { IfSome image.old
+        (λ r. (index < length r.segments.items) × (segment_here r index ≡ None)) }
     ensures there { IsSome image.new }
     ensures filled { IfSome image.old (λ r. IfSome image.new (λ n. IsFilled r n index part)) }
 {
@@ -254,12 +255,19 @@ impl<D: Disk> ImageRest<D> {
 pub fn give_back<B: Bay>(bay: &mut B, config: &Config, images: Vec<Option<ImageRest<B::Part>>>)
     requires config { IsValid config.now }
     requires count { length images.items ≤ length config.now.volumes.items }
-    requires images { (k : ℕ) (s : Shape) (r : ImageRest B.Part) → slice_get (shapes_of config.now) k ≡ Some s → image_here images.items k ≡ Some r → IsImageRest B.Part.state k s r }
+    requires images { (k : ℕ) (s : Shape) (r : ImageRest B.Part)
+        → slice_get (shapes_of config.now) k ≡ Some s → image_here images.items k ≡ Some r
+        → IsImageRest B.Part.state k s r }
     requires whole { AreComplete images.items }
-    requires out { (k : ℕ) (v : VolumeConf) → slice_get config.now.volumes.items k ≡ Some v → IsImageOut images.items k → IsOut v.name (part_sizes (shape_in config.now v)) (B.state bay.old) }
-    ensures home { LeavesNoneOut config.now images.items (outs (B.state bay.old)) (outs (B.state bay.new)) }
-    ensures back { IsTold (GivesBack B.Part.state config.now images.items 0) (B.state bay.old).told (B.state bay.new).told }
-    ensures cause { HasFaultHere B.Part.state images.items 0 → Rose (B.state bay.old).faults (B.state bay.new).faults }
+    requires out { (k : ℕ) (v : VolumeConf) → slice_get config.now.volumes.items k ≡ Some v
+        → IsImageOut images.items k
+        → IsOut v.name (part_sizes (shape_in config.now v)) (B.state bay.old) }
+    ensures home { LeavesNoneOut config.now images.items (outs (B.state bay.old))
+        (outs (B.state bay.new)) }
+    ensures back { IsTold (GivesBack B.Part.state config.now images.items 0) (B.state bay.old).told
+        (B.state bay.new).told }
+    ensures cause { HasFaultHere B.Part.state images.items 0
+        → Rose (B.state bay.old).faults (B.state bay.new).faults }
     ensures counts { (B.state bay.old).faults ≤ (B.state bay.new).faults }
 {
     let mut images = images;
@@ -277,9 +285,12 @@ fn give_image_back<B: Bay>(
     image: Option<ImageRest<B::Part>>,
 )
     requires known { id < length config.now.volumes.items }
-    requires image { (v : VolumeConf) (r : ImageRest B.Part) → slice_get config.now.volumes.items id ≡ Some v → image ≡ Some r
-        → IsImageRest B.Part.state id (shape_in config.now v) r × IsComplete r × IsOut v.name (part_sizes (shape_in config.now v)) (B.state bay.old) }
-    ensures { (v : VolumeConf) → slice_get config.now.volumes.items id ≡ Some v → IsImageBack B.Part.state v.name image (B.state bay.old) (B.state bay.new) }
+    requires image { (v : VolumeConf) (r : ImageRest B.Part)
+        → slice_get config.now.volumes.items id ≡ Some v → image ≡ Some r
+        → IsImageRest B.Part.state id (shape_in config.now v) r × IsComplete r
+        × IsOut v.name (part_sizes (shape_in config.now v)) (B.state bay.old) }
+    ensures { (v : VolumeConf) → slice_get config.now.volumes.items id ≡ Some v
+        → IsImageBack B.Part.state v.name image (B.state bay.old) (B.state bay.new) }
 {
     if let Some(image) = image {
         let name = config.volumes[id].name.as_str();

@@ -87,11 +87,15 @@ impl<D: Disk> Rest<D> {
         view: &View,
     ) -> Result<Vec<Lane<D>>, NoMemory>
         requires config { length self.old.images.items ≡ vec_len config.now.volumes }
-        requires places { All (λ k. IsUsablePlace self.old id k (segments_of config.now k)) (loggers_out self.old view.now) }
+        requires places { All (λ k. IsUsablePlace self.old id k (segments_of config.now k))
+            (loggers_out self.old view.now) }
         ensures distinct { AreApart view.now }
-        ensures taken { IfOk result (λ lanes. TakesLanes D.state config.now self.old self.new id (loggers_out self.old view.now) lanes.items) }
+        ensures taken { IfOk result (λ lanes.
+            TakesLanes D.state config.now self.old self.new id (loggers_out self.old view.now)
+            lanes.items) }
         ensures back { IfOk result (λ lanes. CanPutLanes D.state self.new id lanes.items) }
-        ensures restored { IfOk result (λ lanes. (last : Rest D) → PutsLanes self.new last id lanes.items → IsSameRest self.old last) }
+        ensures restored { IfOk result (λ lanes. (last : Rest D)
+            → PutsLanes self.new last id lanes.items → IsSameRest self.old last) }
         ensures same { OnErr result (IsSameRest self.old self.new) }
     {
         let Ok(mut lanes) = Vec::with_capacity(alloc, view.len() as usize) else {
@@ -117,9 +121,12 @@ impl<D: Disk> Rest<D> {
     ) -> Result<(), NoMemory>
         requires config { length self.old.images.items ≡ vec_len config.now.volumes }
         requires room { vec_len lanes.old < vec_capacity lanes.old }
-        requires place { IsSome (image_here self.old.images.items logger) → IsUsablePlace self.old id logger (segments_of config.now logger) }
+        requires place { IsSome (image_here self.old.images.items logger)
+            → IsUsablePlace self.old id logger (segments_of config.now logger) }
         ensures room { vec_capacity lanes.new ≡ vec_capacity lanes.old }
-        ensures taken { OnOk result (TakesOneLane D.state config.now (is_some (image_here self.old.images.items logger)) self.old self.new id logger lanes.old.items lanes.new.items) }
+        ensures taken { OnOk result (TakesOneLane D.state config.now
+            (is_some (image_here self.old.images.items logger)) self.old self.new id logger
+            lanes.old.items lanes.new.items) }
         ensures same { OnErr result (IsSameRest self.old self.new) }
         ensures same_lanes { OnErr result (lanes.new.items ≡ lanes.old.items) }
     {
@@ -146,7 +153,9 @@ impl<D: Disk> Rest<D> {
         requires here { CanTakeOwnedOf self.old id logger said.now }
         requires room { vec_len owned.old + owned_in id said.now ≤ vec_capacity owned.old }
         ensures room { vec_capacity owned.new ≡ vec_capacity owned.old }
-        ensures taken { (more : List (OwnedPart D)) × (owned.new.items ≡ owned.old.items ++ more) × (length more ≡ owned_in id said.now) × TakesOwnedOf config.now self.old self.new id logger said.now more }
+        ensures taken { (more : List (OwnedPart D)) × (owned.new.items ≡ owned.old.items ++ more)
+            × (length more ≡ owned_in id said.now)
+            × TakesOwnedOf config.now self.old self.new id logger said.now more }
     {
         let Some(said) = said else { return };
         let label = label_of(config, logger);
@@ -170,7 +179,8 @@ impl<D: Disk> Rest<D> {
         requires config { IsValid config.now }
         requires few { length said.now ≡ vec_len config.now.volumes }
         requires here { AreOwnedHere self.old said.now id }
-        ensures taken { IfOk result (λ owned. TakesOwned config.now self.old self.new said.now id owned.items) }
+        ensures taken { IfOk result
+            (λ owned. TakesOwned config.now self.old self.new said.now id owned.items) }
         ensures same { OnErr result (self.new ≡ self.old) }
     {
         let count = count_owned(said, id);
@@ -187,7 +197,8 @@ impl<D: Disk> Rest<D> {
         requires home { IfSome (image_here self.old.images.items id) (λ r. IsSome r.home) }
         requires out { IsSome (image_here self.old.images.items id) }
         requires spindle { IsSome (spindle_pass self.old id id) }
-        ensures home { (r : ImageRest D) → image_here self.old.images.items id ≡ Some r → r.home ≡ Some result.0 }
+        ensures home { (r : ImageRest D) → image_here self.old.images.items id ≡ Some r
+            → r.home ≡ Some result.0 }
         ensures spindle { spindle_pass self.old id id ≡ Some result.1 }
         ensures rest { ChangesHome self.old self.new id None None }
     {
@@ -210,7 +221,8 @@ impl<D: Disk> Rest<D> {
     ) -> Result<Opening<D>, NoMemory>
         requires config { IsValid config.now }
         requires ready { CanTake config.now self.old said.now id view }
-        ensures taken { IfOk result (TakesOpening D.state config.now self.old self.new said.now id view) }
+        ensures taken { IfOk result
+            (TakesOpening D.state config.now self.old self.new said.now id view) }
         ensures same { OnErr result (IsSameRest self.old self.new) }
     {
         let present = self.present(alloc)?;
@@ -272,11 +284,16 @@ fn take_owned_in<D: Disk>(
     requires shape { IsShape (shape_of label.now) }
     requires few { length heads.now ≤ 1024 }
     requires there { IsSome image.old }
-    requires here { IfSome image.old (λ r. (length heads.now ≡ length r.segments.items) × AreOwnersHere r id heads.now) }
+    requires here { IfSome image.old
+        (λ r. (length heads.now ≡ length r.segments.items) × AreOwnersHere r id heads.now) }
     requires room { vec_len owned.old + count_owners id heads.now ≤ vec_capacity owned.old }
     ensures room { vec_capacity owned.new ≡ vec_capacity owned.old }
     ensures there { IsSome image.new }
-    ensures taken { IfSome image.old (λ r. IfSome image.new (λ n. (more : List (OwnedPart D)) × (owned.new.items ≡ owned.old.items ++ more) × (length more ≡ count_owners id heads.now) × TakesOwners (shape_of label.now) r n id label.now.id heads.now more)) }
+    ensures taken { IfSome image.old (λ r.
+        IfSome image.new (λ n. (more : List (OwnedPart D))
+        × (owned.new.items ≡ owned.old.items ++ more)
+        × (length more ≡ count_owners id heads.now)
+        × TakesOwners (shape_of label.now) r n id label.now.id heads.now more)) }
 {
     let Some(image) = image else { unreachable!() };
     image.take_owned(label, id, heads, owned);
@@ -297,7 +314,9 @@ impl<D: Disk> ImageRest<D> {
         requires here { AreOwnersHere self.old id heads.now }
         requires room { vec_len owned.old + count_owners id heads.now ≤ vec_capacity owned.old }
         ensures room { vec_capacity owned.new ≡ vec_capacity owned.old }
-        ensures taken { (more : List (OwnedPart D)) × (owned.new.items ≡ owned.old.items ++ more) × (length more ≡ count_owners id heads.now) × TakesOwners (shape_of label.now) self.old self.new id label.now.id heads.now more }
+        ensures taken { (more : List (OwnedPart D)) × (owned.new.items ≡ owned.old.items ++ more)
+            × (length more ≡ count_owners id heads.now)
+            × TakesOwners (shape_of label.now) self.old self.new id label.now.id heads.now more }
     {
         for index in 0..heads.len() {
             self.take_one(label, id, heads[index], index as u32, owned);
@@ -318,7 +337,8 @@ impl<D: Disk> ImageRest<D> {
         requires here { is_owned_by id head ≡ true → IsSome (segment_here self.old index) }
         requires room { is_owned_by id head ≡ true → vec_len owned.old < vec_capacity owned.old }
         ensures room { vec_capacity owned.new ≡ vec_capacity owned.old }
-        ensures taken { TakesOne (shape_of label.now) label.now.id (is_owned_by id head) self.old self.new index owned.old.items owned.new.items }
+        ensures taken { TakesOne (shape_of label.now) label.now.id (is_owned_by id head) self.old
+            self.new index owned.old.items owned.new.items }
     {
         if !is_owned_by(head, id) {
             return;

@@ -10,7 +10,8 @@ use Rattle.reclaimer.specs.declared.answers.Drain.TheVariants.{Bare, Moved}
 use Rattle.reclaimer.specs.declared.answers.Gone.{Gone}
 use Rattle.reclaimer.specs.declared.answers.Gone.TheVariants as gone
 
--- From one look to the next so many due blocks are due no longer, those that are due were due before, and so many records fewer are listed.
+-- From one look to the next so many due blocks are due no longer, those that are due were due
+-- before, and so many records fewer are listed.
 pub record TakesOff (blocks records : ℕ) (l m : Look) : Type 0 where
   pub homed : no_longer_due l m ≡ blocks
   pub due : dues m ≡ filter (is_among (dues m)) (dues l)
@@ -40,8 +41,10 @@ CountsMoved (Err fault) l m = TakesOff 0 0 l m
 
 -- a step that gave something up lowers the kept blocks and the due blocks together
 abbrev pub LowersGone : {D : Type 0} → Result Gone StepFault → (old new : Manager D) → Type 0
-LowersGone (Ok (gone.Version version)) old new = left (listed_in new.index.entries) < left (listed_in old.index.entries)
-LowersGone (Ok (gone.Trimmed version)) old new = left (listed_in new.index.entries) < left (listed_in old.index.entries)
+LowersGone (Ok (gone.Version version)) old new =
+    left (listed_in new.index.entries) < left (listed_in old.index.entries)
+LowersGone (Ok (gone.Trimmed version)) old new =
+    left (listed_in new.index.entries) < left (listed_in old.index.entries)
 LowersGone (Ok gone.Nothing) old new = ⊤
 LowersGone (Err fault) old new = ⊤
 
@@ -49,7 +52,8 @@ LowersGone (Err fault) old new = ⊤
 
 -- what two steps take off adds up
 abbrev pub TakenAddsUp : Type 0
-TakenAddsUp = (a b r s : ℕ) (l k m : Look) → TakesOff a r l k → TakesOff b s k m → TakesOff (a + b) (r + s) l m
+TakenAddsUp = (a b r s : ℕ) (l k m : Look) → TakesOff a r l k → TakesOff b s k m
+    → TakesOff (a + b) (r + s) l m
 
 -- nothing is taken off where the records stay as they are listed
 abbrev pub NothingTaken : Type 0

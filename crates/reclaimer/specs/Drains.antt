@@ -30,27 +30,40 @@ TellsMoved blocks records (Ok Bare) = ⊥
 TellsMoved blocks records (Ok (Moved b r)) = (b ≡ blocks) × (r ≡ records)
 TellsMoved blocks records (Err fault) = ⊤
 
--- The record of this entry was read, by one access to its logger, and its due blocks were written home and synced, by one access to home;
--- or it couldn't be read.
-pub data HasMoved {D : Type 0} (state : D → State) (e : Indexed) (old new : Manager D) (answer : Result Drain StepFault) : Type 0 where
-  put : (read : Manager D) (mask : ℕ) (blocks : List Block) → HasFetched e.listed.lane old read → IsMask e.listed.first (is_due (listed_in old.index.entries) e.listed) mask
-      → HasStored state e.listed.version mask blocks read new answer → TellsMoved (count_by (is_due (listed_in old.index.entries) e.listed) (block_numbers e.listed)) 0 answer → HasMoved state e old new answer
+-- The record of this entry was read, by one access to its logger, and its due blocks were written
+-- home and synced, by one access to home; or it couldn't be read.
+pub data HasMoved {D : Type 0} (state : D → State) (e : Indexed) (old new : Manager D)
+    (answer : Result Drain StepFault) : Type 0 where
+  put : (read : Manager D) (mask : ℕ) (blocks : List Block) → HasFetched e.listed.lane old read
+      → IsMask e.listed.first (is_due (listed_in old.index.entries) e.listed) mask
+      → HasStored state e.listed.version mask blocks read new answer
+      → TellsMoved (count_by (is_due (listed_in old.index.entries) e.listed)
+      (block_numbers e.listed)) 0 answer → HasMoved state e old new answer
   not_read : IsErr answer → HasFetched e.listed.lane old new → HasMoved state e old new answer
 
--- With home awake, the first record of which something may go gave that up; or, where nothing may go, the due blocks of the first record that has one went
--- home. Nothing was done where no record is left.
-pub data Drains {D : Type 0} (state : D → State) (old new : Manager D) (answer : Result Drain StepFault) : Type 0 where
+-- With home awake, the first record of which something may go gave that up; or, where nothing may
+-- go, the due blocks of the first record that has one went home. Nothing was done where no record
+-- is left.
+pub data Drains {D : Type 0} (state : D → State) (old new : Manager D)
+    (answer : Result Drain StepFault) : Type 0 where
   nothing_left : old.index.entries ≡ [] → new ≡ old → answer ≡ Ok Bare → Drains state old new answer
-  gave_up : (e : Indexed) → first_going old.index.entries ≡ Some e → HasDropped e.listed.version e old new answer
-      → TellsMoved 0 (if is_none (entry_at new.index.entries e.listed.version) then 1 else 0) answer → Drains state old new answer
-  put_home : (e : Indexed) → first_going old.index.entries ≡ None → first_due old.index.entries ≡ Some e → HasMoved state e old new answer → Drains state old new answer
+  gave_up : (e : Indexed) → first_going old.index.entries ≡ Some e
+      → HasDropped e.listed.version e old new answer
+      → TellsMoved 0 (if is_none (entry_at new.index.entries e.listed.version) then 1 else 0) answer
+      → Drains state old new answer
+  put_home : (e : Indexed) → first_going old.index.entries ≡ None
+      → first_due old.index.entries ≡ Some e → HasMoved state e old new answer
+      → Drains state old new answer
 
 -- home was woken before
-abbrev pub HasDrained : {D : Type 0} → (D → State) → (old new : Manager D) → Result Drain StepFault → Type 0
-HasDrained {D} state old new answer = (woken : Manager D) × HasWoken old woken × Drains state woken new answer
+abbrev pub HasDrained : {D : Type 0} → (D → State) → (old new : Manager D) → Result Drain StepFault
+    → Type 0
+HasDrained {D} state old new answer =
+    (woken : Manager D) × HasWoken old woken × Drains state woken new answer
 
 -- a step that moved something lowers the kept blocks and the due blocks together
 abbrev pub Lowers : {D : Type 0} → Result Drain StepFault → (old new : Manager D) → Type 0
 Lowers (Ok Bare) old new = ⊤
-Lowers (Ok (Moved blocks records)) old new = left (listed_in new.index.entries) < left (listed_in old.index.entries)
+Lowers (Ok (Moved blocks records)) old new =
+    left (listed_in new.index.entries) < left (listed_in old.index.entries)
 Lowers (Err fault) old new = ⊤

@@ -34,15 +34,18 @@ fn move_home<R: Wait, D: Disk>(
     requires ready { IsReady D.state m.old }
     requires at { IsHome shared.now m.old }
     requires room { length room.old ≡ 128 }
-    requires due { IsSomeAnd (entry_at m.old.index.entries version) (λ e. has_due (listed_in m.old.index.entries) e.listed ≡ true) }
+    requires due { IsSomeAnd (entry_at m.old.index.entries version)
+        (λ e. has_due (listed_in m.old.index.entries) e.listed ≡ true) }
     ensures ready { IsReady D.state m.new }
     ensures at { IsHome shared.now m.new }
     ensures fault { TellsStep D.state result m.old m.new }
     ensures calm { OnOk result (NoneRose D.state m.old m.new) }
-    ensures moved { OnTried result (IsSomeAnd (entry_at m.old.index.entries version) (λ e. HasMoved D.state e m.old m.new result)) }
+    ensures moved { OnTried result (IsSomeAnd (entry_at m.old.index.entries version)
+        (λ e. HasMoved D.state e m.old m.new result)) }
     ensures keeps { OnKept result (KeepsOn D.tells D.state m.old m.new Always) }
     ensures broke { OnFailed result (BreaksOff D.tells D.state m.old m.new Always) }
-    ensures any_moment { OnTried result (IsTrue D.tells → StopsSince D.tells D.state m.old m.new Always) }
+    ensures any_moment { OnTried result
+        (IsTrue D.tells → StopsSince D.tells D.state m.old m.new Always) }
 {
     let filled = read_record(rt, m, shared, version, room)?;
     let blocks = &room[..filled.count as usize];
@@ -77,7 +80,8 @@ fn drain_awake<R: Wait, D: Disk>(
     ensures look { OnKept result (drained (look_of_manager m.new) ≡ drained (look_of_manager m.old)) }
     ensures keeps { OnKept result (KeepsOn D.tells D.state m.old m.new Always) }
     ensures broke { OnFailed result (BreaksOff D.tells D.state m.old m.new Always) }
-    ensures any_moment { OnTried result (IsTrue D.tells → StopsSince D.tells D.state m.old m.new Always) }
+    ensures any_moment { OnTried result
+        (IsTrue D.tells → StopsSince D.tells D.state m.old m.new Always) }
 {
     if m.index().len() == 0 {
         return Ok(Drain::Bare);
@@ -126,11 +130,13 @@ pub fn drain_step<R: Wait, D: Disk>(
 
     // It goes on to the look of which all is drained, whose flags a step sets as far as it woke disks.
     ensures look { OnKept result (drained (look_of_manager m.new) ≡ drained (look_of_manager m.old)) }
-    ensures bare_look { result ≡ Ok Drain.Bare → look_of_manager m.new ≡ drained (look_of_manager m.old) }
+    ensures bare_look { result ≡ Ok Drain.Bare
+        → look_of_manager m.new ≡ drained (look_of_manager m.old) }
     ensures waking { OnTried result (m.new.home_up ≡ true) }
 
     // No pool is found empty less often than before: so a write after a drain can tell which it found so.
-    ensures passed { (lanes : List LaneBase) (k : ℕ) → nones_at m.old.lanes.items lanes k ≤ nones_at m.new.lanes.items lanes k }
+    ensures passed { (lanes : List LaneBase) (k : ℕ)
+        → nones_at m.old.lanes.items lanes k ≤ nones_at m.new.lanes.items lanes k }
     ensures keeps { OnKept result (KeepsOn D.tells D.state m.old m.new Always) }
     ensures broke { OnFailed result (BreaksOff D.tells D.state m.old m.new Always) }
     ensures any_moment { IsTrue D.tells → StopsWithin D.tells D.state m.old m.new Always }

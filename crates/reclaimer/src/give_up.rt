@@ -30,7 +30,8 @@ pub fn invalidate_one<R: Wait, D: Disk>(
     ensures at { IsHome shared.now m.new }
     ensures fault { TellsStep D.state result m.old m.new }
     ensures calm { OnOk result (NoneRose D.state m.old m.new) }
-    ensures nothing { (result ≡ Ok Gone.Nothing) ↔ ((m.old.down ≡ None) × (going_entry m.old ≡ None)) }
+    ensures nothing { (result ≡ Ok Gone.Nothing)
+        ↔ ((m.old.down ≡ None) × (going_entry m.old ≡ None)) }
     ensures gone { HasGivenUp result m.old m.new }
     ensures look { LooksGone result m.old m.new }
 

@@ -15,7 +15,8 @@ pub fn fetch_laws()
 
 /// Where `fetch` and `invalidate_one` find nothing, nothing is left to reclaim while the disks that are asleep stay asleep.
 pub fn idle_laws<D: Disk>(_m: &Manager<D>)
-    ensures idle { due_entry _m.now ≡ None → going_entry _m.now ≡ None → IsIdleLook (look_of_manager _m.now) }
+    ensures idle { due_entry _m.now ≡ None → going_entry _m.now ≡ None
+        → IsIdleLook (look_of_manager _m.now) }
 {}
 
 /// What steps in a row take off adds up.

@@ -20,7 +20,8 @@ pub(crate) fn going(index: &Index, lanes: &[bool]) -> Option<Rec>
 /// The record of least version with a due block and whose lane is true in the list.
 pub(crate) fn due_next(index: &Index, lanes: &[bool]) -> Option<Rec>
     requires { AllByRecursion (HasLane lanes.now) index.now.entries }
-    ensures answer { IsAnswer (find (can_go_home lanes.now index.now.entries) index.now.entries) result }
+    ensures answer { IsAnswer (find (can_go_home lanes.now index.now.entries) index.now.entries)
+        result }
     ensures index { IfSome result (λ r. IsIndex index.now.entries) }
 {
     let version = next_due(index, lanes)?;

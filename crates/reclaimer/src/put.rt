@@ -25,10 +25,13 @@ use wol_disk::Disk;
 
 // The blocks that were fetched and are still due in the record of that version and range.
 fn still_due(index: &Index, filled: &Filled) -> u128
-    ensures due { IsMask filled.now.lbn (is_still_due index.now.entries filled.now.version filled.now.lbn filled.now.count filled.now.due) result }
+    ensures due { IsMask filled.now.lbn
+        (is_still_due index.now.entries filled.now.version filled.now.lbn filled.now.count
+        filled.now.due) result }
     ensures there { 0 < result → HasVersion index.now.entries filled.now.version }
     ensures index { 0 < result → IsIndex index.now.entries }
-    ensures range { 0 < result → ForSome (entry_at index.now.entries filled.now.version) (λ e. (filled.now.lbn ≡ e.listed.first) × (filled.now.count ≡ length e.listed.keep)) }
+    ensures range { 0 < result → ForSome (entry_at index.now.entries filled.now.version)
+        (λ e. (filled.now.lbn ≡ e.listed.first) × (filled.now.count ≡ length e.listed.keep)) }
 {
     match index.find(filled.version) {
         Some(record) if record.lbn == filled.lbn && record.count == filled.count => {
@@ -55,18 +58,22 @@ pub fn put_home<R: Wait, D: Disk>(
     ensures fault { TellsStep D.state result m.old m.new }
     ensures calm { OnOk result (NoneRose D.state m.old m.new) }
     ensures count { IfOk result (λ count. count ≡ home_count m.old from.now) }
-    ensures none { (result ≡ Ok 0) ↔ ((m.old.down ≡ None) × ((b : ℕ) → goes_home m.old from.now b ≡ false)) }
+    ensures none { (result ≡ Ok 0)
+        ↔ ((m.old.down ≡ None) × ((b : ℕ) → goes_home m.old from.now b ≡ false)) }
     ensures put { HasPutHome D.state result m.old m.new from.now }
     ensures look { LooksPut result m.old m.new }
 
     // The count is that of the due blocks that are due no longer.
     ensures counted { CountsPut result (look_of_manager m.old) (look_of_manager m.new) }
-    ensures lowers { IfOk result (λ count. 0 < count → left (listed_in m.new.index.entries) < left (listed_in m.old.index.entries)) }
+    ensures lowers { IfOk result (λ count. 0 < count
+        → left (listed_in m.new.index.entries) < left (listed_in m.old.index.entries)) }
 
     // The premise is that the fetch has the data of its version: so it is where this volume's manager filled it.
     ensures keeps { OnKept result (KeepsOn D.tells D.state m.old m.new (HasData D.tells from.now)) }
-    ensures broke { OnFailed result (BreaksOff D.tells D.state m.old m.new (HasData D.tells from.now)) }
-    ensures any_moment { IsTrue D.tells → StopsWithin D.tells D.state m.old m.new (HasData D.tells from.now) }
+    ensures broke { OnFailed result
+        (BreaksOff D.tells D.state m.old m.new (HasData D.tells from.now)) }
+    ensures any_moment { IsTrue D.tells
+        → StopsWithin D.tells D.state m.old m.new (HasData D.tells from.now) }
 {
     if let Some(part) = m.down() {
         return Err(StepFault::Down(part));

@@ -33,14 +33,16 @@ pub fn fetch<R: Wait, D: Disk>(
     ensures at { IsHome shared.now m.new }
     ensures fault { TellsStep D.state result m.old m.new }
     ensures calm { OnOk result (NoneRose D.state m.old m.new) }
-    ensures nothing { (result ≡ Ok Fetched.Nothing) ↔ ((m.old.down ≡ None) × (due_entry m.old ≡ None)) }
+    ensures nothing { (result ≡ Ok Fetched.Nothing)
+        ↔ ((m.old.down ≡ None) × (due_entry m.old ≡ None)) }
     ensures fetched { HasFetchedNext result m.old m.new into.new }
 
     // So `put_home` in the same turn answers more than 0.
     ensures due { FindsDue result m.new into.new }
 
     // What was fetched stays the data of its version, whatever is written later (`fetch_laws`).
-    ensures content { (b : ManagerBase) (notes : List Noted) → Keeps D.tells D.state m.old b notes → HasData D.tells into.new b notes }
+    ensures content { (b : ManagerBase) (notes : List Noted) → Keeps D.tells D.state m.old b notes
+        → HasData D.tells into.new b notes }
     ensures look { OnKept result (look_of_manager m.new ≡ look_of_manager m.old) }
     ensures keeps { OnKept result (KeepsOn D.tells D.state m.old m.new Always) }
     ensures broke { OnFailed result (BreaksOff D.tells D.state m.old m.new Always) }

@@ -87,15 +87,20 @@ pub(crate) fn read_record<R: Wait, D: Disk>(
     ensures at { IsHome shared.now m.new }
     ensures fault { TellsStep D.state result m.old m.new }
     ensures calm { OnOk result (NoneRose D.state m.old m.new) }
-    ensures fetched { OnTried result (ForSome (entry_at m.old.index.entries version) (λ e. HasFetched e.listed.lane m.old m.new)) }
+    ensures fetched { OnTried result (ForSome (entry_at m.old.index.entries version)
+        (λ e. HasFetched e.listed.lane m.old m.new)) }
     ensures read { OnOk result (IsReadThrough D.state m.old m.new) }
     ensures few { IfOk result (λ f. (f.count ≤ 128) × (f.due < 2 ^ 128)) }
     ensures filled { IfOk result (λ f. IsSomeAnd (entry_at m.old.index.entries version)
-        (λ e. IsSomeAnd (record_of (Some f) blocks.new) (IsFetchOf (listed_in m.old.index.entries) e) × (f.count ≡ length e.listed.keep))) }
-    ensures content { IfOk result (λ f. (b : ManagerBase) (notes : List Noted) → Keeps D.tells D.state m.old b notes → HasData D.tells (record_of (Some f) blocks.new) b notes) }
+        (λ e. IsSomeAnd (record_of (Some f) blocks.new)
+        (IsFetchOf (listed_in m.old.index.entries) e) × (f.count ≡ length e.listed.keep))) }
+    ensures content { IfOk result (λ f. (b : ManagerBase) (notes : List Noted)
+        → Keeps D.tells D.state m.old b notes
+        → HasData D.tells (record_of (Some f) blocks.new) b notes) }
     ensures keeps { OnKept result (KeepsOn D.tells D.state m.old m.new Always) }
     ensures broke { OnFailed result (BreaksOff D.tells D.state m.old m.new Always) }
-    ensures any_moment { OnTried result (IsTrue D.tells → StopsSince D.tells D.state m.old m.new Always) }
+    ensures any_moment { OnTried result
+        (IsTrue D.tells → StopsSince D.tells D.state m.old m.new Always) }
 {
     let Some(record) = m.index().find(version) else {
         unreachable!()

@@ -32,7 +32,8 @@ covering r b c = if in_mask r.lbn r.keep b then one_covers r.version c else c
 -- one record less keeps the block, and not the newest of several
 abbrev pub take_one : Option Cell → Option Cell
 take_one None = None
-take_one (Some c) = if nat_lt 1 c.keepers then Some (record { version = c.version; keepers = c.keepers - 1 }) else None
+take_one (Some c) = if nat_lt 1 c.keepers
+    then Some (record { version = c.version; keepers = c.keepers - 1 }) else None
 
 -- an older record keeps the block too
 abbrev pub with_older : Bool → ℕ → Option Cell → Option Cell

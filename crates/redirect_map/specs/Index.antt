@@ -1,5 +1,5 @@
--- What contracts see of an index: the records of a volume by rising version, each with its place in a log
--- and its kept and homed blocks.
+-- What contracts see of an index: the records of a volume by rising version, each with its place in
+-- a log and its kept and homed blocks.
 use Rattle.std.specs.Prelude.{⊤, ◌≡◌, ◌<◌, ◌≤◌, ◌^◌, ◌+◌, ℕ, Bool, true, not, ◌&&◌, ◌==◌, List, map, find, length, Option, None, Some, IsSome, if◌then◌else◌}
 use Rattle.std.specs.List.{AllByRecursion}
 use Rattle.wol_model.specs.Log.{marks_of}
@@ -29,7 +29,13 @@ HasVersion es version = IsSome (entry_at es version)
 -- the record as an entry, with the homed blocks of this mask
 abbrev pub entry_of : Rec → ℕ → Indexed
 entry_of r homed = record {
-  listed = record { version = r.version; first = r.lbn; keep = marks_of r.count r.keep; lane = r.lane; homed = marks_of r.count homed };
+  listed = record {
+    version = r.version;
+    first = r.lbn;
+    keep = marks_of r.count r.keep;
+    lane = r.lane;
+    homed = marks_of r.count homed;
+  };
   index = r.segment;
   pos = r.pos;
 }
@@ -58,18 +64,23 @@ changed version f es = map (λ e. if has_version version e then f e else e) es
 
 -- blocks are homed no more, as a record covers them that is newer
 abbrev pub unhomed : Cover → Indexed → Indexed
-unhomed c e = record e { listed = record e.listed { homed = remarked e.listed.first e.listed.homed (λ b m. m && not (c.covers b)) } }
+unhomed c e = record e {
+  listed = record e.listed
+      { homed = remarked e.listed.first e.listed.homed (λ b m. m && not (c.covers b)) };
+}
 
 -- the homed blocks are those of the mask
 abbrev pub with_homed : ℕ → Indexed → Indexed
-with_homed mask e = record e { listed = record e.listed { homed = marks_of (length e.listed.keep) mask } }
+with_homed mask e =
+    record e { listed = record e.listed { homed = marks_of (length e.listed.keep) mask } }
 
 -- the blocks of the mask are given up: neither kept nor homed
 abbrev pub given_up : ℕ → Indexed → Indexed
 given_up mask e = record e {
   listed = record e.listed {
     keep = remarked e.listed.first e.listed.keep (λ b m. m && not (in_mask e.listed.first mask b));
-    homed = remarked e.listed.first e.listed.homed (λ b m. m && not (in_mask e.listed.first mask b));
+    homed = remarked e.listed.first e.listed.homed
+        (λ b m. m && not (in_mask e.listed.first mask b));
   };
 }
 

@@ -38,7 +38,8 @@ pub record IsInRange (e : Entry) : Type 0 where
 -- homed blocks are kept, and no later entry keeps them
 abbrev pub AreLive : List Entry → Type 0
 AreLive [] = ⊤
-AreLive (e ∷ es) = ((i : ℕ) → has_bit e.homed i ≡ true → (has_bit e.record.keep i ≡ true) × (one_keeps es (e.record.lbn + i) ≡ false)) × AreLive es
+AreLive (e ∷ es) = ((i : ℕ) → has_bit e.homed i ≡ true
+    → (has_bit e.record.keep i ≡ true) × (one_keeps es (e.record.lbn + i) ≡ false)) × AreLive es
 
 -- no entry has a homed block
 abbrev pub NoneHomed : List Entry → Type 0
@@ -53,7 +54,8 @@ pub record AreEntries (es : List Entry) : Type 0 where
 -- the same entry, where blocks are homed no more that the record keeps
 pub record IsUnhomed (r : Rec) (old new : Entry) : Type 0 where
   pub same : new.record ≡ old.record
-  pub homed : (i : ℕ) → has_bit new.homed i ≡ (has_bit old.homed i && not (in_mask r.lbn r.keep (old.record.lbn + i)))
+  pub homed : (i : ℕ) → has_bit new.homed i
+      ≡ (has_bit old.homed i && not (in_mask r.lbn r.keep (old.record.lbn + i)))
 
 -- the same entry, where blocks of a set are homed no more
 pub record IsWithout (S : ℕ → Bool) (old new : Entry) : Type 0 where

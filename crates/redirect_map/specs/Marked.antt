@@ -1,4 +1,5 @@
--- Marks of records that may have something due, or something that goes. A mark may be set where it needn't.
+-- Marks of records that may have something due, or something that goes. A mark may be set where it
+-- needn't.
 use Rattle.std.specs.Prelude.{◌≡◌, ◌+◌, ◌%◌, ℕ, Bool, true, false, not, ◌&&◌, ◌||◌, List, Option, Some, slice_get}
 use Rattle.wol_model.specs.Log.{has_bit}
 use Rattle.version_marks.specs.Marks.{Contents, IsWithin, mask_of}
@@ -8,8 +9,8 @@ use Rattle.redirect_map.specs.Masks.{in_mask}
 use Rattle.redirect_map.specs.Kept.{keeps}
 use Rattle.redirect_map.specs.Cells.{is_held, take_one}
 
--- bits of a version's mask: the record is there; it may have a due block; it may have a block that goes. Lanes
--- with one rest share their bits
+-- bits of a version's mask: the record is there; it may have a due block; it may have a block that
+-- goes. Lanes with one rest share their bits
 abbrev pub there_bit : ℕ
 there_bit = 126
 
@@ -27,30 +28,37 @@ is_due_of e b c = keeps e b && (is_held e.record.version false c && not (is_home
 
 -- or may go
 abbrev pub goes_of : Entry → ℕ → Option Cell → Bool
-goes_of e b c = keeps e b && (not (is_held e.record.version false c) || (is_home e b && is_held e.record.version true c))
+goes_of e b c = keeps e b
+    && (not (is_held e.record.version false c) || (is_home e b && is_held e.record.version true c))
 
 -- a version's mask has the bits that its entry needs
 pub record IsMarked (known : ℕ → Option Cell) (mask : ℕ) (e : Entry) : Type 0 where
   pub there : has_bit mask there_bit ≡ true
-  pub due : (b : ℕ) → is_due_of e b (known b) ≡ true → has_bit mask (lane_bit false e.record.lane) ≡ true
-  pub going : (b : ℕ) → goes_of e b (known b) ≡ true → has_bit mask (lane_bit true e.record.lane) ≡ true
+  pub due : (b : ℕ) → is_due_of e b (known b) ≡ true
+      → has_bit mask (lane_bit false e.record.lane) ≡ true
+  pub going : (b : ℕ) → goes_of e b (known b) ≡ true
+      → has_bit mask (lane_bit true e.record.lane) ≡ true
 
 abbrev pub AreMarked : List Entry → (ℕ → Option Cell) → (ℕ → ℕ) → Type 0
-AreMarked es known masks = (k : ℕ) (e : Entry) → slice_get es k ≡ Some e → IsMarked known (masks e.record.version) e
+AreMarked es known masks =
+    (k : ℕ) (e : Entry) → slice_get es k ≡ Some e → IsMarked known (masks e.record.version) e
 
 -- all records are there
 abbrev pub AreThere : List Entry → (ℕ → ℕ) → Type 0
-AreThere es masks = (k : ℕ) (e : Entry) → slice_get es k ≡ Some e → has_bit (masks e.record.version) there_bit ≡ true
+AreThere es masks = (k : ℕ) (e : Entry) → slice_get es k ≡ Some e
+    → has_bit (masks e.record.version) there_bit ≡ true
 
--- the block begins to go of its newest record: as a newer one covers it, or as the one other record that keeps it
--- gives it up while it is home
+-- the block begins to go of its newest record: as a newer one covers it, or as the one other record
+-- that keeps it gives it up while it is home
 abbrev pub begins : (covered : Bool) → Entry → ℕ → Option Cell → Bool
 begins true e b c = is_held e.record.version false c
 begins false e b c = is_home e b && is_held e.record.version true (take_one c)
 
 -- a record of which the block begins to go is marked
 abbrev pub AreBegun : Bool → List Entry → (ℕ → Option Cell) → (ℕ → ℕ) → ℕ → Type 0
-AreBegun covered es known masks b = (k : ℕ) (e : Entry) → slice_get es k ≡ Some e → begins covered e b (known b) ≡ true → has_bit (masks e.record.version) (lane_bit true e.record.lane) ≡ true
+AreBegun covered es known masks b = (k : ℕ) (e : Entry) → slice_get es k ≡ Some e
+    → begins covered e b (known b) ≡ true
+    → has_bit (masks e.record.version) (lane_bit true e.record.lane) ≡ true
 
 -- no mask loses a bit
 abbrev pub KeepsBits : Contents → Contents → Type 0

@@ -51,7 +51,8 @@ pub fn held(blocks: &HashMap<u64, Cell>, one: &Rec, alone: bool) -> u128
     requires count { one.now.count ≤ 128 }
     requires within { one.now.lbn + one.now.count ≤ 2 ^ 32 }
     ensures { (i : ℕ) → has_bit result i
-        ≡ (nat_lt i one.now.count && is_held one.now.version alone (get nat_eq blocks.now (one.now.lbn + i))) }
+        ≡ (nat_lt i one.now.count
+        && is_held one.now.version alone (get nat_eq blocks.now (one.now.lbn + i))) }
 {
     let mut mask = 0;
     for i in 0..one.count {
@@ -66,9 +67,11 @@ pub fn held_both(blocks: &HashMap<u64, Cell>, one: &Rec) -> (u128, u128)
     requires count { one.now.count ≤ 128 }
     requires within { one.now.lbn + one.now.count ≤ 2 ^ 32 }
     ensures live { (i : ℕ) → has_bit result.0 i
-        ≡ (nat_lt i one.now.count && is_held one.now.version false (get nat_eq blocks.now (one.now.lbn + i))) }
+        ≡ (nat_lt i one.now.count
+        && is_held one.now.version false (get nat_eq blocks.now (one.now.lbn + i))) }
     ensures alone { (i : ℕ) → has_bit result.1 i
-        ≡ (nat_lt i one.now.count && is_held one.now.version true (get nat_eq blocks.now (one.now.lbn + i))) }
+        ≡ (nat_lt i one.now.count
+        && is_held one.now.version true (get nat_eq blocks.now (one.now.lbn + i))) }
 {
     let mut live = 0;
     let mut alone = 0;
@@ -111,7 +114,8 @@ pub fn run_length(blocks: &HashMap<u64, Cell>, lbn: u64, most: usize) -> usize
 // Whether a record keeps a block of the range.
 pub fn any_covered(blocks: &HashMap<u64, Cell>, lbn: u64, count: u32) -> bool
     requires { lbn ≤ 2 ^ 32 }
-    ensures { result ≡ list_any (λ b. is_some (get nat_eq blocks.now b)) (range_with_len lbn count) }
+    ensures { result
+        ≡ list_any (λ b. is_some (get nat_eq blocks.now b)) (range_with_len lbn count) }
 {
     for i in 0..count {
         if newest_of(blocks, lbn + u64::from(i)).is_some() {
@@ -125,7 +129,8 @@ pub fn any_covered(blocks: &HashMap<u64, Cell>, lbn: u64, count: u32) -> bool
 fn cover_again(blocks: &mut HashMap<u64, Cell>, lbn: u64, version: u64) -> bool
     requires { keepers_of (get nat_eq blocks.old lbn) + 1 < 2 ^ 64 }
     ensures cells { result ≡ true → (b : ℕ) → get nat_eq blocks.new b
-        ≡ (if b == lbn then one_covers version (get nat_eq blocks.old b) else get nat_eq blocks.old b) }
+        ≡ (if b == lbn then one_covers version (get nat_eq blocks.old b)
+        else get nat_eq blocks.old b) }
     ensures none { result ≡ false → get nat_eq blocks.old lbn ≡ None }
     ensures same { result ≡ false → (b : ℕ) → get nat_eq blocks.new b ≡ get nat_eq blocks.old b }
     ensures spare { spare blocks.old ≤ spare blocks.new }
@@ -143,7 +148,8 @@ fn cover_one(blocks: &mut HashMap<u64, Cell>, lbn: u64, version: u64)
     requires spare { 0 < spare blocks.old }
     requires few { keepers_of (get nat_eq blocks.old lbn) + 1 < 2 ^ 64 }
     ensures cells { (b : ℕ) → get nat_eq blocks.new b
-        ≡ (if b == lbn then one_covers version (get nat_eq blocks.old b) else get nat_eq blocks.old b) }
+        ≡ (if b == lbn then one_covers version (get nat_eq blocks.old b)
+        else get nat_eq blocks.old b) }
     ensures spare { spare blocks.old ≤ spare blocks.new + 1 }
 {
     if cover_again(blocks, lbn, version) {
@@ -160,7 +166,8 @@ fn cover_bit(blocks: &mut HashMap<u64, Cell>, one: &Rec, i: u32)
     requires within { one.now.lbn + i < 2 ^ 32 }
     requires bit { i < 128 }
     ensures cells { (b : ℕ) → get nat_eq blocks.new b
-        ≡ (if has_bit one.now.keep i && (b == one.now.lbn + i) then one_covers one.now.version (get nat_eq blocks.old b) else get nat_eq blocks.old b) }
+        ≡ (if has_bit one.now.keep i && (b == one.now.lbn + i)
+        then one_covers one.now.version (get nat_eq blocks.old b) else get nat_eq blocks.old b) }
     ensures spare { spare blocks.old ≤ spare blocks.new + 1 }
 {
     if one.keep >> i & 1 == 1 {
@@ -175,7 +182,8 @@ pub fn cover(blocks: &mut HashMap<u64, Cell>, one: &Rec)
     requires count { one.now.count ≤ 128 }
     requires within { one.now.lbn + one.now.count ≤ 2 ^ 32 }
     requires keep_within { one.now.keep < 2 ^ one.now.count }
-    ensures cells { (b : ℕ) → get nat_eq blocks.new b ≡ covering one.now b (get nat_eq blocks.old b) }
+    ensures cells { (b : ℕ)
+        → get nat_eq blocks.new b ≡ covering one.now b (get nat_eq blocks.old b) }
     ensures spare { spare blocks.old ≤ spare blocks.new + one.now.count }
 {
     for i in 0..one.count {
@@ -218,7 +226,8 @@ fn uncover_bit(blocks: &mut HashMap<u64, Cell>, first: u64, mask: u128, i: u32)
     requires within { first + i < 2 ^ 64 }
     requires bit { i < 128 }
     ensures cells { (b : ℕ) → get nat_eq blocks.new b
-        ≡ (if has_bit mask i && (b == first + i) then take_one (get nat_eq blocks.old b) else get nat_eq blocks.old b) }
+        ≡ (if has_bit mask i && (b == first + i) then take_one (get nat_eq blocks.old b)
+        else get nat_eq blocks.old b) }
     ensures spare { spare blocks.old ≤ spare blocks.new }
 {
     if mask >> i & 1 == 1 {
@@ -232,7 +241,8 @@ pub fn uncover(blocks: &mut HashMap<u64, Cell>, first: u64, count: u32, mask: u1
     requires within { first + count ≤ 2 ^ 32 }
     requires mask { mask < 2 ^ count }
     ensures cells { (b : ℕ) → get nat_eq blocks.new b
-        ≡ (if in_mask first mask b then take_one (get nat_eq blocks.old b) else get nat_eq blocks.old b) }
+        ≡ (if in_mask first mask b then take_one (get nat_eq blocks.old b)
+        else get nat_eq blocks.old b) }
     ensures spare { spare blocks.old ≤ spare blocks.new }
 {
     for i in 0..count {

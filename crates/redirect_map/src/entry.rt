@@ -24,7 +24,8 @@ pub struct Entry {
 fn below(entries: &VecDeque<Entry>, version: u64) -> usize
     requires { AreRising (map (λ e. e.record.version) entries.now.items) }
     ensures within { result ≤ length entries.now.items }
-    ensures parted { IsPartitionPoint (λ e. nat_lt e.record.version version ≡ true) (λ e. nat_lt e.record.version version ≡ false) entries.now.items result }
+    ensures parted { IsPartitionPoint (λ e. nat_lt e.record.version version ≡ true)
+        (λ e. nat_lt e.record.version version ≡ false) entries.now.items result }
 {
     entries.partition_point(|entry| entry.record.version < version)
 }
@@ -32,7 +33,8 @@ fn below(entries: &VecDeque<Entry>, version: u64) -> usize
 // The place, if this version has it.
 fn if_at(entries: &VecDeque<Entry>, place: usize, version: u64) -> Option<usize>
     requires { AreRising (map (λ e. e.record.version) entries.now.items) }
-    ensures { IfSome result (λ k. (k < length entries.now.items) × (find (is_version version) entries.now.items ≡ slice_get entries.now.items k)) }
+    ensures { IfSome result (λ k. (k < length entries.now.items)
+        × (find (is_version version) entries.now.items ≡ slice_get entries.now.items k)) }
 {
     if place < entries.len() && entries[place].record.version == version {
         Some(place)
@@ -44,7 +46,9 @@ fn if_at(entries: &VecDeque<Entry>, place: usize, version: u64) -> Option<usize>
 // The place of this version, if it is there, by halving.
 fn searched(entries: &VecDeque<Entry>, version: u64) -> Option<usize>
     requires { AreRising (map (λ e. e.record.version) entries.now.items) }
-    ensures found { IfSome result (λ k. (k < length entries.now.items) × (find (is_version version) entries.now.items ≡ slice_get entries.now.items k)) }
+    ensures found { IfSome result (λ k.
+        (k < length entries.now.items)
+        × (find (is_version version) entries.now.items ≡ slice_get entries.now.items k)) }
     ensures none { IfNone result (find (is_version version) entries.now.items ≡ None) }
 {
     let place = below(entries, version);
@@ -66,7 +70,9 @@ fn likely_place(entries: &VecDeque<Entry>, version: u64) -> usize {
 // The place of this version, if it is there. It is looked for first where it stands if no number is missing.
 fn position_of(entries: &VecDeque<Entry>, version: u64) -> Option<usize>
     requires { AreRising (map (λ e. e.record.version) entries.now.items) }
-    ensures found { IfSome result (λ k. (k < length entries.now.items) × (find (is_version version) entries.now.items ≡ slice_get entries.now.items k)) }
+    ensures found { IfSome result (λ k.
+        (k < length entries.now.items)
+        × (find (is_version version) entries.now.items ≡ slice_get entries.now.items k)) }
     ensures none { IfNone result (find (is_version version) entries.now.items ≡ None) }
 {
     if let Some(place) = if_at(entries, likely_place(entries, version), version) {
@@ -80,7 +86,8 @@ pub fn place_of(entries: &VecDeque<Entry>, version: u64) -> usize
     requires rising { AreRising (map (λ e. e.record.version) entries.now.items) }
     requires there { IsSome (find (is_version version) entries.now.items) }
     ensures within { result < length entries.now.items }
-    ensures found { find (is_version version) entries.now.items ≡ slice_get entries.now.items result }
+    ensures found { find (is_version version) entries.now.items
+        ≡ slice_get entries.now.items result }
 {
     position_of(entries, version).unwrap()
 }
@@ -96,7 +103,8 @@ pub fn with_version(entries: &VecDeque<Entry>, version: u64) -> Option<Entry>
 
 // Whether an entry keeps a block of the range.
 pub fn any_meets(entries: &VecDeque<Entry>, lbn: u64, count: u32) -> bool
-    ensures { result ≡ list_any (λ e. list_any (keeps e) (range_with_len lbn count)) entries.now.items }
+    ensures { result
+        ≡ list_any (λ e. list_any (keeps e) (range_with_len lbn count)) entries.now.items }
 {
     entries.iter().any(|entry| entry.record.meets(lbn, count))
 }
@@ -125,7 +133,8 @@ fn unhome_bit(entries: &mut Entries, blocks: &HashMap<u64, Cell>, newer: &Rec, i
     requires cells { AreTabled entries.old.items blocks.now }
     requires bit { i < 128 }
     requires within { newer.now.lbn + i < 2 ^ 32 }
-    ensures zip { AllZip (IsWithout (λ b. has_bit newer.now.keep i && (b == newer.now.lbn + i))) entries.old.items entries.new.items }
+    ensures zip { AllZip (IsWithout (λ b. has_bit newer.now.keep i && (b == newer.now.lbn + i)))
+        entries.old.items entries.new.items }
     ensures room { entries.new.room ≡ entries.old.room }
 {
     if newer.keep >> i & 1 == 1 {

@@ -94,8 +94,10 @@ impl Index {
         requires reserved { runs_of (marks_of entry.count entry.keep) ≤ self.old.reserved }
 
         ensures entries { self.new.entries
-            ≡ map (unhomed (cover_at (entry_of entry 0))) self.old.entries ++ entry_of entry 0 ∷ [] }
-        ensures room { self.old.reserved ≤ self.new.reserved + runs_of (marks_of entry.count entry.keep) }
+            ≡ map (unhomed (cover_at (entry_of entry 0))) self.old.entries
+            ++ entry_of entry 0 ∷ [] }
+        ensures room { self.old.reserved
+            ≤ self.new.reserved + runs_of (marks_of entry.count entry.keep) }
     {
         let covered = newest_versions(&self.blocks, &entry);
         mark_blocks(
@@ -137,7 +139,8 @@ impl Index {
     pub fn newest_run(&self, lbn: u64, most: usize) -> (Option<Rec>, usize)
         requires some { 1 ≤ most }
         requires fits { lbn + most < 2 ^ 64 }
-        ensures run { (b : ℕ) → lbn ≤ b → b < lbn + result.1 → IsAnswer (newest cover_at self.now.entries b) result.0 }
+        ensures run { (b : ℕ) → lbn ≤ b → b < lbn + result.1
+            → IsAnswer (newest cover_at self.now.entries b) result.0 }
         ensures some { 1 ≤ result.1 }
         ensures most { result.1 ≤ most }
     {
@@ -149,7 +152,8 @@ impl Index {
 
     /// Whether a record covers at least one block of the range.
     pub fn covered(&self, lbn: u64, count: u32) -> bool
-        ensures { result ≡ list_any (is_covered (listed_in self.now.entries)) (range_with_len lbn count) }
+        ensures { result
+            ≡ list_any (is_covered (listed_in self.now.entries)) (range_with_len lbn count) }
     {
         if lbn <= 1 << 32 && count as usize <= self.entries.len() {
             any_covered(&self.blocks, lbn, count)
@@ -181,7 +185,9 @@ impl Index {
     pub fn alone(&self, version: u64) -> u128
         requires { HasVersion self.now.entries version }
         ensures { IfSome (entry_at self.now.entries version)
-            (λ e. IsMask e.listed.first (λ b. is_live (listed_in self.now.entries) e.listed b && not (is_older (listed_in self.now.entries) e.listed b)) result) }
+            (λ e. IsMask e.listed.first
+            (λ b. is_live (listed_in self.now.entries) e.listed b
+            && not (is_older (listed_in self.now.entries) e.listed b)) result) }
     {
         let record = self.entries.get(version).unwrap().record;
         held(&self.blocks, &record, true)
@@ -241,7 +247,8 @@ impl Index {
             → goes (listed_in self.old.entries) e.listed (e.listed.first + i) ≡ true) }
 
         ensures entries { self.new.entries
-            ≡ filter (λ e. keeps_a_block e.listed) (changed version (given_up mask) self.old.entries) }
+            ≡ filter (λ e. keeps_a_block e.listed)
+            (changed version (given_up mask) self.old.entries) }
         ensures room { self.old.reserved ≤ self.new.reserved }
     {
         let mut entry = self.entries.get(version).unwrap();
@@ -271,7 +278,8 @@ impl Index {
     pub fn first_due(&self, from: u64, lanes: &[bool]) -> Option<u64>
         ensures from { IfSome result (λ v. from ≤ v) }
         ensures least { IfSome result (λ v. AllByRecursion
-            (λ e. from ≤ e.listed.version → e.listed.version < v → slice_index_or lanes.now e.listed.lane false ≡ true
+            (λ e. from ≤ e.listed.version → e.listed.version < v
+            → slice_index_or lanes.now e.listed.lane false ≡ true
             → has_due (listed_in self.now.entries) e.listed ≡ false) self.now.entries) }
         ensures none { IfNone result (AllByRecursion
             (λ e. from ≤ e.listed.version → slice_index_or lanes.now e.listed.lane false ≡ true
@@ -284,7 +292,8 @@ impl Index {
     pub fn first_going(&self, from: u64, lanes: &[bool]) -> Option<u64>
         ensures from { IfSome result (λ v. from ≤ v) }
         ensures least { IfSome result (λ v. AllByRecursion
-            (λ e. from ≤ e.listed.version → e.listed.version < v → slice_index_or lanes.now e.listed.lane false ≡ true
+            (λ e. from ≤ e.listed.version → e.listed.version < v
+            → slice_index_or lanes.now e.listed.lane false ≡ true
             → has_going (listed_in self.now.entries) e.listed ≡ false) self.now.entries) }
         ensures none { IfNone result (AllByRecursion
             (λ e. from ≤ e.listed.version → slice_index_or lanes.now e.listed.lane false ≡ true

@@ -78,7 +78,8 @@ impl Entries {
         requires there { IsSome (find (is_version version) self.old.items) }
         requires same { entry.record.version ≡ version }
         requires keeps { 0 < entry.record.keep }
-        ensures items { self.new.items ≡ slice_set self.old.items (place_in version self.old.items) entry }
+        ensures items { self.new.items
+            ≡ slice_set self.old.items (place_in version self.old.items) entry }
         ensures room { self.new.room ≡ self.old.room }
     {
         let place = place_of(&self.places, version);
@@ -87,7 +88,8 @@ impl Entries {
 
     /// Adds an entry whose version is above all others.
     pub fn push(&mut self, entry: Entry)
-        requires newest { AllByRecursion (λ e. e.record.version < entry.record.version) self.old.items }
+        requires newest { AllByRecursion (λ e. e.record.version < entry.record.version)
+            self.old.items }
         requires keeps { 0 < entry.record.keep }
         requires room { 0 < self.old.room }
         ensures items { self.new.items ≡ self.old.items ++ entry ∷ [] }
@@ -138,7 +140,8 @@ impl Entries {
 
     /// Whether an entry keeps a block of the range.
     pub fn any_meets(&self, lbn: u64, count: u32) -> bool
-        ensures { result ≡ list_any (λ e. list_any (keeps e) (range_with_len lbn count)) self.now.items }
+        ensures { result
+            ≡ list_any (λ e. list_any (keeps e) (range_with_len lbn count)) self.now.items }
     {
         any_meets(&self.places, lbn, count)
     }
@@ -187,7 +190,8 @@ fn drop_dead(places: &mut VecDeque<Entry>)
 // The entry that isn't dead behind which so many others stand.
 fn from_last(places: &VecDeque<Entry>, behind: usize) -> Entry
     requires { behind < length (filter is_listed places.now.items) }
-    ensures { slice_get (filter is_listed places.now.items) (length (filter is_listed places.now.items) - 1 - behind) ≡ Some result }
+    ensures { slice_get (filter is_listed places.now.items)
+        (length (filter is_listed places.now.items) - 1 - behind) ≡ Some result }
 {
     let mut left = behind;
     let mut place = places.len();

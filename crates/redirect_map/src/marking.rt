@@ -62,7 +62,8 @@ pub fn exact_mask(blocks: &HashMap<u64, Cell>, entry: &Entry) -> u128
 
 // Whether the newer record keeps all blocks that this one keeps.
 fn is_under(one: &Rec, newer: &Rec) -> bool
-    ensures { result ≡ true → (b : ℕ) → in_mask one.now.lbn one.now.keep b ≡ true → in_mask newer.now.lbn newer.now.keep b ≡ true }
+    ensures { result ≡ true → (b : ℕ) → in_mask one.now.lbn one.now.keep b ≡ true
+        → in_mask newer.now.lbn newer.now.keep b ≡ true }
 {
     one.keep & !moved(newer.keep, newer.lbn, one.lbn) == 0
 }
@@ -122,7 +123,8 @@ fn mark_newest(
     requires entries { AreEntries entries.now.items }
     requires there { AreThere entries.now.items (mask_of marks.old) }
     ensures more { KeepsBits marks.old marks.new }
-    ensures begun { AreBegun covered entries.now.items (get nat_eq blocks.now) (mask_of marks.new) lbn }
+    ensures begun { AreBegun covered entries.now.items (get nat_eq blocks.now) (mask_of marks.new)
+        lbn }
     ensures room { marks.new.room ≡ marks.old.room }
 {
     let Some(cell) = newest_of(blocks, lbn) else {

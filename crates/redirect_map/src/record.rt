@@ -44,7 +44,8 @@ impl Rec {
 
     /// Whether the record keeps a block of this range.
     pub(crate) fn meets(&self, lbn: u64, count: u32) -> bool
-        ensures { result ≡ list_any (in_mask self.now.lbn self.now.keep) (range_with_len lbn count) }
+        ensures { result
+            ≡ list_any (in_mask self.now.lbn self.now.keep) (range_with_len lbn count) }
     {
         let before = self.lbn.saturating_sub(lbn);
         let kept = moved(self.keep, self.lbn, lbn + before);

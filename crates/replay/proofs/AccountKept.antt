@@ -1,27 +1,14 @@
 -- The account holds of each run.
-use Rattle.std.proofs.Common.{◌≡◌, ◌⊎◌, ◌++◌, ℕ, Bool, List, Option, None, Some, Result, Ok, Err, inl, inr}
-use Rattle.std.specs.Prelude.{⊤, IsTrue}
-use Rattle.wol_disk.specs.Disk.{State}
-use Rattle.wol_bay.specs.Bay.{BayState, Told}
-use Rattle.wol_model.specs.Trace.{TraceLine}
-use Rattle.wol_promise.specs.Run.{joined_lines}
-use Rattle.wol_config.specs.declared.config.Config.{Config}
-use Rattle.volume_images.specs.Left.{IsTold}
-use Rattle.rack.specs.PoolUses.{ArePools}
+use Rattle.replay.proofs.Basics.{◌≡◌, ◌⊎◌, ◌++◌, ℕ, Bool, List, Option, None, Some, Result, Ok, Err, inl, inr, ⊤, IsTrue}
+use Rattle.replay.proofs.Terms.{State, BayState, Told, TraceLine, joined_lines, Config, IsTold, ArePools, BeginAsRead, History, IsHistory}
+use Rattle.replay.proofs.Terms.{answers_in, view_at, LeavesImages, Replayed, Replays, status_in, ServedWindow, IsSummaryOf, PrintsRun}
+use Rattle.replay.proofs.Terms.{Given, Options, Stop}
 use Rattle.replay.specs.Account.{Account, EndsWithSummary, KeepsAccount}
-use Rattle.replay.specs.Histories.{BeginAsRead, History, IsHistory, answers_in, view_at}
-use Rattle.replay.specs.Leaves.{LeavesImages}
-use Rattle.replay.specs.Replays as replays
-use Rattle.replay.specs.Replays.{Replayed, Replays, status_in}
-use Rattle.replay.specs.Served.{ServedWindow}
-use Rattle.replay.specs.Summed as summed
-use Rattle.replay.specs.Summed.{IsSummaryOf, PrintsRun}
-use Rattle.replay.specs.declared.given.Given.{Given}
-use Rattle.replay.specs.declared.session.Options.{Options}
-use Rattle.replay.specs.declared.stop.Stop.{Stop}
-use Rattle.replay.specs.declared.stop.Stop.TheVariants as stop
 use Rattle.replay.proofs.HeadlineKept.{closed_yet, no_memory_yet}
 use Rattle.replay.proofs.Statuses.{not_success}
+use Rattle.replay.specs.Replays as replays
+use Rattle.replay.specs.Summed as summed
+use Rattle.replay.specs.declared.stop.Stop.TheVariants as stop
 
 -- a run that came to the end of its trace printed the summary
 summary_printed : {S T : Type 0} (left : S → Option (List ℕ)) (config : Config) (views : ℕ → List ℕ) (start now : Given S) (lines : List (Option TraceLine)) (windows : List ServedWindow) (awake : List (List Bool)) (result : Result T Stop) (text : List ℕ) (told : List (List ℕ))

@@ -1,26 +1,16 @@
 -- A spindle's journal covers the account: its keeper began it, and each window of it.
-use Rattle.std.proofs.Common.{◌≡◌, ◌≢◌, ◌<◌, ◌≤◌, ◌⊎◌, ℕ, zero, suc, Bool, true, false, cond, List, [], ◌∷◌, ◌++◌, length, map, refl, sym, ap, subst, ◌∙◌, append_assoc, append-nil, length-append, inl, inr, arith}
-use Rattle.std.specs.Prelude.{◌==◌, Contains, slice_index_or}
-use Rattle.std.specs.List.{filter, AllByRecursion}
-use Rattle.std.proofs.lemmas.Bool.{cases_eq}
-use Rattle.std.proofs.lemmas.List.{map-append}
-use Rattle.turn_lock.specs.Histories.{Entry, own}
-use Rattle.turn_lock.specs.Passes.{pass_number, pass_mine}
-use Rattle.wol_model.specs.Journal.{Use, Started, Began, Needed, Done, IsJournal}
-use Rattle.wol_model.specs.Trace.{Timed, Window, joined, joins, opened, started, windows_by, windows_from}
-use Rattle.spin_model.specs.Operations.{operation_of, use_of, uses_of}
-use Rattle.spin_model.specs.Spindles.{SpindleView, StandsFor}
-use Rattle.spin_model.specs.declared.spindle.SpindleBase.{SpindleBase}
+use Rattle.replay.proofs.Basics.{◌≡◌, ◌≢◌, ◌<◌, ◌≤◌, ◌⊎◌, ℕ, zero, suc, Bool, true, false, cond, List, [], ◌∷◌, ◌++◌, length, map, refl}
+use Rattle.replay.proofs.Basics.{sym, ap, subst, ◌∙◌, append_assoc, append-nil, length-append, inl, inr, arith, ◌==◌, Contains}
+use Rattle.replay.proofs.Basics.{slice_index_or, filter, AllByRecursion, cases_eq, map-append}
+use Rattle.replay.proofs.Terms.{Entry, own, pass_number, pass_mine, Use, Started, Began, Needed, Done, IsJournal, Timed, joined, joins}
+use Rattle.replay.proofs.Terms.{opened, started, windows_by, windows_from, operation_of, use_of, uses_of, SpindleView, StandsFor}
+use Rattle.replay.proofs.Terms.{SpindleBase, keeper_uses, OthersAccess, uses_by, SpindlePass, Floor, Reclaim, HaveStarted, ServedFromStart}
+use Rattle.replay.proofs.Terms.{ServedWindow, WasServed, WereServed}
+use Rattle.wol_model.specs.Trace.{Window}
 use Rattle.spin_model.proofs.Alternating.{journal_alternates}
-use Rattle.wol_promise.specs.Spindle.{keeper_uses}
-use Rattle.run_laws.specs.Journals.{OthersAccess, uses_by}
 use Rattle.run_laws.proofs.Accounts.{account_covers, no_account}
 use Rattle.trace_windows.specs.Laws.{AreInOrder}
-use Rattle.request_workers.specs.Begun.{SpindlePass}
-use Rattle.window_desks.specs.declared.floor.Floor.{Floor}
-use Rattle.window_desks.specs.declared.request.Reclaim.{Reclaim}
 use Rattle.rack_parts.proofs.Members.{is_member}
-use Rattle.replay.specs.Served.{HaveStarted, ServedFromStart, ServedWindow, WasServed, WereServed}
 use Rattle.replay.proofs.RacksServed.{at_place, there_at}
 
 -- ---- What a keeper used

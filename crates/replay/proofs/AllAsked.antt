@@ -1,30 +1,18 @@
 -- Where all requests of a trace were answered, what is counted of reads and writes is the trace's.
-use Rattle.std.proofs.Common.{◌≡◌, ◌==◌, ◌<◌, ℕ, Bool, true, false, cond, List, [], ◌∷◌, length, map, take, drop, refl, sym, ap, subst, ◌∙◌, Some, not, arith}
-use Rattle.std.specs.Prelude.{count_by, slice_get}
-use Rattle.std.specs.List.{AllByRecursion}
-use Rattle.std.proofs.lemmas.Bool.{eq-eqb}
-use Rattle.std.proofs.lemmas.List.{take-append-drop}
-use Rattle.std.proofs.lemmas.List.Sums.{sum_by-cons}
-use Rattle.wol_model.specs.Blocks.{Write}
-use Rattle.wol_model.specs.History as history
-use Rattle.wol_model.specs.History.{Broke, Kept, Operation, Read, Wrote}
+use Rattle.replay.proofs.Basics.{◌≡◌, ◌==◌, ◌<◌, ℕ, Bool, true, false, cond, List, [], ◌∷◌, length, map, take, drop, refl, sym, ap, subst}
+use Rattle.replay.proofs.Basics.{◌∙◌, Some, not, arith, count_by, slice_get, AllByRecursion, eq-eqb, take-append-drop, sum_by-cons}
+use Rattle.replay.proofs.Terms.{Write, Broke, Kept, Operation, Read, Wrote, Kind, Answered, AreOutcomes, AreWritten, IsWriteOf, Unanswered}
+use Rattle.replay.proofs.Terms.{WasRead, WasWritten, answered_in, entries_of, answers_of, requests_in, AreAllAnswered, told, is_write}
+use Rattle.replay.proofs.Terms.{was_read, was_written, History, answers_in, ServedWindow, outcomes_in}
 use Rattle.wol_model.specs.Trace.{Request}
-use Rattle.wol_model.specs.declared.trace.Kind.{Kind}
-use Rattle.wol_promise.specs.Outcomes.{Answered, AreOutcomes, AreWritten, IsWriteOf, Outcome, Unanswered, WasRead, WasWritten, answered_in}
-use Rattle.wol_promise.specs.Ruled.{entries_of}
-use Rattle.run_laws.specs.Answers.{answers_of, requests_in}
-use Rattle.run_laws.specs.Laws.{AreAllAnswered}
-use Rattle.request_turns.specs.declared.outcome.Outcome as turns
-use Rattle.request_turns.specs.declared.outcome.Outcome.TheVariants as outcome
-use Rattle.request_workers.specs.Requests.{told}
-use Rattle.replay.specs.Completes.{is_write}
-use Rattle.replay.specs.Counts.{was_read, was_written}
-use Rattle.replay.specs.Histories.{History, answers_in}
-use Rattle.replay.specs.Served.{ServedWindow, outcomes_in}
+use Rattle.wol_promise.specs.Outcomes.{Outcome}
 use Rattle.replay.proofs.AnswersServed.{all_both}
 use Rattle.replay.proofs.CountsLeft.{all_there}
 use Rattle.replay.proofs.RacksServed.{a_member}
 use Rattle.replay.proofs.WritesPlaced.{counted_more, does, of_windows}
+use Rattle.wol_model.specs.History as history
+use Rattle.request_turns.specs.declared.outcome.Outcome as turns
+use Rattle.request_turns.specs.declared.outcome.Outcome.TheVariants as outcome
 
 abbrev read_in : Outcome → Bool
 read_in (WasRead mark) = true

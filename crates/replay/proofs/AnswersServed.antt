@@ -1,29 +1,11 @@
 -- The answers to the requests of windows, volume by volume.
-use Rattle.std.proofs.Common.{◌≡◌, ◌==◌, ◌<◌, ◌+◌, ℕ, zero, suc, Bool, true, false, cond, List, [], ◌∷◌, ◌++◌, length, map, refl, sym, ap, subst, ◌∙◌, append_assoc, append-nil, Option, arith}
-use Rattle.std.specs.Prelude.{slice_index_or}
-use Rattle.std.specs.List.{AllByRecursion}
-use Rattle.std.proofs.lemmas.List.{map-append}
-use Rattle.turn_lock.specs.Passes.{pass_number, pass_mine, IsSamePass}
-use Rattle.wol_model.specs.History.{Operation, Wrote, Read, Kept, Broke, IsHelp}
-use Rattle.wol_promise.specs.Outcomes.{Answered, AreOutcomes, answered_in, is_answered}
-use Rattle.wol_promise.specs.Ruled.{Noted}
-use Rattle.run_laws.specs.Answers.{answers_of}
-use Rattle.run_laws.proofs.Joins.{outcomes_join}
-use Rattle.run_laws.proofs.ReadLines.{volume_joined}
-use Rattle.trace_windows.specs.Requests.{asked}
-use Rattle.trace_windows.specs.declared.request.Request.{Request}
-use Rattle.request_turns.specs.declared.outcome.Outcome.{Outcome}
-use Rattle.request_turns.specs.Closed.{HasClosed}
-use Rattle.request_turns.specs.Turns.{ManagerPass, coded}
-use Rattle.request_workers.specs.Closed.{IsClosed}
-use Rattle.request_workers.specs.Requests.{answers_to, own_requests, outcomes_of, told}
-use Rattle.request_workers.specs.Worked.{HasWorked}
-use Rattle.window_desks.specs.declared.desk.Desk.{Desk}
-use Rattle.window_desks.specs.declared.floor.Floor.{Floor}
-use Rattle.window_desks.specs.declared.request.Reclaim.{Reclaim}
+use Rattle.replay.proofs.Basics.{◌≡◌, ◌==◌, ◌<◌, ◌+◌, ℕ, zero, suc, Bool, true, false, cond, List, [], ◌∷◌, ◌++◌, length, map, refl, sym}
+use Rattle.replay.proofs.Basics.{ap, subst, ◌∙◌, append_assoc, append-nil, Option, arith, slice_index_or, AllByRecursion, map-append}
+use Rattle.replay.proofs.Terms.{pass_number, pass_mine, IsSamePass, Operation, Wrote, Read, Kept, Broke, IsHelp, Answered, AreOutcomes}
+use Rattle.replay.proofs.Terms.{answered_in, is_answered, Noted, answers_of, outcomes_join, volume_joined, asked, Request, Outcome}
+use Rattle.replay.proofs.Terms.{HasClosed, ManagerPass, coded, IsClosed, answers_to, own_requests, outcomes_of, told, HasWorked, Desk}
+use Rattle.replay.proofs.Terms.{Floor, Reclaim, answers_in, ServedWindow, ServedFromStart, WasServed, WereServed}
 use Rattle.window_desks.specs.declared.request.Reclaim.TheVariants as reclaim
-use Rattle.replay.specs.Histories.{answers_in}
-use Rattle.replay.specs.Served.{ServedWindow, ServedFromStart, WasServed, WereServed}
 
 -- ---- Requests with their outcomes
 

@@ -1,38 +1,10 @@
 -- Where the fault of a part ended a run, the count of the bay rose.
-use Rattle.std.proofs.Common.{◌≡◌, ◌<◌, ◌≤◌, ◌++◌, ℕ, Bool, List, [], ◌∷◌, length, map, sym, ap, subst, ◌∙◌, Option, Some, inl, inr, append-nil, arith}
-use Rattle.std.specs.Prelude.{All}
-use Rattle.std.specs.List.{AllByRecursion, flat_map}
-use Rattle.std.proofs.lemmas.List.{length-map}
-use Rattle.std.proofs.lemmas.List.Concat.{flat_map-append}
-use Rattle.wol_disk.specs.Disk.{Rose}
-use Rattle.wol_bay.specs.Bay.{BayState}
-use Rattle.wol_model.specs.Trace as trace
-use Rattle.wol_model.specs.Trace.{TraceLine, windows}
-use Rattle.wol_config.specs.declared.config.Config.{Config}
-use Rattle.manager.specs.Stands.{notes_of}
-use Rattle.manager.specs.declared.station.Station.{Station}
-use Rattle.report.specs.declared.fault.Fault.{Fault}
-use Rattle.report.specs.declared.trouble.Trouble.{Trouble}
-use Rattle.turn_lock.specs.Histories.{Begins, Entry}
-use Rattle.turn_lock.specs.Passes.{pass_seen}
-use Rattle.replay.specs.Histories.{History}
-use Rattle.report.specs.declared.fault.Fault.TheVariants.{Versions, Volume}
-use Rattle.trace_gen.specs.Generated.{targets_of}
-use Rattle.trace_windows.proofs.Counting.{windows_have_requests}
-use Rattle.trace_windows.proofs.Numbering.{numbers_leave}
-use Rattle.trace_windows.specs.Requests.{asked, requests_in_all}
-use Rattle.trace_windows.specs.declared.request.Request.{Request}
-use Rattle.request_workers.specs.Floors.{HasRun}
-use Rattle.request_workers.specs.Stations.{IsMoved}
-use Rattle.window_desks.specs.declared.desk.Desk.{Desk}
-use Rattle.window_desks.specs.declared.floor.Floor.{Floor}
-use Rattle.window_desks.specs.declared.request.Reclaim.{Reclaim}
-use Rattle.rack.specs.Closes.{IsClosedVolume}
-use Rattle.rack_parts.specs.declared.rack.ImageRest.{ImageRest}
-use Rattle.replay.specs.Ended.{HasRefusedWrite}
-use Rattle.replay.specs.Endings.{fault_of_window}
-use Rattle.replay.specs.Served.{ServedFromStart, ServedWindow, WereServed}
-use Rattle.replay.specs.Sessions.{AreWindowsOf}
+use Rattle.replay.proofs.Basics.{◌≡◌, ◌<◌, ◌≤◌, ◌++◌, ℕ, Bool, List, [], ◌∷◌, length, map, sym, ap, subst, ◌∙◌, Option, Some, inl, inr}
+use Rattle.replay.proofs.Basics.{append-nil, arith, All, AllByRecursion, flat_map, length-map, flat_map-append}
+use Rattle.replay.proofs.Terms.{Rose, BayState, TraceLine, windows, Config, notes_of, Station, Fault, Trouble, Begins, Entry, pass_seen}
+use Rattle.replay.proofs.Terms.{History, Versions, Volume, targets_of, windows_have_requests, numbers_leave, asked, requests_in_all}
+use Rattle.replay.proofs.Terms.{Request, HasRun, IsMoved, Desk, Floor, Reclaim, IsClosedVolume, ImageRest, HasRefusedWrite, fault_of_window}
+use Rattle.replay.proofs.Terms.{ServedFromStart, ServedWindow, WereServed, AreWindowsOf, most_of}
 use Rattle.replay.proofs.FirstsServed.{was_worked}
 use Rattle.replay.proofs.RacksServed.{a_member, at_place}
 use Rattle.replay.proofs.RequestsServed.{requests_of_volumes}
@@ -43,7 +15,7 @@ use Rattle.replay.proofs.RunCauses.{run_cause}
 use Rattle.replay.proofs.PartNamed.{HasDownAt, breaks_at}
 use Rattle.replay.proofs.WindowBroken.{HasDown, station_down, window_down}
 use Rattle.replay.proofs.Serving.{served_requests}
-use Rattle.wol_config.specs.Configs.{most_of}
+use Rattle.wol_model.specs.Trace as trace
 
 -- ---- The window behind all others
 

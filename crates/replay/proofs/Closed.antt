@@ -1,41 +1,17 @@
 -- The rack of a replay is closed.
-use Rattle.std.proofs.Common.{◌≡◌, ◌++◌, ℕ, Bool, List, [], map, sym, ap, subst, ◌∙◌, Option, None, Some, Result, Ok, Err, ◌∷◌, arith}
-use Rattle.std.specs.Prelude.{All, IfSome, MatchResult, option_map, slice_get, slice_index_or, length, ◌<◌, ◌≤◌}
-use Rattle.std.specs.List.{AllByRecursion}
-use Rattle.wol_model.specs.Trace.{TraceLine, Window, ended, pieces_of, started, timed, windows}
-use Rattle.wol_model.specs.Journal.{IsJournal, Use}
-use Rattle.wol_promise.specs.Spindle.{keeper_uses}
-use Rattle.turn_lock.specs.Histories.{Entry, own}
-use Rattle.turn_lock.specs.Passes.{lock_id, pass_mine, pass_number}
-use Rattle.spin_model.specs.Operations.{operation_of}
-use Rattle.spin_model.specs.declared.spindle.SpindleBase.{SpindleBase}
-use Rattle.trace_gen.specs.Generated.{targets_of}
-use Rattle.trace_windows.proofs.Rising.{moments_rise}
-use Rattle.rack.specs.Closes.{IsClosedSpindle}
-use Rattle.replay.specs.Served.{ServedFromStart, ServedWindow}
-use Rattle.replay.proofs.Accounts.{AreOthers, account_journal, empty_journal, first_start, moments_of, moments_within, no_start, served_used}
-use Rattle.spin_model.specs.Spindles.{SpindleView, StandsFor}
-use Rattle.request_workers.specs.Begun.{SpindlePass}
-use Rattle.window_desks.specs.declared.floor.Floor.{Floor}
-use Rattle.replay.specs.Sessions.{ServesSome, ServesWhole}
-use Rattle.wol_disk.specs.Disk.{State}
-use Rattle.wol_bay.specs.Bay.{BayState, Told, at_name, outs}
-use Rattle.wol_config.specs.declared.config.Config.{Config}
-use Rattle.wol_config.specs.declared.config.VolumeConf.{VolumeConf}
-use Rattle.volume_images.specs.Volumes.{NoneOut, shapes_of}
+use Rattle.replay.proofs.Basics.{◌≡◌, ◌++◌, ℕ, Bool, List, [], map, sym, ap, subst, ◌∙◌, Option, None, Some, Result, Ok, Err, ◌∷◌, arith}
+use Rattle.replay.proofs.Basics.{All, IfSome, MatchResult, option_map, slice_get, slice_index_or, length, ◌<◌, ◌≤◌, AllByRecursion}
+use Rattle.replay.proofs.Terms.{TraceLine, ended, pieces_of, started, timed, IsJournal, Use, keeper_uses, Entry, own, lock_id, pass_mine}
+use Rattle.replay.proofs.Terms.{pass_number, operation_of, SpindleBase, targets_of, IsClosedSpindle, ServedFromStart, ServedWindow}
+use Rattle.replay.proofs.Terms.{SpindleView, StandsFor, SpindlePass, Floor, ServesSome, ServesWhole, State, BayState, Told, at_name, outs}
+use Rattle.replay.proofs.Terms.{Config, VolumeConf, NoneOut, shapes_of, out_names, IsClosable, IsRack, IsUnused, Rack, Rest, RunsIn, closed}
+use Rattle.replay.proofs.Terms.{no_memory, served, Counted, Given, Options, Stop, most_of}
+use Rattle.wol_model.specs.Trace.{Window, windows}
 use Rattle.rack.specs.Closing.{LeavesNoneOut}
-use Rattle.rack.specs.Rests.{out_names}
-use Rattle.rack.specs.Racks.{IsClosable, IsRack, IsUnused}
-use Rattle.rack_parts.specs.declared.rack.Rack.{Rack}
-use Rattle.rack_parts.specs.declared.rack.Rest.{Rest}
-use Rattle.replay.specs.Runs.{RunsIn, closed, no_memory, served}
-use Rattle.replay.specs.declared.counting.Counted.{Counted}
-use Rattle.replay.specs.declared.given.Given.{Given}
-use Rattle.replay.specs.declared.session.Options.{Options}
-use Rattle.replay.specs.declared.stop.Stop.{Stop}
+use Rattle.trace_windows.proofs.Rising.{moments_rise}
+use Rattle.replay.proofs.Accounts.{AreOthers, account_journal, empty_journal, first_start, moments_of, moments_within, no_start, served_used}
 use Rattle.replay.proofs.RacksServed.{a_member, at_place, closable_after, rack_closable, there_at}
 use Rattle.replay.proofs.Serving.{served_moments}
-use Rattle.wol_config.specs.Configs.{most_of}
 
 -- a bay tells the same of what is out
 outs_home : (config : Config) (b : BayState) → NoneOut config b → IfSome (outs b) (λ os. All (λ (v : VolumeConf). at_name v.name os ≡ None) config.volumes.items)

@@ -1,47 +1,23 @@
 -- A run over open volumes in whose way nothing stands comes to its end.
-use Rattle.std.proofs.Common.{◌≡◌, ◌≢◌, ◌≤◌, ◌⊎◌, ◌+◌, ◌++◌, ◌^◌, ℕ, Bool, true, false, List, [], ◌∷◌, length, refl, sym, ap, subst, ◌∙◌, Option, None, Some, Result, Ok, Err, inl, inr, arith}
-use Rattle.std.specs.Prelude.{IsTrue, if◌then◌else◌, slice_get}
-use Rattle.std.specs.List.{count_by, list_any}
-use Rattle.std.specs.Option.{option_map_or, option_or}
-use Rattle.std.proofs.lemmas.Bool.{cases_lt}
-use Rattle.wol_disk.specs.Disk.{Rose}
-use Rattle.wol_bay.specs.Bay.{BayState, Told}
-use Rattle.wol_model.specs.Trace.{Request, requests}
-use Rattle.wol_promise.specs.Outcomes.{Answered, answered_in, of_volume}
-use Rattle.wol_promise.specs.Ruled.{entries_of}
-use Rattle.run_laws.specs.Answers.{answers_of, requests_in}
-use Rattle.run_laws.proofs.ReadLines.{length_mapped, volume_requests}
-use Rattle.wol_config.specs.declared.config.Config.{Config}
-use Rattle.manager.specs.declared.part.ReadRefusal.TheVariants as read
-use Rattle.manager.specs.declared.part.StepFault.{StepFault}
-use Rattle.manager.specs.declared.part.StepFault.TheVariants as step
-use Rattle.manager.specs.declared.part.WriteRefusal.TheVariants as write
-use Rattle.msr_trace.specs.declared.format.TraceFault.{TraceFault}
-use Rattle.msr_trace.specs.declared.format.TraceFault.TheVariants as trace
-use Rattle.report.specs.declared.fault.Fault.{Fault}
-use Rattle.report.specs.declared.fault.Fault.TheVariants.{Memory, TraceSource, Versions}
-use Rattle.troubles.specs.Troubles.{trouble_of_part}
-use Rattle.trace_gen.specs.Generated.{targets_of}
-use Rattle.trace_windows.specs.declared.request.Request as program
-use Rattle.volume_images.specs.Left.{IsTold}
-use Rattle.request_turns.specs.declared.outcome.Outcome.{Outcome}
-use Rattle.request_turns.specs.declared.outcome.Outcome.TheVariants as outcome
-use Rattle.window_desks.specs.declared.request.Window.{Window}
-use Rattle.replay.specs.Completes.{Completes, MayComplete, is_write, writes_to}
-use Rattle.replay.specs.Ended.{EndsFor, HasRefusedWrite, IsPartFault, memory, no_line, refused, sink_failed}
-use Rattle.replay.specs.Endings.{fault_of_outcome, fault_of_reclaim, fault_of_window, first_refused, lacked_memory}
-use Rattle.replay.specs.Givens.{Refuses}
-use Rattle.replay.specs.Histories.{History, answers_in, is_broken_at, next_after, next_at}
-use Rattle.replay.specs.Replays.{Replays, status_in}
-use Rattle.replay.specs.Served.{ServedWindow}
-use Rattle.replay.specs.Stops.{fault_of_trace}
-use Rattle.replay.specs.declared.given.Given.{Given}
-use Rattle.replay.specs.declared.session.Options.{Options}
-use Rattle.replay.specs.declared.stop.Stop.{Stop}
-use Rattle.replay.specs.declared.stop.Stop.TheVariants as stop
+use Rattle.replay.proofs.Basics.{◌≡◌, ◌≢◌, ◌≤◌, ◌⊎◌, ◌+◌, ◌++◌, ◌^◌, ℕ, Bool, true, false, List, [], ◌∷◌, length, refl, sym, ap, subst, ◌∙◌}
+use Rattle.replay.proofs.Basics.{Option, None, Some, Result, Ok, Err, inl, inr, arith, IsTrue, if◌then◌else◌, slice_get, count_by, list_any}
+use Rattle.replay.proofs.Basics.{option_map_or, option_or, cases_lt}
+use Rattle.replay.proofs.Terms.{Rose, BayState, Told, requests, Answered, answered_in, of_volume, entries_of, answers_of, requests_in}
+use Rattle.replay.proofs.Terms.{length_mapped, volume_requests, Config, StepFault, TraceFault, Fault, Memory, TraceSource, Versions}
+use Rattle.replay.proofs.Terms.{trouble_of_part, targets_of, IsTold, Outcome, Window, Completes, MayComplete, is_write, writes_to, EndsFor}
+use Rattle.replay.proofs.Terms.{HasRefusedWrite, IsPartFault, memory, no_line, refused, sink_failed, fault_of_outcome, fault_of_reclaim}
+use Rattle.replay.proofs.Terms.{fault_of_window, first_refused, lacked_memory, Refuses, History, answers_in, is_broken_at, next_after}
+use Rattle.replay.proofs.Terms.{next_at, Replays, status_in, ServedWindow, fault_of_trace, Given, Options, Stop, most_of}
+use Rattle.wol_model.specs.Trace.{Request}
 use Rattle.replay.proofs.CountsLeft.{answers_joined}
 use Rattle.replay.proofs.WritesAnswered.{Among, among_left, among_of, among_right, among_volume, asked_writes, asks_write, logged_answered, one_less, writes_in}
-use Rattle.wol_config.specs.Configs.{most_of}
+use Rattle.manager.specs.declared.part.ReadRefusal.TheVariants as read
+use Rattle.manager.specs.declared.part.StepFault.TheVariants as step
+use Rattle.manager.specs.declared.part.WriteRefusal.TheVariants as write
+use Rattle.msr_trace.specs.declared.format.TraceFault.TheVariants as trace
+use Rattle.trace_windows.specs.declared.request.Request as program
+use Rattle.request_turns.specs.declared.outcome.Outcome.TheVariants as outcome
+use Rattle.replay.specs.declared.stop.Stop.TheVariants as stop
 
 -- ---- What a window may end a run with
 

@@ -1,14 +1,9 @@
 -- How many of its requests each volume answered, and why not all.
-use Rattle.std.proofs.Common.{◌≡◌, ◌≢◌, ◌<◌, ◌≤◌, ◌^◌, ℕ, Bool, true, false, cond, List, [], ◌∷◌, ◌++◌, length, refl, sym, ap, subst, ◌∙◌, length-append, arith}
-use Rattle.std.specs.Prelude.{IsTrue}
-use Rattle.std.proofs.lemmas.List.Concat.{flat_map-append}
-use Rattle.wol_promise.specs.Outcomes.{Answered, answered_in, is_answered, of_volume}
-use Rattle.run_laws.specs.Answers.{answered_count, answers_of, requests_in}
-use Rattle.run_laws.specs.Laws.{AreAllAnswered}
-use Rattle.run_laws.proofs.ReadLines.{length_mapped, volume_joined, volume_requests}
-use Rattle.request_workers.specs.Requests.{answers_to}
-use Rattle.replay.specs.Histories.{History, CountAnswered, answers_in, is_broken_at, next_at}
-use Rattle.replay.specs.Served.{ServedWindow}
+use Rattle.replay.proofs.Basics.{◌≡◌, ◌≢◌, ◌<◌, ◌≤◌, ◌^◌, ℕ, Bool, true, false, cond, List, [], ◌∷◌, ◌++◌, length, refl, sym, ap, subst}
+use Rattle.replay.proofs.Basics.{◌∙◌, length-append, arith, IsTrue, flat_map-append}
+use Rattle.replay.proofs.Terms.{Answered, answered_in, is_answered, of_volume, answered_count, answers_of, requests_in, AreAllAnswered}
+use Rattle.replay.proofs.Terms.{length_mapped, volume_joined, volume_requests, answers_to, History, CountAnswered, answers_in, is_broken_at}
+use Rattle.replay.proofs.Terms.{next_at, ServedWindow}
 use Rattle.replay.proofs.AnswersServed.{all_both, answered_joined}
 
 shorter : (xs : List Answered) → length (answered_in xs) ≤ length xs

@@ -1,38 +1,22 @@
 -- The accounts of disks where memory ran out as a further window began: what their keepers' passes come to.
-use Rattle.std.proofs.Common.{◌≡◌, ◌≢◌, ◌⊎◌, ◌++◌, ◌<◌, ℕ, zero, suc, Bool, true, false, cond, not, List, [], ◌∷◌, length, map, refl, sym, ap, subst, ◌∙◌, Option, Some, inl, inr, append-nil, length-append, arith}
-use Rattle.std.specs.Prelude.{All, Contains, slice_get, slice_index_or}
-use Rattle.std.proofs.lemmas.List.{map-append}
-use Rattle.wol_disk.specs.Disk.{State}
-use Rattle.wol_model.specs.Journal.{Began, Done, Needed, Started, Stayed, Use, needs_after, new_spindle}
-use Rattle.wol_model.specs.Trace.{TraceLine, pieces_of, started, timed, windows}
-use Rattle.wol_promise.specs.Spindle.{keeper_uses}
-use Rattle.turn_lock.specs.Histories.{Entry, own}
-use Rattle.turn_lock.specs.Passes.{IsPartOf, lock_id, pass_lock, pass_mine, pass_number}
-use Rattle.spin_model.specs.Operations.{has_token, operation_of, use_of, uses_of}
-use Rattle.spin_model.specs.Spindles.{SpindleView, StandsFor}
-use Rattle.spin_model.specs.declared.spindle.SpindleBase.{SpindleBase}
-use Rattle.run_laws.specs.Journals.{answers_by}
-use Rattle.wol_bay.specs.Bay.{BayState}
-use Rattle.wol_config.specs.Configs.{most_of}
-use Rattle.wol_config.specs.declared.config.Config.{Config}
-use Rattle.trace_gen.specs.Generated.{targets_of}
-use Rattle.volume_images.specs.Volumes.{shapes_of}
-use Rattle.rack.specs.Closes.{IsClosedSpindle}
-use Rattle.rack.specs.Racks.{IsClosable, IsRack, IsUnused, KeepToViews}
-use Rattle.rack_parts.specs.declared.rack.Rack.{Rack}
-use Rattle.request_workers.specs.Begun.{FailToBegin, HasBegun, HasStayed, HaveBegun, HaveBegunVolumes, SpindlePass}
-use Rattle.window_desks.specs.declared.floor.Floor.{Floor}
-use Rattle.window_desks.specs.declared.request.Reclaim.{Reclaim}
-use Rattle.replay.specs.Served.{Further, HasStarted, ServedFromStart, ServedWindow, StartsOnce, WasNotRun, begins_alone, fails_to_begin, is_none_served, none_further}
-use Rattle.replay.specs.Sessions.{AreWindowsOf}
-use Rattle.replay.specs.Summed as summed
-use Rattle.replay.specs.Summed.{IsAccountBy, IsCutShort, column, started_uses, window_uses}
+use Rattle.replay.proofs.Basics.{◌≡◌, ◌≢◌, ◌⊎◌, ◌++◌, ◌<◌, ℕ, zero, suc, Bool, true, false, cond, not, List, [], ◌∷◌, length, map, refl}
+use Rattle.replay.proofs.Basics.{sym, ap, subst, ◌∙◌, Option, Some, inl, inr, append-nil, length-append, arith, All, Contains, slice_get}
+use Rattle.replay.proofs.Basics.{slice_index_or, map-append}
+use Rattle.replay.proofs.Terms.{State, Began, Done, Needed, Started, Stayed, Use, needs_after, new_spindle, TraceLine, pieces_of, started}
+use Rattle.replay.proofs.Terms.{timed, keeper_uses, Entry, own, IsPartOf, lock_id, pass_lock, pass_mine, pass_number, has_token}
+use Rattle.replay.proofs.Terms.{operation_of, use_of, uses_of, SpindleView, StandsFor, SpindleBase, answers_by, BayState, most_of, Config}
+use Rattle.replay.proofs.Terms.{targets_of, shapes_of, IsClosedSpindle, IsClosable, IsRack, IsUnused, KeepToViews, Rack, FailToBegin}
+use Rattle.replay.proofs.Terms.{HasBegun, HasStayed, HaveBegun, HaveBegunVolumes, SpindlePass, Floor, Reclaim, Further, HasStarted}
+use Rattle.replay.proofs.Terms.{ServedFromStart, ServedWindow, StartsOnce, WasNotRun, begins_alone, fails_to_begin, is_none_served}
+use Rattle.replay.proofs.Terms.{none_further, AreWindowsOf, IsAccountBy, IsCutShort, column, started_uses, window_uses}
+use Rattle.wol_model.specs.Trace.{windows}
 use Rattle.replay.proofs.Accounts.{AreOthers, HasUsed, first_start, moments_of, named_users, others_access, own_uses, served_used, short_or_long, used_both}
 use Rattle.replay.proofs.RacksServed.{a_member, at_place, there_at}
 use Rattle.replay.proofs.ToldAwake.{WasTold, all_told, begun_told, served_told, started_told, stayed_told, timeout_of, told_both, told_none}
 use Rattle.replay.proofs.Serving.{served_moments}
 use Rattle.replay.proofs.StationsRan.{EndsOn}
 use Rattle.replay.proofs.WorksServed.{awake_in, awake_last, awake_last_begun, awake_last_kept, awake_last_none}
+use Rattle.replay.specs.Summed as summed
 
 -- ---- One pass
 

@@ -1,34 +1,20 @@
 -- The writes after a drain that are counted of windows are those of the volumes' histories.
-use Rattle.std.proofs.Common.{◌≡◌, ◌≢◌, ◌==◌, ◌<◌, ◌+◌, ◌++◌, ℕ, Bool, true, false, cond, List, [], ◌∷◌, length, refl, ap, ◌∙◌, Some, arith}
-use Rattle.std.specs.Prelude.{count_by, slice_get, sum_by}
-use Rattle.std.specs.List.{AllByRecursion}
-use Rattle.std.proofs.lemmas.Bool.{eqb-false}
-use Rattle.std.proofs.lemmas.List.Sums.{sum_by-append, sum_by-cons}
-use Rattle.wol_model.specs.History as history
-use Rattle.wol_model.specs.History.{Broke, IsHelp, Kept, Operation, Read, Wrote, worker}
-use Rattle.wol_promise.specs.Outcomes.{Answered, Outcome, Unanswered, WasRead, WasWritten}
-use Rattle.wol_promise.specs.Report.{by_worker, drains, is_drained_write}
-use Rattle.wol_promise.specs.Ruled.{Noted, entries_of}
-use Rattle.run_laws.specs.Answers.{answers_of}
-use Rattle.run_laws.proofs.ReadLines.{volume_joined}
-use Rattle.manager.specs.declared.part.Place.{Place}
-use Rattle.manager.specs.declared.part.ReadRefusal.TheVariants as read
-use Rattle.manager.specs.declared.part.WriteRefusal.TheVariants as write
-use Rattle.trace_windows.specs.Requests.{asked}
-use Rattle.trace_windows.specs.declared.request.Request.{Request}
-use Rattle.request_turns.specs.Entries.{AreEntriesOf, AreMade, IsGroupEntry}
-use Rattle.request_turns.specs.declared.outcome.Outcome as turns
-use Rattle.request_turns.specs.declared.outcome.Outcome.TheVariants as outcome
-use Rattle.request_workers.specs.Requests.{answers_to, outcomes_of, own_requests, told}
-use Rattle.window_desks.specs.declared.request.Reclaim.{Reclaim}
-use Rattle.window_desks.specs.declared.request.Reclaim.TheVariants as reclaim
-use Rattle.replay.specs.Counts.{was_drained}
-use Rattle.replay.specs.Histories.{History, answers_in}
-use Rattle.replay.specs.Served.{ServedWindow, outcomes_in}
-use Rattle.replay.specs.Works.{AreClosings, AreWorked, AreWorks}
+use Rattle.replay.proofs.Basics.{◌≡◌, ◌≢◌, ◌==◌, ◌<◌, ◌+◌, ◌++◌, ℕ, Bool, true, false, cond, List, [], ◌∷◌, length, refl, ap, ◌∙◌, Some}
+use Rattle.replay.proofs.Basics.{arith, count_by, slice_get, sum_by, AllByRecursion, eqb-false, sum_by-append, sum_by-cons}
+use Rattle.replay.proofs.Terms.{Broke, IsHelp, Kept, Operation, Read, Wrote, worker, Answered, Unanswered, WasRead, WasWritten, by_worker}
+use Rattle.replay.proofs.Terms.{drains, is_drained_write, Noted, entries_of, answers_of, volume_joined, Place, asked, Request, AreEntriesOf}
+use Rattle.replay.proofs.Terms.{AreMade, IsGroupEntry, answers_to, outcomes_of, own_requests, told, Reclaim, was_drained, History}
+use Rattle.replay.proofs.Terms.{answers_in, ServedWindow, outcomes_in, AreClosings, AreWorked, AreWorks}
+use Rattle.wol_promise.specs.Outcomes.{Outcome}
 use Rattle.replay.proofs.AnswersServed.{own_answers}
 use Rattle.replay.proofs.Grouped.{all_wrote, answers_behind, made_by_cases, wrote_all}
 use Rattle.replay.proofs.WritesPlaced.{all_counted, counted_more, does, joined}
+use Rattle.wol_model.specs.History as history
+use Rattle.manager.specs.declared.part.ReadRefusal.TheVariants as read
+use Rattle.manager.specs.declared.part.WriteRefusal.TheVariants as write
+use Rattle.request_turns.specs.declared.outcome.Outcome as turns
+use Rattle.request_turns.specs.declared.outcome.Outcome.TheVariants as outcome
+use Rattle.window_desks.specs.declared.request.Reclaim.TheVariants as reclaim
 
 -- a write that was answered after a drain
 abbrev drained_in : Outcome → Bool

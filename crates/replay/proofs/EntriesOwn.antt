@@ -1,16 +1,8 @@
 -- The entries of a volume's history, pass by pass.
-use Rattle.std.proofs.Common.{◌≡◌, ◌≢◌, ◌==◌, ℕ, Bool, true, false, cond, List, [], ◌∷◌, map, refl, sym, ap, subst, ◌∙◌, inl, inr}
-use Rattle.std.specs.List.{AllByRecursion, filter}
-use Rattle.std.proofs.lemmas.Bool.{eq-eqb, cases_eq}
-use Rattle.turn_lock.specs.Histories.{Entry, own}
+use Rattle.replay.proofs.Basics.{◌≡◌, ◌≢◌, ◌==◌, ℕ, Bool, true, false, cond, List, [], ◌∷◌, map, refl, sym, ap, subst, ◌∙◌, inl, inr}
+use Rattle.replay.proofs.Basics.{AllByRecursion, filter, eq-eqb, cases_eq}
+use Rattle.replay.proofs.Terms.{Entry, own, helper, keeper, worker, noted_of, Noted, entries_of, noted_is_back, notes_of, coded, pass_kept}
 use Rattle.wol_model.specs.History as history
-use Rattle.wol_model.specs.History.{helper, keeper, worker}
-use Rattle.wol_promise.specs.Code.{noted_of}
-use Rattle.wol_promise.specs.Ruled.{Noted, entries_of}
-use Rattle.wol_promise.proofs.ReadCode.{noted_is_back}
-use Rattle.manager.specs.Stands.{notes_of}
-use Rattle.request_turns.specs.Turns.{coded}
-use Rattle.request_turns.proofs.Gaining.{pass_kept}
 
 -- what was coded is read back
 pub notes_back : (notes : List Noted) → notes_of (map coded notes) ≡ notes

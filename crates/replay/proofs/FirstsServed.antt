@@ -1,35 +1,16 @@
 -- The answered requests of a volume are its first ones: all of the windows that went well, and the first ones of the window behind them.
-use Rattle.std.proofs.Common.{◌≡◌, ◌==◌, ◌<◌, ◌≤◌, ℕ, Bool, true, false, cond, List, [], ◌∷◌, ◌++◌, length, take, refl, sym, ap, subst, ◌∙◌, append-nil, Option, None, Some, arith}
-use Rattle.std.specs.Prelude.{slice_index_or, if◌then◌else◌}
-use Rattle.std.specs.List.{list_any, AllByRecursion}
-use Rattle.std.specs.Option.{option_or}
-use Rattle.wol_promise.specs.Outcomes.{Answered, answered_in, is_answered}
-use Rattle.wol_promise.specs.Ruled.{Noted}
-use Rattle.run_laws.specs.Answers.{answers_of, AreFirst}
-use Rattle.run_laws.specs.Laws.{AreAllAnswered}
-use Rattle.run_laws.proofs.Joins.{firsts_join}
-use Rattle.run_laws.proofs.ReadLines.{volume_joined}
-use Rattle.manager.specs.declared.part.Place.{Place}
-use Rattle.manager.specs.declared.part.WriteRefusal.TheVariants as write
-use Rattle.report.specs.declared.fault.Fault.{Fault}
-use Rattle.report.specs.declared.fault.Fault.TheVariants.{Memory}
-use Rattle.trace_windows.specs.Requests.{asked}
-use Rattle.trace_windows.specs.declared.request.Request.{Request}
-use Rattle.request_turns.specs.Entries.{AreEntriesOf, AreMade}
-use Rattle.request_turns.specs.declared.outcome.Outcome.{Outcome}
-use Rattle.request_turns.specs.declared.outcome.Outcome.TheVariants as outcome
-use Rattle.request_workers.specs.Requests.{answers_to, own_requests, outcomes_of, StopsAtRefusal, told}
-use Rattle.request_workers.specs.Worked.{HasWorked}
-use Rattle.window_desks.specs.declared.desk.Desk.{Desk}
-use Rattle.window_desks.specs.declared.floor.Floor.{Floor}
-use Rattle.window_desks.specs.declared.request.Reclaim.{Reclaim}
-use Rattle.window_desks.specs.declared.request.Window.{Window}
-use Rattle.replay.specs.Endings.{fault_of_outcome, fault_of_window, fault_of_reclaim, first_refused, lacked_memory}
-use Rattle.replay.specs.Histories.{answers_in}
-use Rattle.replay.specs.Served.{ServedWindow, ServedFromStart, WasServed, WereServed}
-use Rattle.replay.specs.Sessions.{WentWell}
+use Rattle.replay.proofs.Basics.{◌≡◌, ◌==◌, ◌<◌, ◌≤◌, ℕ, Bool, true, false, cond, List, [], ◌∷◌, ◌++◌, length, take, refl, sym, ap, subst}
+use Rattle.replay.proofs.Basics.{◌∙◌, append-nil, Option, None, Some, arith, slice_index_or, if◌then◌else◌, list_any, AllByRecursion}
+use Rattle.replay.proofs.Basics.{option_or}
+use Rattle.replay.proofs.Terms.{Answered, answered_in, is_answered, Noted, answers_of, AreFirst, AreAllAnswered, firsts_join, volume_joined}
+use Rattle.replay.proofs.Terms.{Place, Fault, Memory, asked, Request, AreEntriesOf, AreMade, Outcome, answers_to, own_requests, outcomes_of}
+use Rattle.replay.proofs.Terms.{StopsAtRefusal, told, HasWorked, Desk, Floor, Reclaim, Window, fault_of_outcome, fault_of_window}
+use Rattle.replay.proofs.Terms.{fault_of_reclaim, first_refused, lacked_memory, answers_in, ServedWindow, ServedFromStart, WasServed}
+use Rattle.replay.proofs.Terms.{WereServed, WentWell}
 use Rattle.replay.proofs.AnswersServed.{own_answers, all_both, desk_there}
 use Rattle.replay.proofs.Grouped.{all_wrote, answered_then, made_by_cases, stops_behind}
+use Rattle.manager.specs.declared.part.WriteRefusal.TheVariants as write
+use Rattle.request_turns.specs.declared.outcome.Outcome.TheVariants as outcome
 
 -- ---- One window
 

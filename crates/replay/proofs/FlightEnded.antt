@@ -1,34 +1,17 @@
 -- The writes in flight in a closed volume's history are those of its next requests.
-use Rattle.std.proofs.Common.{◌≡◌, ◌≢◌, ◌==◌, ◌⊎◌, ◌++◌, ℕ, Bool, true, false, cond, List, [], ◌∷◌, map, refl, sym, ap, subst, ◌∙◌, Option, Some, inl, inr}
-use Rattle.std.specs.Prelude.{slice_get}
-use Rattle.std.specs.List.{AllByRecursion}
-use Rattle.std.proofs.lemmas.Bool.{eqb-false}
-use Rattle.wol_model.specs.Blocks.{Write}
-use Rattle.wol_model.specs.History as history
-use Rattle.wol_model.specs.History.{Broke, IsHelp, Kept, Operation, Read, Wrote, flight_from, flight_of, helper, keeper, worker}
-use Rattle.wol_promise.specs.Code.{noted_of}
-use Rattle.wol_promise.specs.Outcomes.{Answered}
-use Rattle.wol_promise.specs.Ruled.{Noted, entries_of}
-use Rattle.run_laws.specs.Answers.{answers_of}
-use Rattle.turn_lock.specs.Histories.{Entry, own}
-use Rattle.turn_lock.specs.Passes.{pass_mine, pass_number}
-use Rattle.manager.specs.Stands.{notes_of}
-use Rattle.manager.specs.declared.station.Station.{Station}
-use Rattle.request_turns.specs.Turns.{ManagerPass, coded}
-use Rattle.request_turns.proofs.Gaining.{pass_kept}
-use Rattle.request_workers.specs.Stations.{IsMoved}
-use Rattle.window_desks.specs.declared.desk.Desk.{Desk}
-use Rattle.window_desks.specs.declared.floor.Floor.{Floor}
-use Rattle.window_desks.specs.declared.request.Reclaim.{Reclaim}
-use Rattle.rack.specs.Racks.{AreUnused, IsUnused}
-use Rattle.replay.specs.Histories.{answers_in}
-use Rattle.replay.specs.Served.{ServedFromStart, ServedWindow}
+use Rattle.replay.proofs.Basics.{◌≡◌, ◌≢◌, ◌==◌, ◌⊎◌, ◌++◌, ℕ, Bool, true, false, cond, List, [], ◌∷◌, map, refl, sym, ap, subst, ◌∙◌}
+use Rattle.replay.proofs.Basics.{Option, Some, inl, inr, slice_get, AllByRecursion, eqb-false}
+use Rattle.replay.proofs.Terms.{Write, Broke, IsHelp, Kept, Operation, Read, Wrote, flight_from, flight_of, helper, keeper, worker}
+use Rattle.replay.proofs.Terms.{noted_of, Answered, Noted, entries_of, answers_of, Entry, own, pass_mine, pass_number, notes_of, Station}
+use Rattle.replay.proofs.Terms.{ManagerPass, coded, pass_kept, IsMoved, Desk, Floor, Reclaim, AreUnused, IsUnused, answers_in}
+use Rattle.replay.proofs.Terms.{ServedFromStart, ServedWindow}
 use Rattle.replay.proofs.EntriesOwn.{notes_back}
 use Rattle.replay.proofs.FirstsServed.{EndsWell}
 use Rattle.replay.proofs.FlightServed.{HasFlight, IsInFlight, no_write, served_flight}
 use Rattle.replay.proofs.StationsRan.{EndsOn, desk, first, worker_same}
 use Rattle.replay.proofs.RacksServed.{at_place}
 use Rattle.replay.proofs.WindowBroken.{flight_in}
+use Rattle.wol_model.specs.History as history
 
 -- ---- All entries
 

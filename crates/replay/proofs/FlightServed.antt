@@ -1,46 +1,23 @@
 -- The writes that were in flight when a disk call of a volume failed are those of its next requests.
-use Rattle.std.proofs.Common.{◌≡◌, ◌<◌, ◌≤◌, ◌⊎◌, ◌++◌, ℕ, zero, suc, Bool, true, false, cond, List, [], ◌∷◌, length, map, take, drop, refl, sym, ap, subst, ◌∙◌, append_assoc, append-nil, Option, None, Some, is_some, inl, inr, arith}
-use Rattle.std.specs.Prelude.{slice_index_or}
-use Rattle.std.specs.List.{AllByRecursion}
-use Rattle.std.specs.Option.{option_or}
-use Rattle.std.proofs.lemmas.List.{map-append}
-use Rattle.wol_model.specs.ArrayLaws.{unversioned}
-use Rattle.wol_model.specs.Blocks.{Write}
-use Rattle.wol_model.specs.History.{Broke, IsHelp, Kept, Operation, Read, Wrote, flight_from, flight_of}
-use Rattle.wol_model.specs.Trace as trace
-use Rattle.wol_model.specs.Trace.{payload}
-use Rattle.wol_model.specs.declared.trace.Kind.{Kind}
-use Rattle.wol_model.specs.declared.trace.Kind.TheVariants as kind
-use Rattle.wol_promise.specs.Outcomes.{Answered, answered_in, is_answered}
-use Rattle.wol_promise.specs.Ruled.{Noted, entries_of}
-use Rattle.run_laws.specs.Answers.{answers_of, requests_in}
-use Rattle.run_laws.specs.Laws.{AreAllAnswered}
-use Rattle.run_laws.proofs.ReadLines.{volume_joined}
-use Rattle.turn_lock.specs.Passes.{pass_mine}
-use Rattle.manager.specs.declared.part.Place.{Place}
-use Rattle.manager.specs.declared.part.ReadRefusal.TheVariants as read
-use Rattle.manager.specs.declared.part.WriteRefusal.TheVariants as write
-use Rattle.manager.specs.declared.part.StepFault.{StepFault}
-use Rattle.trace_windows.specs.Requests.{asked}
-use Rattle.trace_windows.specs.declared.request.Request.{Request}
-use Rattle.request_turns.specs.Closed.{HasClosed}
-use Rattle.request_turns.specs.Entries.{AreEntriesOf, AreMade, IsFlight, IsGroupEntry, before_others, front_writes}
-use Rattle.request_turns.specs.Turns.{ManagerPass, coded}
-use Rattle.request_turns.specs.declared.outcome.Outcome.{Outcome}
-use Rattle.request_turns.specs.declared.outcome.Outcome.TheVariants as outcome
-use Rattle.request_workers.specs.Closed.{IsClosed}
-use Rattle.request_workers.specs.Requests.{StopsAtRefusal, answers_to, outcomes_of, own_requests, told}
-use Rattle.request_workers.specs.Worked.{HasWorked}
-use Rattle.window_desks.specs.declared.desk.Desk.{Desk}
-use Rattle.window_desks.specs.declared.floor.Floor.{Floor}
-use Rattle.window_desks.specs.declared.request.Reclaim.{Reclaim}
-use Rattle.window_desks.specs.declared.request.Reclaim.TheVariants as reclaim
-use Rattle.replay.specs.Histories.{answers_in}
-use Rattle.replay.specs.Served.{ServedFromStart, ServedWindow, WereServed}
+use Rattle.replay.proofs.Basics.{◌≡◌, ◌<◌, ◌≤◌, ◌⊎◌, ◌++◌, ℕ, zero, suc, Bool, true, false, cond, List, [], ◌∷◌, length, map, take, drop}
+use Rattle.replay.proofs.Basics.{refl, sym, ap, subst, ◌∙◌, append_assoc, append-nil, Option, None, Some, is_some, inl, inr, arith}
+use Rattle.replay.proofs.Basics.{slice_index_or, AllByRecursion, option_or, map-append}
+use Rattle.replay.proofs.Terms.{unversioned, Write, Broke, IsHelp, Kept, Operation, Read, Wrote, flight_from, flight_of, payload, Kind}
+use Rattle.replay.proofs.Terms.{Answered, answered_in, is_answered, Noted, entries_of, answers_of, requests_in, AreAllAnswered}
+use Rattle.replay.proofs.Terms.{volume_joined, pass_mine, Place, StepFault, asked, Request, HasClosed, AreEntriesOf, AreMade, IsFlight}
+use Rattle.replay.proofs.Terms.{IsGroupEntry, before_others, front_writes, ManagerPass, coded, Outcome, IsClosed, StopsAtRefusal}
+use Rattle.replay.proofs.Terms.{answers_to, outcomes_of, own_requests, told, HasWorked, Desk, Floor, Reclaim, answers_in, ServedFromStart}
+use Rattle.replay.proofs.Terms.{ServedWindow, WereServed}
 use Rattle.replay.proofs.AnswersServed.{own_answers}
 use Rattle.replay.proofs.FirstsServed.{EndsWell, here, later, never, none_behind, was_worked, window_answered}
 use Rattle.replay.proofs.Grouped.{all_wrote, all_wrote_answered, answers_behind, made_by_cases, none_stopped, stops_behind, wrote_all}
 use Rattle.replay.proofs.WindowBroken.{flight_joined}
+use Rattle.wol_model.specs.Trace as trace
+use Rattle.wol_model.specs.declared.trace.Kind.TheVariants as kind
+use Rattle.manager.specs.declared.part.ReadRefusal.TheVariants as read
+use Rattle.manager.specs.declared.part.WriteRefusal.TheVariants as write
+use Rattle.request_turns.specs.declared.outcome.Outcome.TheVariants as outcome
+use Rattle.window_desks.specs.declared.request.Reclaim.TheVariants as reclaim
 
 -- ---- The next requests
 

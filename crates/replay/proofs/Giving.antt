@@ -1,20 +1,14 @@
 -- A line more of those that are given, and what comes after the last.
-use Rattle.std.proofs.Common.{◌≡◌, ◌<◌, ◌+◌, ◌^◌, ℕ, false, List, [], ◌∷◌, ◌++◌, length, map, Option, Some, refl, sym, ap, ◌∙◌, arith, length-append}
-use Rattle.std.specs.List.{list_any, range_with_len}
+use Rattle.replay.proofs.Basics.{◌≡◌, ◌<◌, ◌+◌, ◌^◌, ℕ, false, List, [], ◌∷◌, ◌++◌, length, map, Option, Some, refl, sym, ap, ◌∙◌, arith}
+use Rattle.replay.proofs.Basics.{length-append, list_any, range_with_len, Keeps}
+use Rattle.replay.proofs.Terms.{Target, TraceLine, is_feed, Reading, IsDone, RefusesLine, pending, TraceFault, Generator, line, Given}
+use Rattle.replay.proofs.Terms.{HasGiven, HasGivenAll, Refuses, RefusesTrace}
 use Rattle.std.proofs.lemmas.List.FromFn.{map-range_with_len_more}
-use Rattle.wol_model.specs.Trace.{Target, TraceLine}
-use Rattle.msr_trace.specs.Lines.{is_feed}
-use Rattle.msr_trace.specs.Reading.{Reading, IsDone, RefusesLine, pending}
-use Rattle.std.specs.Io.KnownBytes.{Keeps}
 use Rattle.msr_trace.specs.declared.format.BadLine.{BadLine}
-use Rattle.msr_trace.specs.declared.format.TraceFault.{TraceFault}
-use Rattle.msr_trace.specs.declared.format.TraceFault.TheVariants as fault
-use Rattle.trace_gen.specs.Generated.{Generator, line}
 use Rattle.solo.specs.Requests.{HasLinesBefore}
 use Rattle.solo.proofs.Running.{has_all, has_bad, has_kept, has_next, has_none}
-use Rattle.replay.specs.declared.given.Given.{Given}
 use Rattle.replay.specs.declared.given.Given.TheVariants.{Trace, Generated}
-use Rattle.replay.specs.Givens.{HasGiven, HasGivenAll, Refuses, RefusesTrace}
+use Rattle.msr_trace.specs.declared.format.TraceFault.TheVariants as fault
 
 module _ {S : Type 0} (left : S → Option (List ℕ)) (targets : List Target) where
   -- ---- A trace

@@ -1,15 +1,8 @@
 -- The entries of requests by cases, and what the outcomes of several writes in one entry say.
-use Rattle.std.proofs.Common.{◌≡◌, ◌≤◌, ℕ, zero, suc, true, false, List, [], ◌∷◌, ◌++◌, length, replicate, refl, sym, ap, subst, arith}
-use Rattle.wol_promise.specs.Outcomes.{Answered}
-use Rattle.wol_promise.specs.Ruled.{Noted}
-use Rattle.run_laws.specs.Laws.{AreAllAnswered}
-use Rattle.manager.specs.declared.part.Place.{Place}
-use Rattle.trace_windows.specs.Requests.{asked}
-use Rattle.trace_windows.specs.declared.request.Request.{Request}
-use Rattle.request_turns.specs.Entries.{AreEntriesOf, AreMade, IsGroupEntry, none, one, several}
-use Rattle.request_turns.specs.declared.outcome.Outcome.{Outcome}
+use Rattle.replay.proofs.Basics.{◌≡◌, ◌≤◌, ℕ, zero, suc, true, false, List, [], ◌∷◌, ◌++◌, length, replicate, refl, sym, ap, subst, arith}
+use Rattle.replay.proofs.Terms.{Answered, Noted, AreAllAnswered, Place, asked, Request, AreEntriesOf, AreMade, IsGroupEntry, none, one}
+use Rattle.replay.proofs.Terms.{several, Outcome, StopsAtRefusal, answers_to, told}
 use Rattle.request_turns.specs.declared.outcome.Outcome.TheVariants as outcome
-use Rattle.request_workers.specs.Requests.{StopsAtRefusal, answers_to, told}
 
 -- so many writes went there together
 abbrev pub all_wrote : ℕ → Place → List Outcome

@@ -1,46 +1,19 @@
 -- The headline holds of each run.
-use Rattle.std.proofs.Common.{◌≡◌, ◌<◌, ◌++◌, ℕ, Bool, false, List, [], ◌∷◌, length, take, refl, sym, ap, subst, ◌∙◌, Option, None, Some, is_some, Result, Ok, Err, inl, inr, append-nil, arith}
-use Rattle.std.specs.Prelude.{IsTrue, slice_get}
-use Rattle.std.specs.Option.{option_map_or}
-use Rattle.std.specs.Io.KnownBytes.{Appends}
-use Rattle.wol_io.specs.Streams.{AppendsFront}
-use Rattle.wol_io.proofs.Appending.{appends_none, front_whole}
-use Rattle.wol_bay.specs.Bay.{BayState, Told}
-use Rattle.wol_disk.specs.Disk.{Block, Rose, State}
-use Rattle.wol_model.specs.History.{AreLegalNext, IsCut, flight_of, writes, in_flight}
-use Rattle.wol_model.specs.Images.{recovered_from}
-use Rattle.wol_model.specs.Trace.{TraceLine}
-use Rattle.wol_promise.specs.Outcomes.{Answered}
-use Rattle.wol_promise.specs.Ruled.{entries_of}
-use Rattle.wol_promise.specs.Run.{joined_lines}
-use Rattle.run_laws.specs.Answers.{answers_of}
-use Rattle.run_laws.specs.Headline.{HasOneHistory, IsReopened}
-use Rattle.wol_config.specs.declared.config.Config.{Config}
-use Rattle.volume_images.specs.Left.{IsTold}
-use Rattle.volume_images.specs.Volumes.{AreLeft, images_read, shapes_of}
-use Rattle.report.specs.Faults.{status_of}
-use Rattle.report.specs.declared.fault.Fault.TheVariants.{Volume}
-use Rattle.trace_gen.specs.Generated.{targets_of}
-use Rattle.troubles.specs.Troubles.{trouble_of}
+use Rattle.replay.proofs.Basics.{◌≡◌, ◌<◌, ◌++◌, ℕ, Bool, false, List, [], ◌∷◌, length, take, refl, sym, ap, subst, ◌∙◌, Option, None, Some}
+use Rattle.replay.proofs.Basics.{is_some, Result, Ok, Err, inl, inr, append-nil, arith, IsTrue, slice_get, option_map_or, Appends}
+use Rattle.replay.proofs.Terms.{AppendsFront, appends_none, front_whole, BayState, Told, Block, Rose, State, AreLegalNext, IsCut, flight_of}
+use Rattle.replay.proofs.Terms.{writes, in_flight, recovered_from, TraceLine, Answered, entries_of, joined_lines, answers_of, HasOneHistory}
+use Rattle.replay.proofs.Terms.{IsReopened, Config, IsTold, AreLeft, images_read, shapes_of, status_of, Volume, targets_of, trouble_of}
+use Rattle.replay.proofs.Terms.{VolumeFault, HasGivenAll, AreAllOpen, ArePrinted, HasNotBegun, KeepsHeadline, MeetsHeadline, ArePlainMarks}
+use Rattle.replay.proofs.Terms.{BeginAsRead, History, answers_in, is_broken, is_broken_at, LeavesImages, AsksNone, LeavesBay, Replayed}
+use Rattle.replay.proofs.Terms.{Replays, status_in, ServedWindow, PrintsRun, lines_asked, Given, Options, Stop}
 use Rattle.rack_closing.proofs.NewFaults.{told_with}
-use Rattle.rack_parts.specs.declared.volume_fault.VolumeFault.{VolumeFault}
-use Rattle.replay.specs.Ended as ended
-use Rattle.replay.specs.Givens.{HasGivenAll}
-use Rattle.replay.specs.Headlined.{AreAllOpen, ArePrinted, HasNotBegun, KeepsHeadline, MeetsHeadline}
-use Rattle.replay.specs.Histories.{ArePlainMarks, BeginAsRead, History, answers_in, is_broken, is_broken_at}
-use Rattle.replay.specs.Leaves.{LeavesImages}
-use Rattle.replay.specs.NotOpened.{AsksNone, LeavesBay}
-use Rattle.replay.specs.Replays as replays
-use Rattle.replay.specs.Replays.{Replayed, Replays, status_in}
-use Rattle.replay.specs.Served.{ServedWindow}
-use Rattle.replay.specs.Summed.{PrintsRun, lines_asked}
-use Rattle.replay.specs.declared.given.Given.{Given}
-use Rattle.replay.specs.declared.session.Options.{Options}
-use Rattle.replay.specs.declared.stop.Stop.{Stop}
-use Rattle.replay.specs.declared.stop.Stop.TheVariants as stop
 use Rattle.replay.proofs.ImagesLeft.{none_or}
 use Rattle.replay.proofs.RacksServed.{a_member}
 use Rattle.replay.proofs.Statuses.{not_success}
+use Rattle.replay.specs.Ended as ended
+use Rattle.replay.specs.Replays as replays
+use Rattle.replay.specs.declared.stop.Stop.TheVariants as stop
 
 -- ---- What is printed
 

@@ -1,32 +1,17 @@
 -- The histories of the volumes of a rack that was closed.
-use Rattle.std.proofs.Common.{◌≡◌, ◌<◌, ℕ, zero, suc, Bool, List, [], ◌∷◌, length, map, refl, sym, ap, subst, ◌∙◌, Option, Some, arith}
-use Rattle.std.specs.Prelude.{All, IsTrue, slice_get, slice_index_or}
-use Rattle.std.specs.List.{AllByRecursion}
-use Rattle.turn_lock.specs.Histories.{own}
-use Rattle.turn_lock.specs.Passes.{pass_number, pass_mine}
-use Rattle.wol_bay.specs.Bay.{BayState}
-use Rattle.wol_model.specs.History as history
-use Rattle.wol_model.specs.History.{helper, keeper, worker, Operation}
+use Rattle.replay.proofs.Basics.{◌≡◌, ◌<◌, ℕ, zero, suc, Bool, List, [], ◌∷◌, length, map, refl, sym, ap, subst, ◌∙◌, Option, Some, arith}
+use Rattle.replay.proofs.Basics.{All, IsTrue, slice_get, slice_index_or, AllByRecursion}
+use Rattle.replay.proofs.Terms.{own, pass_number, pass_mine, BayState, helper, keeper, worker, Operation, Answered, AreOutcomes}
+use Rattle.replay.proofs.Terms.{answered_in, Noted, entries_of, AreFirst, answers_of, others_answer_nothing, notes_of, Station, ManagerPass}
+use Rattle.replay.proofs.Terms.{coded, AreStations, Config, shapes_of, IsClosedVolume, base_of_station, ImageRest, History, AreHistories}
+use Rattle.replay.proofs.Terms.{IsHistory, view_at}
 use Rattle.wol_promise.specs.Manager.{Base}
-use Rattle.wol_promise.specs.Outcomes.{Answered, AreOutcomes, answered_in}
-use Rattle.wol_promise.specs.Ruled.{Noted, entries_of}
-use Rattle.run_laws.specs.Answers.{AreFirst, answers_of}
-use Rattle.run_laws.proofs.Cuts.{others_answer_nothing}
-use Rattle.manager.specs.Stands.{notes_of}
-use Rattle.manager.specs.declared.station.Station.{Station}
-use Rattle.request_turns.specs.Turns.{ManagerPass, coded}
-use Rattle.request_workers.specs.Stations.{AreStations}
-use Rattle.wol_config.specs.declared.config.Config.{Config}
-use Rattle.volume_images.specs.Volumes.{shapes_of}
-use Rattle.rack.specs.Closes.{IsClosedVolume}
-use Rattle.rack.specs.Racks.{base_of_station}
-use Rattle.rack_parts.specs.declared.rack.ImageRest.{ImageRest}
-use Rattle.replay.specs.Histories.{History, AreHistories, IsHistory, view_at}
 use Rattle.replay.proofs.AnswersServed.{operation_in}
 use Rattle.replay.proofs.EntriesOwn.{all_of_three, coded_all, noted_all, notes_back, own_notes, OfEntry}
 use Rattle.replay.proofs.PassesRuled.{IsRuled}
 use Rattle.replay.proofs.RacksServed.{at_place}
 use Rattle.replay.proofs.StationsRan.{AreNumbered, StationRan}
+use Rattle.wol_model.specs.History as history
 
 module _ {D : Type 0} (tells : Bool) (config : Config) (out : List (Option (ImageRest D))) (old new : BayState) where
   -- the history of a closed volume

@@ -1,45 +1,24 @@
 -- What images a run leaves: each volume recovers to what its answered requests wrote, or to a cut of the next one.
-use Rattle.std.proofs.Common.{◌≡◌, ◌<◌, ◌⊎◌, ◌++◌, ℕ, zero, suc, Bool, true, false, cond, List, [], ◌∷◌, length, map, take, drop, refl, sym, ap, subst, ◌∙◌, Option, None, Some, is_some, inl, inr, append-nil, arith}
-use Rattle.wol_promise.specs.Policy.{PartName}
-use Rattle.std.specs.Prelude.{Contains, IsTrue, slice_get, unwrap_or}
-use Rattle.std.specs.List.{AllByRecursion, cons_option}
-use Rattle.std.specs.Option.{option_map_or}
-use Rattle.std.proofs.lemmas.Bool.{cases_lt, eq-eqb}
-use Rattle.wol_disk.specs.Disk.{Block}
-use Rattle.wol_bay.specs.Bay.{BayState, Told}
-use Rattle.wol_model.specs.ArrayLaws.{unversioned}
-use Rattle.wol_model.specs.Blocks.{Write, after}
-use Rattle.wol_model.specs.History as history
-use Rattle.wol_model.specs.History.{IsCut, flight_of, whole, writes, in_flight}
+use Rattle.replay.proofs.Basics.{◌≡◌, ◌<◌, ◌⊎◌, ◌++◌, ℕ, zero, suc, Bool, true, false, cond, List, [], ◌∷◌, length, map, take, drop, refl}
+use Rattle.replay.proofs.Basics.{sym, ap, subst, ◌∙◌, Option, None, Some, is_some, inl, inr, append-nil, arith, Contains, IsTrue, slice_get}
+use Rattle.replay.proofs.Basics.{unwrap_or, AllByRecursion, cons_option, option_map_or, cases_lt, eq-eqb}
+use Rattle.replay.proofs.Terms.{PartName, Block, BayState, Told, unversioned, Write, after, IsCut, flight_of, whole, writes, in_flight}
+use Rattle.replay.proofs.Terms.{Images, all_segments, recovered_from, payload, payloads, write_to, Answered, answered_in, of_volume}
+use Rattle.replay.proofs.Terms.{entries_of, last_look, KeepsSound, answered_count, answers_of, requests_in, IsOneAction, AreAnsweredBy}
+use Rattle.replay.proofs.Terms.{cuts_are_plain, all_of, volume_requests, Config, notes_of, Station, AreLeft, images_read, shapes_of}
+use Rattle.replay.proofs.Terms.{AreListedOf, HasFaultyPart, IsClosedVolume, IsOnLogger, RecoversTo, recovered_out, segments_out}
+use Rattle.replay.proofs.Terms.{base_of_station, IsImageOut, ImageRest, AreHistories, BeginAsRead, History, is_broken, is_broken_at}
+use Rattle.replay.proofs.Terms.{LeavesImages, records_in, written_array, accepted_all, recovered_all}
 use Rattle.wol_model.specs.Extents.{AreDistinct, Extent, covers_of}
 use Rattle.wol_model.specs.Index.{Listed}
-use Rattle.wol_model.specs.Images.{Images, all_segments, recovered_from}
 use Rattle.wol_model.specs.Recovered.{extents_of}
-use Rattle.wol_model.specs.Trace.{Request, payload, payloads, write_to}
-use Rattle.wol_model.specs.declared.trace.Kind.TheVariants as kind
-use Rattle.wol_promise.specs.Outcomes.{Answered, answered_in, of_volume}
-use Rattle.wol_promise.specs.Ruled.{entries_of, last_look}
-use Rattle.wol_promise.specs.Run.{KeepsSound}
-use Rattle.run_laws.specs.Answers.{answered_count, answers_of, requests_in}
-use Rattle.run_laws.specs.Headline.{IsOneAction}
-use Rattle.run_laws.specs.Laws.{AreAnsweredBy}
-use Rattle.run_laws.proofs.Cuts.{cuts_are_plain}
+use Rattle.wol_model.specs.Trace.{Request}
 use Rattle.run_laws.proofs.GoOn.{no_cut}
-use Rattle.run_laws.proofs.ReadLines.{all_of, volume_requests}
-use Rattle.wol_config.specs.declared.config.Config.{Config}
-use Rattle.manager.specs.Stands.{notes_of}
-use Rattle.manager.specs.declared.station.Station.{Station}
-use Rattle.volume_images.specs.Volumes.{AreLeft, images_read, shapes_of}
-use Rattle.rack.specs.Closes.{AreListedOf, HasFaultyPart, IsClosedVolume, IsOnLogger, RecoversTo, recovered_out, segments_out}
-use Rattle.rack.specs.Racks.{base_of_station}
-use Rattle.rack.specs.Rests.{IsImageOut}
-use Rattle.rack_parts.specs.declared.rack.ImageRest.{ImageRest}
-use Rattle.replay.specs.Histories.{AreHistories, BeginAsRead, History, is_broken, is_broken_at}
-use Rattle.replay.specs.Leaves.{LeavesImages, records_in, written_array}
-use Rattle.open_rack.proofs.AllOut.{accepted_all, recovered_all}
 use Rattle.replay.proofs.FlightServed.{HasFlight, IsInFlight, next_requests, no_write}
 use Rattle.replay.proofs.HistoriesLeft.{IsHistoryAt}
 use Rattle.replay.proofs.RacksServed.{a_member}
+use Rattle.wol_model.specs.History as history
+use Rattle.wol_model.specs.declared.trace.Kind.TheVariants as kind
 
 -- ---- The next requests
 

@@ -1,25 +1,10 @@
 -- The keeper of a volume leaves the records as they are listed.
-use Rattle.std.proofs.Common.{◌≡◌, ◌≢◌, ◌==◌, ◌<◌, ◌⊎◌, ◌++◌, ℕ, Bool, true, false, cond, List, [], ◌∷◌, length, refl, sym, ap, subst, ◌∙◌, inl, inr}
-use Rattle.std.specs.Prelude.{⊤, slice_index_or}
-use Rattle.std.specs.List.{AllByRecursion}
-use Rattle.std.proofs.lemmas.Bool.{eq-eqb, eqb-true}
-use Rattle.std.proofs.lemmas.List.Elements.{filter-append}
-use Rattle.turn_lock.specs.Histories.{Begins, Entry, own}
-use Rattle.turn_lock.specs.Passes.{pass_mine, pass_number, pass_seen}
-use Rattle.wol_model.specs.History.{helper, keeper, worker}
-use Rattle.wol_promise.specs.Code.{noted_of}
-use Rattle.wol_promise.specs.Policy.{Look}
-use Rattle.wol_promise.specs.Ruled.{Noted, last_look}
-use Rattle.wol_promise.proofs.ReadCode.{noted_is_back}
-use Rattle.manager.specs.Stands.{notes_of}
-use Rattle.request_turns.specs.Begun.{HasBegunVolume}
-use Rattle.request_turns.specs.Turns.{ManagerPass, began, coded}
-use Rattle.request_turns.proofs.CountLaws.{AreOthersIdle}
-use Rattle.request_turns.proofs.Gaining.{notes_joined, nothing_more, pass_kept}
-use Rattle.request_workers.specs.Begun.{HaveBegunVolumes}
-use Rattle.window_desks.specs.declared.floor.Floor.{Floor}
-use Rattle.window_desks.specs.declared.request.Reclaim.{Reclaim}
-use Rattle.replay.specs.Served.{ServedFromStart, ServedWindow, WasServed, WereServed}
+use Rattle.replay.proofs.Basics.{◌≡◌, ◌≢◌, ◌==◌, ◌<◌, ◌⊎◌, ◌++◌, ℕ, Bool, true, false, cond, List, [], ◌∷◌, length, refl, sym, ap, subst}
+use Rattle.replay.proofs.Basics.{◌∙◌, inl, inr, ⊤, slice_index_or, AllByRecursion, eq-eqb, eqb-true, filter-append}
+use Rattle.replay.proofs.Terms.{Begins, Entry, own, pass_mine, pass_number, pass_seen, helper, keeper, worker, noted_of, Look, Noted}
+use Rattle.replay.proofs.Terms.{last_look, noted_is_back, notes_of, HasBegunVolume, ManagerPass, began, coded, AreOthersIdle, notes_joined}
+use Rattle.replay.proofs.Terms.{nothing_more, pass_kept, HaveBegunVolumes, Floor, Reclaim, ServedFromStart, ServedWindow, WasServed}
+use Rattle.replay.proofs.Terms.{WereServed}
 use Rattle.replay.proofs.EntriesOwn.{all_of_three}
 use Rattle.replay.proofs.PassesRuled.{pass_there}
 use Rattle.replay.proofs.StationsRan.{EndsOn}

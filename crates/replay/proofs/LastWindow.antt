@@ -1,41 +1,20 @@
 -- In the last window all requests of a volume were answered, but where a part of it failed, its versions ended or there was no memory.
-use Rattle.std.proofs.Common.{◌≡◌, ◌≢◌, ◌<◌, ◌≤◌, ◌==◌, ◌^◌, ℕ, zero, suc, Bool, true, false, cond, List, [], ◌∷◌, ◌++◌, length, map, Option, Some, refl, sym, ap, subst, ◌∙◌, append_assoc, append-nil, arith}
-use Rattle.std.specs.Prelude.{slice_index_or, if◌then◌else◌, ◌||◌}
-use Rattle.std.specs.List.{list_any, AllByRecursion}
-use Rattle.std.specs.Option.{option_or}
-use Rattle.turn_lock.specs.Histories.{Entry, Begins, own}
-use Rattle.turn_lock.specs.Passes.{pass_mine, pass_seen}
-use Rattle.wol_model.specs.History.{worker}
-use Rattle.wol_promise.specs.Ruled.{Noted}
-use Rattle.run_laws.specs.Answers.{answers_of}
-use Rattle.run_laws.specs.Laws.{AreAllAnswered}
-use Rattle.manager.specs.Stands.{notes_of}
-use Rattle.manager.specs.declared.part.Place.{Place}
-use Rattle.manager.specs.declared.part.ReadRefusal.TheVariants as read
-use Rattle.manager.specs.declared.part.StepFault.{StepFault}
-use Rattle.manager.specs.declared.part.WriteRefusal.TheVariants as write
-use Rattle.report.specs.declared.fault.Fault.{Fault}
-use Rattle.report.specs.declared.fault.Fault.TheVariants.{Memory}
-use Rattle.trace_windows.specs.declared.request.Request.{Request}
-use Rattle.request_turns.specs.Entries.{AreEntriesOf, AreMade, TellsFault}
-use Rattle.request_turns.specs.Turns.{ManagerPass, IsBroken, coded, notes_seen}
-use Rattle.request_turns.specs.declared.outcome.Outcome.{Outcome}
-use Rattle.request_turns.specs.declared.outcome.Outcome.TheVariants as outcome
-use Rattle.request_turns.proofs.Gaining.{broken_more, down_breaks, gains_turn, notes_joined}
-use Rattle.request_workers.specs.Closed.{IsClosed}
-use Rattle.request_workers.specs.Requests.{answers_to, own_requests, outcomes_of, StopsAtRefusal}
-use Rattle.request_workers.specs.Worked.{HasWorked}
-use Rattle.window_desks.specs.declared.desk.Desk.{Desk}
-use Rattle.window_desks.specs.declared.floor.Floor.{Floor}
-use Rattle.window_desks.specs.declared.request.Reclaim.{Reclaim}
-use Rattle.window_desks.specs.declared.request.Reclaim.TheVariants as reclaim
-use Rattle.window_desks.specs.declared.request.Window.{Window}
-use Rattle.replay.specs.Endings.{fault_of_reclaim, fault_of_window, first_refused, lacked_memory}
-use Rattle.replay.specs.Served.{ServedFromStart, ServedWindow, WereServed}
+use Rattle.replay.proofs.Basics.{◌≡◌, ◌≢◌, ◌<◌, ◌≤◌, ◌==◌, ◌^◌, ℕ, zero, suc, Bool, true, false, cond, List, [], ◌∷◌, ◌++◌, length, map}
+use Rattle.replay.proofs.Basics.{Option, Some, refl, sym, ap, subst, ◌∙◌, append_assoc, append-nil, arith, slice_index_or, if◌then◌else◌}
+use Rattle.replay.proofs.Basics.{◌||◌, list_any, AllByRecursion, option_or}
+use Rattle.replay.proofs.Terms.{Entry, Begins, own, pass_mine, pass_seen, worker, Noted, answers_of, AreAllAnswered, notes_of, Place}
+use Rattle.replay.proofs.Terms.{StepFault, Fault, Memory, Request, AreEntriesOf, AreMade, TellsFault, ManagerPass, IsBroken, coded}
+use Rattle.replay.proofs.Terms.{notes_seen, Outcome, broken_more, down_breaks, gains_turn, notes_joined, IsClosed, answers_to, own_requests}
+use Rattle.replay.proofs.Terms.{outcomes_of, StopsAtRefusal, HasWorked, Desk, Floor, Reclaim, Window, fault_of_reclaim, fault_of_window}
+use Rattle.replay.proofs.Terms.{first_refused, lacked_memory, ServedFromStart, ServedWindow, WereServed}
 use Rattle.replay.proofs.AnswersServed.{own_answers}
 use Rattle.replay.proofs.EntriesOwn.{all_mine, notes_back}
 use Rattle.replay.proofs.FirstsServed.{was_worked}
 use Rattle.replay.proofs.Grouped.{all_wrote, answered_then, made_by_cases, stops_behind}
+use Rattle.manager.specs.declared.part.ReadRefusal.TheVariants as read
+use Rattle.manager.specs.declared.part.WriteRefusal.TheVariants as write
+use Rattle.request_turns.specs.declared.outcome.Outcome.TheVariants as outcome
+use Rattle.window_desks.specs.declared.request.Reclaim.TheVariants as reclaim
 
 -- ---- Refused requests
 

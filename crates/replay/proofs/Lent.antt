@@ -1,10 +1,6 @@
 -- Locks and passes that become a floor, and a floor that becomes these.
-use Rattle.std.proofs.Common.{◌≡◌, List, sym, subst}
-use Rattle.manager.specs.declared.station.Station.{Station}
-use Rattle.request_turns.specs.Helped.{ManagerLock}
-use Rattle.request_workers.specs.Floors.{AreWhole, IsFloor, passes_of}
-use Rattle.request_workers.specs.Stations.{AreMoved, IsMoved}
-use Rattle.window_desks.specs.declared.floor.Floor.{Floor}
+use Rattle.replay.proofs.Basics.{◌≡◌, List, sym, subst}
+use Rattle.replay.proofs.Terms.{Station, ManagerLock, AreWhole, IsFloor, passes_of, AreMoved, IsMoved, Floor}
 use Rattle.window_desks.specs.declared.floor.Passes.{Passes}
 
 module _ {D : Type 0} (ls : List (ManagerLock D)) (p : Passes D) (f : Floor D) (locks : f.locks.now ≡ ls) (passes : passes_of f ≡ p) where

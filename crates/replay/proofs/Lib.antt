@@ -1,3 +1,5 @@
+pub mod Basics
+pub mod Terms
 pub mod Giving
 pub mod Outcomes
 pub mod Refused

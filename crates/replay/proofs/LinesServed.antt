@@ -1,43 +1,25 @@
 -- The lines of a trace, whose windows are served one after another.
-use Rattle.std.proofs.Common.{◌≡◌, ◌≢◌, ◌≤◌, ◌<◌, ◌-◌, ℕ, suc, Bool, true, false, not, slice_index_or, Bor, List, [], ◌∷◌, ◌++◌, length, map, Option, None, Some, inl, inr, ◌⊎◌, refl, sym, ap, subst, ◌∙◌, append_assoc, append-nil, length-append, arith}
-use Rattle.std.specs.Prelude.{option_copied, option_map}
-use Rattle.std.specs.List.{AllByRecursion}
-use Rattle.msr_trace.specs.Lines.{trace_line}
+use Rattle.replay.proofs.Basics.{◌≡◌, ◌≢◌, ◌≤◌, ◌<◌, ◌-◌, ℕ, suc, Bool, true, false, not, slice_index_or, Bor, List, [], ◌∷◌, ◌++◌, length}
+use Rattle.replay.proofs.Basics.{map, Option, None, Some, inl, inr, ◌⊎◌, refl, sym, ap, subst, ◌∙◌, append_assoc, append-nil, length-append}
+use Rattle.replay.proofs.Basics.{arith, option_copied, option_map, AllByRecursion, Appends, Keeps}
+use Rattle.replay.proofs.Terms.{trace_line, appends_both, appends_kept, appends_none, keeps_same, Target, TraceLine, joins, pieces_of}
+use Rattle.replay.proofs.Terms.{started, ended, joined_lines, Config, VolumeConf, IsValid, most_of, target_of, targets_of, Batched}
+use Rattle.replay.proofs.Terms.{IsBatchOf, AreWindows, Cutting, HasCut, next_number, IsInside, TraceFault, Memory, HaveBegun}
+use Rattle.replay.proofs.Terms.{HaveBegunVolumes, SpindlePass, AreSameButRoom, IsAsItWas, Floor, no_totals, HasGiven, HasGivenAll, Refuses}
+use Rattle.replay.proofs.Terms.{AreTotals, Further, ServedFromStart, ServedWindow, WasNotRun, begins_alone, fails_to_begin, is_none_served}
+use Rattle.replay.proofs.Terms.{none_further, AreServedOf, Closes, EndsIn, EndsWithWindow, GoesOn, HasBegunWindow, HasFailedToBegin}
+use Rattle.replay.proofs.Terms.{HasServed, ServesSome, StopsAfter, StopsAtLine, TakesOn, ServesWhole, WentWell, at_refusal, lines_of_window}
+use Rattle.replay.proofs.Terms.{lines_of_windows, opens, fault_of_trace, Counted, Given, Options, Session, Stop}
+use Rattle.wol_model.specs.Trace.{Window, windows}
 use Rattle.msr_trace.specs.declared.format.Line.{Line}
-use Rattle.std.specs.Io.KnownBytes.{Appends, Keeps}
-use Rattle.wol_io.proofs.Appending.{appends_both, appends_kept, appends_none, keeps_same}
-use Rattle.wol_model.specs.Trace as trace
-use Rattle.wol_model.specs.Trace.{Target, TraceLine, Window, joins, pieces_of, windows, started, ended}
-use Rattle.wol_promise.specs.Run.{joined_lines}
-use Rattle.wol_config.specs.declared.config.Config.{Config}
-use Rattle.wol_config.specs.declared.config.VolumeConf.{VolumeConf}
-use Rattle.wol_config.specs.Configs.{IsValid, most_of}
-use Rattle.trace_gen.specs.Generated.{target_of, targets_of}
 use Rattle.trace_gen.proofs.Fair.{no_volume}
-use Rattle.trace_windows.specs.Batches.{Batched, IsBatchOf}
-use Rattle.trace_windows.specs.Cutting.{AreWindows, Cutting, HasCut, next_number}
-use Rattle.trace_windows.specs.Requests.{IsInside}
 use Rattle.trace_windows.proofs.Joining.{next_timed, windows_blank, windows_close, windows_first, windows_join}
 use Rattle.trace_windows.proofs.Lying.{requests_lie}
-use Rattle.msr_trace.specs.declared.format.TraceFault.{TraceFault}
-use Rattle.msr_trace.specs.declared.format.TraceFault.TheVariants as refusal
-use Rattle.report.specs.declared.fault.Fault.TheVariants.{Memory}
-use Rattle.request_workers.specs.Begun.{HaveBegun, HaveBegunVolumes, SpindlePass}
-use Rattle.request_workers.specs.Floors.{AreSameButRoom, IsAsItWas}
-use Rattle.window_desks.specs.declared.floor.Floor.{Floor}
-use Rattle.replay.specs.Counts.{no_totals}
-use Rattle.replay.specs.Givens.{HasGiven, HasGivenAll, Refuses}
-use Rattle.replay.specs.Served.{AreTotals, Further, ServedFromStart, ServedWindow, WasNotRun, begins_alone, fails_to_begin, is_none_served, none_further}
-use Rattle.replay.specs.Sessions.{AreServedOf, Closes, EndsIn, EndsWithWindow, GoesOn, HasBegunWindow, HasFailedToBegin, HasServed, ServesSome, StopsAfter, StopsAtLine, TakesOn, ServesWhole, WentWell, at_refusal, lines_of_window, lines_of_windows, opens}
-use Rattle.replay.specs.Stops.{fault_of_trace}
-use Rattle.replay.specs.declared.counting.Counted.{Counted}
-use Rattle.replay.specs.declared.given.Given.{Given}
-use Rattle.replay.specs.declared.session.Options.{Options}
-use Rattle.replay.specs.declared.session.Session.{Session}
-use Rattle.replay.specs.declared.stop.Stop.{Stop}
-use Rattle.replay.specs.declared.stop.Stop.TheVariants as stop
 use Rattle.replay.proofs.Giving.{none_given}
 use Rattle.replay.proofs.Serving.{lines_of_more, served_more, served_none, served_of_more, some_served, totals_more, totals_none, well_more}
+use Rattle.wol_model.specs.Trace as trace
+use Rattle.msr_trace.specs.declared.format.TraceFault.TheVariants as refusal
+use Rattle.replay.specs.declared.stop.Stop.TheVariants as stop
 
 -- ---- Windows that are whole
 

@@ -1,23 +1,10 @@
 -- The lines that a session prints are those of the answered reads.
-use Rattle.std.proofs.Common.{◌≡◌, ℕ, Bool, true, false, List, [], ◌∷◌, ◌++◌, refl, sym, ap}
-use Rattle.std.proofs.lemmas.List.Concat.{flat_map-append}
+use Rattle.replay.proofs.Basics.{◌≡◌, ℕ, Bool, true, false, List, [], ◌∷◌, ◌++◌, refl, sym, ap, flat_map-append}
+use Rattle.replay.proofs.Terms.{Answered, mark_in, read_text, told_lines, Config, printed_names, asked, Request, Outcome, answers_to}
+use Rattle.replay.proofs.Terms.{lines_of_outcomes, answers_in, line_of_read, lines_asked, ServedWindow, lines_of_window, lines_of_windows}
+use Rattle.replay.proofs.Terms.{Options}
 use Rattle.wol_model.specs.Trace as trace
-use Rattle.wol_promise.specs.Outcomes.{Answered, mark_in}
-use Rattle.wol_promise.specs.Run.{read_text}
-use Rattle.run_laws.specs.Answers.{told_lines}
-use Rattle.wol_config.specs.declared.config.Config.{Config}
-use Rattle.report.specs.Names.{printed_names}
-use Rattle.trace_windows.specs.Requests.{asked}
-use Rattle.trace_windows.specs.declared.request.Request.{Request}
-use Rattle.request_turns.specs.declared.outcome.Outcome.{Outcome}
 use Rattle.request_turns.specs.declared.outcome.Outcome.TheVariants as outcome
-use Rattle.request_workers.specs.Requests.{answers_to}
-use Rattle.replay.specs.Prints.{lines_of_outcomes}
-use Rattle.replay.specs.Histories.{answers_in, line_of_read}
-use Rattle.replay.specs.Summed.{lines_asked}
-use Rattle.replay.specs.Served.{ServedWindow}
-use Rattle.replay.specs.Sessions.{lines_of_window, lines_of_windows}
-use Rattle.replay.specs.declared.session.Options.{Options}
 
 told_joined : (text : trace.Request → ℕ → List ℕ) (xs ys : List Answered) → told_lines text (xs ++ ys) ≡ told_lines text xs ++ told_lines text ys
 told_joined text xs ys = flat_map-append (λ (a : Answered). read_text text a.request (mark_in a.outcome)) xs ys

@@ -1,10 +1,6 @@
 -- What a pass of a volume added, each note of which has one property.
-use Rattle.std.proofs.Common.{◌≡◌, ◌++◌, List, [], map, refl, sym, subst, ◌∙◌, append_assoc, append-nil}
-use Rattle.std.specs.List.{AllByRecursion}
-use Rattle.std.proofs.lemmas.List.{map-append}
-use Rattle.turn_lock.specs.Passes.{IsSamePass, pass_mine}
-use Rattle.wol_promise.specs.Ruled.{Noted}
-use Rattle.request_turns.specs.Turns.{ManagerPass, coded}
+use Rattle.replay.proofs.Basics.{◌≡◌, ◌++◌, List, [], map, refl, sym, subst, ◌∙◌, append_assoc, append-nil, AllByRecursion, map-append}
+use Rattle.replay.proofs.Terms.{IsSamePass, pass_mine, Noted, ManagerPass, coded}
 use Rattle.replay.proofs.AnswersServed.{all_both}
 
 pub record Makes {D : Type 0} (Has : Noted → Type 0) (p q : ManagerPass D) : Type 0 where

@@ -1,21 +1,8 @@
 -- The marks of the answered reads are those of plain arrays that begin with what the images recovered to as they read.
-use Rattle.std.proofs.Common.{◌≡◌, ℕ, List, [], Option, None, Some, refl, ap, subst, ◌∙◌}
-use Rattle.std.specs.Prelude.{slice_get}
-use Rattle.std.specs.Option.{option_map_or}
-use Rattle.wol_bay.specs.Bay.{Told}
-use Rattle.wol_disk.specs.Disk.{Block}
+use Rattle.replay.proofs.Basics.{◌≡◌, ℕ, List, [], Option, None, Some, refl, ap, subst, ◌∙◌, slice_get, option_map_or}
+use Rattle.replay.proofs.Terms.{Told, Block, AreLegalNext, recovered_from, Answered, entries_of, answers_of, AreAnsweredBy, lines_are_plain}
+use Rattle.replay.proofs.Terms.{Config, IsTold, images_read, shapes_of, History, AreHistories, ArePlainMarks, BeginAsRead, line_of_read}
 use Rattle.wol_model.specs.History as history
-use Rattle.wol_model.specs.History.{AreLegalNext}
-use Rattle.wol_model.specs.Images.{recovered_from}
-use Rattle.wol_promise.specs.Outcomes.{Answered}
-use Rattle.wol_promise.specs.Ruled.{entries_of}
-use Rattle.run_laws.specs.Answers.{answers_of}
-use Rattle.run_laws.specs.Laws.{AreAnsweredBy}
-use Rattle.run_laws.proofs.ReadLines.{lines_are_plain}
-use Rattle.wol_config.specs.declared.config.Config.{Config}
-use Rattle.volume_images.specs.Left.{IsTold}
-use Rattle.volume_images.specs.Volumes.{images_read, shapes_of}
-use Rattle.replay.specs.Histories.{History, AreHistories, ArePlainMarks, BeginAsRead, line_of_read}
 
 -- ---- What was told at entry
 

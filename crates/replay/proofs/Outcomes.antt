@@ -1,10 +1,6 @@
 -- Outcomes that are counted one after another.
-use Rattle.std.proofs.Common.{◌≡◌, ◌≤◌, ◌+◌, ℕ, Bool, List, ◌++◌, cond, arith}
-use Rattle.std.specs.Prelude.{count_by}
-use Rattle.std.proofs.lemmas.List.Sums.{sum_by-append}
-use Rattle.report.specs.declared.totals.Totals.{Totals}
-use Rattle.request_turns.specs.declared.outcome.Outcome.{Outcome}
-use Rattle.replay.specs.Counts.{AddsAtMost, no_totals}
+use Rattle.replay.proofs.Basics.{◌≡◌, ◌≤◌, ◌+◌, ℕ, Bool, List, ◌++◌, cond, arith, count_by, sum_by-append}
+use Rattle.replay.proofs.Terms.{Totals, Outcome, AddsAtMost, no_totals}
 
 -- a count of some outcomes and of others
 pub counted_both : (p : Outcome → Bool) (os more : List Outcome) (a b c : ℕ) → b ≡ a + count_by p os → c ≡ b + count_by p more → c ≡ a + count_by p (os ++ more)

@@ -1,33 +1,15 @@
 -- The part that a run tells of a volume is the one that came back with a fault.
-use Rattle.std.proofs.Common.{◌≡◌, ◌++◌, ◌∷◌, [], ℕ, Bool, true, false, List, Option, Some, map, sym, ap, subst, ◌∙◌}
-use Rattle.std.specs.Prelude.{All, IsTrue, slice_get}
-use Rattle.std.specs.List.{AllByRecursion}
-use Rattle.std.specs.Option.{option_map_or}
-use Rattle.std.proofs.lemmas.Option.{same_Some}
-use Rattle.wol_bay.specs.Bay.{BayState}
-use Rattle.wol_model.specs.History as history
-use Rattle.wol_model.specs.History.{BreaksOnce}
-use Rattle.wol_promise.specs.Outcomes.{Answered}
-use Rattle.wol_promise.specs.Policy.{Look, PartName}
-use Rattle.wol_promise.specs.Ruled.{AreRuled, Noted, entries_of, last_look}
+use Rattle.replay.proofs.Basics.{◌≡◌, ◌++◌, ◌∷◌, [], ℕ, Bool, true, false, List, Option, Some, map, sym, ap, subst, ◌∙◌, All, IsTrue}
+use Rattle.replay.proofs.Basics.{slice_get, AllByRecursion, option_map_or, same_Some}
+use Rattle.replay.proofs.Terms.{BayState, BreaksOnce, Answered, Look, PartName, AreRuled, Noted, entries_of, last_look, Config, notes_of}
+use Rattle.replay.proofs.Terms.{Part, Station, Trouble, trouble_of_part, IsTold, HasFaultyPart, IsClosedVolume, part_named, base_of_station}
+use Rattle.replay.proofs.Terms.{ImageRest, WasDown, down_breaks, AreHistories, History, is_broken, is_broken_at}
 use Rattle.wol_promise.proofs.DownStays.{down_at_end}
-use Rattle.wol_config.specs.declared.config.Config.{Config}
 use Rattle.manager.specs.Seen.{name_of}
-use Rattle.manager.specs.Stands.{notes_of}
-use Rattle.manager.specs.declared.part.Part.{Part}
-use Rattle.manager.specs.declared.station.Station.{Station}
-use Rattle.report.specs.declared.trouble.Trouble.{Trouble}
-use Rattle.troubles.specs.Troubles.{trouble_of_part}
 use Rattle.troubles.proofs.Named.{named_alike}
-use Rattle.volume_images.specs.Left.{IsTold}
-use Rattle.rack.specs.Closes.{HasFaultyPart, IsClosedVolume, part_named}
-use Rattle.rack.specs.Racks.{base_of_station}
-use Rattle.rack_parts.specs.declared.rack.ImageRest.{ImageRest}
-use Rattle.request_turns.specs.Turns.{WasDown}
-use Rattle.request_turns.proofs.Gaining.{down_breaks}
-use Rattle.replay.specs.Histories.{AreHistories, History, is_broken, is_broken_at}
 use Rattle.replay.proofs.HistoriesLeft.{histories_of, history_at}
 use Rattle.replay.proofs.WindowBroken.{HasDown, not_none}
+use Rattle.wol_model.specs.History as history
 
 -- a part of this trouble was down in the history of this volume
 pub record HasDownAt (histories : List History) (v : ℕ) (t : Trouble) : Type 0 where

@@ -1,21 +1,12 @@
 -- The entries that the passes of a floor made while windows were served follow the rules.
-use Rattle.std.proofs.Common.{◌≡◌, ◌≢◌, ◌<◌, ℕ, zero, suc, Bool, List, [], ◌∷◌, length, sym, ap, subst, ◌∙◌, arith, inl, inr}
-use Rattle.std.specs.Prelude.{IsTrue, slice_index_or}
-use Rattle.turn_lock.specs.Passes.{pass_number, IsSamePass}
-use Rattle.wol_model.specs.History.{helper, keeper, worker}
-use Rattle.wol_promise.specs.Ruled.{Noted}
-use Rattle.request_turns.specs.Turns.{ManagerPass, Gains, HasTurned}
-use Rattle.request_turns.proofs.Gaining.{gains_turn}
-use Rattle.request_workers.specs.Begun.{HaveBegunVolumes, SpindlePass}
-use Rattle.request_workers.specs.Closed.{IsClosed}
-use Rattle.request_workers.specs.Worked.{HasWorked, HelpedIn}
-use Rattle.window_desks.specs.declared.desk.Desk.{Desk}
-use Rattle.window_desks.specs.declared.floor.Floor.{Floor}
-use Rattle.window_desks.specs.declared.request.Reclaim.{Reclaim}
-use Rattle.window_desks.specs.declared.request.Reclaim.TheVariants as reclaim
-use Rattle.replay.specs.Served.{ServedWindow, ServedFromStart, WasNotRun, WasServed, WereServed}
+use Rattle.replay.proofs.Basics.{◌≡◌, ◌≢◌, ◌<◌, ℕ, zero, suc, Bool, List, [], ◌∷◌, length, sym, ap, subst, ◌∙◌, arith, inl, inr, IsTrue}
+use Rattle.replay.proofs.Basics.{slice_index_or}
+use Rattle.replay.proofs.Terms.{pass_number, IsSamePass, helper, keeper, worker, Noted, ManagerPass, Gains, HasTurned, gains_turn}
+use Rattle.replay.proofs.Terms.{HaveBegunVolumes, SpindlePass, IsClosed, HasWorked, HelpedIn, Desk, Floor, Reclaim, ServedWindow}
+use Rattle.replay.proofs.Terms.{ServedFromStart, WasNotRun, WasServed, WereServed}
 use Rattle.replay.proofs.AnswersServed.{desk_there}
 use Rattle.replay.proofs.Makes.{Makes, makes_both, makes_none, makes_same}
+use Rattle.window_desks.specs.declared.request.Reclaim.TheVariants as reclaim
 
 -- ---- One pass
 

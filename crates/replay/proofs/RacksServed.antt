@@ -1,38 +1,14 @@
 -- A rack whose volumes are open can be served, and closed after it.
-use Rattle.std.proofs.Common.{◌≡◌, ◌<◌, ◌≤◌, ◌+◌, ℕ, zero, suc, List, [], ◌∷◌, length, map, refl, sym, ap, subst, ◌∙◌, Option, None, Some, inl, inr, arith}
-use Rattle.std.specs.Prelude.{All, Contains, slice_get, slice_index_or}
-use Rattle.std.specs.Option.{option_map_or}
-use Rattle.std.proofs.lemmas.Bool.{cases_eq}
-use Rattle.std.proofs.lemmas.List.{length-map}
-use Rattle.std.proofs.lemmas.List.Elements.{All-map}
-use Rattle.wol_disk.specs.Disk.{State}
-use Rattle.wol_model.specs.Trace.{Target, home_of}
-use Rattle.wol_bay.specs.Bay.{BayState}
-use Rattle.wol_config.specs.declared.config.Config.{Config}
-use Rattle.turn_lock.specs.Passes.{lock_id, lock_passes, pass_number, IsPassOf, IsFree}
+use Rattle.replay.proofs.Basics.{◌≡◌, ◌<◌, ◌≤◌, ◌+◌, ℕ, zero, suc, List, [], ◌∷◌, length, map, refl, sym, ap, subst, ◌∙◌, Option, None}
+use Rattle.replay.proofs.Basics.{Some, inl, inr, arith, All, Contains, slice_get, slice_index_or, option_map_or, cases_eq, length-map}
+use Rattle.replay.proofs.Basics.{All-map}
+use Rattle.replay.proofs.Terms.{State, Target, home_of, BayState, Config, lock_id, lock_passes, pass_number, IsPassOf, IsFree, Spindle}
+use Rattle.replay.proofs.Terms.{SpindleBase, Shared, IsShared, ManagerBase, Station, target_of, targets_of, shape_in, shapes_of}
+use Rattle.replay.proofs.Terms.{base_of_station, AreOut, AreRising, IsClosable, IsOpenBase, IsRack, AreLocks, IsImageOut, IsRest}
+use Rattle.replay.proofs.Terms.{OnlyAccess, ImageRest, Rack, Rest, VolumeFault, ManagerLock, SpindlePass, AreStations, first_closed}
+use Rattle.replay.proofs.Terms.{none_closed, CanServe, locks_of, AreSamePasses}
 use Rattle.turn_lock.specs.declared.lock.TurnLock.{TurnLock}
-use Rattle.spin_model.specs.declared.spindle.Spindle.{Spindle}
-use Rattle.spin_model.specs.declared.spindle.SpindleBase.{SpindleBase}
-use Rattle.logger.specs.declared.shared.Shared.{Shared}
-use Rattle.manager.specs.Stands.{IsShared}
-use Rattle.manager.specs.declared.base.ManagerBase.{ManagerBase}
-use Rattle.manager.specs.declared.station.Station.{Station}
-use Rattle.trace_gen.specs.Generated.{target_of, targets_of}
-use Rattle.volume_images.specs.Volumes.{shape_in, shapes_of}
 use Rattle.rack.specs.Foreign.{AreForeign}
-use Rattle.rack.specs.Racks.{base_of_station, AreOut, AreRising, IsClosable, IsOpenBase, IsRack}
-use Rattle.rack.specs.Rests.{AreLocks, IsImageOut, IsRest, OnlyAccess}
-use Rattle.rack_parts.specs.declared.rack.ImageRest.{ImageRest}
-use Rattle.rack_parts.specs.declared.rack.Rack.{Rack}
-use Rattle.rack_parts.specs.declared.rack.Rest.{Rest}
-use Rattle.rack_parts.specs.declared.volume_fault.VolumeFault.{VolumeFault}
-use Rattle.request_turns.specs.Helped.{ManagerLock}
-use Rattle.request_workers.specs.Begun.{SpindlePass}
-use Rattle.request_workers.specs.Stations.{AreStations}
-use Rattle.open_rack.specs.NotOpened.{first_closed}
-use Rattle.open_rack.proofs.FirstClosed.{none_closed}
-use Rattle.replay.specs.Runs.{CanServe, locks_of}
-use Rattle.replay.specs.Served.{AreSamePasses}
 
 -- ---- Places in lists
 

@@ -1,29 +1,14 @@
 -- What windows count of reclaim is what their passes' own entries come to.
-use Rattle.std.proofs.Common.{◌≡◌, ◌≢◌, ◌<◌, ◌≤◌, ◌+◌, ◌-◌, ◌^◌, ℕ, zero, suc, Bool, List, [], ◌∷◌, length, map, min, refl, sym, ap, subst, ◌∙◌, inl, inr, arith}
-use Rattle.std.specs.Prelude.{slice_index_or, sum_by}
-use Rattle.std.proofs.lemmas.Bool.{cases_eq, cases_lt}
-use Rattle.std.proofs.lemmas.List.Sums.{sum_by-cons}
-use Rattle.turn_lock.specs.Passes.{pass_number, IsFree}
-use Rattle.wol_promise.specs.Policy.{Look}
-use Rattle.wol_promise.specs.Report.{put_home_by}
-use Rattle.request_turns.specs.Counts.{Counts, dropped_by}
-use Rattle.request_turns.specs.Turns.{ManagerPass}
+use Rattle.replay.proofs.Basics.{◌≡◌, ◌≢◌, ◌<◌, ◌≤◌, ◌+◌, ◌-◌, ◌^◌, ℕ, zero, suc, Bool, List, [], ◌∷◌, length, map, min, refl, sym, ap}
+use Rattle.replay.proofs.Basics.{subst, ◌∙◌, inl, inr, arith, slice_index_or, sum_by, cases_eq, cases_lt, sum_by-cons}
+use Rattle.replay.proofs.Terms.{pass_number, IsFree, Look, put_home_by, Counts, dropped_by, ManagerPass, gains_none, AreHonest, all_between}
+use Rattle.replay.proofs.Terms.{workers_of, AreHelped, HelpedIn, Desk, Floor, Reclaim, HaveGained, all_both, gained_honest}
+use Rattle.replay.proofs.Terms.{have_gained_both, window_gained, most_count, ServedFromStart, ServedWindow, WasServed, WereServed}
 use Rattle.request_turns.proofs.Counting.{between_none}
-use Rattle.request_turns.proofs.Gaining.{gains_none}
-use Rattle.request_workers.specs.Counted.{AreHonest, all_between}
-use Rattle.request_workers.specs.Floors.{workers_of}
-use Rattle.request_workers.specs.Helped.{AreHelped}
-use Rattle.request_workers.specs.Worked.{HelpedIn}
-use Rattle.window_desks.specs.declared.desk.Desk.{Desk}
-use Rattle.window_desks.specs.declared.floor.Floor.{Floor}
-use Rattle.window_desks.specs.declared.request.Reclaim.{Reclaim}
-use Rattle.window_desks.specs.declared.request.Reclaim.TheVariants as reclaim
-use Rattle.request_workers.proofs.Totals.{HaveGained, all_both, gained_honest, have_gained_both, window_gained}
-use Rattle.replay.specs.Counts.{most_count}
-use Rattle.replay.specs.Served.{ServedFromStart, ServedWindow, WasServed, WereServed}
 use Rattle.replay.proofs.FirstsServed.{was_worked}
 use Rattle.replay.proofs.PassesRuled.{pass_there}
 use Rattle.replay.proofs.RacksServed.{a_member}
+use Rattle.window_desks.specs.declared.request.Reclaim.TheVariants as reclaim
 
 -- ---- Passes that did nothing
 

@@ -1,39 +1,14 @@
 -- What is counted of reclaim stands in the histories of closed volumes.
-use Rattle.std.proofs.Common.{◌≡◌, ◌≢◌, ◌<◌, ◌≤◌, ◌+◌, ◌++◌, ℕ, zero, suc, Bool, true, List, [], ◌∷◌, length, map, min, refl, sym, ap, subst, ◌∙◌, Option, None, Some, is_some, inl, inr, arith}
-use Rattle.std.specs.Prelude.{All, IsTrue, slice_get, slice_index_or, sum_by}
-use Rattle.std.specs.List.{AllByRecursion}
-use Rattle.std.proofs.lemmas.List.{length-map}
-use Rattle.std.proofs.lemmas.List.Sums.{sum_by-cons}
-use Rattle.wol_bay.specs.Bay.{BayState}
-use Rattle.wol_model.specs.Blocks.{Write}
-use Rattle.wol_model.specs.History.{Broke, Kept, Operation, Read, Wrote, flight_from, flight_of, helper, keeper, worker}
-use Rattle.wol_promise.specs.Policy.{Look}
-use Rattle.wol_promise.specs.Report.{AreGone, blocks_put_home, logged_writes, put_home_by}
-use Rattle.wol_promise.specs.Ruled.{Noted, entries_of, last_look}
-use Rattle.wol_promise.specs.Stands.{HasHistory}
-use Rattle.wol_config.specs.declared.config.Config.{Config}
-use Rattle.turn_lock.specs.Histories.{Begins, Entry, own}
-use Rattle.turn_lock.specs.Passes.{IsFree, pass_mine, pass_number, pass_seen}
-use Rattle.manager.specs.Stands.{notes_of}
-use Rattle.manager.specs.declared.station.Station.{Station}
-use Rattle.request_turns.specs.Counts.{added_between, added_up, dropped_by, records_dropped}
-use Rattle.request_turns.specs.Turns.{IsHonest, ManagerPass, began}
-use Rattle.request_turns.proofs.CountLaws.{AreOthersIdle, IsWhole, dropped_by_pass, home_by_pass, records_add_up}
-use Rattle.request_turns.proofs.Gaining.{nothing_more}
-use Rattle.request_workers.specs.Counted.{AreHonest, all_between}
-use Rattle.request_workers.specs.Floors.{AreSameButRoom, workers_of}
-use Rattle.request_workers.specs.Stations.{IsMoved}
-use Rattle.window_desks.specs.declared.desk.Desk.{Desk}
-use Rattle.window_desks.specs.declared.floor.Floor.{Floor}
-use Rattle.window_desks.specs.declared.request.Reclaim.{Reclaim}
-use Rattle.request_workers.proofs.Totals.{all_added}
-use Rattle.rack.specs.Closes.{IsClosedVolume}
-use Rattle.rack.specs.Racks.{AreUnused, IsUnused, base_of_station}
-use Rattle.rack_parts.specs.declared.rack.ImageRest.{ImageRest}
-use Rattle.replay.specs.Counts.{most_count}
-use Rattle.replay.specs.Histories.{History, is_broken}
-use Rattle.replay.specs.Placed.{CountsReclaimed}
-use Rattle.replay.specs.Served.{ServedFromStart, ServedWindow}
+use Rattle.replay.proofs.Basics.{◌≡◌, ◌≢◌, ◌<◌, ◌≤◌, ◌+◌, ◌++◌, ℕ, zero, suc, Bool, true, List, [], ◌∷◌, length, map, min, refl, sym, ap}
+use Rattle.replay.proofs.Basics.{subst, ◌∙◌, Option, None, Some, is_some, inl, inr, arith, All, IsTrue, slice_get, slice_index_or, sum_by}
+use Rattle.replay.proofs.Basics.{AllByRecursion, length-map, sum_by-cons}
+use Rattle.replay.proofs.Terms.{BayState, Write, Broke, Kept, Operation, Read, Wrote, flight_from, flight_of, helper, keeper, worker, Look}
+use Rattle.replay.proofs.Terms.{AreGone, blocks_put_home, logged_writes, put_home_by, Noted, entries_of, last_look, HasHistory, Config}
+use Rattle.replay.proofs.Terms.{Begins, Entry, own, IsFree, pass_mine, pass_number, pass_seen, notes_of, Station, added_between, added_up}
+use Rattle.replay.proofs.Terms.{dropped_by, records_dropped, IsHonest, ManagerPass, began, AreOthersIdle, IsWhole, dropped_by_pass}
+use Rattle.replay.proofs.Terms.{home_by_pass, records_add_up, nothing_more, AreHonest, all_between, AreSameButRoom, workers_of, IsMoved}
+use Rattle.replay.proofs.Terms.{Desk, Floor, Reclaim, all_added, IsClosedVolume, AreUnused, IsUnused, base_of_station, ImageRest}
+use Rattle.replay.proofs.Terms.{most_count, History, is_broken, CountsReclaimed, ServedFromStart, ServedWindow}
 use Rattle.replay.proofs.EntriesOwn.{all_of_three}
 use Rattle.replay.proofs.HistoriesLeft.{IsHistoryAt, histories_count, histories_of, history_at}
 use Rattle.replay.proofs.KeeperIdle.{IsIdlePass, IsKeeperIdle, all_others_idle, ended_idle, idle_through, own_joined}

@@ -1,26 +1,11 @@
 -- What reclaim leaves of the histories: behind a window nothing is left to reclaim, and no helper works but beside the requests.
-use Rattle.std.proofs.Common.{◌≡◌, ◌≢◌, ◌==◌, ℕ, Bool, true, false, cond, List, [], ◌∷◌, ◌++◌, Option, None, Some, refl, sym, ap, subst, ◌∙◌}
-use Rattle.std.specs.List.{filter}
-use Rattle.std.proofs.lemmas.Bool.{eq-eqb}
-use Rattle.turn_lock.specs.Histories.{Begins, Entry, own}
-use Rattle.turn_lock.specs.Passes.{pass_mine, pass_seen}
-use Rattle.wol_model.specs.History.{helper, worker}
-use Rattle.wol_promise.specs.Code.{noted_of}
-use Rattle.wol_promise.specs.Policy.{IsIdleLook, Look}
-use Rattle.wol_promise.specs.Report.{HasNoHelp, LeavesIdle, by_worker}
-use Rattle.wol_promise.specs.Ruled.{Noted, last_look}
-use Rattle.wol_promise.proofs.ReadCode.{noted_is_back}
-use Rattle.manager.specs.Stands.{notes_of}
-use Rattle.manager.specs.declared.part.StepFault.{StepFault}
-use Rattle.request_turns.specs.Closed.{HasClosed}
-use Rattle.request_turns.specs.Turns.{ManagerPass, IsBroken, coded, faulty_part}
-use Rattle.request_turns.proofs.Gaining.{broken_more, down_breaks, last_joined, notes_joined, pass_kept}
-use Rattle.request_workers.specs.Closed.{IsClosed}
-use Rattle.request_workers.specs.Worked.{HelpedIn}
-use Rattle.window_desks.specs.declared.floor.Floor.{Floor}
-use Rattle.window_desks.specs.declared.request.Reclaim.{Reclaim}
+use Rattle.replay.proofs.Basics.{◌≡◌, ◌≢◌, ◌==◌, ℕ, Bool, true, false, cond, List, [], ◌∷◌, ◌++◌, Option, None, Some, refl, sym, ap, subst}
+use Rattle.replay.proofs.Basics.{◌∙◌, filter, eq-eqb}
+use Rattle.replay.proofs.Terms.{Begins, Entry, own, pass_mine, pass_seen, helper, worker, noted_of, IsIdleLook, Look, HasNoHelp, LeavesIdle}
+use Rattle.replay.proofs.Terms.{by_worker, Noted, last_look, noted_is_back, notes_of, StepFault, HasClosed, ManagerPass, IsBroken, coded}
+use Rattle.replay.proofs.Terms.{faulty_part, broken_more, down_breaks, last_joined, notes_joined, pass_kept, IsClosed, HelpedIn, Floor}
+use Rattle.replay.proofs.Terms.{Reclaim, ServedFromStart, ServedWindow, WasServed, WereServed}
 use Rattle.window_desks.specs.declared.request.Reclaim.TheVariants as reclaim
-use Rattle.replay.specs.Served.{ServedFromStart, ServedWindow, WasServed, WereServed}
 
 -- ---- The worker
 

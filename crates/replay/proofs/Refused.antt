@@ -1,21 +1,14 @@
 -- The requests that were looked at.
-use Rattle.std.proofs.Common.{◌≡◌, ◌<◌, ◌+◌, ℕ, Bool, true, false, cond, List, [], ◌∷◌, length, drop, get_or, Option, None, Some, refl, sym, ap, ◌∙◌}
-use Rattle.std.specs.List.{list_any}
-use Rattle.std.specs.Option.{option_or}
-use Rattle.std.proofs.lemmas.List.{drop_more}
+use Rattle.replay.proofs.Basics.{◌≡◌, ◌<◌, ◌+◌, ℕ, Bool, true, false, cond, List, [], ◌∷◌, length, drop, get_or, Option, None, Some, refl}
+use Rattle.replay.proofs.Basics.{sym, ap, ◌∙◌, list_any, option_or, drop_more}
+use Rattle.replay.proofs.Terms.{StepFault, Fault, Memory, TraceSource, Request, Outcome, Window, fault_of_outcome, fault_of_read}
+use Rattle.replay.proofs.Terms.{fault_of_reclaim, fault_of_window, fault_of_write, first_refused, lacked_memory}
 use Rattle.manager.specs.declared.part.ReadRefusal.{ReadRefusal}
-use Rattle.manager.specs.declared.part.ReadRefusal.TheVariants as read
-use Rattle.manager.specs.declared.part.StepFault.{StepFault}
-use Rattle.manager.specs.declared.part.StepFault.TheVariants as step
 use Rattle.manager.specs.declared.part.WriteRefusal.{WriteRefusal}
+use Rattle.manager.specs.declared.part.ReadRefusal.TheVariants as read
+use Rattle.manager.specs.declared.part.StepFault.TheVariants as step
 use Rattle.manager.specs.declared.part.WriteRefusal.TheVariants as write
-use Rattle.report.specs.declared.fault.Fault.{Fault}
-use Rattle.report.specs.declared.fault.Fault.TheVariants.{Memory, TraceSource}
-use Rattle.trace_windows.specs.declared.request.Request.{Request}
-use Rattle.request_turns.specs.declared.outcome.Outcome.{Outcome}
 use Rattle.request_turns.specs.declared.outcome.Outcome.TheVariants as outcome
-use Rattle.window_desks.specs.declared.request.Window.{Window}
-use Rattle.replay.specs.Endings.{fault_of_outcome, fault_of_read, fault_of_reclaim, fault_of_window, fault_of_write, first_refused, lacked_memory}
 use Rattle.replay.specs.declared.stop.Stop.TheVariants as stop
 
 -- the first of those that are left is the next one, or the first of the others

@@ -1,33 +1,17 @@
 -- The requests of the windows that were served are those of the lines, and each names one of the volumes.
-use Rattle.std.proofs.Common.{◌≡◌, ◌<◌, ◌≤◌, ◌==◌, ℕ, Bool, true, false, cond, List, [], ◌∷◌, ◌++◌, length, map, Option, None, Some, refl, sym, ap, ◌∙◌, arith}
-use Rattle.std.specs.Prelude.{◌&&◌}
-use Rattle.std.specs.List.{AllByRecursion, flat_map}
+use Rattle.replay.proofs.Basics.{◌≡◌, ◌<◌, ◌≤◌, ◌==◌, ℕ, Bool, true, false, cond, List, [], ◌∷◌, ◌++◌, length, map, Option, None, Some}
+use Rattle.replay.proofs.Basics.{refl, sym, ap, ◌∙◌, arith, ◌&&◌, AllByRecursion, flat_map, map-append, eqb-true}
+use Rattle.replay.proofs.Terms.{Numbered, Target, TraceLine, home_of, numbered_from, pieces, requests_of, requests_on, volume_of, windows}
+use Rattle.replay.proofs.Terms.{Answered, of_volume, Config, targets_of, asked, requests_in_all, Request, windows_have_requests}
+use Rattle.replay.proofs.Terms.{numbers_leave, answers_of, requests_in, volume_requests, Outcome, answers_to, Floor, Reclaim, answers_in}
+use Rattle.replay.proofs.Terms.{ServedFromStart, ServedWindow, WereServed, AreWindowsOf, most_of}
 use Rattle.std.specs.Str.{bytes_eq}
-use Rattle.std.proofs.lemmas.List.{map-append}
 use Rattle.std.proofs.lemmas.List.Quantifiers.{position-Some}
-use Rattle.std.proofs.lemmas.Bool.{eqb-true}
-use Rattle.wol_model.specs.Trace as trace
-use Rattle.wol_model.specs.Trace.{Numbered, Target, TraceLine, home_of, numbered_from, pieces, requests, requests_of, requests_on, volume_of, windows}
+use Rattle.wol_model.specs.Trace.{requests}
 use Rattle.wol_model.specs.declared.trace.Piece.{Piece}
-use Rattle.wol_promise.specs.Outcomes.{Answered, of_volume}
-use Rattle.wol_config.specs.declared.config.Config.{Config}
-use Rattle.trace_gen.specs.Generated.{targets_of}
-use Rattle.trace_windows.specs.Requests.{asked, requests_in_all}
-use Rattle.trace_windows.specs.declared.request.Request.{Request}
-use Rattle.trace_windows.proofs.Counting.{windows_have_requests}
-use Rattle.trace_windows.proofs.Numbering.{numbers_leave}
-use Rattle.run_laws.specs.Answers.{answers_of, requests_in}
-use Rattle.run_laws.proofs.ReadLines.{volume_requests}
-use Rattle.request_turns.specs.declared.outcome.Outcome.{Outcome}
-use Rattle.request_workers.specs.Requests.{answers_to}
-use Rattle.window_desks.specs.declared.floor.Floor.{Floor}
-use Rattle.window_desks.specs.declared.request.Reclaim.{Reclaim}
-use Rattle.replay.specs.Histories.{answers_in}
-use Rattle.replay.specs.Served.{ServedFromStart, ServedWindow, WereServed}
-use Rattle.replay.specs.Sessions.{AreWindowsOf}
 use Rattle.replay.proofs.AnswersServed.{all_both}
 use Rattle.replay.proofs.Serving.{served_requests}
-use Rattle.wol_config.specs.Configs.{most_of}
+use Rattle.wol_model.specs.Trace as trace
 
 -- ---- As many outcomes as requests
 

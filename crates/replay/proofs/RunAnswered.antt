@@ -1,43 +1,13 @@
 -- What replaying a trace over a bay comes to, by what opening, serving and closing its rack say.
-use Rattle.std.proofs.Common.{◌≡◌, ◌<◌, ◌≤◌, ℕ, Bool, List, length, Option, None, Some, Result, Ok, Err, sym, ap, subst, ◌∙◌, arith}
-use Rattle.std.specs.Prelude.{All, IfSome, IsTrue, MatchResult, slice_get}
-use Rattle.wol_bay.specs.Bay.{BayState, Told}
-use Rattle.wol_disk.specs.Disk.{Rose, State}
-use Rattle.wol_config.specs.declared.config.Config.{Config}
-use Rattle.volume_images.specs.Left.{IsTold}
-use Rattle.std.proofs.lemmas.List.{length-map}
-use Rattle.volume_images.specs.Volumes.{shape_in, shapes_of}
-use Rattle.manager.specs.declared.part.Part.{Part}
-use Rattle.manager.specs.declared.station.Station.{Station}
-use Rattle.manager_recovery.specs.declared.refusal.OpenRefusal.TheVariants as refusal
-use Rattle.report.specs.Names.{printed_names}
-use Rattle.report.specs.Summaries.{summary_text}
-use Rattle.report.specs.declared.fault.Fault.TheVariants.{Memory}
-use Rattle.rack.specs.Closes.{AreClosedVolumes, AreLeftOfParts, HasFaultAt, HasFaultIn, IsClosedSpindle, IsQuiet, LeavesVolumes, ListsFaulty}
-use Rattle.rack.specs.Opens.{AreRefused, BeganWith, HasFaulty, KeepsAllSound, WereThere}
-use Rattle.rack.specs.Owners.{HadRefused}
-use Rattle.rack.specs.Racks.{AreUnused, IsRack, IsUnused, KeepToViews}
-use Rattle.rack.specs.Rests.{IsImageOut}
-use Rattle.rack_parts.specs.declared.rack.Rack.{Rack}
-use Rattle.rack_parts.specs.declared.rack.Rest.{Rest}
-use Rattle.rack_parts.specs.declared.volume_fault.VolumeFault.TheVariants as fault
-use Rattle.spin_model.specs.Spindles.{SpindleView}
-use Rattle.request_workers.specs.Begun.{SpindlePass}
-use Rattle.request_workers.specs.Stations.{AreStations}
-use Rattle.replay.specs.Headlined.{AreAllOpen}
-use Rattle.replay.specs.NotOpened.{LeavesBay}
-use Rattle.replay.specs.Prints.{PrintsText, all_amounts}
-use Rattle.replay.specs.Replays.{Replayed, Replays, ran}
-use Rattle.open_rack.specs.NotOpened.{first_closed}
-use Rattle.replay.specs.Histories.{view_at}
-use Rattle.replay.specs.Runs.{RunsIn, closed, locks_of, no_memory, served}
-use Rattle.replay.specs.Sessions.{ServesSome, ServesWhole}
-use Rattle.replay.specs.declared.counting.Counted.{Counted}
-use Rattle.replay.specs.declared.given.Given.{Given}
-use Rattle.replay.specs.declared.session.Options.{Options}
-use Rattle.replay.specs.declared.stop.Stop.{Stop}
-use Rattle.replay.specs.declared.stop.Stop.TheVariants as stop
-use Rattle.open_rack.proofs.FirstClosed.{none_closed, opened_out}
+use Rattle.replay.proofs.Basics.{◌≡◌, ◌<◌, ◌≤◌, ℕ, Bool, List, length, Option, None, Some, Result, Ok, Err, sym, ap, subst, ◌∙◌, arith, All}
+use Rattle.replay.proofs.Basics.{IfSome, IsTrue, MatchResult, slice_get, length-map}
+use Rattle.replay.proofs.Terms.{BayState, Told, Rose, State, Config, IsTold, shape_in, shapes_of, Part, Station, printed_names}
+use Rattle.replay.proofs.Terms.{summary_text, Memory, AreClosedVolumes, AreLeftOfParts, HasFaultAt, HasFaultIn, IsClosedSpindle, IsQuiet}
+use Rattle.replay.proofs.Terms.{LeavesVolumes, ListsFaulty, AreRefused, BeganWith, HasFaulty, KeepsAllSound, WereThere, HadRefused}
+use Rattle.replay.proofs.Terms.{AreUnused, IsRack, IsUnused, KeepToViews, IsImageOut, Rack, Rest, SpindleView, SpindlePass, AreStations}
+use Rattle.replay.proofs.Terms.{AreAllOpen, LeavesBay, PrintsText, all_amounts, Replayed, Replays, ran, first_closed, view_at, RunsIn}
+use Rattle.replay.proofs.Terms.{closed, locks_of, no_memory, served, ServesSome, ServesWhole, Counted, Given, Options, Stop, none_closed}
+use Rattle.replay.proofs.Terms.{opened_out}
 use Rattle.rack.proofs.FailedParts.{gained_parts}
 use Rattle.replay.proofs.HistoriesLeft.{histories_of}
 use Rattle.replay.proofs.RacksServed.{at_place, each_station, station_count}
@@ -45,6 +15,9 @@ use Rattle.replay.proofs.RunClosed.{leaves_bay, runs_closed}
 use Rattle.replay.proofs.RunFlown.{began_still, run_sound}
 use Rattle.replay.proofs.RunReplayed.{replays_none, replays_some, replays_whole}
 use Rattle.replay.proofs.ViewsKept.{keep_views, locks_count}
+use Rattle.manager_recovery.specs.declared.refusal.OpenRefusal.TheVariants as refusal
+use Rattle.rack_parts.specs.declared.volume_fault.VolumeFault.TheVariants as fault
+use Rattle.replay.specs.declared.stop.Stop.TheVariants as stop
 
 -- what opening says of a rack
 pub record HasOpened {D : Type 0} (state : D → State) (tells : Bool) (config : Config) (entry opened : BayState) (r : Rack D) : Type 0 where

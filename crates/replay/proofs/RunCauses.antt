@@ -1,15 +1,6 @@
 -- Where a call of a disk of a volume failed, the bay's count rose.
-use Rattle.std.proofs.Common.{◌≡◌, ℕ, Bool, true, false, List, refl, subst, Option, None, Some}
-use Rattle.std.specs.Prelude.{All, IsTrue, slice_get}
-use Rattle.std.specs.Option.{option_map_or}
-use Rattle.wol_disk.specs.Disk.{Rose}
-use Rattle.wol_bay.specs.Bay.{BayState}
-use Rattle.wol_config.specs.declared.config.Config.{Config}
-use Rattle.manager.specs.Stands.{notes_of}
-use Rattle.manager.specs.declared.station.Station.{Station}
-use Rattle.rack.specs.Closes.{IsClosedVolume}
-use Rattle.rack_parts.specs.declared.rack.ImageRest.{ImageRest}
-use Rattle.replay.specs.Histories.{History, is_broken, is_broken_at}
+use Rattle.replay.proofs.Basics.{◌≡◌, ℕ, Bool, true, false, List, refl, subst, Option, None, Some, All, IsTrue, slice_get, option_map_or}
+use Rattle.replay.proofs.Terms.{Rose, BayState, Config, notes_of, Station, IsClosedVolume, ImageRest, History, is_broken, is_broken_at}
 use Rattle.replay.proofs.HistoriesLeft.{histories_of, history_at}
 use Rattle.replay.proofs.WindowBroken.{not_none}
 

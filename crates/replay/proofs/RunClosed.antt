@@ -1,35 +1,12 @@
 -- A run over a bay whose volumes couldn't all be opened.
-use Rattle.std.proofs.Common.{◌≡◌, ◌≤◌, ℕ, Bool, true, List, [], refl, sym, ap, subst, Option, None, Some, is_some, not, Err, inl, inr}
-use Rattle.std.specs.Prelude.{All, IfSome, IsTrue, slice_get}
-use Rattle.wol_disk.specs.Disk.{Rose, State}
-use Rattle.wol_bay.specs.Bay.{BayState, Told}
-use Rattle.wol_model.specs.History.{writes}
-use Rattle.wol_promise.specs.Ruled.{entries_of}
-use Rattle.wol_config.specs.declared.config.Config.{Config}
-use Rattle.wol_config.specs.declared.config.VolumeConf.{VolumeConf}
-use Rattle.turn_lock.specs.Histories.{Entry}
-use Rattle.manager.specs.Stands.{notes_of}
-use Rattle.manager.specs.declared.part.Part.{Part}
-use Rattle.manager.specs.declared.station.Station.{Station}
-use Rattle.manager_recovery.specs.declared.refusal.OpenRefusal.TheVariants as refusal
-use Rattle.report.specs.declared.fault.Fault.{Fault}
-use Rattle.volume_images.specs.Left.{IsTold}
-use Rattle.rack.specs.Closes.{AreLeftOfParts, flight_in, HasFaultAt, HasFaultIn, IsQuiet, LeavesVolumes, ListsFaulty, has_station, is_kept_home}
-use Rattle.rack.specs.Opens.{AreRefused, BeganWith, HasFaulty, KeepsAllSound, LeavesAll, RefusesVolume, WereThere}
-use Rattle.rack.specs.Owners.{HadRefused}
-use Rattle.rack.specs.Racks.{AreUnused, IsRack}
-use Rattle.rack.specs.Rests.{IsImageOut, image_here}
-use Rattle.rack_parts.specs.declared.rack.ImageRest.{ImageRest}
-use Rattle.rack_parts.specs.declared.rack.Rack.{Rack}
-use Rattle.rack_parts.specs.declared.volume_fault.VolumeFault.{VolumeFault}
-use Rattle.rack_parts.specs.declared.volume_fault.VolumeFault.TheVariants as fault
-use Rattle.replay.specs.NotOpened.{LeavesBay}
-use Rattle.replay.specs.Replays.{Replayed, closed}
-use Rattle.open_rack.specs.NotOpened.{first_closed}
-use Rattle.replay.specs.Runs.{RunsNone}
-use Rattle.replay.specs.declared.given.Given.{Given}
-use Rattle.replay.specs.declared.session.Options.{Options}
-use Rattle.replay.specs.declared.stop.Stop.TheVariants as stop
+use Rattle.replay.proofs.Basics.{◌≡◌, ◌≤◌, ℕ, Bool, true, List, [], refl, sym, ap, subst, Option, None, Some, is_some, not, Err, inl, inr}
+use Rattle.replay.proofs.Basics.{All, IfSome, IsTrue, slice_get}
+use Rattle.replay.proofs.Terms.{Rose, State, BayState, Told, writes, entries_of, Config, VolumeConf, Entry, notes_of, Part, Station, Fault}
+use Rattle.replay.proofs.Terms.{IsTold, AreLeftOfParts, flight_in, HasFaultAt, HasFaultIn, IsQuiet, LeavesVolumes, ListsFaulty, has_station}
+use Rattle.replay.proofs.Terms.{is_kept_home, AreRefused, BeganWith, HasFaulty, KeepsAllSound, LeavesAll, RefusesVolume, WereThere}
+use Rattle.replay.proofs.Terms.{HadRefused, AreUnused, IsRack, IsImageOut, image_here, ImageRest, Rack, VolumeFault, LeavesBay, Replayed}
+use Rattle.replay.proofs.Terms.{first_closed, RunsNone, Given, Options}
+use Rattle.replay.specs.Replays.{closed}
 use Rattle.rack.proofs.Asking.{refuses_later, rose_on}
 use Rattle.rack.proofs.FailedParts.{gained_parts, part_came_back, part_failed}
 use Rattle.rack_closing.proofs.NewFaults.{told_each, told_with}
@@ -38,6 +15,9 @@ use Rattle.open_rack.proofs.FirstClosed.{first_refused}
 use Rattle.open_rack.proofs.Since.{refused_alone, refused_missing}
 use Rattle.replay.proofs.CauseServed.{rose_from}
 use Rattle.replay.proofs.RunFlown.{run_sound}
+use Rattle.manager_recovery.specs.declared.refusal.OpenRefusal.TheVariants as refusal
+use Rattle.rack_parts.specs.declared.volume_fault.VolumeFault.TheVariants as fault
+use Rattle.replay.specs.declared.stop.Stop.TheVariants as stop
 
 -- ---- Passes that did nothing
 

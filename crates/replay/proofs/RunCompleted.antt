@@ -1,31 +1,14 @@
 -- A run over a bay in whose way nothing stands comes to its end.
-use Rattle.std.proofs.Common.{◌≡◌, ◌<◌, ◌+◌, ℕ, suc, Bool, List, [], ◌∷◌, length, refl, sym, subst, ◌∙◌, Option, None, Some, Result, Ok, Err, arith}
-use Rattle.std.specs.Prelude.{IfSome, IsTrue, slice_get}
-use Rattle.wol_disk.specs.Disk.{Rose, State}
-use Rattle.wol_bay.specs.Bay.{BayState, Told}
-use Rattle.wol_model.specs.Images.{AreSound}
-use Rattle.wol_config.specs.declared.config.Config.{Config}
-use Rattle.report.specs.Names.{printed_names}
-use Rattle.report.specs.Summaries.{summary_text}
-use Rattle.report.specs.declared.fault.Fault.TheVariants.{Memory, TraceSource}
-use Rattle.spin_model.specs.Spindles.{SpindleView}
-use Rattle.volume_images.specs.Volumes.{images_read, shapes_of}
-use Rattle.rack.specs.Closes.{HasFaultIn, IsClosedSpindle}
-use Rattle.rack_parts.specs.declared.rack.Rack.{Rack}
-use Rattle.rack_parts.specs.declared.volume_fault.VolumeFault.{VolumeFault}
-use Rattle.replay.specs.Completes.{Completes, MayComplete}
-use Rattle.replay.specs.Prints.{PrintsText, all_amounts}
-use Rattle.open_rack.specs.NotOpened.{first_closed}
-use Rattle.replay.specs.Runs.{RunsIn}
-use Rattle.replay.specs.declared.counting.Counted.{Counted}
-use Rattle.replay.specs.declared.given.Given.{Given}
-use Rattle.replay.specs.declared.session.Options.{Options}
-use Rattle.replay.specs.declared.stop.Stop.{Stop}
-use Rattle.replay.specs.declared.stop.Stop.TheVariants as stop
+use Rattle.replay.proofs.Basics.{◌≡◌, ◌<◌, ◌+◌, ℕ, suc, Bool, List, [], ◌∷◌, length, refl, sym, subst, ◌∙◌, Option, None, Some, Result, Ok}
+use Rattle.replay.proofs.Basics.{Err, arith, IfSome, IsTrue, slice_get}
+use Rattle.replay.proofs.Terms.{Rose, State, BayState, Told, AreSound, Config, printed_names, summary_text, Memory, TraceSource}
+use Rattle.replay.proofs.Terms.{SpindleView, images_read, shapes_of, HasFaultIn, IsClosedSpindle, Rack, VolumeFault, Completes, MayComplete}
+use Rattle.replay.proofs.Terms.{PrintsText, all_amounts, first_closed, RunsIn, Counted, Given, Options, Stop}
 use Rattle.replay.proofs.CauseServed.{rose_from}
 use Rattle.replay.proofs.Completed.{completes_ran}
 use Rattle.rack.proofs.Asking.{rose_on}
 use Rattle.replay.proofs.RunAnswered.{HasClosedRack, HasOpened, served_err, served_ok}
+use Rattle.replay.specs.declared.stop.Stop.TheVariants as stop
 
 all_open : (n : ℕ) (faults : List (Option VolumeFault)) → ((k : ℕ) → k < length faults → slice_get faults k ≡ Some None) → first_closed n faults ≡ None
 all_open n [] each = refl

@@ -1,35 +1,16 @@
 -- Why not all requests of the last window were answered: a part of the volume failed, or its versions ended.
-use Rattle.std.proofs.Common.{◌≡◌, ◌≢◌, ◌<◌, ◌≤◌, ◌^◌, ℕ, Bool, true, List, [], ◌∷◌, Option, None, Some, refl, sym, ap, subst, ◌∙◌, append-nil, arith}
-use Rattle.std.specs.Prelude.{IsTrue, is_some, slice_get}
-use Rattle.std.specs.List.{AllByRecursion}
-use Rattle.std.specs.Option.{option_map_or}
-use Rattle.turn_lock.specs.Histories.{Begins, own}
-use Rattle.turn_lock.specs.Passes.{pass_mine, pass_number, pass_seen}
-use Rattle.wol_bay.specs.Bay.{BayState}
-use Rattle.wol_model.specs.Blocks.{Write}
-use Rattle.wol_model.specs.History.{flight_of, worker}
-use Rattle.wol_promise.specs.Outcomes.{Answered}
-use Rattle.wol_promise.specs.Report.{logged_writes}
-use Rattle.wol_promise.specs.Ruled.{AreRuled, entries_of}
-use Rattle.run_laws.specs.Answers.{answers_of}
-use Rattle.run_laws.specs.Laws.{AreAllAnswered}
-use Rattle.wol_config.specs.declared.config.Config.{Config}
-use Rattle.manager.specs.declared.station.Station.{Station}
-use Rattle.report.specs.declared.fault.Fault.{Fault}
-use Rattle.report.specs.declared.fault.Fault.TheVariants as fault
-use Rattle.rack_parts.specs.declared.rack.ImageRest.{ImageRest}
-use Rattle.manager.specs.Stands.{notes_of}
-use Rattle.request_turns.specs.Turns.{IsBroken, ManagerPass}
-use Rattle.request_workers.specs.Requests.{answers_to}
-use Rattle.window_desks.specs.declared.request.Reclaim.{Reclaim}
-use Rattle.replay.specs.Endings.{fault_of_window}
-use Rattle.replay.specs.Histories.{History, answers_in, is_broken_at, next_after, next_at}
-use Rattle.replay.specs.Served.{ServedWindow}
+use Rattle.replay.proofs.Basics.{◌≡◌, ◌≢◌, ◌<◌, ◌≤◌, ◌^◌, ℕ, Bool, true, List, [], ◌∷◌, Option, None, Some, refl, sym, ap, subst, ◌∙◌}
+use Rattle.replay.proofs.Basics.{append-nil, arith, IsTrue, is_some, slice_get, AllByRecursion, option_map_or}
+use Rattle.replay.proofs.Terms.{Begins, own, pass_mine, pass_number, pass_seen, BayState, Write, flight_of, worker, Answered, logged_writes}
+use Rattle.replay.proofs.Terms.{AreRuled, entries_of, answers_of, AreAllAnswered, Config, Station, Fault, ImageRest, notes_of, IsBroken}
+use Rattle.replay.proofs.Terms.{ManagerPass, answers_to, Reclaim, fault_of_window, History, answers_in, is_broken_at, next_after, next_at}
+use Rattle.replay.proofs.Terms.{ServedWindow}
 use Rattle.replay.proofs.HistoriesLeft.{IsHistoryAt}
 use Rattle.replay.proofs.LastWindow.{IsBelow, last_answered}
 use Rattle.replay.proofs.PassesRuled.{IsRuled}
 use Rattle.replay.proofs.SpentLeft.{versions_ended}
 use Rattle.replay.proofs.TracesLeft.{LastServed}
+use Rattle.report.specs.declared.fault.Fault.TheVariants as fault
 
 -- ---- The last window
 

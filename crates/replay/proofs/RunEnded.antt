@@ -1,33 +1,13 @@
 -- Why a run over open volumes ended, and what the sink took.
-use Rattle.std.proofs.Common.{◌≡◌, ◌≢◌, ◌++◌, ◌⊎◌, ◌+◌, ℕ, Bool, List, [], ◌∷◌, length, take, refl, sym, ap, subst, ◌∙◌, Option, Some, Result, Ok, Err, inl, inr, append-nil}
-use Rattle.std.specs.Io.KnownBytes.{Appends, Keeps}
-use Rattle.std.proofs.lemmas.List.Concat.{flat_map-append}
-use Rattle.std.proofs.Math.Seq.{take-append-add, take-length}
-use Rattle.wol_disk.specs.Disk.{Rose}
-use Rattle.wol_io.specs.Streams.{AppendsFront}
-use Rattle.wol_io.proofs.Appending.{appends_both, appends_kept, front_last}
-use Rattle.wol_model.specs.Trace.{TraceLine}
-use Rattle.wol_promise.specs.Run.{joined_lines}
-use Rattle.wol_config.specs.declared.config.Config.{Config}
-use Rattle.report.specs.declared.fault.Fault.{Fault}
-use Rattle.report.specs.declared.fault.Fault.TheVariants.{Memory, Versions}
-use Rattle.request_workers.specs.Begun.{SpindlePass}
-use Rattle.window_desks.specs.declared.floor.Floor.{Floor}
-use Rattle.trace_gen.specs.Generated.{targets_of}
-use Rattle.replay.specs.Endings.{fault_of_window}
-use Rattle.replay.specs.Ended.{EndsFor, HasRefusedWrite, IsPartFault, memory, no_line, refused, sink_failed, whole}
-use Rattle.replay.specs.Givens.{HasGivenAll}
-use Rattle.replay.specs.Histories.{answers_in}
-use Rattle.replay.specs.Prints.{CutsLines, PrintsText}
-use Rattle.replay.specs.Served.{ServedWindow}
-use Rattle.replay.specs.Sessions.{EndsBy, lines_of_window, lines_of_windows}
-use Rattle.replay.specs.Stops.{fault_of_trace}
-use Rattle.replay.specs.Summed.{PrintsRun, lines_asked}
-use Rattle.replay.specs.declared.given.Given.{Given}
-use Rattle.replay.specs.declared.session.Options.{Options}
-use Rattle.replay.specs.declared.stop.Stop.{Stop}
-use Rattle.replay.specs.declared.stop.Stop.TheVariants as stop
+use Rattle.replay.proofs.Basics.{◌≡◌, ◌≢◌, ◌++◌, ◌⊎◌, ◌+◌, ℕ, Bool, List, [], ◌∷◌, length, take, refl, sym, ap, subst, ◌∙◌, Option, Some}
+use Rattle.replay.proofs.Basics.{Result, Ok, Err, inl, inr, append-nil, Appends, Keeps, flat_map-append, take-append-add, take-length}
+use Rattle.replay.proofs.Terms.{Rose, AppendsFront, appends_both, appends_kept, front_last, TraceLine, joined_lines, Config, Fault, Memory}
+use Rattle.replay.proofs.Terms.{Versions, SpindlePass, Floor, targets_of, fault_of_window, EndsFor, HasRefusedWrite, IsPartFault, memory}
+use Rattle.replay.proofs.Terms.{no_line, refused, sink_failed, HasGivenAll, answers_in, CutsLines, PrintsText, ServedWindow, EndsBy}
+use Rattle.replay.proofs.Terms.{lines_of_window, lines_of_windows, fault_of_trace, PrintsRun, lines_asked, Given, Options, Stop}
+use Rattle.replay.specs.Ended.{whole}
 use Rattle.replay.proofs.LinesTold.{lines_told}
+use Rattle.replay.specs.declared.stop.Stop.TheVariants as stop
 
 -- ---- Why it ended
 

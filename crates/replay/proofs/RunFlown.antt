@@ -1,34 +1,16 @@
 -- The writes in flight of each volume of a run, and sound images.
-use Rattle.std.proofs.Common.{◌≡◌, ◌<◌, ◌+◌, ◌⊎◌, ℕ, Bool, List, length, sym, ap, subst, ◌∙◌, Option, None, Some, inl, inr, arith}
-use Rattle.std.specs.Prelude.{Contains, IfSome, slice_get, slice_index_or}
-use Rattle.std.proofs.lemmas.List.{length-map}
-use Rattle.wol_disk.specs.Disk.{State}
-use Rattle.wol_bay.specs.Bay.{BayState, Image, Told, at_name}
+use Rattle.replay.proofs.Basics.{◌≡◌, ◌<◌, ◌+◌, ◌⊎◌, ℕ, Bool, List, length, sym, ap, subst, ◌∙◌, Option, None, Some, inl, inr, arith}
+use Rattle.replay.proofs.Basics.{Contains, IfSome, slice_get, slice_index_or, length-map}
+use Rattle.replay.proofs.Terms.{State, BayState, Image, Told, at_name, Config, VolumeConf, Shared, ManagerBase, Station, AreStations}
+use Rattle.replay.proofs.Terms.{IsMoved, Floor, Reclaim, IsTold, shape_in, shapes_of, BeganWith, HadSegmentBefore, IsGone, IsLeftHere}
+use Rattle.replay.proofs.Terms.{KeepsAllSound, WereThere, BeganInPlace, HadRefused, IsBegun, images_taken, AreUnused, base_of_station}
+use Rattle.replay.proofs.Terms.{IsSegmentHere, held_here, image_here, ImageRest, Rack, Rest, answers_in, locks_of, ServedFromStart}
+use Rattle.replay.proofs.Terms.{ServedWindow}
 use Rattle.wol_model.specs.Heads.{Free, Owned, Shape}
 use Rattle.wol_model.specs.Log.{Record}
-use Rattle.wol_config.specs.declared.config.Config.{Config}
-use Rattle.wol_config.specs.declared.config.VolumeConf.{VolumeConf}
 use Rattle.spin_model.specs.declared.spun.Spun.{Spun}
-use Rattle.logger.specs.declared.shared.Shared.{Shared}
-use Rattle.manager.specs.declared.base.ManagerBase.{ManagerBase}
-use Rattle.manager.specs.declared.station.Station.{Station}
 use Rattle.manager_recovery.specs.Left.{HasNothing}
-use Rattle.request_workers.specs.Stations.{AreStations, IsMoved}
-use Rattle.window_desks.specs.declared.floor.Floor.{Floor}
-use Rattle.window_desks.specs.declared.request.Reclaim.{Reclaim}
 use Rattle.volume_images.specs.Accepted.{HasHead, head_place}
-use Rattle.volume_images.specs.Left.{IsTold}
-use Rattle.volume_images.specs.Volumes.{shape_in, shapes_of}
-use Rattle.rack.specs.Opens.{BeganWith, HadSegmentBefore, IsGone, IsLeftHere, KeepsAllSound, WereThere}
-use Rattle.rack.specs.Owners.{BeganInPlace, HadRefused, IsBegun, images_taken}
-use Rattle.rack.specs.Racks.{AreUnused, base_of_station}
-use Rattle.rack.specs.Rests.{IsSegmentHere, held_here, image_here}
-use Rattle.rack_parts.specs.declared.rack.ImageRest.{ImageRest}
-use Rattle.rack_parts.specs.declared.rack.Rack.{Rack}
-use Rattle.rack_parts.specs.declared.rack.Rest.{Rest}
-use Rattle.replay.specs.Histories.{answers_in}
-use Rattle.replay.specs.Runs.{locks_of}
-use Rattle.replay.specs.Served.{ServedFromStart, ServedWindow}
 use Rattle.replay.proofs.RacksServed.{a_member, at_place, there_at}
 use Rattle.replay.proofs.RunLeft.{base_same}
 

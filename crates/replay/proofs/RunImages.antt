@@ -1,26 +1,8 @@
 -- What images a run over open volumes leaves in its bay, by what opening and closing its rack say.
-use Rattle.std.proofs.Common.{◌≡◌, ◌<◌, ℕ, Bool, List, length, subst, Option, None, Some}
-use Rattle.wol_promise.specs.Policy.{PartName}
-use Rattle.std.specs.Prelude.{All, IsTrue, slice_get}
-use Rattle.wol_bay.specs.Bay.{BayState, Told}
-use Rattle.wol_model.specs.History.{flight_of, worker}
-use Rattle.wol_promise.specs.Ruled.{entries_of, last_look}
-use Rattle.wol_config.specs.declared.config.Config.{Config}
-use Rattle.run_laws.specs.Answers.{answers_of}
-use Rattle.turn_lock.specs.Passes.{pass_number}
-use Rattle.manager.specs.Stands.{notes_of}
-use Rattle.manager.specs.declared.station.Station.{Station}
-use Rattle.request_workers.specs.Stations.{AreStations}
-use Rattle.volume_images.specs.Left.{IsTold}
-use Rattle.volume_images.specs.Volumes.{shapes_of}
-use Rattle.wol_promise.specs.Outcomes.{Answered}
-use Rattle.rack.specs.Closes.{HasFaultyPart, IsClosedVolume, RecoversTo}
-use Rattle.rack.specs.Opens.{KeepsAllSound}
-use Rattle.rack.specs.Racks.{base_of_station}
-use Rattle.rack.specs.Rests.{IsImageOut}
-use Rattle.rack_parts.specs.declared.rack.ImageRest.{ImageRest}
-use Rattle.replay.specs.Histories.{AreHistories, BeginAsRead, History}
-use Rattle.replay.specs.Leaves.{LeavesImages}
+use Rattle.replay.proofs.Basics.{◌≡◌, ◌<◌, ℕ, Bool, List, length, subst, Option, None, Some, All, IsTrue, slice_get}
+use Rattle.replay.proofs.Terms.{PartName, BayState, Told, flight_of, worker, entries_of, last_look, Config, answers_of, pass_number}
+use Rattle.replay.proofs.Terms.{notes_of, Station, AreStations, IsTold, shapes_of, Answered, HasFaultyPart, IsClosedVolume, RecoversTo}
+use Rattle.replay.proofs.Terms.{KeepsAllSound, base_of_station, IsImageOut, ImageRest, AreHistories, BeginAsRead, History, LeavesImages}
 use Rattle.replay.proofs.FlightEnded.{StationFlew, entries_flew}
 use Rattle.replay.proofs.FlightServed.{HasFlight}
 use Rattle.replay.proofs.HistoriesLeft.{histories_of, history_at}

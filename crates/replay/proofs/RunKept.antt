@@ -1,42 +1,14 @@
 -- What a run over open volumes keeps of its lines and windows: the histories, the marks, and which requests were answered.
-use Rattle.std.proofs.Common.{◌≡◌, ◌≢◌, ◌<◌, ◌≤◌, ◌^◌, ℕ, Bool, List, [], ◌∷◌, ◌++◌, length, Option, Some, refl, sym, ap, subst, ◌∙◌, inl, inr, arith}
-use Rattle.std.specs.Prelude.{All, IfSome, IsTrue, slice_get}
-use Rattle.std.specs.List.{AllByRecursion}
-use Rattle.std.proofs.lemmas.Bool.{cases_lt}
-use Rattle.std.proofs.lemmas.List.{length-map}
-use Rattle.turn_lock.specs.Histories.{Begins, own}
-use Rattle.turn_lock.specs.Passes.{pass_mine, pass_seen}
-use Rattle.wol_promise.specs.Report.{HasNoHelp, LeavesIdle}
-use Rattle.request_turns.specs.Turns.{ManagerPass}
-use Rattle.wol_bay.specs.Bay.{BayState, Told}
-use Rattle.wol_disk.specs.Disk.{Rose, State}
-use Rattle.wol_model.specs.Trace.{Request, TraceLine, requests}
-use Rattle.wol_promise.specs.Outcomes.{Answered}
-use Rattle.run_laws.specs.Answers.{AreFirst, answers_of, requests_in}
-use Rattle.run_laws.specs.Laws.{AreAllAnswered}
-use Rattle.wol_config.specs.declared.config.Config.{Config}
-use Rattle.volume_images.specs.Left.{IsTold}
-use Rattle.volume_images.specs.Volumes.{shape_in, shapes_of}
-use Rattle.trace_gen.specs.Generated.{target_of, targets_of}
-use Rattle.manager.specs.declared.station.Station.{Station}
-use Rattle.report.specs.declared.fault.Fault.{Fault}
-use Rattle.report.specs.declared.fault.Fault.TheVariants.{Memory, Versions}
-use Rattle.rack.specs.Closes.{IsClosedVolume}
-use Rattle.rack.specs.Opens.{BeganWith, KeepsAllSound, HasFaulty}
-use Rattle.rack.specs.Racks.{AreUnused, IsUnused, base_of_station}
-use Rattle.rack.specs.Rests.{IsImageOut}
-use Rattle.rack_parts.specs.declared.rack.Rack.{Rack}
-use Rattle.rack_parts.specs.declared.rack.Rest.{Rest}
-use Rattle.request_workers.specs.Requests.{answers_to}
-use Rattle.request_workers.specs.Stations.{AreStations, IsMoved}
-use Rattle.window_desks.specs.declared.floor.Floor.{Floor}
-use Rattle.window_desks.specs.declared.request.Reclaim.{Reclaim}
-use Rattle.replay.specs.Endings.{fault_of_window}
-use Rattle.replay.specs.Histories.{History, AreHistories, ArePlainMarks, BeginAsRead, LeavesReclaimed, is_broken, answers_in, is_broken_at, next_at}
-use Rattle.replay.specs.Leaves.{LeavesImages}
-use Rattle.replay.specs.Runs.{locks_of}
-use Rattle.replay.specs.Served.{ServedFromStart, ServedWindow}
-use Rattle.replay.specs.Sessions.{AreWindowsOf, WentWell}
+use Rattle.replay.proofs.Basics.{◌≡◌, ◌≢◌, ◌<◌, ◌≤◌, ◌^◌, ℕ, Bool, List, [], ◌∷◌, ◌++◌, length, Option, Some, refl, sym, ap, subst, ◌∙◌}
+use Rattle.replay.proofs.Basics.{inl, inr, arith, All, IfSome, IsTrue, slice_get, AllByRecursion, cases_lt, length-map}
+use Rattle.replay.proofs.Terms.{Begins, own, pass_mine, pass_seen, HasNoHelp, LeavesIdle, ManagerPass, BayState, Told, Rose, State}
+use Rattle.replay.proofs.Terms.{TraceLine, requests, Answered, AreFirst, answers_of, requests_in, AreAllAnswered, Config, IsTold, shape_in}
+use Rattle.replay.proofs.Terms.{shapes_of, target_of, targets_of, Station, Fault, Memory, Versions, IsClosedVolume, BeganWith}
+use Rattle.replay.proofs.Terms.{KeepsAllSound, HasFaulty, AreUnused, IsUnused, base_of_station, IsImageOut, Rack, Rest, answers_to}
+use Rattle.replay.proofs.Terms.{AreStations, IsMoved, Floor, Reclaim, fault_of_window, History, AreHistories, ArePlainMarks, BeginAsRead}
+use Rattle.replay.proofs.Terms.{LeavesReclaimed, is_broken, answers_in, is_broken_at, next_at, LeavesImages, locks_of, ServedFromStart}
+use Rattle.replay.proofs.Terms.{ServedWindow, AreWindowsOf, WentWell, most_of}
+use Rattle.wol_model.specs.Trace.{Request}
 use Rattle.replay.proofs.FirstsServed.{ends_well}
 use Rattle.replay.proofs.FlightEnded.{StationFlew, station_flew, station_still}
 use Rattle.replay.proofs.HistoriesLeft.{passes_numbered, histories_of}
@@ -54,7 +26,6 @@ use Rattle.replay.proofs.StationsRan.{AreNumbered, EndsOn, StationRan, station_u
 use Rattle.replay.proofs.RequestsServed.{requests_of_volumes, served_counted}
 use Rattle.replay.proofs.WritesPlaced.{ArePlaced, counts_placed}
 use Rattle.replay.proofs.TracesLeft.{last_beyond, none_beyond, run_alone, run_asked, run_final, run_first, run_last, run_stations, run_well}
-use Rattle.wol_config.specs.Configs.{most_of}
 
 each_within : (n : ℕ) (xs : List Answered) → AllByRecursion (λ (r : Request). r.volume < n) (requests_in xs) → AllByRecursion (λ (a : Answered). a.request.volume < n) xs
 each_within n [] all = tt

@@ -1,32 +1,10 @@
 -- The histories of the volumes of a rack that was opened, served and closed: what they began with, and why not all requests were answered.
-use Rattle.std.proofs.Common.{◌≡◌, ◌<◌, ◌≤◌, ℕ, zero, suc, Bool, List, [], ◌∷◌, length, Option, None, Some, sym, ap, subst, ◌∙◌, arith}
-use Rattle.std.specs.Prelude.{All, IfSome, IsTrue, slice_get}
-use Rattle.std.specs.List.{AllByRecursion}
-use Rattle.std.proofs.lemmas.List.{length-map}
-use Rattle.turn_lock.specs.Passes.{lock_id}
-use Rattle.wol_bay.specs.Bay.{BayState, Told}
-use Rattle.wol_disk.specs.Disk.{State}
-use Rattle.wol_model.specs.History.{flight_of}
-use Rattle.wol_promise.specs.Outcomes.{Answered}
-use Rattle.wol_promise.specs.Ruled.{entries_of}
-use Rattle.run_laws.specs.Answers.{AreFirst, answers_of}
-use Rattle.wol_config.specs.declared.config.Config.{Config}
-use Rattle.volume_images.specs.Left.{IsTold}
-use Rattle.volume_images.specs.Volumes.{images_read, shape_in, shapes_of}
-use Rattle.trace_gen.specs.Generated.{target_of, targets_of}
-use Rattle.manager.specs.declared.base.ManagerBase.{ManagerBase}
-use Rattle.manager.specs.declared.station.Station.{Station}
-use Rattle.rack.specs.Closes.{IsClosedVolume}
-use Rattle.rack.specs.Opens.{BeganWith, HasFaulty}
-use Rattle.rack.specs.Owners.{IsBegun, images_taken}
-use Rattle.rack.specs.Racks.{base_of_station}
-use Rattle.rack.specs.Rests.{IsImageOut}
-use Rattle.rack_parts.specs.declared.rack.Rack.{Rack}
-use Rattle.request_turns.specs.Helped.{ManagerLock}
-use Rattle.request_workers.specs.Stations.{AreStations}
-use Rattle.replay.specs.Histories.{History, AreHistories, ArePlainMarks, BeginAsRead, next_after}
-use Rattle.replay.specs.Runs.{locks_of}
-use Rattle.open_rack.proofs.AllOut.{taken_all}
+use Rattle.replay.proofs.Basics.{◌≡◌, ◌<◌, ◌≤◌, ℕ, zero, suc, Bool, List, [], ◌∷◌, length, Option, None, Some, sym, ap, subst, ◌∙◌, arith}
+use Rattle.replay.proofs.Basics.{All, IfSome, IsTrue, slice_get, AllByRecursion, length-map}
+use Rattle.replay.proofs.Terms.{lock_id, BayState, Told, State, flight_of, Answered, entries_of, AreFirst, answers_of, Config, IsTold}
+use Rattle.replay.proofs.Terms.{images_read, shape_in, shapes_of, target_of, targets_of, ManagerBase, Station, IsClosedVolume, BeganWith}
+use Rattle.replay.proofs.Terms.{HasFaulty, IsBegun, images_taken, base_of_station, IsImageOut, Rack, ManagerLock, AreStations, History}
+use Rattle.replay.proofs.Terms.{AreHistories, ArePlainMarks, BeginAsRead, next_after, locks_of, taken_all}
 use Rattle.replay.proofs.HistoriesLeft.{IsHistoryAt, all_ruled, are_histories, histories_count, histories_of, history_at, passes_numbered}
 use Rattle.replay.proofs.LastWindow.{IsBelow}
 use Rattle.replay.proofs.MarksLeft.{marks_left, told_through}

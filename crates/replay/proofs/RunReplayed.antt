@@ -1,60 +1,24 @@
 -- Replaying a trace on a rack all of whose volumes are open.
-use Rattle.std.proofs.Common.{◌≡◌, ◌≢◌, ◌⊎◌, ◌<◌, ◌≤◌, ◌^◌, ℕ, Bool, false, not, List, [], ◌∷◌, ◌++◌, length, Option, None, Some, Result, Ok, Err, refl, sym, ap, subst, ◌∙◌, append-nil, inl, inr, arith}
-use Rattle.std.specs.List.{AllByRecursion}
-use Rattle.std.specs.Prelude.{All, IfSome, IsTrue, slice_get, slice_index_or}
-use Rattle.std.proofs.lemmas.List.{length-map}
-use Rattle.wol_io.proofs.Appending.{appends_none}
-use Rattle.wol_bay.specs.Bay.{BayState, Told}
-use Rattle.wol_disk.specs.Disk.{State}
-use Rattle.wol_model.specs.Journal.{Began, new_spindle}
-use Rattle.wol_model.specs.Trace.{Target, TraceLine, requests, started, timed, windows}
-use Rattle.wol_config.specs.declared.config.Config.{Config}
-use Rattle.volume_images.specs.Left.{IsTold}
-use Rattle.volume_images.specs.Volumes.{shape_in, shapes_of}
-use Rattle.trace_gen.specs.Generated.{target_of, targets_of}
-use Rattle.logger.specs.declared.shared.Shared.{Shared}
-use Rattle.manager.specs.declared.station.Station.{Station}
-use Rattle.report.specs.Faults.{status_of}
-use Rattle.report.specs.Names.{printed_names}
-use Rattle.report.specs.Summaries.{summary_text}
-use Rattle.report.specs.declared.fault.Fault.{Fault}
-use Rattle.report.specs.declared.fault.Fault.TheVariants.{Memory, Versions, Volume}
-use Rattle.report.specs.declared.trouble.Trouble.{Trouble}
-use Rattle.msr_trace.specs.declared.format.TraceFault.{TraceFault}
-use Rattle.msr_trace.specs.declared.format.TraceFault.TheVariants as trace
-use Rattle.replay.specs.Stops.{fault_of_trace}
-use Rattle.replay.specs.Endings.{fault_of_window}
+use Rattle.replay.proofs.Basics.{◌≡◌, ◌≢◌, ◌⊎◌, ◌<◌, ◌≤◌, ◌^◌, ℕ, Bool, false, not, List, [], ◌∷◌, ◌++◌, length, Option, None, Some, Result}
+use Rattle.replay.proofs.Basics.{Ok, Err, refl, sym, ap, subst, ◌∙◌, append-nil, inl, inr, arith, AllByRecursion, All, IfSome, IsTrue}
+use Rattle.replay.proofs.Basics.{slice_get, slice_index_or, length-map}
+use Rattle.replay.proofs.Terms.{appends_none, BayState, Told, State, Began, new_spindle, Target, TraceLine, started, timed, Config, IsTold}
+use Rattle.replay.proofs.Terms.{shape_in, shapes_of, target_of, targets_of, Shared, Station, status_of, printed_names, summary_text, Fault}
+use Rattle.replay.proofs.Terms.{Memory, Versions, Volume, Trouble, TraceFault, fault_of_trace, fault_of_window, IsClosedSpindle}
+use Rattle.replay.proofs.Terms.{IsClosedVolume, SharePools, BeganWith, HasFaulty, KeepsAllSound, ArePools, PassesEmpty, TakesFew, AreUnused}
+use Rattle.replay.proofs.Terms.{IsClosable, IsRack, IsUnused, KeepToViews, base_of_station, IsImageOut, image_here, Rack, uses_of}
+use Rattle.replay.proofs.Terms.{SpindleView, FailToBegin, HaveBegun, SpindlePass, AreStations, IsMoved, Floor, Reclaim, memory, HasGiven}
+use Rattle.replay.proofs.Terms.{AreAllOpen, AreHistories, CountAnswered, History, answers_in, is_broken_at, next_at, view_at, CutsLines}
+use Rattle.replay.proofs.Terms.{PrintsText, all_amounts, Replays, status_in, RunsNone, ServesFrom, Further, ServedFromStart, ServedWindow}
+use Rattle.replay.proofs.Terms.{StartsOnce, WasNotRun, begins_alone, fails_to_begin, is_none_served, none_further, AreWindowsOf, EndsBy}
+use Rattle.replay.proofs.Terms.{ServesSome, ServesWhole, WentWell, at_end, lines_of_window, HaveAccounts, HaveShortAccounts, IsAccountBy}
+use Rattle.replay.proofs.Terms.{IsCutShort, IsSummaryOf, PrintsRun, column, lines_asked, of_all, of_none, started_uses, Counted, Given}
+use Rattle.replay.proofs.Terms.{Options, Stop, CountsPlaced, CountsReclaimed, AreWorked, Entry, IsFree, IsPartOf, lock_id, pass_lock}
+use Rattle.replay.proofs.Terms.{pass_number, HasNoHelp, HasHistory, answers_of, answers_by, AreAllAnswered, most_of}
+use Rattle.wol_model.specs.Trace.{requests, windows}
 use Rattle.replay.proofs.HistoriesLeft.{each_closed, histories_of}
-use Rattle.rack.specs.Closes.{IsClosedSpindle, IsClosedVolume, SharePools}
-use Rattle.rack.specs.Opens.{BeganWith, HasFaulty, KeepsAllSound}
-use Rattle.rack.specs.PoolUses.{ArePools, PassesEmpty, TakesFew}
-use Rattle.rack.specs.Racks.{AreUnused, IsClosable, IsRack, IsUnused, KeepToViews, base_of_station}
-use Rattle.rack.specs.Rests.{IsImageOut, image_here}
 use Rattle.rack_parts.proofs.Members.{a_value}
-use Rattle.rack_parts.specs.declared.rack.Rack.{Rack}
 use Rattle.rack.proofs.FailedParts.{faulty_since}
-use Rattle.spin_model.specs.Operations.{uses_of}
-use Rattle.spin_model.specs.Spindles.{SpindleView}
-use Rattle.request_workers.specs.Begun.{FailToBegin, HaveBegun, SpindlePass}
-use Rattle.request_workers.specs.Stations.{AreStations, IsMoved}
-use Rattle.window_desks.specs.declared.floor.Floor.{Floor}
-use Rattle.window_desks.specs.declared.request.Reclaim.{Reclaim}
-use Rattle.window_desks.specs.declared.request.Reclaim.TheVariants as reclaim
-use Rattle.replay.specs.Ended.{memory}
-use Rattle.replay.specs.Givens.{HasGiven}
-use Rattle.replay.specs.Headlined.{AreAllOpen}
-use Rattle.replay.specs.Histories.{AreHistories, CountAnswered, History, answers_in, is_broken_at, next_at, view_at}
-use Rattle.replay.specs.Prints.{CutsLines, PrintsText, all_amounts}
-use Rattle.replay.specs.Replays.{Replays, status_in}
-use Rattle.replay.specs.Runs.{RunsNone, ServesFrom}
-use Rattle.replay.specs.Served.{Further, ServedFromStart, ServedWindow, StartsOnce, WasNotRun, begins_alone, fails_to_begin, is_none_served, none_further}
-use Rattle.replay.specs.Sessions.{AreWindowsOf, EndsBy, ServesSome, ServesWhole, WentWell, at_end, lines_of_window}
-use Rattle.replay.specs.Summed.{HaveAccounts, HaveShortAccounts, IsAccountBy, IsCutShort, IsSummaryOf, PrintsRun, column, lines_asked, of_all, of_none, started_uses}
-use Rattle.replay.specs.declared.counting.Counted.{Counted}
-use Rattle.replay.specs.declared.given.Given.{Given}
-use Rattle.replay.specs.declared.session.Options.{Options}
-use Rattle.replay.specs.declared.stop.Stop.{Stop}
-use Rattle.replay.specs.declared.stop.Stop.TheVariants as stop
 use Rattle.replay.proofs.AllAsked.{AreAllCounted, all_counted_asked}
 use Rattle.replay.proofs.PartNamed.{HasDownAt, breaks_at, came_at}
 use Rattle.replay.proofs.CauseServed.{named_down, rises, rose_from}
@@ -72,20 +36,13 @@ use Rattle.replay.proofs.RunKept.{RunKept, kept_is, kept_none, kept_served, none
 use Rattle.replay.proofs.PassesRuled.{IsRuled}
 use Rattle.replay.proofs.ReclaimPlaced.{counts_reclaimed, none_reclaimed}
 use Rattle.replay.proofs.RunLeft.{base_same}
-use Rattle.replay.specs.Placed.{CountsPlaced, CountsReclaimed}
-use Rattle.replay.specs.Works.{AreWorked}
 use Rattle.request_turns.specs.Turns.{began as pass_began}
-use Rattle.turn_lock.specs.Histories.{Entry}
-use Rattle.turn_lock.specs.Passes.{IsFree, IsPartOf, lock_id, pass_lock, pass_number}
-use Rattle.wol_promise.specs.Report.{HasNoHelp}
-use Rattle.wol_promise.specs.Stands.{HasHistory}
-use Rattle.run_laws.specs.Answers.{answers_of}
-use Rattle.run_laws.specs.Journals.{answers_by}
-use Rattle.run_laws.specs.Laws.{AreAllAnswered}
 use Rattle.replay.proofs.StationsRan.{AreNumbered, EndsOn}
 use Rattle.replay.proofs.Accounts.{moments_of}
 use Rattle.replay.proofs.SummaryKept.{accounts_of, summary_now}
-use Rattle.wol_config.specs.Configs.{most_of}
+use Rattle.msr_trace.specs.declared.format.TraceFault.TheVariants as trace
+use Rattle.window_desks.specs.declared.request.Reclaim.TheVariants as reclaim
+use Rattle.replay.specs.declared.stop.Stop.TheVariants as stop
 
 -- ---- Without a line
 

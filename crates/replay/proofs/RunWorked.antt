@@ -1,36 +1,13 @@
 -- What the worker and the keeper of each closed volume did in the windows of a run.
-use Rattle.std.proofs.Common.{◌≡◌, ◌≢◌, ◌==◌, ◌<◌, ◌≤◌, ◌⊎◌, ◌++◌, ℕ, Bool, true, false, cond, List, [], ◌∷◌, length, map, refl, sym, ap, subst, ◌∙◌, Option, None, Some, is_some, length-append, inl, inr, arith}
-use Rattle.std.specs.Prelude.{All, IsTrue, slice_get, slice_index_or}
-use Rattle.std.specs.List.{AllByRecursion, filter}
-use Rattle.std.specs.Option.{option_map_or}
-use Rattle.std.proofs.lemmas.Bool.{eq-eqb}
-use Rattle.wol_bay.specs.Bay.{BayState}
-use Rattle.wol_model.specs.Blocks.{Write}
-use Rattle.wol_model.specs.History.{Kept, flight_of, helper, keeper, worker}
-use Rattle.wol_promise.specs.Code.{noted_of}
-use Rattle.wol_promise.specs.Policy.{Look}
-use Rattle.wol_promise.specs.Report.{HasNoHelp, by_worker}
-use Rattle.wol_promise.specs.Ruled.{IsDrained, Noted, entries_of, last_look}
-use Rattle.wol_config.specs.declared.config.Config.{Config}
-use Rattle.turn_lock.specs.Histories.{Entry, own}
-use Rattle.turn_lock.specs.Passes.{IsFree, pass_mine, pass_number, pass_seen}
-use Rattle.manager.specs.Stands.{notes_of}
-use Rattle.manager.specs.declared.station.Station.{Station}
-use Rattle.request_turns.specs.Turns.{IsBroken, KeptStay, ManagerPass, began, coded, notes_seen}
-use Rattle.request_turns.proofs.CountLaws.{AreOthersIdle}
-use Rattle.request_turns.proofs.Gaining.{kept_join, notes_joined, nothing_more, pass_kept}
-use Rattle.request_workers.specs.Stations.{IsMoved}
-use Rattle.window_desks.specs.declared.desk.Desk.{Desk}
-use Rattle.window_desks.specs.declared.floor.Floor.{Floor}
-use Rattle.window_desks.specs.declared.request.Reclaim.{Reclaim}
-use Rattle.window_desks.specs.declared.request.Reclaim.TheVariants as reclaim
-use Rattle.rack.specs.Closes.{IsClosedVolume}
-use Rattle.rack.specs.Racks.{AreUnused, IsUnused, base_of_station}
-use Rattle.rack_parts.specs.declared.rack.ImageRest.{ImageRest}
-use Rattle.replay.specs.Histories.{History, is_broken, is_broken_at}
-use Rattle.replay.specs.Served.{ServedFromStart, ServedWindow}
-use Rattle.replay.specs.Sessions.{WentWell}
-use Rattle.replay.specs.Works.{AreBegun, AreWorked, AreWorks, DrainsAlone, KeepsRecords, WorksAs, by_keeper}
+use Rattle.replay.proofs.Basics.{◌≡◌, ◌≢◌, ◌==◌, ◌<◌, ◌≤◌, ◌⊎◌, ◌++◌, ℕ, Bool, true, false, cond, List, [], ◌∷◌, length, map, refl, sym, ap}
+use Rattle.replay.proofs.Basics.{subst, ◌∙◌, Option, None, Some, is_some, length-append, inl, inr, arith, All, IsTrue, slice_get}
+use Rattle.replay.proofs.Basics.{slice_index_or, AllByRecursion, filter, option_map_or, eq-eqb}
+use Rattle.replay.proofs.Terms.{BayState, Write, Kept, flight_of, helper, keeper, worker, noted_of, Look, HasNoHelp, by_worker, IsDrained}
+use Rattle.replay.proofs.Terms.{Noted, entries_of, last_look, Config, Entry, own, IsFree, pass_mine, pass_number, pass_seen, notes_of}
+use Rattle.replay.proofs.Terms.{Station, IsBroken, KeptStay, ManagerPass, began, coded, notes_seen, AreOthersIdle, kept_join, notes_joined}
+use Rattle.replay.proofs.Terms.{nothing_more, pass_kept, IsMoved, Desk, Floor, Reclaim, IsClosedVolume, AreUnused, IsUnused}
+use Rattle.replay.proofs.Terms.{base_of_station, ImageRest, History, is_broken, is_broken_at, ServedFromStart, ServedWindow, WentWell}
+use Rattle.replay.proofs.Terms.{AreBegun, AreWorked, AreWorks, DrainsAlone, KeepsRecords, WorksAs, by_keeper}
 use Rattle.replay.proofs.EntriesOwn.{OfEntry, all_of_three, coded_all, noted_all, notes_back}
 use Rattle.replay.proofs.HistoriesLeft.{IsHistoryAt, histories_of, history_at}
 use Rattle.replay.proofs.KeeperIdle.{own_joined}
@@ -41,6 +18,7 @@ use Rattle.replay.proofs.StationsRan.{AreNumbered, EndsOn, desk, first, moved_at
 use Rattle.replay.proofs.UnbrokenServed.{IsWholeNote, MakesWhole, served_whole, whole_flight}
 use Rattle.replay.proofs.WindowBroken.{broken_in}
 use Rattle.replay.proofs.WorksServed.{BeginsOn, WorksOn, all_begins, awake_count, awake_few, awake_in, awake_last, served_works}
+use Rattle.window_desks.specs.declared.request.Reclaim.TheVariants as reclaim
 
 -- ---- Where nothing is reclaimed
 

@@ -1,38 +1,18 @@
 -- Windows that are served one after another.
-use Rattle.std.proofs.Common.{◌≡◌, ◌<◌, ◌+◌, ℕ, zero, suc, Bool, true, false, not, List, [], ◌∷◌, ◌++◌, length, length-append, map, min, refl, sym, ap, subst, zero-add, ◌∙◌, append-nil, Option, Result, Ok, Err, inl, inr, arith}
-use Rattle.std.specs.Prelude.{count_by, sum_by, slice_index_or, slice_set}
-use Rattle.std.specs.Prelude.{OnErr, OnOk, IfErr}
-use Rattle.std.specs.List.{flat_map, AllByRecursion}
-use Rattle.std.proofs.lemmas.List.Elements.{All-from_recursion}
-use Rattle.std.proofs.lemmas.Bool.{cases_eq}
-use Rattle.std.proofs.lemmas.List.{get_or-set_same, get_or-set_other}
-use Rattle.std.proofs.lemmas.List.Concat.{flat_map-append}
-use Rattle.std.proofs.lemmas.List.Sums.{sum_by-append}
+use Rattle.replay.proofs.Basics.{◌≡◌, ◌<◌, ◌+◌, ℕ, zero, suc, Bool, true, false, not, List, [], ◌∷◌, ◌++◌, length, length-append, map, min}
+use Rattle.replay.proofs.Basics.{refl, sym, ap, subst, zero-add, ◌∙◌, append-nil, Option, Result, Ok, Err, inl, inr, arith, count_by}
+use Rattle.replay.proofs.Basics.{sum_by, slice_index_or, slice_set, OnErr, OnOk, IfErr, flat_map, AllByRecursion, All-from_recursion}
+use Rattle.replay.proofs.Basics.{cases_eq, get_or-set_same, get_or-set_other, flat_map-append, sum_by-append}
+use Rattle.replay.proofs.Terms.{joined_lines, Config, most_of, targets_of, Batched, IsBatchOf, next_number, IsInside, numbered}
+use Rattle.replay.proofs.Terms.{requests_in_all, Request, length-numbered, numbered_both, Totals, Outcome, ManagerLock, SpindlePass}
+use Rattle.replay.proofs.Terms.{FailToBegin, HaveBegun, HaveBegunVolumes, HasRun, AreOfVolumes, Floor, Reclaim, CountsWindow, most_count}
+use Rattle.replay.proofs.Terms.{was_read, was_written, was_logged, went_home, was_drained, AreSamePasses, AreTotals, HaveStarted}
+use Rattle.replay.proofs.Terms.{ServedFromStart, ServedWindow, StartsOnce, WasServed, WereServed, is_none_served, outcomes_in}
+use Rattle.replay.proofs.Terms.{AreServedFrom, AreServedOf, AreVolumes, EndsIn, Finishes, GoesOn, HasBegunWindow, HasFailedToBegin}
+use Rattle.replay.proofs.Terms.{HasServed, lines_of_window, lines_of_windows, Options, Session, Stop}
 use Rattle.wol_model.specs.Trace.{Window}
-use Rattle.wol_promise.specs.Run.{joined_lines}
-use Rattle.wol_config.specs.declared.config.Config.{Config}
-use Rattle.wol_config.specs.Configs.{most_of}
-use Rattle.trace_gen.specs.Generated.{targets_of}
-use Rattle.trace_windows.specs.Batches.{Batched, IsBatchOf}
-use Rattle.trace_windows.specs.Cutting.{next_number}
-use Rattle.trace_windows.specs.Requests.{IsInside, numbered, requests_in, requests_in_all}
-use Rattle.trace_windows.specs.declared.request.Request.{Request}
-use Rattle.trace_windows.proofs.Numbering.{length-numbered, numbered_both}
-use Rattle.report.specs.declared.totals.Totals.{Totals}
-use Rattle.request_turns.specs.declared.outcome.Outcome.{Outcome}
-use Rattle.request_turns.specs.Helped.{ManagerLock}
-use Rattle.request_workers.specs.Begun.{SpindlePass, FailToBegin, HaveBegun, HaveBegunVolumes}
-use Rattle.request_workers.specs.Floors.{HasRun}
-use Rattle.request_workers.specs.Requests.{AreOfVolumes}
-use Rattle.window_desks.specs.declared.floor.Floor.{Floor}
-use Rattle.window_desks.specs.declared.request.Reclaim.{Reclaim}
+use Rattle.trace_windows.specs.Requests.{requests_in}
 use Rattle.window_desks.specs.declared.request.Window.{Window as Answer}
-use Rattle.replay.specs.Counts.{CountsWindow, most_count, was_read, was_written, was_logged, went_home, was_drained}
-use Rattle.replay.specs.Served.{AreSamePasses, AreTotals, HaveStarted, ServedFromStart, ServedWindow, StartsOnce, WasServed, WereServed, is_none_served, outcomes_in}
-use Rattle.replay.specs.Sessions.{AreServedFrom, AreServedOf, AreVolumes, EndsIn, Finishes, GoesOn, HasBegunWindow, HasFailedToBegin, HasServed, lines_of_window, lines_of_windows}
-use Rattle.replay.specs.declared.session.Options.{Options}
-use Rattle.replay.specs.declared.session.Session.{Session}
-use Rattle.replay.specs.declared.stop.Stop.{Stop}
 use Rattle.replay.proofs.Outcomes.{counted_both}
 use Rattle.replay.proofs.Waiting.{joined_both}
 

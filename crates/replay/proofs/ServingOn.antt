@@ -1,30 +1,10 @@
 -- A trace is served on the stations of a rack, which come back.
-use Rattle.std.proofs.Common.{◌≡◌, ◌+◌, ℕ, Bool, List, [], ◌∷◌, refl, sym, ap, subst, ◌∙◌, Option, None, Some, Result, Ok, Err}
-use Rattle.std.specs.Prelude.{IfErr, IfOk, MatchResult}
-use Rattle.std.specs.declared.alloc.Global.{Global}
-use Rattle.std.specs.declared.vec.Vec.{Vec}
-use Rattle.logger.specs.declared.shared.Shared.{Shared}
-use Rattle.manager.specs.declared.station.Station.{Station}
-use Rattle.request_turns.specs.Helped.{ManagerLock}
-use Rattle.request_workers.specs.Begun.{SpindlePass}
-use Rattle.request_workers.specs.Floors.{IsFloor, IsOn}
-use Rattle.request_workers.specs.Stations.{AreStations, IsMoved}
-use Rattle.window_desks.specs.declared.floor.Floor.{Floor}
-use Rattle.wol_config.specs.declared.config.Config.{Config}
-use Rattle.rack_parts.specs.declared.rack.Rack.{Rack}
-use Rattle.wol_io.proofs.Appending.{keeps_same}
-use Rattle.report.specs.declared.fault.Fault.{Fault}
-use Rattle.report.specs.declared.fault.Fault.TheVariants.{Memory, TraceSource}
-use Rattle.rack_parts.specs.declared.volume_fault.VolumeFault.{VolumeFault}
-use Rattle.open_rack.specs.NotOpened.{first_closed}
-use Rattle.replay.specs.Runs.{CanServe, RunsIn, ServesFrom, closed, locks_of, new_session, no_memory, served}
-use Rattle.replay.specs.Served.{AreSamePasses}
-use Rattle.replay.specs.Sessions.{AreVolumes, IsSession, ServesSome, ServesWhole}
-use Rattle.replay.specs.declared.counting.Counted.{Counted}
-use Rattle.replay.specs.declared.given.Given.{Given}
-use Rattle.replay.specs.declared.session.Options.{Options}
-use Rattle.replay.specs.declared.session.Session.{Session}
-use Rattle.replay.specs.declared.stop.Stop.{Stop}
+use Rattle.replay.proofs.Basics.{◌≡◌, ◌+◌, ℕ, Bool, List, [], ◌∷◌, refl, sym, ap, subst, ◌∙◌, Option, None, Some, Result, Ok, Err, IfErr}
+use Rattle.replay.proofs.Basics.{IfOk, MatchResult, Global, Vec}
+use Rattle.replay.proofs.Terms.{Shared, Station, ManagerLock, SpindlePass, IsFloor, IsOn, AreStations, IsMoved, Floor, Config, Rack}
+use Rattle.replay.proofs.Terms.{keeps_same, Fault, Memory, TraceSource, VolumeFault, first_closed, CanServe, RunsIn, ServesFrom, closed}
+use Rattle.replay.proofs.Terms.{locks_of, new_session, no_memory, served, AreSamePasses, AreVolumes, IsSession, ServesSome, ServesWhole}
+use Rattle.replay.proofs.Terms.{Counted, Given, Options, Session, Stop}
 use Rattle.replay.specs.declared.stop.Stop.TheVariants as stop
 
 -- stations that can serve, on their floor

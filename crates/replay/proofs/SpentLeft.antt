@@ -1,39 +1,18 @@
 -- Where a volume's versions ended a run, its writes to logs took all of them.
-use Rattle.std.proofs.Common.{◌≡◌, ◌==◌, ◌<◌, ◌≤◌, ◌+◌, ◌^◌, ℕ, Bool, true, false, cond, List, [], ◌∷◌, ◌++◌, refl, sym, ap, subst, ◌∙◌, Option, None, Some, is_some, arith, append_assoc}
-use Rattle.std.specs.Prelude.{if◌then◌else◌}
-use Rattle.std.specs.List.{list_any, AllByRecursion}
-use Rattle.std.specs.Option.{option_or}
-use Rattle.std.proofs.lemmas.Bool.{eq-eqb}
-use Rattle.turn_lock.specs.Histories.{Begins, Entry}
-use Rattle.turn_lock.specs.Passes.{pass_seen}
-use Rattle.wol_model.specs.Blocks.{Write}
-use Rattle.wol_model.specs.History.{flight_of}
-use Rattle.wol_promise.specs.Outcomes.{Answered}
-use Rattle.wol_promise.specs.Policy.{Look}
-use Rattle.wol_promise.specs.Report.{logged_writes}
-use Rattle.wol_promise.specs.Ruled.{Noted, AreRuled, entries_of}
-use Rattle.manager.specs.Stands.{notes_of}
-use Rattle.manager.specs.declared.part.StepFault.{StepFault}
-use Rattle.manager.specs.declared.part.StepFault.TheVariants as step
-use Rattle.manager.specs.declared.part.ReadRefusal.TheVariants as read
-use Rattle.manager.specs.declared.part.WriteRefusal.TheVariants as write
-use Rattle.report.specs.declared.fault.Fault.{Fault}
-use Rattle.report.specs.declared.fault.Fault.TheVariants.{Memory, Versions}
-use Rattle.trace_windows.specs.declared.request.Request.{Request}
-use Rattle.request_turns.specs.Entries.{TellsFault, WasSpent}
-use Rattle.request_turns.specs.Turns.{notes_seen}
-use Rattle.request_turns.specs.declared.outcome.Outcome.{Outcome}
-use Rattle.request_turns.specs.declared.outcome.Outcome.TheVariants as outcome
-use Rattle.request_turns.proofs.Gaining.{notes_joined}
-use Rattle.request_workers.specs.Requests.{answers_to, outcomes_of}
-use Rattle.request_workers.specs.Worked.{HasWorked}
-use Rattle.window_desks.specs.declared.desk.Desk.{Desk}
-use Rattle.window_desks.specs.declared.request.Reclaim.{Reclaim}
-use Rattle.window_desks.specs.declared.request.Window.{Window}
-use Rattle.replay.specs.Endings.{fault_of_outcome, fault_of_reclaim, fault_of_window, first_refused, lacked_memory}
+use Rattle.replay.proofs.Basics.{◌≡◌, ◌==◌, ◌<◌, ◌≤◌, ◌+◌, ◌^◌, ℕ, Bool, true, false, cond, List, [], ◌∷◌, ◌++◌, refl, sym, ap, subst, ◌∙◌}
+use Rattle.replay.proofs.Basics.{Option, None, Some, is_some, arith, append_assoc, if◌then◌else◌, list_any, AllByRecursion, option_or}
+use Rattle.replay.proofs.Basics.{eq-eqb}
+use Rattle.replay.proofs.Terms.{Begins, Entry, pass_seen, Write, flight_of, Answered, Look, logged_writes, Noted, AreRuled, entries_of}
+use Rattle.replay.proofs.Terms.{notes_of, StepFault, Fault, Memory, Versions, Request, TellsFault, WasSpent, notes_seen, Outcome}
+use Rattle.replay.proofs.Terms.{notes_joined, answers_to, outcomes_of, HasWorked, Desk, Reclaim, Window, fault_of_outcome, fault_of_reclaim}
+use Rattle.replay.proofs.Terms.{fault_of_window, first_refused, lacked_memory}
 use Rattle.replay.proofs.LastWindow.{closed_more}
 use Rattle.replay.proofs.PassesRuled.{IsRuled}
 use Rattle.replay.proofs.VersionsLeft.{next_at_most}
+use Rattle.manager.specs.declared.part.StepFault.TheVariants as step
+use Rattle.manager.specs.declared.part.ReadRefusal.TheVariants as read
+use Rattle.manager.specs.declared.part.WriteRefusal.TheVariants as write
+use Rattle.request_turns.specs.declared.outcome.Outcome.TheVariants as outcome
 
 -- ---- The refused write
 

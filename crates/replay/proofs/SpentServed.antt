@@ -1,33 +1,16 @@
 -- Where a volume's versions ended a run, a write to it wasn't answered.
-use Rattle.std.proofs.Common.{◌≡◌, ◌==◌, ◌<◌, ℕ, zero, suc, Bool, true, false, cond, List, [], ◌∷◌, ◌++◌, length, refl, subst, ◌∙◌, Option, None, Some, arith}
-use Rattle.std.specs.Prelude.{⊤, Contains, if◌then◌else◌}
-use Rattle.std.specs.List.{list_any, AllByRecursion}
-use Rattle.std.specs.Option.{option_or}
-use Rattle.std.proofs.lemmas.Bool.{eq-eqb}
+use Rattle.replay.proofs.Basics.{◌≡◌, ◌==◌, ◌<◌, ℕ, zero, suc, Bool, true, false, cond, List, [], ◌∷◌, ◌++◌, length, refl, subst, ◌∙◌}
+use Rattle.replay.proofs.Basics.{Option, None, Some, arith, ⊤, Contains, if◌then◌else◌, list_any, AllByRecursion, option_or, eq-eqb}
+use Rattle.replay.proofs.Terms.{Answered, is_answered, Noted, Place, StepFault, Fault, Memory, Versions, asked, Request, AreEntriesOf}
+use Rattle.replay.proofs.Terms.{AreMade, Outcome, HasRun, answers_to, outcomes_of, own_requests, told, Floor, Reclaim, HasRefusedWrite}
+use Rattle.replay.proofs.Terms.{fault_of_outcome, fault_of_reclaim, fault_of_window, first_refused, lacked_memory, ServedWindow}
+use Rattle.replay.proofs.Grouped.{all_wrote, made_by_cases}
+use Rattle.replay.proofs.RacksServed.{a_member}
 use Rattle.wol_model.specs.declared.trace.Kind.TheVariants as kind
-use Rattle.wol_promise.specs.Outcomes.{Answered, is_answered}
-use Rattle.wol_promise.specs.Ruled.{Noted}
-use Rattle.manager.specs.declared.part.Place.{Place}
-use Rattle.manager.specs.declared.part.StepFault.{StepFault}
 use Rattle.manager.specs.declared.part.StepFault.TheVariants as step
 use Rattle.manager.specs.declared.part.ReadRefusal.TheVariants as read
 use Rattle.manager.specs.declared.part.WriteRefusal.TheVariants as write
-use Rattle.report.specs.declared.fault.Fault.{Fault}
-use Rattle.report.specs.declared.fault.Fault.TheVariants.{Memory, Versions}
-use Rattle.trace_windows.specs.Requests.{asked}
-use Rattle.trace_windows.specs.declared.request.Request.{Request}
-use Rattle.request_turns.specs.Entries.{AreEntriesOf, AreMade}
-use Rattle.request_turns.specs.declared.outcome.Outcome.{Outcome}
 use Rattle.request_turns.specs.declared.outcome.Outcome.TheVariants as outcome
-use Rattle.request_workers.specs.Floors.{HasRun}
-use Rattle.request_workers.specs.Requests.{answers_to, outcomes_of, own_requests, told}
-use Rattle.window_desks.specs.declared.floor.Floor.{Floor}
-use Rattle.window_desks.specs.declared.request.Reclaim.{Reclaim}
-use Rattle.replay.specs.Ended.{HasRefusedWrite}
-use Rattle.replay.specs.Endings.{fault_of_outcome, fault_of_reclaim, fault_of_window, first_refused, lacked_memory}
-use Rattle.replay.specs.Served.{ServedWindow}
-use Rattle.replay.proofs.Grouped.{all_wrote, made_by_cases}
-use Rattle.replay.proofs.RacksServed.{a_member}
 
 -- ---- Kinds
 

@@ -1,21 +1,9 @@
 -- What the passes of each station did while windows were served.
-use Rattle.std.proofs.Common.{◌≡◌, ◌<◌, ℕ, Bool, List, [], ◌++◌, length, map, refl, sym, ap, subst, ◌∙◌, Some, inl, inr, ◌⊎◌}
-use Rattle.std.specs.Prelude.{slice_get, slice_index_or}
-use Rattle.std.specs.List.{AllByRecursion}
-use Rattle.turn_lock.specs.Passes.{pass_mine, pass_number}
-use Rattle.wol_model.specs.History.{helper, keeper, worker}
-use Rattle.wol_promise.specs.Outcomes.{Answered, AreOutcomes, answered_in}
-use Rattle.wol_promise.specs.Ruled.{Noted}
-use Rattle.run_laws.specs.Answers.{answers_of}
-use Rattle.manager.specs.declared.station.Station.{Station}
-use Rattle.request_turns.specs.Turns.{ManagerPass, coded}
-use Rattle.request_workers.specs.Stations.{IsMoved}
-use Rattle.window_desks.specs.declared.desk.Desk.{Desk}
-use Rattle.window_desks.specs.declared.floor.Floor.{Floor}
-use Rattle.window_desks.specs.declared.request.Reclaim.{Reclaim}
-use Rattle.rack.specs.Racks.{AreUnused, IsUnused}
-use Rattle.replay.specs.Histories.{answers_in}
-use Rattle.replay.specs.Served.{ServedFromStart, ServedWindow, WasNotRun}
+use Rattle.replay.proofs.Basics.{◌≡◌, ◌<◌, ℕ, Bool, List, [], ◌++◌, length, map, refl, sym, ap, subst, ◌∙◌, Some, inl, inr, ◌⊎◌, slice_get}
+use Rattle.replay.proofs.Basics.{slice_index_or, AllByRecursion}
+use Rattle.replay.proofs.Terms.{pass_mine, pass_number, helper, keeper, worker, Answered, AreOutcomes, answered_in, Noted, answers_of}
+use Rattle.replay.proofs.Terms.{Station, ManagerPass, coded, IsMoved, Desk, Floor, Reclaim, AreUnused, IsUnused, answers_in}
+use Rattle.replay.proofs.Terms.{ServedFromStart, ServedWindow, WasNotRun}
 use Rattle.replay.proofs.AnswersServed.{HasAnswers, operation_in, served_answers}
 use Rattle.replay.proofs.PassesRuled.{AllRuled, IsRuled, MakesRuled, not_run_ruled, served_ruled}
 use Rattle.replay.proofs.RacksServed.{at_place, mapped, unmapped}

@@ -1,13 +1,10 @@
 -- No fault has the status of success, or that of a sink that failed.
-use Rattle.std.proofs.Common.{◌≡◌, ◌≢◌, ℕ, Bool, true, false, refl, sym, ap, ◌∙◌, ◌==◌}
-use Rattle.std.specs.Prelude.{◌||◌}
+use Rattle.replay.proofs.Basics.{◌≡◌, ◌≢◌, ℕ, Bool, true, false, refl, sym, ap, ◌∙◌, ◌==◌, ◌||◌}
+use Rattle.replay.proofs.Terms.{status_of, Fault, Trouble}
 use Rattle.wol_config.specs.declared.config.ConfigFault.{ConfigFault}
-use Rattle.wol_config.specs.declared.config.ConfigFault.TheVariants as config
-use Rattle.report.specs.Faults.{status_of}
 use Rattle.report.specs.Troubles.{trouble_status}
-use Rattle.report.specs.declared.fault.Fault.{Fault}
+use Rattle.wol_config.specs.declared.config.ConfigFault.TheVariants as config
 use Rattle.report.specs.declared.fault.Fault.TheVariants as fault
-use Rattle.report.specs.declared.trouble.Trouble.{Trouble}
 use Rattle.report.specs.declared.trouble.Trouble.TheVariants as trouble
 
 -- the statuses that no fault has

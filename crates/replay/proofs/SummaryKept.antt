@@ -1,40 +1,18 @@
 -- The summary of a trace that was served to its end: each disk's journal is that of its uses, and the keeper's are those of the account.
-use Rattle.std.proofs.Common.{◌≡◌, ◌≢◌, ◌++◌, ◌<◌, ◌-◌, ℕ, Bool, false, List, [], ◌∷◌, length, map, sym, ap, subst, ◌∙◌, Option, Some, append-nil, arith}
-use Rattle.std.specs.Prelude.{All, Contains, slice_get, slice_index_or}
-use Rattle.wol_model.specs.Journal.{Started, Use, needs_after, new_spindle}
-use Rattle.run_laws.specs.Journals.{answers_by, uses_by}
-use Rattle.wol_model.specs.Trace.{TraceLine, Window, pieces_of, requests, started, timed, windows}
-use Rattle.wol_promise.specs.Spindle.{keeper_uses}
-use Rattle.turn_lock.specs.Histories.{Entry, own}
-use Rattle.turn_lock.specs.Passes.{IsPartOf, lock_id, pass_lock, pass_mine, pass_number}
-use Rattle.spin_model.specs.Operations.{has_token, operation_of, use_of, uses_of}
-use Rattle.spin_model.specs.Spindles.{SpindleView, StandsFor}
-use Rattle.spin_model.specs.declared.spindle.SpindleBase.{SpindleBase}
-use Rattle.trace_gen.specs.Generated.{targets_of}
-use Rattle.report.specs.Names.{printed_names}
-use Rattle.report.specs.Summaries.{summary_text}
-use Rattle.request_workers.specs.Begun.{SpindlePass}
-use Rattle.window_desks.specs.declared.floor.Floor.{Floor}
-use Rattle.wol_disk.specs.Disk.{State}
-use Rattle.wol_bay.specs.Bay.{BayState}
-use Rattle.wol_config.specs.declared.config.Config.{Config}
-use Rattle.volume_images.specs.Volumes.{shapes_of}
-use Rattle.rack.specs.Closes.{IsClosedSpindle}
-use Rattle.rack.specs.Racks.{IsClosable, IsRack, IsUnused, KeepToViews}
-use Rattle.rack_parts.specs.declared.rack.Rack.{Rack}
-use Rattle.replay.specs.Prints.{all_amounts}
-use Rattle.replay.specs.Served.{ServedFromStart, ServedWindow}
-use Rattle.replay.specs.Sessions.{AreWindowsOf, ServesWhole}
-use Rattle.replay.specs.Summed.{IsAccount, IsSummary, column}
-use Rattle.replay.specs.declared.counting.Counted.{Counted}
-use Rattle.replay.specs.declared.given.Given.{Given}
-use Rattle.replay.specs.declared.session.Options.{Options}
+use Rattle.replay.proofs.Basics.{◌≡◌, ◌≢◌, ◌++◌, ◌<◌, ◌-◌, ℕ, Bool, false, List, [], ◌∷◌, length, map, sym, ap, subst, ◌∙◌, Option, Some}
+use Rattle.replay.proofs.Basics.{append-nil, arith, All, Contains, slice_get, slice_index_or}
+use Rattle.replay.proofs.Terms.{Started, Use, needs_after, new_spindle, answers_by, uses_by, TraceLine, pieces_of, requests, started, timed}
+use Rattle.replay.proofs.Terms.{keeper_uses, Entry, own, IsPartOf, lock_id, pass_lock, pass_mine, pass_number, has_token, operation_of}
+use Rattle.replay.proofs.Terms.{use_of, uses_of, SpindleView, StandsFor, SpindleBase, targets_of, printed_names, summary_text, SpindlePass}
+use Rattle.replay.proofs.Terms.{Floor, State, BayState, Config, shapes_of, IsClosedSpindle, IsClosable, IsRack, IsUnused, KeepToViews, Rack}
+use Rattle.replay.proofs.Terms.{all_amounts, ServedFromStart, ServedWindow, AreWindowsOf, ServesWhole, IsAccount, IsSummary, column}
+use Rattle.replay.proofs.Terms.{Counted, Given, Options, most_of}
+use Rattle.wol_model.specs.Trace.{Window, windows}
 use Rattle.replay.proofs.Accounts.{AreOthers, first_start, moments_of, named_users, others_access, own_uses, served_used, used_back}
 use Rattle.replay.proofs.AllAsked.{AreAllCounted}
 use Rattle.replay.proofs.RacksServed.{a_member, at_place}
 use Rattle.replay.proofs.Serving.{served_moments}
 use Rattle.replay.proofs.ToldAwake.{timeout_of}
-use Rattle.wol_config.specs.Configs.{most_of}
 
 -- ---- One spindle
 

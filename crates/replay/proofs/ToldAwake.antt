@@ -1,22 +1,11 @@
 -- What a keeper was told as windows began is what its disk's journal says then.
-use Rattle.std.proofs.Common.{◌≡◌, ◌==◌, ◌<◌, ◌+◌, ◌++◌, ℕ, Bool, true, false, cond, List, [], ◌∷◌, length, refl, sym, ap, subst, ◌∙◌, append_assoc, append-nil, length-append, arith}
-use Rattle.std.specs.Prelude.{slice_index_or}
-use Rattle.std.proofs.lemmas.Bool.{eq-eqb}
-use Rattle.std.proofs.lemmas.List.{map-append}
-use Rattle.std.proofs.lemmas.List.Elements.{filter-append}
-use Rattle.turn_lock.specs.Histories.{Begins, Entry, own}
-use Rattle.turn_lock.specs.Passes.{IsPartOf, IsSamePass, pass_lock, pass_mine, pass_number, pass_seen}
-use Rattle.wol_model.specs.Journal.{Began, Done, Needed, SpindleState, Started, Stayed, Use, new_spindle, spindle_after, used}
-use Rattle.spin_model.specs.Operations.{operation_of, use_of, uses_of}
-use Rattle.spin_model.specs.Spindles.{state_after}
-use Rattle.run_laws.specs.Journals.{answer_then, answers_by}
-use Rattle.rack.specs.Racks.{IsUnused}
-use Rattle.request_workers.specs.Begun.{HasBegun, HasStayed, SpindlePass}
-use Rattle.window_desks.specs.declared.floor.Floor.{Floor}
-use Rattle.window_desks.specs.declared.request.Reclaim.{Reclaim}
-use Rattle.replay.specs.Served.{HasStarted, HaveStarted, ServedFromStart, ServedWindow, WasServed, WereServed}
+use Rattle.replay.proofs.Basics.{◌≡◌, ◌==◌, ◌<◌, ◌+◌, ◌++◌, ℕ, Bool, true, false, cond, List, [], ◌∷◌, length, refl, sym, ap, subst, ◌∙◌}
+use Rattle.replay.proofs.Basics.{append_assoc, append-nil, length-append, arith, slice_index_or, eq-eqb, map-append, filter-append}
+use Rattle.replay.proofs.Terms.{Begins, Entry, own, IsPartOf, IsSamePass, pass_lock, pass_mine, pass_number, pass_seen, Began, Done, Needed}
+use Rattle.replay.proofs.Terms.{SpindleState, Started, Stayed, Use, new_spindle, spindle_after, used, operation_of, use_of, uses_of}
+use Rattle.replay.proofs.Terms.{state_after, answer_then, answers_by, IsUnused, HasBegun, HasStayed, SpindlePass, Floor, Reclaim}
+use Rattle.replay.proofs.Terms.{HasStarted, HaveStarted, ServedFromStart, ServedWindow, WasServed, WereServed, column}
 use Rattle.replay.proofs.Accounts.{HasUsed, there_after}
-use Rattle.replay.specs.Summed.{column}
 use Rattle.replay.proofs.WorksServed.{awake_in, awake_then}
 
 -- ---- Answers among uses

@@ -1,30 +1,9 @@
 -- What serving a trace on the stations of a rack leaves of their passes.
-use Rattle.std.proofs.Common.{◌≡◌, ◌≢◌, ◌<◌, ◌≤◌, ℕ, Bool, List, [], ◌∷◌, ◌++◌, length, map, Option, Some, refl, sym, ap, subst, ◌∙◌, inl, inr, arith}
-use Rattle.std.specs.Prelude.{slice_get, slice_index_or}
-use Rattle.std.specs.List.{AllByRecursion}
-use Rattle.std.proofs.lemmas.Bool.{cases_lt}
-use Rattle.std.proofs.lemmas.List.{length-map}
-use Rattle.wol_model.specs.Trace.{TraceLine, requests}
-use Rattle.wol_promise.specs.Outcomes.{Answered}
-use Rattle.run_laws.specs.Answers.{AreFirst, answers_of, requests_in}
-use Rattle.run_laws.specs.Laws.{AreAllAnswered}
-use Rattle.run_laws.proofs.ReadLines.{volume_joined}
-use Rattle.turn_lock.specs.Passes.{pass_mine}
-use Rattle.request_turns.specs.Turns.{ManagerPass}
-use Rattle.wol_config.specs.declared.config.Config.{Config}
-use Rattle.trace_gen.specs.Generated.{targets_of}
-use Rattle.manager.specs.declared.station.Station.{Station}
-use Rattle.rack.specs.Racks.{AreUnused}
-use Rattle.request_workers.specs.Stations.{IsMoved}
-use Rattle.request_workers.specs.Worked.{HasWorked}
-use Rattle.window_desks.specs.declared.desk.Desk.{Desk}
-use Rattle.window_desks.specs.declared.floor.Floor.{Floor}
-use Rattle.window_desks.specs.declared.request.Reclaim.{Reclaim}
-use Rattle.window_desks.specs.declared.request.Reclaim.TheVariants as reclaim
-use Rattle.replay.specs.Histories.{answers_in}
-use Rattle.replay.specs.Runs.{locks_of}
-use Rattle.replay.specs.Served.{ServedFromStart, ServedWindow, WereServed}
-use Rattle.replay.specs.Sessions.{AreWindowsOf, WentWell}
+use Rattle.replay.proofs.Basics.{◌≡◌, ◌≢◌, ◌<◌, ◌≤◌, ℕ, Bool, List, [], ◌∷◌, ◌++◌, length, map, Option, Some, refl, sym, ap, subst, ◌∙◌}
+use Rattle.replay.proofs.Basics.{inl, inr, arith, slice_get, slice_index_or, AllByRecursion, cases_lt, length-map}
+use Rattle.replay.proofs.Terms.{TraceLine, requests, Answered, AreFirst, answers_of, requests_in, AreAllAnswered, volume_joined, pass_mine}
+use Rattle.replay.proofs.Terms.{ManagerPass, Config, targets_of, Station, AreUnused, IsMoved, HasWorked, Desk, Floor, Reclaim, answers_in}
+use Rattle.replay.proofs.Terms.{locks_of, ServedFromStart, ServedWindow, WereServed, AreWindowsOf, WentWell, most_of}
 use Rattle.replay.proofs.CountsLeft.{answers_joined}
 use Rattle.replay.proofs.FirstsServed.{ends_well, served_answered, served_first}
 use Rattle.replay.proofs.LastWindow.{served_last}
@@ -32,7 +11,7 @@ use Rattle.replay.proofs.ReclaimedLeft.{served_alone}
 use Rattle.replay.proofs.RacksServed.{a_member, at_place, mapped}
 use Rattle.replay.proofs.RequestsServed.{others_none, served_asked}
 use Rattle.replay.proofs.StationsRan.{AreNumbered, EndsOn, IsAt, StationRan, desk, first, station_ran, worker_same}
-use Rattle.wol_config.specs.Configs.{most_of}
+use Rattle.window_desks.specs.declared.request.Reclaim.TheVariants as reclaim
 
 module _ {D : Type 0} (tells : Bool) (mode : Reclaim) where
   were_front : (earlier last : List ServedWindow) (f : Floor D) (ps : List _) (g : Floor D) (qs : List _) → WereServed tells mode (earlier ++ last) f ps g qs

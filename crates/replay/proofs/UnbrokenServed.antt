@@ -1,44 +1,21 @@
 -- While windows go well no call of a disk fails: no pass of a volume makes a Broke.
-use Rattle.std.proofs.Common.{◌≡◌, ◌<◌, ◌+◌, ℕ, zero, suc, Bool, true, false, List, [], ◌∷◌, ◌++◌, length, map, drop, refl, sym, ap, subst, ◌∙◌, Option, None, Some, arith}
-use Rattle.std.specs.Prelude.{slice_index_or, if◌then◌else◌}
-use Rattle.std.specs.List.{AllByRecursion, list_any}
-use Rattle.std.specs.Option.{option_or}
-use Rattle.std.proofs.Math.Seq.{drop-append_seam}
-use Rattle.turn_lock.specs.Passes.{pass_mine, pass_number}
-use Rattle.wol_model.specs.History.{Broke, Kept, Operation, Read, Wrote, flight_from, flight_of, worker}
-use Rattle.wol_promise.specs.Outcomes.{is_answered}
-use Rattle.wol_promise.specs.Ruled.{Noted, entries_of}
-use Rattle.run_laws.specs.Laws.{AreAllAnswered}
-use Rattle.report.specs.declared.fault.Fault.TheVariants.{Memory}
-use Rattle.manager.specs.Stands.{notes_of}
-use Rattle.manager.specs.declared.part.StepFault.{StepFault}
-use Rattle.trace_windows.specs.declared.request.Request.{Request}
-use Rattle.request_turns.specs.Begun.{HasBegunVolume}
-use Rattle.request_turns.specs.Entries.{AreEntriesOf, AreMade}
-use Rattle.request_turns.specs.Helped.{AreKept, made_since}
-use Rattle.request_turns.specs.Turns.{ManagerPass, coded}
-use Rattle.request_turns.specs.declared.outcome.Outcome.{Outcome}
-use Rattle.request_turns.specs.declared.outcome.Outcome.TheVariants as outcome
-use Rattle.request_turns.proofs.CountLaws.{IsWhole}
-use Rattle.request_workers.specs.Begun.{SpindlePass}
-use Rattle.request_workers.specs.Closed.{IsClosed}
-use Rattle.request_workers.specs.Helped.{AreAllKept}
-use Rattle.request_workers.specs.Requests.{answers_to, told}
-use Rattle.request_workers.specs.Worked.{HasWorked, HelpedIn, first_fault}
-use Rattle.window_desks.specs.declared.desk.Desk.{Desk}
-use Rattle.window_desks.specs.declared.floor.Floor.{Floor}
-use Rattle.window_desks.specs.declared.request.Reclaim.{Reclaim}
-use Rattle.window_desks.specs.declared.request.Reclaim.TheVariants as reclaim
-use Rattle.window_desks.specs.declared.request.Window.{Window}
-use Rattle.replay.specs.Endings.{fault_of_reclaim, fault_of_window, first_refused, lacked_memory}
-use Rattle.replay.specs.Served.{ServedFromStart, ServedWindow, WasServed, WereServed}
-use Rattle.replay.specs.Sessions.{WentWell}
+use Rattle.replay.proofs.Basics.{◌≡◌, ◌<◌, ◌+◌, ℕ, zero, suc, Bool, true, false, List, [], ◌∷◌, ◌++◌, length, map, drop, refl, sym, ap}
+use Rattle.replay.proofs.Basics.{subst, ◌∙◌, Option, None, Some, arith, slice_index_or, if◌then◌else◌, AllByRecursion, list_any, option_or}
+use Rattle.replay.proofs.Basics.{drop-append_seam}
+use Rattle.replay.proofs.Terms.{pass_mine, pass_number, Broke, Kept, Operation, Read, Wrote, flight_from, flight_of, worker, is_answered}
+use Rattle.replay.proofs.Terms.{Noted, entries_of, AreAllAnswered, Memory, notes_of, StepFault, Request, HasBegunVolume, AreEntriesOf}
+use Rattle.replay.proofs.Terms.{AreMade, AreKept, made_since, ManagerPass, coded, Outcome, IsWhole, SpindlePass, IsClosed, AreAllKept}
+use Rattle.replay.proofs.Terms.{answers_to, told, HasWorked, HelpedIn, first_fault, Desk, Floor, Reclaim, Window, fault_of_reclaim}
+use Rattle.replay.proofs.Terms.{fault_of_window, first_refused, lacked_memory, ServedFromStart, ServedWindow, WasServed, WereServed}
+use Rattle.replay.proofs.Terms.{WentWell}
 use Rattle.replay.proofs.AnswersServed.{own_answers}
 use Rattle.replay.proofs.EntriesOwn.{notes_back}
 use Rattle.replay.proofs.FirstsServed.{window_answered}
 use Rattle.replay.proofs.Grouped.{answered_rest, made_by_cases}
 use Rattle.replay.proofs.Makes.{Makes, makes_both, makes_none, makes_same}
 use Rattle.replay.proofs.PassesRuled.{AreThere, helper_on, keeper_on, was_ruled, worker_on}
+use Rattle.request_turns.specs.declared.outcome.Outcome.TheVariants as outcome
+use Rattle.window_desks.specs.declared.request.Reclaim.TheVariants as reclaim
 
 -- ---- Entries
 

@@ -1,18 +1,14 @@
 -- The next versions that the entries of a volume leave are those of its writes to logs.
-use Rattle.std.proofs.Common.{◌≡◌, ◌≤◌, ◌+◌, ℕ, List, [], ◌∷◌, ◌++◌, Option, None, Some, refl, ap, ◌∙◌, inl, inr, arith}
-use Rattle.std.specs.Prelude.{cond, is_some, count_by}
-use Rattle.std.specs.List.{AllByRecursion}
-use Rattle.std.proofs.lemmas.List.Sums.{sum_by-append}
-use Rattle.wol_model.specs.Blocks.{Write}
-use Rattle.wol_model.specs.History.{Operation, Wrote, Read, Kept, Broke, flight_from, flight_of, written_by, writes}
+use Rattle.replay.proofs.Basics.{◌≡◌, ◌≤◌, ◌+◌, ℕ, List, [], ◌∷◌, ◌++◌, Option, None, Some, refl, ap, ◌∙◌, inl, inr, arith, cond, is_some}
+use Rattle.replay.proofs.Basics.{count_by, AllByRecursion, sum_by-append}
+use Rattle.replay.proofs.Terms.{Write, Operation, Wrote, Read, Kept, Broke, flight_from, flight_of, written_by, writes, Look, AreWrites}
+use Rattle.replay.proofs.Terms.{IsReclaim, AreReclaims, placed, place_of, version_at, logged_writes, Noted, AreRuled, IsKeep, IsStep}
+use Rattle.replay.proofs.Terms.{entries_of}
 use Rattle.wol_model.specs.Placing.{Home, Log, Full}
-use Rattle.wol_model.specs.Placing as placing
-use Rattle.wol_promise.specs.Policy.{Look, AreWrites, IsReclaim, AreReclaims, placed, place_of, version_at}
-use Rattle.wol_promise.specs.Policy as policy
-use Rattle.wol_promise.specs.Report.{logged_writes}
-use Rattle.wol_promise.specs.Ruled.{Noted, AreRuled, IsKeep, IsStep, entries_of}
-use Rattle.wol_promise.specs.Ruled as ruled
 use Rattle.replay.proofs.PassesRuled.{IsRuled}
+use Rattle.wol_model.specs.Placing as placing
+use Rattle.wol_promise.specs.Policy as policy
+use Rattle.wol_promise.specs.Ruled as ruled
 
 versioned : List Write → ℕ
 versioned ws = count_by (λ (w : Write). is_some w.version) ws

@@ -1,28 +1,10 @@
 -- The volumes of a rack that was served kept to the views of their histories.
-use Rattle.std.proofs.Common.{◌≡◌, ◌≢◌, ◌<◌, ◌≤◌, ◌⊎◌, inl, inr, ℕ, Bool, List, [], length, None, Option, Some, sym, ap, subst, ◌∙◌, arith}
-use Rattle.std.specs.Prelude.{All, Contains, option_and_then, slice_index_or}
-use Rattle.std.proofs.lemmas.Bool.{cases_lt}
-use Rattle.std.proofs.lemmas.List.{length-map}
-use Rattle.std.proofs.lemmas.Option.{none-some, slice_get_past}
-use Rattle.wol_bay.specs.Bay.{BayState}
-use Rattle.wol_config.specs.declared.config.Config.{Config}
-use Rattle.wol_disk.specs.Disk.{State}
-use Rattle.volume_images.specs.Volumes.{shapes_of}
-use Rattle.turn_lock.specs.Passes.{pass_mine}
+use Rattle.replay.proofs.Basics.{◌≡◌, ◌≢◌, ◌<◌, ◌≤◌, ◌⊎◌, inl, inr, ℕ, Bool, List, [], length, None, Option, Some, sym, ap, subst, ◌∙◌}
+use Rattle.replay.proofs.Basics.{arith, All, Contains, option_and_then, slice_index_or, cases_lt, length-map, none-some, slice_get_past}
+use Rattle.replay.proofs.Terms.{BayState, Config, State, shapes_of, pass_mine, Spindle, SpindleBase, ManagerBase, Station, AreStations}
+use Rattle.replay.proofs.Terms.{IsClosedVolume, IsRack, KeepToViews, base_of_station, spindle_pass, Rack, Rest, view_at, locks_of}
 use Rattle.turn_lock.specs.declared.pass.PassOf.{PassOf}
-use Rattle.spin_model.specs.declared.spindle.Spindle.{Spindle}
-use Rattle.spin_model.specs.declared.spindle.SpindleBase.{SpindleBase}
-use Rattle.manager.specs.declared.base.ManagerBase.{ManagerBase}
-use Rattle.manager.specs.declared.station.Station.{Station}
-use Rattle.request_workers.specs.Stations.{AreStations}
-use Rattle.rack.specs.Closes.{IsClosedVolume}
-use Rattle.rack.specs.Racks.{IsRack, KeepToViews, base_of_station}
-use Rattle.rack.specs.Rests.{spindle_pass}
-use Rattle.rack_parts.specs.declared.rack.Rack.{Rack}
-use Rattle.rack_parts.specs.declared.rack.Rest.{Rest}
 use Rattle.rack_parts.specs.declared.rack.VolumePasses.{VolumePasses}
-use Rattle.replay.specs.Histories.{view_at}
-use Rattle.replay.specs.Runs.{locks_of}
 use Rattle.replay.proofs.HistoriesLeft.{histories_of, view_there}
 use Rattle.replay.proofs.RacksServed.{a_member, there_at}
 use Rattle.replay.proofs.RunLeft.{base_same}

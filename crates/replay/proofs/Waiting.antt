@@ -1,14 +1,9 @@
 -- Lines that a sink took, and lines that wait.
-use Rattle.std.proofs.Common.{◌≡◌, ◌≤◌, ◌<◌, ◌+◌, ℕ, zero, suc, List, [], ◌∷◌, ◌++◌, length, take, drop, get_or, Option, inl, inr, refl, sym, ap, ◌∙◌, append_assoc, append-nil, arith, length-append}
-use Rattle.std.specs.Io.KnownBytes.{Appends}
-use Rattle.std.proofs.lemmas.List.{take_more, length-take-le}
-use Rattle.std.proofs.lemmas.List.Concat.{flat_map-append}
-use Rattle.wol_io.specs.Streams.{AppendsFront}
-use Rattle.wol_io.proofs.Appending.{appends_both, appends_kept, front_last, front_longer}
-use Rattle.wol_promise.specs.Run.{joined_lines}
-use Rattle.trace_windows.specs.declared.request.Request.{Request}
-use Rattle.request_turns.specs.declared.outcome.Outcome.{Outcome}
-use Rattle.replay.specs.Prints.{HandsOn, line_of_outcome, lines_of_outcomes}
+use Rattle.replay.proofs.Basics.{◌≡◌, ◌≤◌, ◌<◌, ◌+◌, ℕ, zero, suc, List, [], ◌∷◌, ◌++◌, length, take, drop, get_or, Option, inl, inr, refl}
+use Rattle.replay.proofs.Basics.{sym, ap, ◌∙◌, append_assoc, append-nil, arith, length-append, Appends, take_more, length-take-le}
+use Rattle.replay.proofs.Basics.{flat_map-append}
+use Rattle.replay.proofs.Terms.{AppendsFront, appends_both, appends_kept, front_last, front_longer, joined_lines, Request, Outcome, HandsOn}
+use Rattle.replay.proofs.Terms.{line_of_outcome, lines_of_outcomes}
 
 pub joined_both : (xs ys : List (List ℕ)) → joined_lines (xs ++ ys) ≡ joined_lines xs ++ joined_lines ys
 joined_both xs ys = flat_map-append (λ (l : List ℕ). l) xs ys

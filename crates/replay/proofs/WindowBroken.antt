@@ -1,47 +1,20 @@
 -- Where a part of a volume is at fault in a window, it was down among the entries of the volume.
-use Rattle.std.proofs.Common.{◌≡◌, ◌==◌, ◌<◌, ◌+◌, ℕ, zero, suc, Bool, true, false, cond, List, [], ◌∷◌, ◌++◌, length, map, refl, sym, ap, subst, ◌∙◌, Option, None, Some, is_some, arith}
-use Rattle.std.specs.Prelude.{slice_get, slice_index_or, if◌then◌else◌}
-use Rattle.std.specs.List.{list_any, AllByRecursion}
-use Rattle.std.specs.Option.{option_or}
-use Rattle.std.proofs.lemmas.List.{map-append}
-use Rattle.std.proofs.lemmas.Bool.{eq-eqb}
-use Rattle.wol_model.specs.Blocks.{Write}
+use Rattle.replay.proofs.Basics.{◌≡◌, ◌==◌, ◌<◌, ◌+◌, ℕ, zero, suc, Bool, true, false, cond, List, [], ◌∷◌, ◌++◌, length, map, refl, sym}
+use Rattle.replay.proofs.Basics.{ap, subst, ◌∙◌, Option, None, Some, is_some, arith, slice_get, slice_index_or, if◌then◌else◌, list_any}
+use Rattle.replay.proofs.Basics.{AllByRecursion, option_or, map-append, eq-eqb}
+use Rattle.replay.proofs.Terms.{Write, Broke, Kept, Operation, Read, Wrote, flight_from, flight_of, Noted, entries_of, Begins, Entry}
+use Rattle.replay.proofs.Terms.{pass_seen, notes_of, Part, StepFault, Station, Fault, Memory, Volume, Trouble, trouble_of_part, Request}
+use Rattle.replay.proofs.Terms.{HasClosed, TellsFault, IsBroken, ManagerPass, WasDown, faulty_part, notes_seen, Outcome, down_more}
+use Rattle.replay.proofs.Terms.{notes_joined, IsClosed, HasRun, outcomes_of, IsMoved, first_fault, Desk, Floor, Reclaim, Window}
+use Rattle.replay.proofs.Terms.{fault_of_outcome, fault_of_reclaim, fault_of_window, first_refused, lacked_memory}
+use Rattle.replay.proofs.AnswersServed.{desk_there}
+use Rattle.replay.proofs.RacksServed.{a_member, at_place, mapped, there_at, unmapped}
 use Rattle.wol_model.specs.History as history
-use Rattle.wol_model.specs.History.{Broke, Kept, Operation, Read, Wrote, flight_from, flight_of}
-use Rattle.wol_promise.specs.Ruled.{Noted, entries_of}
-use Rattle.turn_lock.specs.Histories.{Begins, Entry}
-use Rattle.turn_lock.specs.Passes.{pass_seen}
-use Rattle.manager.specs.Stands.{notes_of}
-use Rattle.manager.specs.declared.part.Part.{Part}
-use Rattle.manager.specs.declared.part.StepFault.{StepFault}
 use Rattle.manager.specs.declared.part.StepFault.TheVariants as step
 use Rattle.manager.specs.declared.part.ReadRefusal.TheVariants as read
 use Rattle.manager.specs.declared.part.WriteRefusal.TheVariants as write
-use Rattle.manager.specs.declared.station.Station.{Station}
-use Rattle.report.specs.declared.fault.Fault.{Fault}
-use Rattle.report.specs.declared.fault.Fault.TheVariants.{Memory, Volume}
-use Rattle.report.specs.declared.trouble.Trouble.{Trouble}
-use Rattle.troubles.specs.Troubles.{trouble_of_part}
-use Rattle.trace_windows.specs.declared.request.Request.{Request}
-use Rattle.request_turns.specs.Closed.{HasClosed}
-use Rattle.request_turns.specs.Entries.{TellsFault}
-use Rattle.request_turns.specs.Turns.{IsBroken, ManagerPass, WasDown, faulty_part, notes_seen}
-use Rattle.request_turns.specs.declared.outcome.Outcome.{Outcome}
 use Rattle.request_turns.specs.declared.outcome.Outcome.TheVariants as outcome
-use Rattle.request_turns.proofs.Gaining.{down_more, notes_joined}
-use Rattle.request_workers.specs.Closed.{IsClosed}
-use Rattle.request_workers.specs.Floors.{HasRun}
-use Rattle.request_workers.specs.Requests.{outcomes_of}
-use Rattle.request_workers.specs.Stations.{IsMoved}
-use Rattle.request_workers.specs.Worked.{first_fault}
-use Rattle.window_desks.specs.declared.desk.Desk.{Desk}
-use Rattle.window_desks.specs.declared.floor.Floor.{Floor}
-use Rattle.window_desks.specs.declared.request.Reclaim.{Reclaim}
 use Rattle.window_desks.specs.declared.request.Reclaim.TheVariants as reclaim
-use Rattle.window_desks.specs.declared.request.Window.{Window}
-use Rattle.replay.specs.Endings.{fault_of_outcome, fault_of_reclaim, fault_of_window, first_refused, lacked_memory}
-use Rattle.replay.proofs.AnswersServed.{desk_there}
-use Rattle.replay.proofs.RacksServed.{a_member, at_place, mapped, there_at, unmapped}
 
 -- ---- Entries
 

@@ -1,29 +1,16 @@
 -- What the worker and the keeper of a volume did while windows were served.
-use Rattle.std.proofs.Common.{◌≡◌, ◌<◌, ◌≤◌, ◌⊎◌, ℕ, suc, Bool, List, [], ◌∷◌, ◌++◌, length, map, refl, sym, ap, subst, ◌∙◌, append_assoc, append-nil, Option, None, Some, arith, inl, inr}
-use Rattle.std.specs.Prelude.{slice_index_or}
-use Rattle.std.proofs.lemmas.List.{map-append}
-use Rattle.turn_lock.specs.Histories.{Entry}
-use Rattle.turn_lock.specs.Passes.{IsFree, IsSamePass, pass_mine, pass_number, pass_seen}
-use Rattle.wol_model.specs.History.{keeper, worker}
-use Rattle.wol_promise.specs.Ruled.{Noted}
-use Rattle.manager.specs.declared.part.StepFault.{StepFault}
-use Rattle.request_turns.specs.Begun.{HasBegunVolume}
-use Rattle.request_turns.specs.Closed.{HasClosed}
-use Rattle.request_turns.specs.Turns.{Gains, IsBroken, IsHonest, LooksStay, ManagerPass, began, coded, faulty_part, notes_seen}
-use Rattle.request_turns.proofs.Gaining.{down_breaks, gains_both, gains_none, gains_turn, stays_both, turn_more}
-use Rattle.request_workers.specs.Begun.{HaveBegunVolumes}
-use Rattle.request_workers.specs.Closed.{IsClosed}
-use Rattle.request_workers.specs.Worked.{HasWorked}
-use Rattle.window_desks.specs.declared.desk.Desk.{Desk}
-use Rattle.window_desks.specs.declared.floor.Floor.{Floor}
-use Rattle.window_desks.specs.declared.request.Reclaim.{Reclaim}
-use Rattle.window_desks.specs.declared.request.Reclaim.TheVariants as reclaim
-use Rattle.replay.specs.Served.{ServedFromStart, ServedWindow, WasNotRun, WereServed}
-use Rattle.replay.specs.Works.{AreBegun, AreWorks, IsClosing, IsWork}
+use Rattle.replay.proofs.Basics.{◌≡◌, ◌<◌, ◌≤◌, ◌⊎◌, ℕ, suc, Bool, List, [], ◌∷◌, ◌++◌, length, map, refl, sym, ap, subst, ◌∙◌}
+use Rattle.replay.proofs.Basics.{append_assoc, append-nil, Option, None, Some, arith, inl, inr, slice_index_or, map-append}
+use Rattle.replay.proofs.Terms.{Entry, IsFree, IsSamePass, pass_mine, pass_number, pass_seen, keeper, worker, Noted, StepFault}
+use Rattle.replay.proofs.Terms.{HasBegunVolume, HasClosed, Gains, IsBroken, IsHonest, LooksStay, ManagerPass, began, coded, faulty_part}
+use Rattle.replay.proofs.Terms.{notes_seen, down_breaks, gains_both, gains_none, gains_turn, stays_both, turn_more, HaveBegunVolumes}
+use Rattle.replay.proofs.Terms.{IsClosed, HasWorked, Desk, Floor, Reclaim, ServedFromStart, ServedWindow, WasNotRun, WereServed, AreBegun}
+use Rattle.replay.proofs.Terms.{AreWorks, IsClosing, IsWork}
 use Rattle.replay.proofs.FirstsServed.{was_worked}
 use Rattle.replay.proofs.PassesRuled.{pass_there}
 use Rattle.replay.proofs.StationsRan.{EndsOn}
 use Rattle.replay.proofs.WindowBroken.{broken_in}
+use Rattle.window_desks.specs.declared.request.Reclaim.TheVariants as reclaim
 
 -- ---- The worker in one window
 

@@ -1,16 +1,12 @@
 -- A volume's history has no more writes to logs than its answered requests, and no more answered requests than requests.
-use Rattle.std.proofs.Common.{◌≡◌, ◌==◌, ◌<◌, ◌≤◌, ◌⊎◌, ◌+◌, ◌++◌, ℕ, zero, suc, Bool, true, false, cond, List, [], ◌∷◌, length, map, take, drop, refl, sym, ap, subst, ◌∙◌, is_some, inl, inr, arith}
-use Rattle.std.specs.Prelude.{Contains, slice_index_or}
-use Rattle.std.specs.List.{count_by}
-use Rattle.std.proofs.lemmas.Bool.{eq-eqb}
-use Rattle.std.proofs.lemmas.List.{take-append-drop}
-use Rattle.std.proofs.lemmas.List.Sums.{count_by-le-length, sum_by-append, sum_by-cons}
-use Rattle.wol_model.specs.Blocks.{Write}
-use Rattle.wol_model.specs.History.{Broke, Entry, Kept, Operation, Read, Wrote, written_by, writes}
+use Rattle.replay.proofs.Basics.{◌≡◌, ◌==◌, ◌<◌, ◌≤◌, ◌⊎◌, ◌+◌, ◌++◌, ℕ, zero, suc, Bool, true, false, cond, List, [], ◌∷◌, length, map}
+use Rattle.replay.proofs.Basics.{take, drop, refl, sym, ap, subst, ◌∙◌, is_some, inl, inr, arith, Contains, slice_index_or, count_by}
+use Rattle.replay.proofs.Basics.{eq-eqb, take-append-drop, count_by-le-length, sum_by-append, sum_by-cons}
+use Rattle.replay.proofs.Terms.{Write, Broke, Kept, Operation, Read, Wrote, written_by, writes, Answered, AreOutcomes, AreWritten}
+use Rattle.replay.proofs.Terms.{IsWriteOf, Unanswered, WasRead, WasWritten, answered_in, is_answered, answers_of, requests_in, is_write}
+use Rattle.wol_model.specs.History.{Entry}
 use Rattle.wol_model.specs.Trace.{Request}
-use Rattle.wol_promise.specs.Outcomes.{Answered, AreOutcomes, AreWritten, IsWriteOf, Outcome, Unanswered, WasRead, WasWritten, answered_in, is_answered}
-use Rattle.run_laws.specs.Answers.{answers_of, requests_in}
-use Rattle.replay.specs.Completes.{is_write}
+use Rattle.wol_promise.specs.Outcomes.{Outcome}
 
 -- ---- Counting
 

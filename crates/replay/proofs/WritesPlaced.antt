@@ -1,26 +1,17 @@
 -- The writes that are counted of windows are those of the volumes' histories.
-use Rattle.std.proofs.Common.{◌≡◌, ◌==◌, ◌<◌, ◌+◌, ◌++◌, ℕ, suc, Bool, true, false, cond, List, [], ◌∷◌, length, map, take, drop, refl, sym, ap, subst, ◌∙◌, Some, is_some, not, ltb, arith}
-use Rattle.std.specs.Prelude.{count_by, slice_get, sum_by}
-use Rattle.std.specs.List.{AllByRecursion}
+use Rattle.replay.proofs.Basics.{◌≡◌, ◌==◌, ◌<◌, ◌+◌, ◌++◌, ℕ, suc, Bool, true, false, cond, List, [], ◌∷◌, length, map, take, drop, refl}
+use Rattle.replay.proofs.Basics.{sym, ap, subst, ◌∙◌, Some, is_some, not, ltb, arith, count_by, slice_get, sum_by, AllByRecursion}
+use Rattle.replay.proofs.Basics.{take-append-drop, sum_by-append, sum_by-cons}
+use Rattle.replay.proofs.Terms.{Write, Broke, Kept, Operation, Read, Wrote, written_by, writes, Answered, AreOutcomes, AreWritten}
+use Rattle.replay.proofs.Terms.{IsWriteOf, Unanswered, WasRead, WasWritten, answered_in, is_answered, home_writes, logged_writes}
+use Rattle.replay.proofs.Terms.{entries_of, answers_of, asked, Request, answers_to, told, was_logged, went_home, History, answers_in}
+use Rattle.replay.proofs.Terms.{ServedWindow, outcomes_in}
 use Rattle.std.proofs.lemmas.Bool.Decides.{nat_tests}
-use Rattle.std.proofs.lemmas.List.{take-append-drop}
-use Rattle.std.proofs.lemmas.List.Sums.{sum_by-append, sum_by-cons}
-use Rattle.wol_model.specs.Blocks.{Write}
+use Rattle.wol_promise.specs.Outcomes.{Outcome}
 use Rattle.wol_model.specs.History as history
-use Rattle.wol_model.specs.History.{Broke, Kept, Operation, Read, Wrote, written_by, writes}
-use Rattle.wol_promise.specs.Outcomes.{Answered, AreOutcomes, AreWritten, IsWriteOf, Outcome, Unanswered, WasRead, WasWritten, answered_in, is_answered}
-use Rattle.wol_promise.specs.Report.{home_writes, logged_writes}
-use Rattle.wol_promise.specs.Ruled.{entries_of}
-use Rattle.run_laws.specs.Answers.{answers_of}
-use Rattle.trace_windows.specs.Requests.{asked}
-use Rattle.trace_windows.specs.declared.request.Request.{Request}
 use Rattle.manager.specs.declared.part.Place.TheVariants as place
 use Rattle.request_turns.specs.declared.outcome.Outcome as turns
 use Rattle.request_turns.specs.declared.outcome.Outcome.TheVariants as outcome
-use Rattle.request_workers.specs.Requests.{answers_to, told}
-use Rattle.replay.specs.Counts.{was_logged, went_home}
-use Rattle.replay.specs.Histories.{History, answers_in}
-use Rattle.replay.specs.Served.{ServedWindow, outcomes_in}
 
 -- ---- Outcomes that pass a test
 

@@ -31,9 +31,10 @@ is_write kind.Write = true
 abbrev pub writes_to : (v : ℕ) → List Request → ℕ
 writes_to v rs = count_by (λ (r : Request). is_write r.kind) (of_volume v rs)
 
--- Nothing stands in the way of a run: the images at entry are sound as they read; no call failed; no line is bad or one too many;
--- and each volume has versions for its writes.
-pub record MayComplete {S : Type 0} (tells : Bool) (left : S → Option (List ℕ)) (config : Config) (start now : Given S) (old new : BayState) (sink sink' source source' : ℕ) : Type 0 where
+-- Nothing stands in the way of a run: the images at entry are sound as they read; no call failed;
+-- no line is bad or one too many; and each volume has versions for its writes.
+pub record MayComplete {S : Type 0} (tells : Bool) (left : S → Option (List ℕ)) (config : Config)
+    (start now : Given S) (old new : BayState) (sink sink' source source' : ℕ) : Type 0 where
   pub telling : IsTrue tells
   pub entry : Told
   pub entry_is : old.told ≡ Some entry
@@ -41,9 +42,12 @@ pub record MayComplete {S : Type 0} (tells : Bool) (left : S → Option (List �
   pub bay_calm : Rose old.faults new.faults → ⊥
   pub sink_calm : Rose sink sink' → ⊥
   pub source_calm : Rose source source' → ⊥
-  pub spelled : (line : ℕ) (why : BadLine) (ls : List (Option TraceLine)) → Refuses left (trace.Bad line why) start now ls → ⊥
+  pub spelled : (line : ℕ) (why : BadLine) (ls : List (Option TraceLine))
+      → Refuses left (trace.Bad line why) start now ls → ⊥
   pub few : (ls : List (Option TraceLine)) → Refuses left trace.Spent start now ls → ⊥
-  pub versions : (b : Base) → IsBegun config (images_read config entry) b → (run more : List (Option TraceLine)) → HasGiven left (targets_of config) start now (run ++ more)
+  pub versions : (b : Base) → IsBegun config (images_read config entry) b
+      → (run more : List (Option TraceLine))
+      → HasGiven left (targets_of config) start now (run ++ more)
       → b.next + writes_to b.owner (requests (most_of config) (targets_of config) run) ≤ 2 ^ 63
 
 -- it came to its end, or there was no memory

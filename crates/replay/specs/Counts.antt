@@ -8,7 +8,19 @@ use Rattle.window_desks.specs.declared.request.Window.{Window}
 
 -- nothing was counted
 abbrev pub no_totals : Totals
-no_totals = record { lines = 0; blank = 0; skipped = 0; reads = 0; writes = 0; home = 0; log = 0; drains = 0; blocks = 0; records = 0; span = 0 }
+no_totals = record {
+  lines = 0;
+  blank = 0;
+  skipped = 0;
+  reads = 0;
+  writes = 0;
+  home = 0;
+  log = 0;
+  drains = 0;
+  blocks = 0;
+  records = 0;
+  span = 0;
+}
 
 -- an answered read
 abbrev pub was_read : Outcome → Bool

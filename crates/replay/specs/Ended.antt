@@ -32,12 +32,18 @@ pub record HasRefusedWrite (v : ℕ) (s : ServedWindow) : Type 0 where
   pub kind_is : answer.request.kind ≡ kind.Write
   pub refused : is_answered answer.outcome ≡ false
 
-module _ {S : Type 0} (left : S → Option (List ℕ)) (config : Config) (start now : Given S) (run : List (Option TraceLine)) (last : List ServedWindow) (bay bay' sink sink' : ℕ) where
-  -- All lines were run, and nothing was refused; or no further line came; or a request or a step of reclaim of the last window was refused; or there was no
-  -- memory; or the sink failed. Where a part is at fault the bay's count rose, and versions ended at a write.
+module _ {S : Type 0} (left : S → Option (List ℕ)) (config : Config) (start now : Given S)
+    (run : List (Option TraceLine)) (last : List ServedWindow) (bay bay' sink sink' : ℕ) where
+  -- All lines were run, and nothing was refused; or no further line came; or a request or a step of
+  -- reclaim of the last window was refused; or there was no memory; or the sink failed. Where a
+  -- part is at fault the bay's count rose, and versions ended at a write.
   pub data EndsFor {T : Type 0} : Result T Stop → Type 0 where
-    whole : (done : T) → last ≡ [] → HasGivenAll left (targets_of config) start now run → EndsFor (Ok done)
-    no_line : (refusal : TraceFault) → refusal ≢ trace.NoMemory → last ≡ [] → Refuses left refusal start now run → EndsFor (Err (stop.Fault (fault_of_trace refusal)))
-    refused : (f : Fault) (s : ServedWindow) → last ≡ s ∷ [] → fault_of_window s.batch.requests s.answer ≡ Some f → (IsPartFault f → Rose bay bay') → ((v : ℕ) → f ≡ Versions v → HasRefusedWrite v s) → EndsFor (Err (stop.Fault f))
+    whole : (done : T) → last ≡ [] → HasGivenAll left (targets_of config) start now run
+        → EndsFor (Ok done)
+    no_line : (refusal : TraceFault) → refusal ≢ trace.NoMemory → last ≡ []
+        → Refuses left refusal start now run → EndsFor (Err (stop.Fault (fault_of_trace refusal)))
+    refused : (f : Fault) (s : ServedWindow) → last ≡ s ∷ []
+        → fault_of_window s.batch.requests s.answer ≡ Some f → (IsPartFault f → Rose bay bay')
+        → ((v : ℕ) → f ≡ Versions v → HasRefusedWrite v s) → EndsFor (Err (stop.Fault f))
     memory : EndsFor (Err (stop.Fault Memory))
     sink_failed : Rose sink sink' → EndsFor (Err stop.Sink)

@@ -71,7 +71,8 @@ abbrev pub fault_of_reclaim : Option (ℕ × StepFault) → Option Fault
 fault_of_reclaim None = None
 fault_of_reclaim (Some (volume, f)) = Some (fault_of_step volume f)
 
--- want of memory of a request, or else the first refused request, or else the first refused step of reclaim
+-- want of memory of a request, or else the first refused request, or else the first refused step of
+-- reclaim
 abbrev pub fault_of_window : List Request → Window → Option Fault
 fault_of_window rs w =
     if list_any lacked_memory w.outcomes.items then Some Memory

@@ -44,29 +44,42 @@ borrow_of borrow (Generated g lines) = 0
 module _ {S : Type 0} (left : S → Option (List ℕ)) (targets : List Target) where
   -- these are the lines that came since, none of which is bad; a blank one is none
   abbrev pub HasGiven : (start now : Given S) → List (Option TraceLine) → Type 0
-  HasGiven (Trace r) (Trace q) ls = HasLinesBefore (pending left r) ls (pending left q) × (q.given ≡ r.given + length ls)
+  HasGiven (Trace r) (Trace q) ls =
+      HasLinesBefore (pending left r) ls (pending left q) × (q.given ≡ r.given + length ls)
   HasGiven (Trace r) (Generated h m) ls = ⊥
   HasGiven (Generated g n) (Trace q) ls = ⊥
   HasGiven (Generated g n) (Generated h m) ls =
-      (m ≡ n) × (h ≡ record g { given = g.given + length ls }) × (ls ≡ map (λ k. Some (line targets g.seed k)) (range_with_len g.given (length ls)))
+      (m ≡ n) × (h ≡ record g { given = g.given + length ls })
+      × (ls ≡ map (λ k. Some (line targets g.seed k)) (range_with_len g.given (length ls)))
 
   -- these are all that come
   abbrev pub HasGivenAll : (start now : Given S) → List (Option TraceLine) → Type 0
-  HasGivenAll (Trace r) (Trace q) ls = HasLines (pending left r) ls [] × (q.held ≡ []) × IsAtEnd (left q.source)
+  HasGivenAll (Trace r) (Trace q) ls =
+      HasLines (pending left r) ls [] × (q.held ≡ []) × IsAtEnd (left q.source)
   HasGivenAll (Trace r) (Generated h m) ls = ⊥
   HasGivenAll (Generated g n) (Trace q) ls = ⊥
-  HasGivenAll (Generated g n) (Generated h m) ls = (h.given ≡ n) × (ls ≡ map (λ k. Some (line targets g.seed k)) (range_with_len g.given (length ls)))
+  HasGivenAll (Generated g n) (Generated h m) ls =
+      (h.given ≡ n)
+      × (ls ≡ map (λ k. Some (line targets g.seed k)) (range_with_len g.given (length ls)))
 
--- what behind these lines of a trace is the cause of a fault: a bad line; more than 2^32 lines; of a source that failed no whole line is held back
-abbrev pub RefusesTrace : TraceFault → (trace left : Option (List ℕ)) → (held : List ℕ) → (earlier : ℕ) → List (Option TraceLine) → Type 0
-RefusesTrace fault.Source trace left held earlier ls = (list_any is_feed held ≡ false) × HasLinesBefore trace ls (prepend_known held left)
-RefusesTrace (fault.Bad line why) trace left held earlier ls = (more : List LineRead) × HasLines trace ls (Err why ∷ more) × (line ≡ earlier + length ls + 1)
-RefusesTrace fault.Spent trace left held earlier ls = (next : LineRead) × (more : List LineRead) × HasLines trace ls (next ∷ more) × (earlier + length ls ≡ 2 ^ 32)
+-- what behind these lines of a trace is the cause of a fault: a bad line; more than 2^32 lines; of
+-- a source that failed no whole line is held back
+abbrev pub RefusesTrace : TraceFault → (trace left : Option (List ℕ)) → (held : List ℕ)
+    → (earlier : ℕ) → List (Option TraceLine) → Type 0
+RefusesTrace fault.Source trace left held earlier ls =
+    (list_any is_feed held ≡ false) × HasLinesBefore trace ls (prepend_known held left)
+RefusesTrace (fault.Bad line why) trace left held earlier ls =
+    (more : List LineRead) × HasLines trace ls (Err why ∷ more) × (line ≡ earlier + length ls + 1)
+RefusesTrace fault.Spent trace left held earlier ls =
+    (next : LineRead) × (more : List LineRead) × HasLines trace ls (next ∷ more)
+    × (earlier + length ls ≡ 2 ^ 32)
 RefusesTrace fault.NoMemory trace left held earlier ls = ⊤
 
 -- the cause of a fault behind these lines; generated lines are refused for want of memory alone
-abbrev pub Refuses : {S : Type 0} → (S → Option (List ℕ)) → TraceFault → (start now : Given S) → List (Option TraceLine) → Type 0
-Refuses left e (Trace r) (Trace q) ls = RefusesTrace e (pending left r) (left q.source) q.held r.given ls
+abbrev pub Refuses : {S : Type 0} → (S → Option (List ℕ)) → TraceFault → (start now : Given S)
+    → List (Option TraceLine) → Type 0
+Refuses left e (Trace r) (Trace q) ls =
+    RefusesTrace e (pending left r) (left q.source) q.held r.given ls
 Refuses left e (Trace r) (Generated h m) ls = ⊥
 Refuses left e (Generated g n) (Trace q) ls = ⊥
 Refuses left e (Generated g n) (Generated h m) ls = e ≡ fault.NoMemory

@@ -28,11 +28,13 @@ use Rattle.replay.specs.Served.{ServedWindow}
 
 -- the answers to the requests of windows, in order
 abbrev pub answers_in : List ServedWindow → List Answered
-answers_in ss = flat_map (λ (s : ServedWindow). answers_to s.batch.requests s.answer.outcomes.items) ss
+answers_in ss =
+    flat_map (λ (s : ServedWindow). answers_to s.batch.requests s.answer.outcomes.items) ss
 
 -- the line of a read of these volumes, with its mark
 abbrev pub line_of_read : Config → Request → (mark : ℕ) → List ℕ
-line_of_read config r mark = read_text (Some (name_at (printed_names config.volumes.items) r.volume)) r.line r.first r.count mark
+line_of_read config r mark = read_text
+    (Some (name_at (printed_names config.volumes.items) r.volume)) r.line r.first r.count mark
 
 -- ---- Histories
 
@@ -60,8 +62,8 @@ next_at histories v = option_map_or next_after (slice_get histories v) 0
 abbrev pub view_at : List History → (v : ℕ) → List ℕ
 view_at histories v = option_map_or (λ (h : History). h.base.view) (slice_get histories v) []
 
--- The entries are a legal history of volume v, each of them follows the rules of placing and reclaim, and the worker read and wrote in
--- it what the answered requests of v ask for.
+-- The entries are a legal history of volume v, each of them follows the rules of placing and
+-- reclaim, and the worker read and wrote in it what the answered requests of v ask for.
 pub record IsHistory (told : Type 0) (answers : List Answered) (v : ℕ) (h : History) : Type 0 where
   pub owner : h.base.owner ≡ v
   pub opening : IsOpening h.base
@@ -70,27 +72,37 @@ pub record IsHistory (told : Type 0) (answers : List Answered) (v : ℕ) (h : Hi
   pub answered : AreAnsweredBy v answers (entries_of h.notes)
 
 -- One history of each volume. The answered requests of a volume are its first ones.
-pub record AreHistories (told : Type 0) (config : Config) (answers : List Answered) (histories : List History) : Type 0 where
+pub record AreHistories (told : Type 0) (config : Config) (answers : List Answered)
+    (histories : List History) : Type 0 where
   pub count : length histories ≡ length (shapes_of config)
   pub each : (v : ℕ) (h : History) → slice_get histories v ≡ Some h → IsHistory told answers v h
   pub first : (v : ℕ) → AreFirst v answers
 
--- How many of its requests each volume answered: all of those in `earlier`, the answers of the windows before the last; and why not all.
+-- How many of its requests each volume answered: all of those in `earlier`, the answers of the
+-- windows before the last; and why not all.
 abbrev pub CountAnswered : (earlier answers : List Answered) → (status : ℕ) → List History → Type 0
 CountAnswered earlier answers status histories =
-    AreAnswered (answered_count answers) (requests_in answers) (requests_in earlier) status (λ v. IsTrue (is_broken_at histories v)) (next_at histories)
+    AreAnswered (answered_count answers) (requests_in answers) (requests_in earlier) status
+    (λ v. IsTrue (is_broken_at histories v)) (next_at histories)
 
 -- each volume began with what the images recovered to as they read
 abbrev pub BeginAsRead : Config → (entry : Told) → List History → Type 0
-BeginAsRead config entry histories = (v : ℕ) (h : History) → slice_get histories v ≡ Some h → IsBegun config (images_read config entry) h.base
+BeginAsRead config entry histories = (v : ℕ) (h : History) → slice_get histories v ≡ Some h
+    → IsBegun config (images_read config entry) h.base
 
--- the lines of the answered reads have the marks of plain arrays that begin with what the images recovered to
+-- the lines of the answered reads have the marks of plain arrays that begin with what the images
+-- recovered to
 abbrev pub ArePlainMarks : Config → List Answered → (entry : Told) → Type 0
 ArePlainMarks config answers entry =
-    told_lines (line_of_read config) answers ≡ read_lines (line_of_read config) (recovered_from (shapes_of config) (images_read config entry)) (answered_count answers) (requests_in answers)
+    told_lines (line_of_read config) answers
+    ≡ read_lines (line_of_read config) (recovered_from (shapes_of config)
+    (images_read config entry)) (answered_count answers) (requests_in answers)
 
--- Where reclaim is done between windows or beside them nothing is left to reclaim behind a window, unless a call of a disk of the volume
--- failed; and no helper works but beside the requests.
-pub record LeavesReclaimed (mode : Reclaim) (windows : List ServedWindow) (histories : List History) : Type 0 where
-  pub idle : mode ≢ reclaim.Off → windows ≢ [] → (v : ℕ) (h : History) → slice_get histories v ≡ Some h → (IsTrue (is_broken h) → ⊥) → LeavesIdle h.base.look h.notes
-  pub alone : mode ≢ reclaim.Beside → (v : ℕ) (h : History) → slice_get histories v ≡ Some h → HasNoHelp h.notes
+-- Where reclaim is done between windows or beside them nothing is left to reclaim behind a window,
+-- unless a call of a disk of the volume failed; and no helper works but beside the requests.
+pub record LeavesReclaimed (mode : Reclaim) (windows : List ServedWindow)
+    (histories : List History) : Type 0 where
+  pub idle : mode ≢ reclaim.Off → windows ≢ [] → (v : ℕ) (h : History)
+      → slice_get histories v ≡ Some h → (IsTrue (is_broken h) → ⊥) → LeavesIdle h.base.look h.notes
+  pub alone : mode ≢ reclaim.Beside → (v : ℕ) (h : History) → slice_get histories v ≡ Some h
+      → HasNoHelp h.notes

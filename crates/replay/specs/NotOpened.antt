@@ -4,7 +4,8 @@ use Rattle.std.specs.Io.KnownBytes.{Keeps}
 pub use Rattle.open_rack.specs.NotOpened.{IsFirstClosed, IsOfCall, IsOpened, LeavesBay}
 
 -- no line was asked for, and nothing was printed
-pub record AsksNone {G : Type 0} (start now : G) (sink sink' : ℕ) (printed printed' : Option (List ℕ)) : Type 0 where
+pub record AsksNone {G : Type 0} (start now : G) (sink sink' : ℕ)
+    (printed printed' : Option (List ℕ)) : Type 0 where
   pub unread : now ≡ start
   pub calm : sink' ≡ sink
   pub kept : Keeps printed printed'

@@ -42,9 +42,12 @@ status_in (Err (stop.Fault f)) = status_of f
 
 -- ---- The whole
 
--- The lines `run` were run on the volumes of a bay, all of which were open, window by window: `earlier` those after which the run went
--- on, since nothing was refused in them, `last` the one in which it ended, if it ended in one.
-pub record Replays {S T : Type 0} (tells : Bool) (left : S → Option (List ℕ)) (config : Config) (options : Options) (start now : Given S) (old new : BayState) (result : Result T Stop) (sink sink' : ℕ)
+-- The lines `run` were run on the volumes of a bay, all of which were open, window by window:
+-- `earlier` those after which the run went on, since nothing was refused in them, `last` the one in
+-- which it ended, if it ended in one.
+pub record Replays {S T : Type 0} (tells : Bool) (left : S → Option (List ℕ)) (config : Config)
+    (options : Options) (start now : Given S) (old new : BayState) (result : Result T Stop)
+    (sink sink' : ℕ)
     (printed printed' : Option (List ℕ)) : Type 0 where
   pub run : List (Option TraceLine)
   pub more : List (Option TraceLine)
@@ -53,56 +56,84 @@ pub record Replays {S T : Type 0} (tells : Bool) (left : S → Option (List ℕ)
   pub last : List ServedWindow
   pub windows_ : AreWindowsOf config run (earlier ++ last)
   pub one : length last ≤ 1
-  -- the last window that was served is whole, and behind the one in which the run ended at most one line was read
+  -- the last window that was served is whole, and behind the one in which the run ended at most one
+  -- line was read
   pub whole : earlier ++ last ≢ [] → EndsWithWindow left config start now run more
   pub ahead : last ≢ [] → length more ≤ 1
   pub well : AllByRecursion WentWell earlier
   -- the requests of the windows are those of the lines
-  pub asked : requests_in (answers_in (earlier ++ last)) ≡ requests (most_of config) (targets_of config) run
+  pub asked : requests_in (answers_in (earlier ++ last))
+      ≡ requests (most_of config) (targets_of config) run
   pub ends : EndsFor left config start now run last old.faults new.faults sink sink' result
   pub histories : List History
   pub are : AreHistories (IsTrue tells) config (answers_in (earlier ++ last)) histories
   -- where a call of a disk of a volume failed, the bay's count rose
   pub cause : (v : ℕ) → IsTrue (is_broken_at histories v) → Rose old.faults new.faults
   -- where a part of a volume is at fault, a call of that very volume failed
-  pub part : (v : ℕ) (t : Trouble) → result ≡ Err (stop.Fault (Volume v t)) → IsTrue (is_broken_at histories v)
+  pub part : (v : ℕ) (t : Trouble) → result ≡ Err (stop.Fault (Volume v t))
+      → IsTrue (is_broken_at histories v)
   -- .. and the part of it that is told came back with a fault
   pub named : (v : ℕ) (t : Trouble) → result ≡ Err (stop.Fault (Volume v t))
-      → (h : History) × (slice_get histories v ≡ Some h) × (name : PartName) × (t ≡ trouble_of_part (part_named v name)) × IsTold (HasFaultyPart tells config v h.base.view name) old.told new.told
-  -- where versions ended a run, a volume's writes to logs took all of them, whatever failed afterwards
+      → (h : History) × (slice_get histories v ≡ Some h) × (name : PartName)
+      × (t ≡ trouble_of_part (part_named v name))
+      × IsTold (HasFaultyPart tells config v h.base.view name) old.told new.told
+  -- where versions ended a run, a volume's writes to logs took all of them, whatever failed
+  -- afterwards
   pub spent : (v : ℕ) → result ≡ Err (stop.Fault (Versions v)) → 2 ^ 63 ≤ next_at histories v
-  -- each volume was opened of an image that was accepted, and began with what the images recovered to
+  -- each volume was opened of an image that was accepted, and began with what the images recovered
+  -- to
   pub open_ : IsTrue tells → IsTold (λ entry left_. AreAllOpen config entry) old.told new.told
-  pub begun : IsTrue tells → IsTold (λ entry left_. BeginAsRead config entry histories) old.told new.told
-  -- the pools of free segments, by the entries of their locks since the volumes were opened: no more of a volume's entries passed over a
-  -- pool than its pass found that pool empty
+  pub begun : IsTrue tells
+      → IsTold (λ entry left_. BeginAsRead config entry histories) old.told new.told
+  -- the pools of free segments, by the entries of their locks since the volumes were opened: no
+  -- more of a volume's entries passed over a pool than its pass found that pool empty
   pub pools : (k : ℕ) → List Entry
-  pub are_pools : IsTrue tells → IsTold (λ entry left_. ArePools config entry pools) old.told new.told
-  pub passed : (v : ℕ) (h : History) → slice_get histories v ≡ Some h → PassesEmpty pools h.base h.notes
+  pub are_pools : IsTrue tells
+      → IsTold (λ entry left_. ArePools config entry pools) old.told new.told
+  pub passed : (v : ℕ) (h : History) → slice_get histories v ≡ Some h
+      → PassesEmpty pools h.base h.notes
   -- .. and of all pools together took no more segments than it wrote to logs, where no call failed
   pub taken : (v : ℕ) (h : History) → slice_get histories v ≡ Some h → TakesFew pools h.base h.notes
-  pub counts : CountAnswered (answers_in earlier) (answers_in (earlier ++ last)) (status_in result) histories
+  pub counts :
+      CountAnswered (answers_in earlier) (answers_in (earlier ++ last)) (status_in result) histories
   -- the writes that are counted are those of the histories
   pub placed : CountsPlaced (earlier ++ last) histories
   -- .. and so is what is counted of reclaim
   pub reclaimed : CountsReclaimed (earlier ++ last) histories
   pub reclaims : LeavesReclaimed options.reclaim (earlier ++ last) histories
-  -- what the worker and the keeper of each volume did, window by window; `awake` has what the spindles answered
+  -- what the worker and the keeper of each volume did, window by window; `awake` has what the
+  -- spindles answered
   pub awake : List (List Bool)
   pub worked : AreWorked options.reclaim (earlier ++ last) awake histories
-  -- each disk was awake as its journal says; where memory ran out a window may have begun of which nothing was run
-  pub disks : HaveAccounts config (view_at histories) run (earlier ++ last) awake ⊎ ((status_in result ≡ 9) × HaveShortAccounts config (view_at histories) run (earlier ++ last) awake)
+  -- each disk was awake as its journal says; where memory ran out a window may have begun of which
+  -- nothing was run
+  pub disks : HaveAccounts config (view_at histories) run (earlier ++ last) awake
+      ⊎ ((status_in result ≡ 9)
+      × HaveShortAccounts config (view_at histories) run (earlier ++ last) awake)
   -- at the end of the trace no call of a disk of a volume had failed
   pub unbroken : status_in result ≡ 0 → (v : ℕ) → is_broken_at histories v ≡ false
-  pub marks : IsTrue tells → IsTold (λ entry left_. ArePlainMarks config (answers_in (earlier ++ last)) entry) old.told new.told
-  pub images : IsTrue tells → IsTold (LeavesImages tells config (answers_in (earlier ++ last)) histories) old.told new.told
+  pub marks : IsTrue tells → IsTold
+      (λ entry left_. ArePlainMarks config (answers_in (earlier ++ last)) entry) old.told new.told
+  pub images : IsTrue tells → IsTold
+      (LeavesImages tells config (answers_in (earlier ++ last)) histories) old.told new.told
   pub summary : List ℕ
-  pub summary_is : IsSummaryOf left config (view_at histories) start now run (earlier ++ last) awake result summary
-  pub prints : PrintsRun result (lines_asked config options.each (answers_in (earlier ++ last))) summary sink sink' printed printed'
+  pub summary_is : IsSummaryOf left config (view_at histories) start now run (earlier ++ last) awake
+      result summary
+  pub prints : PrintsRun result (lines_asked config options.each (answers_in (earlier ++ last)))
+      summary sink sink' printed printed'
 
--- A run over a bay: there was no memory to open its volumes; or one of them couldn't be opened; or all were open.
-pub data Replayed {D S T : Type 0} (tells : Bool) (state : D → State) (left : S → Option (List ℕ)) (config : Config) (options : Options) (start now : Given S) (old new : BayState) (sink sink' : ℕ) (printed printed' : Option (List ℕ)) : Result T Stop → Type 0 where
-  no_memory : AsksNone start now sink sink' printed printed' → LeavesBay tells state config old new → Replayed tells state left config options start now old new sink sink' printed printed' (Err (stop.Fault Memory))
-  closed : (k : ℕ) (f : VolumeFault) → AsksNone start now sink sink' printed printed' → IsFirstClosed tells state config old new k f → LeavesBay tells state config old new
-      → Replayed tells state left config options start now old new sink sink' printed printed' (Err (stop.Fault (Volume k (trouble_of f))))
-  ran : (result : Result T Stop) → Replays tells left config options start now old new result sink sink' printed printed' → Replayed tells state left config options start now old new sink sink' printed printed' result
+-- A run over a bay: there was no memory to open its volumes; or one of them couldn't be opened; or
+-- all were open.
+pub data Replayed {D S T : Type 0} (tells : Bool) (state : D → State) (left : S → Option (List ℕ))
+    (config : Config) (options : Options) (start now : Given S) (old new : BayState)
+    (sink sink' : ℕ) (printed printed' : Option (List ℕ)) : Result T Stop → Type 0 where
+  no_memory : AsksNone start now sink sink' printed printed' → LeavesBay tells state config old new
+      → Replayed tells state left config options start now old new sink sink' printed printed'
+      (Err (stop.Fault Memory))
+  closed : (k : ℕ) (f : VolumeFault) → AsksNone start now sink sink' printed printed'
+      → IsFirstClosed tells state config old new k f → LeavesBay tells state config old new
+      → Replayed tells state left config options start now old new sink sink' printed printed'
+      (Err (stop.Fault (Volume k (trouble_of f))))
+  ran : (result : Result T Stop) → Replays tells left config options start now old new result sink
+      sink' printed printed' → Replayed tells state left config options start now old new sink sink'
+      printed printed' result

@@ -23,19 +23,23 @@ pub record HasStarted (at : ℕ) (p q : SpindlePass) : Type 0 where
   pub free : IsFree q
   pub mine : pass_mine q ≡ pass_mine p ++ (pass_number p, operation_of (Started at)) ∷ []
   -- behind what it had seen, and what other passes did since
-  pub seen : (before : List Entry) × Begins (pass_seen p) before × (pass_seen q ≡ before ++ (pass_number p, operation_of (Started at)) ∷ [])
+  pub seen : (before : List Entry) × Begins (pass_seen p) before
+      × (pass_seen q ≡ before ++ (pass_number p, operation_of (Started at)) ∷ [])
 
 -- so did each of them
 abbrev pub HaveStarted : (at : ℕ) → List SpindlePass → List SpindlePass → Type 0
-HaveStarted at ps qs = (k : ℕ) (d : SpindlePass) → k < length ps → HasStarted at (slice_index_or ps k d) (slice_index_or qs k d)
+HaveStarted at ps qs = (k : ℕ) (d : SpindlePass) → k < length ps
+    → HasStarted at (slice_index_or ps k d) (slice_index_or qs k d)
 
 -- each is still the same pass
 pub record AreSamePasses (ps qs : List SpindlePass) : Type 0 where
   pub count : length qs ≡ length ps
-  pub each : (k : ℕ) (d : SpindlePass) → k < length ps → IsSamePass (slice_index_or ps k d) (slice_index_or qs k d)
+  pub each : (k : ℕ) (d : SpindlePass) → k < length ps
+      → IsSamePass (slice_index_or ps k d) (slice_index_or qs k d)
 
 -- the account starts with the first window
-abbrev pub StartsOnce : (has_started : Bool) → (at : ℕ) → List SpindlePass → List SpindlePass → Type 0
+abbrev pub StartsOnce : (has_started : Bool) → (at : ℕ) → List SpindlePass → List SpindlePass
+    → Type 0
 StartsOnce true at ps qs = qs ≡ ps
 StartsOnce false at ps qs = HaveStarted at ps qs
 
@@ -67,7 +71,8 @@ pub record AreTotals (ss : List ServedWindow) (t : Totals) : Type 0 where
 
 module _ {D : Type 0} (tells : Bool) (mode : Reclaim) where
   -- the spindles and then the managers were told the window's moment, and its requests were run
-  pub record WasServed (s : ServedWindow) (f : Floor D) (ps : List SpindlePass) (g : Floor D) (qs : List SpindlePass) : Type 0 where
+  pub record WasServed (s : ServedWindow) (f : Floor D) (ps : List SpindlePass) (g : Floor D)
+      (qs : List SpindlePass) : Type 0 where
     pub awake : List Bool
     pub begun : Floor D
     pub spindles : HaveBegun s.batch.moment awake ps qs
@@ -76,26 +81,37 @@ module _ {D : Type 0} (tells : Bool) (mode : Reclaim) where
     pub run : HasRun tells s.batch.requests mode begun g s.answer
 
   -- so were these, one after another
-  abbrev pub WereServed : List ServedWindow → (f : Floor D) → List SpindlePass → (g : Floor D) → List SpindlePass → Type 0
+  abbrev pub WereServed : List ServedWindow → (f : Floor D) → List SpindlePass → (g : Floor D)
+      → List SpindlePass → Type 0
   WereServed [] f ps g qs = (g ≡ f) × (qs ≡ ps)
-  WereServed (s ∷ ss) f ps g qs = (h : Floor D) × (rs : List SpindlePass) × WasServed s f ps h rs × WereServed ss h rs g qs
+  WereServed (s ∷ ss) f ps g qs =
+      (h : Floor D) × (rs : List SpindlePass) × WasServed s f ps h rs × WereServed ss h rs g qs
 
   -- .. from the start of the account on
-  abbrev pub ServedFromStart : List ServedWindow → (f : Floor D) → List SpindlePass → (g : Floor D) → List SpindlePass → Type 0
+  abbrev pub ServedFromStart : List ServedWindow → (f : Floor D) → List SpindlePass → (g : Floor D)
+      → List SpindlePass → Type 0
   ServedFromStart [] f ps g qs = (g ≡ f) × (qs ≡ ps)
-  ServedFromStart (s ∷ ss) f ps g qs = (rs : List SpindlePass) × HaveStarted s.batch.moment ps rs × WereServed (s ∷ ss) f rs g qs
+  ServedFromStart (s ∷ ss) f ps g qs =
+      (rs : List SpindlePass) × HaveStarted s.batch.moment ps rs × WereServed (s ∷ ss) f rs g qs
 
 -- no request of a window was run, though it may have begun
 pub record WasNotRun {D : Type 0} (tells : Bool) (f g : Floor D) : Type 0 where
   pub desks : AreSameButRoom f.desks.items g.desks.items
   pub helpers : g.helpers ≡ f.helpers
   pub locks : g.locks ≡ f.locks
-  pub keepers : (g.keepers ≡ f.keepers) ⊎ ((awake : List Bool) × HaveBegunVolumes tells awake f.keepers.items g.keepers.items)
+  pub keepers : (g.keepers ≡ f.keepers)
+      ⊎ ((awake : List Bool) × HaveBegunVolumes tells awake f.keepers.items g.keepers.items)
 
--- What the keepers did behind windows, which had begun the account or not: nothing; or of a further window, of which no request was
--- run, they told the spindles the moment, and the managers too, unless memory ran out at a spindle.
-pub data Further {D : Type 0} (tells has_started : Bool) (f : Floor D) (ps : List SpindlePass) (g : Floor D) (qs : List SpindlePass) : Type 0 where
+-- What the keepers did behind windows, which had begun the account or not: nothing; or of a further
+-- window, of which no request was run, they told the spindles the moment, and the managers too,
+-- unless memory ran out at a spindle.
+pub data Further {D : Type 0} (tells has_started : Bool) (f : Floor D) (ps : List SpindlePass)
+    (g : Floor D) (qs : List SpindlePass) : Type 0 where
   none_further : g.keepers ≡ f.keepers → qs ≡ ps → Further tells has_started f ps g qs
-  fails_to_begin : (moment : ℕ) (start : List SpindlePass) → g.keepers ≡ f.keepers → StartsOnce has_started moment ps start → FailToBegin moment start qs → Further tells has_started f ps g qs
-  begins_alone : (moment : ℕ) (start : List SpindlePass) (awake : List Bool) → StartsOnce has_started moment ps start → HaveBegun moment awake start qs
-      → HaveBegunVolumes tells awake f.keepers.items g.keepers.items → Further tells has_started f ps g qs
+  fails_to_begin : (moment : ℕ) (start : List SpindlePass) → g.keepers ≡ f.keepers
+      → StartsOnce has_started moment ps start → FailToBegin moment start qs
+      → Further tells has_started f ps g qs
+  begins_alone : (moment : ℕ) (start : List SpindlePass) (awake : List Bool)
+      → StartsOnce has_started moment ps start → HaveBegun moment awake start qs
+      → HaveBegunVolumes tells awake f.keepers.items g.keepers.items
+      → Further tells has_started f ps g qs

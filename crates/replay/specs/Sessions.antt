@@ -47,7 +47,8 @@ pub record HasSizes (config : Config) (k : ℕ) (b : ManagerBase) : Type 0 where
 -- lock k is that of a manager of volume k, for each volume of the configuration
 pub record AreVolumes {D : Type 0} (config : Config) (ls : List (ManagerLock D)) : Type 0 where
   pub count : length ls ≡ length (targets_of config)
-  pub sizes : (k : ℕ) (l : ManagerLock D) → k < length ls → HasSizes config k (lock_id (slice_index_or ls k l)).base
+  pub sizes : (k : ℕ) (l : ManagerLock D) → k < length ls
+      → HasSizes config k (lock_id (slice_index_or ls k l)).base
 
 -- a floor on these shared locks, and the keepers of all their spindles
 pub record IsReady {D : Type 0} (shared : Shared D) (s : Session D) : Type 0 where
@@ -56,7 +57,8 @@ pub record IsReady {D : Type 0} (shared : Shared D) (s : Session D) : Type 0 whe
   pub keepers_ : AreKeepers shared s.keepers.items
 
 -- .. whose volumes are those of the configuration
-pub record IsSession {D : Type 0} (config : Config) (shared : Shared D) (s : Session D) : Type 0 where
+pub record IsSession {D : Type 0} (config : Config) (shared : Shared D) (s : Session D) :
+    Type 0 where
   pub ready : IsReady shared s
   pub volumes : AreVolumes config s.floor.locks.now
 
@@ -78,11 +80,13 @@ pub record HasFailedToBegin {D : Type 0} (moment : ℕ) (s n : Session D) : Type
   pub floor_ : n.floor ≡ s.floor
 
 -- a window was served
-pub record HasServed {D : Type 0} (tells : Bool) (options : Options) (b : Batched) (s n : Session D) : Type 0 where
+pub record HasServed {D : Type 0} (tells : Bool) (options : Options) (b : Batched)
+    (s n : Session D) : Type 0 where
   pub answer : Answer
   pub start : List SpindlePass
   pub starts : StartsOnce s.started b.moment s.keepers.items start
-  pub was : WasServed tells options.reclaim (record { batch = b; answer = answer }) s.floor start n.floor n.keepers.items
+  pub was : WasServed tells options.reclaim (record { batch = b; answer = answer }) s.floor start
+      n.floor n.keepers.items
   pub counted : CountsWindow answer s.totals n.totals
 
 -- the options can be had
@@ -91,7 +95,8 @@ AreOptions options = (1 ≤ options.workers) × (options.workers ≤ 64)
 
 -- the lines that are printed of a window
 abbrev pub lines_of_window : Config → Options → ServedWindow → List (List ℕ)
-lines_of_window config options s = asked_lines options.each (printed_names config.volumes.items) s.batch.requests s.answer.outcomes.items
+lines_of_window config options s = asked_lines options.each (printed_names config.volumes.items)
+    s.batch.requests s.answer.outcomes.items
 
 -- .. and of windows in order
 abbrev pub lines_of_windows : Config → Options → List ServedWindow → List (List ℕ)
@@ -99,57 +104,86 @@ lines_of_windows config options ss = flat_map (lines_of_window config options) s
 
 -- ---- Windows of a trace
 
--- these were served of these windows, one after another, with the requests numbered in order from `next` on
+-- these were served of these windows, one after another, with the requests numbered in order from
+-- `next` on
 abbrev pub AreServedFrom : Config → (next : ℕ) → List Window → List ServedWindow → Type 0
 AreServedFrom config next [] [] = ⊤
 AreServedFrom config next [] (s ∷ ss) = ⊥
 AreServedFrom config next (w ∷ ws) [] = ⊥
-AreServedFrom config next (w ∷ ws) (s ∷ ss) = IsBatchOf (most_of config) (targets_of config) next w s.batch × AreServedFrom config (next + length s.batch.requests) ws ss
+AreServedFrom config next (w ∷ ws) (s ∷ ss) =
+    IsBatchOf (most_of config) (targets_of config) next w s.batch
+    × AreServedFrom config (next + length s.batch.requests) ws ss
 
 abbrev pub AreServedOf : Config → List Window → List ServedWindow → Type 0
 AreServedOf config ws ss = AreServedFrom config 0 ws ss
 
 -- .. of all windows of these lines
 abbrev pub AreWindowsOf : Config → (run : List (Option TraceLine)) → List ServedWindow → Type 0
-AreWindowsOf config run ss = AreServedOf config (windows (most_of config) (targets_of config) run) ss
+AreWindowsOf config run ss =
+    AreServedOf config (windows (most_of config) (targets_of config) run) ss
 
--- The last window of the lines `run` has all of its lines: the line behind them opens a further one, or none comes any more.
-pub data EndsWithWindow {S : Type 0} (left : S → Option (List ℕ)) (config : Config) (start now : Given S) (run more : List (Option TraceLine)) : Type 0 where
-  opens : (line : Option TraceLine) (rest : List (Option TraceLine)) (w : Window) → more ≡ line ∷ rest → windows (most_of config) (targets_of config) (run ++ line ∷ []) ≡ windows (most_of config) (targets_of config) run ++ w ∷ [] → EndsWithWindow left config start now run more
-  at_end : HasGivenAll left (targets_of config) start now run → EndsWithWindow left config start now run more
-  at_refusal : (refusal : TraceFault) → refusal ≢ trace.NoMemory → Refuses left refusal start now run → EndsWithWindow left config start now run more
+-- The last window of the lines `run` has all of its lines: the line behind them opens a further
+-- one, or none comes any more.
+pub data EndsWithWindow {S : Type 0} (left : S → Option (List ℕ)) (config : Config)
+    (start now : Given S) (run more : List (Option TraceLine)) : Type 0 where
+  opens : (line : Option TraceLine) (rest : List (Option TraceLine)) (w : Window)
+      → more ≡ line ∷ rest → windows (most_of config) (targets_of config) (run ++ line ∷ [])
+      ≡ windows (most_of config) (targets_of config) run ++ w ∷ []
+      → EndsWithWindow left config start now run more
+  at_end : HasGivenAll left (targets_of config) start now run
+      → EndsWithWindow left config start now run more
+  at_refusal : (refusal : TraceFault) → refusal ≢ trace.NoMemory
+      → Refuses left refusal start now run → EndsWithWindow left config start now run more
 
 -- all requests of a window were answered, and no step of reclaim was refused
 abbrev pub WentWell : ServedWindow → Type 0
 WentWell s = fault_of_window s.batch.requests s.answer ≡ None
 
--- a request or a step of reclaim of a window was refused, or the lines of its reads couldn't all be printed
-abbrev pub StopsAfter : Stop → Config → Options → ServedWindow → (faults faults' : ℕ) → (printed new : Option (List ℕ)) → Type 0
+-- a request or a step of reclaim of a window was refused, or the lines of its reads couldn't all be
+-- printed
+abbrev pub StopsAfter : Stop → Config → Options → ServedWindow → (faults faults' : ℕ)
+    → (printed new : Option (List ℕ)) → Type 0
 StopsAfter e config options s faults faults' printed new =
-    ((refused : Fault) × (fault_of_window s.batch.requests s.answer ≡ Some refused) × (e ≡ stop.Fault refused) × (faults' ≡ faults)
+    ((refused : Fault) × (fault_of_window s.batch.requests s.answer ≡ Some refused)
+    × (e ≡ stop.Fault refused) × (faults' ≡ faults)
     × Appends printed new (joined_lines (lines_of_window config options s)))
     ⊎ CutsLines e (lines_of_window config options s) faults faults' printed new
 
 -- what was printed of a window, and whether the run goes on behind it
-abbrev pub Finishes : {T : Type 0} → Result T Stop → Config → Options → List Request → Answer → (faults faults' : ℕ) → (printed new : Option (List ℕ)) → Type 0
+abbrev pub Finishes : {T : Type 0} → Result T Stop → Config → Options → List Request → Answer
+    → (faults faults' : ℕ) → (printed new : Option (List ℕ)) → Type 0
 Finishes result config options rs answer faults faults' printed new =
     MatchResult result
-    (λ _. (fault_of_window rs answer ≡ None) × (faults' ≡ faults) × Appends printed new (joined_lines (asked_lines options.each (printed_names config.volumes.items) rs answer.outcomes.items)))
-    (λ e. ((refused : Fault) × (fault_of_window rs answer ≡ Some refused) × (e ≡ stop.Fault refused) × (faults' ≡ faults)
-    × Appends printed new (joined_lines (asked_lines options.each (printed_names config.volumes.items) rs answer.outcomes.items)))
-    ⊎ CutsLines e (asked_lines options.each (printed_names config.volumes.items) rs answer.outcomes.items) faults faults' printed new)
+    (λ _. (fault_of_window rs answer ≡ None) × (faults' ≡ faults)
+    × Appends printed new (joined_lines
+    (asked_lines options.each (printed_names config.volumes.items) rs answer.outcomes.items)))
+    (λ e. ((refused : Fault) × (fault_of_window rs answer ≡ Some refused) × (e ≡ stop.Fault refused)
+    × (faults' ≡ faults)
+    × Appends printed new (joined_lines
+    (asked_lines options.each (printed_names config.volumes.items) rs answer.outcomes.items)))
+    ⊎ CutsLines e (asked_lines options.each (printed_names config.volumes.items) rs
+    answer.outcomes.items) faults faults' printed new)
 
 -- the run goes on behind a window: it was served, all went well, and its lines were printed
-abbrev pub GoesOn : {D : Type 0} → (tells : Bool) → Config → Options → Batched → (s n : Session D) → (faults faults' : ℕ) → (printed new : Option (List ℕ)) → Type 0
+abbrev pub GoesOn : {D : Type 0} → (tells : Bool) → Config → Options → Batched → (s n : Session D)
+    → (faults faults' : ℕ) → (printed new : Option (List ℕ)) → Type 0
 GoesOn tells config options b s n faults faults' printed new =
-    (h : HasServed tells options b s n) × WentWell (record { batch = b; answer = h.answer }) × (faults' ≡ faults)
-    × Appends printed new (joined_lines (lines_of_window config options (record { batch = b; answer = h.answer })))
+    (h : HasServed tells options b s n) × WentWell (record { batch = b; answer = h.answer })
+    × (faults' ≡ faults)
+    × Appends printed new
+    (joined_lines (lines_of_window config options (record { batch = b; answer = h.answer })))
 
--- the run ends in a window: no request of it was run, for want of memory, or it was served and the run ends behind it
-abbrev pub EndsIn : {D : Type 0} → Stop → (tells : Bool) → Config → Options → Batched → (s n : Session D) → (faults faults' : ℕ) → (printed new : Option (List ℕ)) → Type 0
+-- the run ends in a window: no request of it was run, for want of memory, or it was served and the
+-- run ends behind it
+abbrev pub EndsIn : {D : Type 0} → Stop → (tells : Bool) → Config → Options → Batched
+    → (s n : Session D) → (faults faults' : ℕ) → (printed new : Option (List ℕ)) → Type 0
 EndsIn e tells config options b s n faults faults' printed new =
-    ((e ≡ stop.Fault Memory) × WasNotRun tells s.floor n.floor × Further tells s.started s.floor s.keepers.items n.floor n.keepers.items × (faults' ≡ faults) × Keeps printed new)
-    ⊎ ((h : HasServed tells options b s n) × StopsAfter e config options (record { batch = b; answer = h.answer }) faults faults' printed new)
+    ((e ≡ stop.Fault Memory) × WasNotRun tells s.floor n.floor
+    × Further tells s.started s.floor s.keepers.items n.floor n.keepers.items
+    × (faults' ≡ faults) × Keeps printed new)
+    ⊎ ((h : HasServed tells options b s n)
+    × StopsAfter e config options (record { batch = b; answer = h.answer }) faults faults'
+    printed new)
 
 -- some lines were taken
 pub record HasTaken (config : Config) (c : Cutting) : Type 0 where
@@ -158,25 +192,38 @@ pub record HasTaken (config : Config) (c : Cutting) : Type 0 where
   pub cut : HasCut (most_of config) (targets_of config) lines given c
 
 -- a line more was taken, and the next window is whole, as this batch
-abbrev pub Closes : Config → (ls : List (Option TraceLine)) → (ws : List Window) → Option TraceLine → Cutting → Window → Batched → Type 0
+abbrev pub Closes : Config → (ls : List (Option TraceLine)) → (ws : List Window) → Option TraceLine
+    → Cutting → Window → Batched → Type 0
 Closes config ls ws line c w b =
-    IsBatchOf (most_of config) (targets_of config) (next_number (most_of config) (targets_of config) ws) w b × HasCut (most_of config) (targets_of config) (ls ++ line ∷ []) (ws ++ w ∷ []) c
+    IsBatchOf (most_of config) (targets_of config)
+    (next_number (most_of config) (targets_of config) ws) w b
+    × HasCut (most_of config) (targets_of config) (ls ++ line ∷ []) (ws ++ w ∷ []) c
 
 -- a line more was taken; if it made a window whole that was served, and the run goes on
-abbrev pub TakesOn : {D : Type 0} → (tells : Bool) → Config → Options → (ls : List (Option TraceLine)) → (ws : List Window) → Option TraceLine → Cutting → (s n : Session D) → (faults faults' : ℕ) → (printed new : Option (List ℕ)) → Type 0
+abbrev pub TakesOn : {D : Type 0} → (tells : Bool) → Config → Options
+    → (ls : List (Option TraceLine)) → (ws : List Window) → Option TraceLine → Cutting
+    → (s n : Session D) → (faults faults' : ℕ) → (printed new : Option (List ℕ)) → Type 0
 TakesOn tells config options ls ws line c s n faults faults' printed new =
-    (HasCut (most_of config) (targets_of config) (ls ++ line ∷ []) ws c × (n ≡ s) × (faults' ≡ faults) × Keeps printed new)
-    ⊎ ((w : Window) × (b : Batched) × Closes config ls ws line c w b × (n.started ≡ true) × GoesOn tells config options b s n faults faults' printed new)
+    (HasCut (most_of config) (targets_of config) (ls ++ line ∷ []) ws c × (n ≡ s)
+    × (faults' ≡ faults) × Keeps printed new)
+    ⊎ ((w : Window) × (b : Batched) × Closes config ls ws line c w b × (n.started ≡ true)
+    × GoesOn tells config options b s n faults faults' printed new)
 
 -- there was no memory for the line, or the run ends in the window that it made whole
-abbrev pub StopsAtLine : {D : Type 0} → Stop → (tells : Bool) → Config → Options → (ls : List (Option TraceLine)) → (ws : List Window) → Option TraceLine → Cutting → (s n : Session D) → (faults faults' : ℕ) → (printed new : Option (List ℕ)) → Type 0
+abbrev pub StopsAtLine : {D : Type 0} → Stop → (tells : Bool) → Config → Options
+    → (ls : List (Option TraceLine)) → (ws : List Window) → Option TraceLine → Cutting
+    → (s n : Session D) → (faults faults' : ℕ) → (printed new : Option (List ℕ)) → Type 0
 StopsAtLine e tells config options ls ws line c s n faults faults' printed new =
     ((e ≡ stop.Fault Memory) × (n ≡ s) × (faults' ≡ faults) × Keeps printed new)
-    ⊎ ((w : Window) × (b : Batched) × Closes config ls ws line c w b × EndsIn e tells config options b s n faults faults' printed new)
+    ⊎ ((w : Window) × (b : Batched) × Closes config ls ws line c w b
+    × EndsIn e tells config options b s n faults faults' printed new)
 
-module _ {D S : Type 0} (tells : Bool) (left : S → Option (List ℕ)) (config : Config) (options : Options) (start : Given S) where
+module _ {D S : Type 0} (tells : Bool) (left : S → Option (List ℕ)) (config : Config)
+    (options : Options) (start : Given S) where
   -- The trace was served to its end.
-  pub record ServesWhole (now : Given S) (f : Floor D) (ps : List SpindlePass) (g : Floor D) (qs : List SpindlePass) (counted : Counted) (faults faults' : ℕ) (printed new : Option (List ℕ)) : Type 0 where
+  pub record ServesWhole (now : Given S) (f : Floor D) (ps : List SpindlePass) (g : Floor D)
+      (qs : List SpindlePass) (counted : Counted) (faults faults' : ℕ)
+      (printed new : Option (List ℕ)) : Type 0 where
     pub lines : List (Option TraceLine)
     pub given : HasGiven left (targets_of config) start now lines
     pub all : HasGivenAll left (targets_of config) start now lines
@@ -196,27 +243,38 @@ module _ {D S : Type 0} (tells : Bool) (left : S → Option (List ℕ)) (config 
     pub prints : Appends printed new (joined_lines (lines_of_windows config options served))
 
   -- why a trace wasn't served to its end: behind the windows before, or in the last one
-  abbrev pub EndsBy : Stop → (now : Given S) → (run more : List (Option TraceLine)) → (last : List ServedWindow) → (h : Floor D) → List SpindlePass → (g : Floor D) → List SpindlePass
+  abbrev pub EndsBy : Stop → (now : Given S) → (run more : List (Option TraceLine))
+      → (last : List ServedWindow) → (h : Floor D) → List SpindlePass → (g : Floor D)
+      → List SpindlePass
       → (faults faults' : ℕ) → (printed new : Option (List ℕ)) → Type 0
-  -- no further line came, and all before were run; or there was no memory for a line, or for running a window
+  -- no further line came, and all before were run; or there was no memory for a line, or for
+  -- running a window
   EndsBy e now run more [] h ms g qs faults faults' printed new =
       (faults' ≡ faults) × Keeps printed new
-      × (((refusal : TraceFault) × (refusal ≢ trace.NoMemory) × (e ≡ stop.Fault (fault_of_trace refusal)) × (more ≡ []) × Refuses left refusal start now run × (g ≡ h) × (qs ≡ ms))
+      × (((refusal : TraceFault) × (refusal ≢ trace.NoMemory)
+      × (e ≡ stop.Fault (fault_of_trace refusal)) × (more ≡ [])
+      × Refuses left refusal start now run × (g ≡ h) × (qs ≡ ms))
       ⊎ ((e ≡ stop.Fault Memory) × WasNotRun tells h g))
   -- the window that was served last ended it
-  EndsBy e now run more (s ∷ []) h ms g qs faults faults' printed new = (g ≡ h) × (qs ≡ ms) × StopsAfter e config options s faults faults' printed new
+  EndsBy e now run more (s ∷ []) h ms g qs faults faults' printed new =
+      (g ≡ h) × (qs ≡ ms) × StopsAfter e config options s faults faults' printed new
   EndsBy e now run more (s ∷ t ∷ others) h ms g qs faults faults' printed new = ⊥
 
-  -- The trace wasn't served to its end. The lines `run` were run: their windows were served, and of those before the last one all requests were answered.
-  pub record ServesSome (e : Stop) (now : Given S) (f : Floor D) (ps : List SpindlePass) (g : Floor D) (qs : List SpindlePass) (faults faults' : ℕ) (printed new : Option (List ℕ)) : Type 0 where
+  -- The trace wasn't served to its end. The lines `run` were run: their windows were served, and of
+  -- those before the last one all requests were answered.
+  pub record ServesSome (e : Stop) (now : Given S) (f : Floor D) (ps : List SpindlePass)
+      (g : Floor D) (qs : List SpindlePass) (faults faults' : ℕ) (printed new : Option (List ℕ)) :
+      Type 0 where
     pub run : List (Option TraceLine)
     pub more : List (Option TraceLine)
     pub given : HasGiven left (targets_of config) start now (run ++ more)
-    -- the windows behind which the run went on, and the one behind which it ended, if it ended behind one
+    -- the windows behind which the run went on, and the one behind which it ended, if it ended
+    -- behind one
     pub earlier : List ServedWindow
     pub last : List ServedWindow
     pub are : AreWindowsOf config run (earlier ++ last)
-    -- the last window that was served is whole, and behind the one that ended the run at most one line was read
+    -- the last window that was served is whole, and behind the one that ended the run at most one
+    -- line was read
     pub whole : earlier ++ last ≢ [] → EndsWithWindow left config start now run more
     pub ahead : last ≢ [] → length more ≤ 1
     pub well : AllByRecursion WentWell earlier
@@ -224,7 +282,8 @@ module _ {D S : Type 0} (tells : Bool) (left : S → Option (List ℕ)) (config 
     pub between : List SpindlePass
     pub from_start : ServedFromStart tells options.reclaim (earlier ++ last) f ps middle between
     pub then : Option (List ℕ)
-    pub printed_before : Appends printed then (joined_lines (lines_of_windows config options earlier))
+    pub printed_before : Appends printed
+        then (joined_lines (lines_of_windows config options earlier))
     pub ends : EndsBy e now run more last middle between g qs faults faults' then new
     -- what the keepers did behind these windows
     pub further : Further tells (not (is_none_served (earlier ++ last))) middle between g qs

@@ -1,4 +1,5 @@
--- What a run over open volumes prints: the lines of the answered reads, and the summary with the account of each disk.
+-- What a run over open volumes prints: the lines of the answered reads, and the summary with the
+-- account of each disk.
 use Rattle.std.specs.Prelude.{◌≡◌, ◌≢◌, ◌⊎◌, ◌++◌, ◌-◌, ℕ, Bool, true, false, is_none, count_by, List, [], ◌∷◌, length, map, not, take, Option, Some, slice_get, slice_index_or, Result, Ok, Err, Contains}
 use Rattle.std.specs.Io.KnownBytes.{Appends}
 use Rattle.wol_disk.specs.Disk.{Rose}
@@ -30,10 +31,12 @@ use Rattle.wol_config.specs.Configs.{most_of}
 
 -- ---- The account
 
--- The journal of the disk of volume k, with the configured timeout, is that of some uses. Among them the keeper's are these, and it was told
--- so whether the disk was awake; all other passes made accesses alone, each of which ended, and are those of volume k and of the volumes
--- whose views name it.
-pub record IsAccountBy (config : Config) (views : ℕ → List ℕ) (k : ℕ) (by : List Use) (told : List Bool) (s : SpindleView) : Type 0 where
+-- The journal of the disk of volume k, with the configured timeout, is that of some uses. Among
+-- them the keeper's are these, and it was told so whether the disk was awake; all other passes made
+-- accesses alone, each of which ended, and are those of volume k and of the volumes whose views
+-- name it.
+pub record IsAccountBy (config : Config) (views : ℕ → List ℕ) (k : ℕ) (by : List Use)
+    (told : List Bool) (s : SpindleView) : Type 0 where
   pub volume : s.volume ≡ k
   pub timeout_is : s.timeout ≡ config.timeout
   pub uses : List (ℕ × Use)
@@ -50,48 +53,66 @@ pub record IsAccountBy (config : Config) (views : ℕ → List ℕ) (k : ℕ) (b
 abbrev pub column : (k : ℕ) → (awake : List (List Bool)) → List Bool
 column k awake = map (λ (a : List Bool). slice_index_or a k false) awake
 
--- the keeper's uses in windows at these moments: it began the account and each window; without a window it did nothing
+-- the keeper's uses in windows at these moments: it began the account and each window; without a
+-- window it did nothing
 abbrev pub window_uses : (start : ℕ) → (moments : List ℕ) → List Use
 window_uses start [] = []
 window_uses start (m ∷ moments) = keeper_uses start (m ∷ moments)
 
-abbrev pub IsAccount : Config → (views : ℕ → List ℕ) → (k start : ℕ) → (moments : List ℕ) → (awake : List (List Bool)) → SpindleView → Type 0
-IsAccount config views k start moments awake s = IsAccountBy config views k (window_uses start moments) (column k awake) s
+abbrev pub IsAccount : Config → (views : ℕ → List ℕ) → (k start : ℕ) → (moments : List ℕ)
+    → (awake : List (List Bool)) → SpindleView → Type 0
+IsAccount config views k start moments awake s =
+    IsAccountBy config views k (window_uses start moments) (column k awake) s
 
--- The disks of a run of these lines in these windows, each with its account from the first moment on.
-pub record HaveAccounts (config : Config) (views : ℕ → List ℕ) (lines : List (Option TraceLine)) (windows : List ServedWindow) (awake : List (List Bool)) : Type 0 where
+-- The disks of a run of these lines in these windows, each with its account from the first moment
+-- on.
+pub record HaveAccounts (config : Config) (views : ℕ → List ℕ) (lines : List (Option TraceLine))
+    (windows : List ServedWindow) (awake : List (List Bool)) : Type 0 where
   pub spindles : List SpindleView
   pub count : length spindles ≡ length config.volumes.items
-  pub each : (k : ℕ) (s : SpindleView) → slice_get spindles k ≡ Some s → IsAccount config views k (started (timed lines)) (map (λ (w : ServedWindow). w.batch.moment) windows) awake s
+  pub each : (k : ℕ) (s : SpindleView) → slice_get spindles k ≡ Some s
+      → IsAccount config views k (started (timed lines))
+      (map (λ (w : ServedWindow). w.batch.moment) windows) awake s
 
 -- .. where a further window, at this moment, was the first if there was none
 abbrev pub started_uses : (start moment : ℕ) → (moments : List ℕ) → List Use
 started_uses start moment [] = Started moment ∷ []
 started_uses start moment (m ∷ moments) = keeper_uses start (m ∷ moments)
 
--- Memory ran out as a window began at this moment, behind these uses and answers: at disk k the keeper had no turn of it, or its turn
--- changed nothing, or it began the window and was told whether the disk was awake.
-pub data IsCutShort (config : Config) (views : ℕ → List ℕ) (k moment : ℕ) (by : List Use) (told : List Bool) (s : SpindleView) : Type 0 where
+-- Memory ran out as a window began at this moment, behind these uses and answers: at disk k the
+-- keeper had no turn of it, or its turn changed nothing, or it began the window and was told
+-- whether the disk was awake.
+pub data IsCutShort (config : Config) (views : ℕ → List ℕ) (k moment : ℕ) (by : List Use)
+    (told : List Bool) (s : SpindleView) : Type 0 where
   no_turn : IsAccountBy config views k by told s → IsCutShort config views k moment by told s
-  stayed : IsAccountBy config views k (by ++ Stayed ∷ []) told s → IsCutShort config views k moment by told s
-  began : (awake : Bool) → IsAccountBy config views k (by ++ Began moment ∷ []) (told ++ awake ∷ []) s → IsCutShort config views k moment by told s
+  stayed : IsAccountBy config views k (by ++ Stayed ∷ []) told s
+      → IsCutShort config views k moment by told s
+  began : (awake : Bool) → IsAccountBy config views k (by ++ Began moment ∷ []) (told ++ awake ∷ [])
+      s → IsCutShort config views k moment by told s
 
 -- a keeper's uses before a further window at this moment, behind these windows
 abbrev pub uses_before : List (Option TraceLine) → List ServedWindow → (moment : ℕ) → List Use
-uses_before lines windows moment = started_uses (started (timed lines)) moment (map (λ (w : ServedWindow). w.batch.moment) windows)
+uses_before lines windows moment =
+    started_uses (started (timed lines)) moment (map (λ (w : ServedWindow). w.batch.moment) windows)
 
--- The disks of a run of which a further window began, at one moment, without a request that was run: at some disks alone; or at each, and
--- then the managers were told which were awake.
-pub record HaveShortAccounts (config : Config) (views : ℕ → List ℕ) (lines : List (Option TraceLine)) (windows : List ServedWindow) (awake : List (List Bool)) : Type 0 where
+-- The disks of a run of which a further window began, at one moment, without a request that was
+-- run: at some disks alone; or at each, and then the managers were told which were awake.
+pub record HaveShortAccounts (config : Config) (views : ℕ → List ℕ)
+    (lines : List (Option TraceLine)) (windows : List ServedWindow) (awake : List (List Bool)) :
+    Type 0 where
   pub spindles : List SpindleView
   pub count : length spindles ≡ length config.volumes.items
   pub moment : ℕ
-  pub each : ((k : ℕ) (s : SpindleView) → slice_get spindles k ≡ Some s → IsCutShort config views k moment (uses_before lines windows moment) (column k awake) s)
-      ⊎ ((k : ℕ) (s : SpindleView) → slice_get spindles k ≡ Some s → IsAccountBy config views k (uses_before lines windows moment ++ Began moment ∷ []) (column k awake) s)
+  pub each : ((k : ℕ) (s : SpindleView) → slice_get spindles k ≡ Some s
+      → IsCutShort config views k moment (uses_before lines windows moment) (column k awake) s)
+      ⊎ ((k : ℕ) (s : SpindleView) → slice_get spindles k ≡ Some s
+      → IsAccountBy config views k (uses_before lines windows moment ++ Began moment ∷ [])
+      (column k awake) s)
 
--- The summary of these lines and the windows that were served of them: what is counted, and what each disk used from the start of the
--- account to its end.
-pub record IsSummary (config : Config) (views : ℕ → List ℕ) (lines : List (Option TraceLine)) (windows : List ServedWindow) (awake : List (List Bool)) (text : List ℕ) : Type 0 where
+-- The summary of these lines and the windows that were served of them: what is counted, and what
+-- each disk used from the start of the account to its end.
+pub record IsSummary (config : Config) (views : ℕ → List ℕ) (lines : List (Option TraceLine))
+    (windows : List ServedWindow) (awake : List (List Bool)) (text : List ℕ) : Type 0 where
   pub totals : Totals
   pub spindles : List SpindleView
   pub line_count : totals.lines ≡ length lines
@@ -100,15 +121,26 @@ pub record IsSummary (config : Config) (views : ℕ → List ℕ) (lines : List 
   pub span : totals.span ≡ ended (timed lines) - started (timed lines)
   pub counted : AreTotals windows totals
   -- all requests of the lines were answered
-  pub reads : totals.reads ≡ count_by (λ (r : Request). not (is_write r.kind)) (requests (most_of config) (targets_of config) lines)
-  pub writes : totals.writes ≡ count_by (λ (r : Request). is_write r.kind) (requests (most_of config) (targets_of config) lines)
+  pub reads : totals.reads ≡ count_by (λ (r : Request). not (is_write r.kind))
+      (requests (most_of config) (targets_of config) lines)
+  pub writes : totals.writes ≡ count_by (λ (r : Request). is_write r.kind)
+      (requests (most_of config) (targets_of config) lines)
   pub each : length spindles ≡ length config.volumes.items
-  pub accounts : (k : ℕ) (s : SpindleView) → slice_get spindles k ≡ Some s → IsAccount config views k (started (timed lines)) (map (λ (w : ServedWindow). w.batch.moment) windows) awake s
-  pub text_is : text ≡ summary_text totals (printed_names config.volumes.items) (all_amounts config.powers (started (timed lines)) (ended (timed lines)) spindles)
+  pub accounts : (k : ℕ) (s : SpindleView) → slice_get spindles k ≡ Some s
+      → IsAccount config views k (started (timed lines))
+      (map (λ (w : ServedWindow). w.batch.moment) windows) awake s
+  pub text_is : text ≡ summary_text totals (printed_names config.volumes.items)
+      (all_amounts config.powers (started (timed lines)) (ended (timed lines)) spindles)
 
 -- the summary of a trace that was run to its end; else nothing, and then the run ended with a fault
-pub data IsSummaryOf {S T : Type 0} (left : S → Option (List ℕ)) (config : Config) (views : ℕ → List ℕ) (start now : Given S) (lines : List (Option TraceLine)) (windows : List ServedWindow) (awake : List (List Bool)) : Result T Stop → (text : List ℕ) → Type 0 where
-  of_all : (result : Result T Stop) (text : List ℕ) → HasGivenAll left (targets_of config) start now lines → IsSummary config views lines windows awake text → IsSummaryOf left config views start now lines windows awake result text
+pub data IsSummaryOf {S T : Type 0} (left : S → Option (List ℕ)) (config : Config)
+    (views : ℕ → List ℕ) (start now : Given S) (lines : List (Option TraceLine))
+    (windows : List ServedWindow) (awake : List (List Bool)) : Result T Stop → (text : List ℕ)
+    → Type 0 where
+  of_all : (result : Result T Stop) (text : List ℕ)
+      → HasGivenAll left (targets_of config) start now lines
+      → IsSummary config views lines windows awake text
+      → IsSummaryOf left config views start now lines windows awake result text
   of_none : (e : Stop) → IsSummaryOf left config views start now lines windows awake (Err e) []
 
 -- ---- Texts
@@ -118,10 +150,15 @@ abbrev pub lines_asked : Config → (each : Bool) → List Answered → List (Li
 lines_asked config true answers = told_lines (line_of_read config) answers
 lines_asked config false answers = []
 
--- What the sink took: at the end of the trace the lines and the summary; at a fault the lines; for want of memory some first lines, each
--- of them whole; where it failed, a front of the lines and the summary.
-abbrev pub PrintsRun : {T : Type 0} → Result T Stop → (lines : List (List ℕ)) → (summary : List ℕ) → (faults faults' : ℕ) → (printed new : Option (List ℕ)) → Type 0
-PrintsRun (Ok _) lines summary faults faults' printed new = (faults' ≡ faults) × Appends printed new (joined_lines lines ++ summary)
-PrintsRun (Err stop.Sink) lines summary faults faults' printed new = Rose faults faults' × AppendsFront printed new (joined_lines lines ++ summary)
+-- What the sink took: at the end of the trace the lines and the summary; at a fault the lines; for
+-- want of memory some first lines, each of them whole; where it failed, a front of the lines and
+-- the summary.
+abbrev pub PrintsRun : {T : Type 0} → Result T Stop → (lines : List (List ℕ)) → (summary : List ℕ)
+    → (faults faults' : ℕ) → (printed new : Option (List ℕ)) → Type 0
+PrintsRun (Ok _) lines summary faults faults' printed new =
+    (faults' ≡ faults) × Appends printed new (joined_lines lines ++ summary)
+PrintsRun (Err stop.Sink) lines summary faults faults' printed new =
+    Rose faults faults' × AppendsFront printed new (joined_lines lines ++ summary)
 PrintsRun (Err (stop.Fault f)) lines summary faults faults' printed new =
-    (faults' ≡ faults) × (((f ≢ Memory) × Appends printed new (joined_lines lines)) ⊎ ((f ≡ Memory) × (k : ℕ) × Appends printed new (joined_lines (take k lines))))
+    (faults' ≡ faults) × (((f ≢ Memory) × Appends printed new (joined_lines lines))
+    ⊎ ((f ≡ Memory) × (k : ℕ) × Appends printed new (joined_lines (take k lines))))

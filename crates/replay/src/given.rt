@@ -39,20 +39,32 @@ impl<S: Source> Given<S> {
         requires live { IsLive self.old }
         requires valid { IsValid config.now }
         ensures live { OnOk result (IsLive self.new) }
-        ensures count { IfOk result (λ o. IfSome o (λ l. given_count self.new ≡ given_count self.old + 1)) }
+        ensures count { IfOk result
+            (λ o. IfSome o (λ l. given_count self.new ≡ given_count self.old + 1)) }
         ensures most { given_count self.new ≤ 2 ^ 32 }
         ensures within { IsWithin self.new }
         // whatever lines came before, this is the next one
-        ensures line { IfOk result (λ o. IfSome o (λ l. (start : _) (ls : List _) → HasGiven S.left (targets_of config.now) start self.old ls
-            → HasGiven S.left (targets_of config.now) start self.new (ls ++ option_map trace_line l ∷ []))) }
+        ensures line { IfOk result (λ o.
+            IfSome o (λ l. (start : _) (ls : List _)
+            → HasGiven S.left (targets_of config.now) start self.old ls
+            → HasGiven S.left (targets_of config.now) start self.new
+            (ls ++ option_map trace_line l ∷ []))) }
         ensures fits { IfOk result (λ o. IfSome o (λ l. IfSome l (λ v. Fits (trace_line v)))) }
-        ensures end { IfOk result (λ o. IfNone o ((start : _) (ls : List _) → HasGiven S.left (targets_of config.now) start self.old ls
-            → HasGiven S.left (targets_of config.now) start self.new ls × HasGivenAll S.left (targets_of config.now) start self.new ls)) }
-        ensures refused { IfErr result (λ e. (start : _) (ls : List _) → HasGiven S.left (targets_of config.now) start self.old ls
-            → HasGiven S.left (targets_of config.now) start self.new ls × Refuses S.left e start self.new ls) }
+        ensures end { IfOk result (λ o.
+            IfNone o
+            ((start : _) (ls : List _)
+            → HasGiven S.left (targets_of config.now) start self.old ls
+            → HasGiven S.left (targets_of config.now) start self.new ls
+            × HasGivenAll S.left (targets_of config.now) start self.new ls)) }
+        ensures refused { IfErr result (λ e. (start : _) (ls : List _)
+            → HasGiven S.left (targets_of config.now) start self.old ls
+            → HasGiven S.left (targets_of config.now) start self.new ls
+            × Refuses S.left e start self.new ls) }
         ensures later { faults_of S.faults self.old ≤ faults_of S.faults self.new }
-        ensures cause { result ≡ Err TraceFault.Source → Rose (faults_of S.faults self.old) (faults_of S.faults self.new) }
-        ensures calm { result ≢ Err TraceFault.Source → faults_of S.faults self.new ≡ faults_of S.faults self.old }
+        ensures cause { result ≡ Err TraceFault.Source
+            → Rose (faults_of S.faults self.old) (faults_of S.faults self.new) }
+        ensures calm { result ≢ Err TraceFault.Source
+            → faults_of S.faults self.new ≡ faults_of S.faults self.old }
         ensures same_borrow { borrow_of S.borrow self.new ≡ borrow_of S.borrow self.old }
     {
         match self {

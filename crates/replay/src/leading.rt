@@ -89,14 +89,19 @@ fn lead_beside<
     let (_, served) = join_mut(
         rt,
         &mut ||
-            requires { (length workers.now ≡ length errands.now) × AreWaiting errands.now workers.now }
+            requires { (length workers.now ≡ length errands.now)
+                × AreWaiting errands.now workers.now }
         { work_all(rt, errands, gate, workers) },
         &mut || -> Result<Counted, Stop>
-            requires { IsValid config.now × IsNew given.now × IsSession config.now shared.now session.now
-                × (session.now.started ≡ false) × (session.now.totals ≡ no_totals) × IsCrew crew.now }
-            ensures { HasLed D.tells S.left S.faults S.borrow config.entry.now shared.entry.now options
+            requires { IsValid config.now × IsNew given.now
+                × IsSession config.now shared.now session.now
+                × (session.now.started ≡ false) × (session.now.totals ≡ no_totals)
+                × IsCrew crew.now }
+            ensures { HasLed D.tells S.left S.faults S.borrow config.entry.now shared.entry.now
+                options
                 given.entry.now given.exit.now session.entry.now session.exit.now result
-                (K.faults out.entry.now) (K.faults out.exit.now) (K.taken out.entry.now) (K.taken out.exit.now) }
+                (K.faults out.entry.now) (K.faults out.exit.now) (K.taken out.entry.now)
+                (K.taken out.exit.now) }
         {
             lead(
                 rt, alloc, config, options, shared, given, out, crew, session,

@@ -26,7 +26,8 @@ const CHUNK_BYTES: usize = 8_192;
 
 // Writes a text that has so many bytes to the sink, and empties it. A shorter one stays as it is.
 fn hand_on<K: Sink>(out: &mut K, text: &mut Vec<u8>, least: usize) -> Result<(), Failed>
-    ensures ok { OnOk result (HandsOn (K.taken out.old) (K.taken out.new) text.old.items text.new.items) }
+    ensures ok { OnOk result
+        (HandsOn (K.taken out.old) (K.taken out.new) text.old.items text.new.items) }
     ensures left { OnOk result ((length text.new.items < least) ⊎ (text.new.items ≡ [])) }
     ensures err { OnErr result (AppendsFront (K.taken out.old) (K.taken out.new) text.old.items) }
     ensures later { K.faults out.old ≤ K.faults out.new }
@@ -49,7 +50,9 @@ fn append_read(
     text: &mut Vec<u8>,
 ) -> Result<(), NoMemory>
     requires volume { request.now.volume < length config.now.volumes.items }
-    ensures ok { OnOk result (text.new.items ≡ text.old.items ++ joined_lines (line_of_outcome (printed_names config.now.volumes.items) request.now outcome.now)) }
+    ensures ok { OnOk result (text.new.items
+        ≡ text.old.items ++ joined_lines
+        (line_of_outcome (printed_names config.now.volumes.items) request.now outcome.now)) }
     ensures err { OnErr result (text.new.items ≡ text.old.items) }
 {
     let Outcome::Read { mark, .. } = *outcome else {
@@ -76,7 +79,9 @@ pub(crate) fn print_reads<K: Sink>(
 ) -> Result<(), Stop>
     requires volumes { All (λ (r : _). r.volume < length config.now.volumes.items) requests.now }
     requires count { length outcomes.now ≡ length requests.now }
-    ensures prints { PrintsLines result (lines_of_outcomes (printed_names config.now.volumes.items) requests.now outcomes.now) (K.faults out.old) (K.faults out.new) (K.taken out.old) (K.taken out.new) }
+    ensures prints { PrintsLines result
+        (lines_of_outcomes (printed_names config.now.volumes.items) requests.now outcomes.now)
+        (K.faults out.old) (K.faults out.new) (K.taken out.old) (K.taken out.new) }
     ensures later { K.faults out.old ≤ K.faults out.new }
 {
     let mut text = Vec::new(alloc);
@@ -95,9 +100,12 @@ fn amounts_of(
     spindles: &[Spindle],
     counted: &Counted,
 ) -> Result<Vec<Amounts>, NoMemory>
-    requires journals { All (λ (s : SpindleView). IsJournal counted.now.started s.journal counted.now.ended) spindles.now }
+    requires journals { All (λ (s : SpindleView).
+        IsJournal counted.now.started s.journal counted.now.ended) spindles.now }
     requires powers { ArePowers powers.now }
-    ensures amounts { IfOk result (λ amounts. amounts.items ≡ all_amounts powers.now counted.now.started counted.now.ended spindles.now) }
+    ensures amounts { IfOk result (λ amounts.
+        amounts.items
+        ≡ all_amounts powers.now counted.now.started counted.now.ended spindles.now) }
     ensures units { IfOk result (λ amounts. units_of amounts.items ≤ length spindles.now * 2 ^ 120) }
 {
     let mut amounts = Vec::with_capacity(alloc, spindles.len())?;
@@ -122,8 +130,11 @@ pub(crate) fn print_summary<K: Sink>(
 ) -> Result<(), Stop>
     requires valid { IsValid config.now }
     requires count { length spindles.now ≡ length config.now.volumes.items }
-    requires journals { All (λ (s : SpindleView). IsJournal counted.now.started s.journal counted.now.ended) spindles.now }
-    ensures prints { PrintsText result (summary_text counted.now.totals (printed_names config.now.volumes.items) (all_amounts config.now.powers counted.now.started counted.now.ended spindles.now))
+    requires journals { All (λ (s : SpindleView).
+        IsJournal counted.now.started s.journal counted.now.ended) spindles.now }
+    ensures prints { PrintsText result (summary_text counted.now.totals
+        (printed_names config.now.volumes.items)
+        (all_amounts config.now.powers counted.now.started counted.now.ended spindles.now))
         (K.faults out.old) (K.faults out.new) (K.taken out.old) (K.taken out.new) }
     ensures later { K.faults out.old ≤ K.faults out.new }
 {

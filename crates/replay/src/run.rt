@@ -61,13 +61,16 @@ fn replay_on<D: Disk + Send, R: Threads + Wait + Sync, S: Source, K: Sink, G: Ga
     requires valid { IsValid config.now }
     requires options { AreOptions options }
     requires new { IsNew given.old }
-    requires session { (floor : Floor _) → IsFloorOf volumes.0.items volumes.1 floor → IsSession config.now rack.old.shared (new_session floor rack.old.keepers) }
+    requires session { (floor : Floor _) → IsFloorOf volumes.0.items volumes.1 floor
+        → IsSession config.now rack.old.shared (new_session floor rack.old.keepers) }
     requires none { rack.old.stations.items ≡ [] }
     ensures served { (floor : Floor _) × IsFloorOf volumes.0.items volumes.1 floor
-        × ServesFrom D.tells S.left config.now options given.old given.new rack.old rack.new (K.faults out.old) (K.faults out.new) (K.taken out.old) (K.taken out.new) floor result }
+        × ServesFrom D.tells S.left config.now options given.old given.new rack.old rack.new
+        (K.faults out.old) (K.faults out.new) (K.taken out.old) (K.taken out.new) floor result }
     ensures later { K.faults out.old ≤ K.faults out.new }
     ensures source_later { faults_of S.faults given.old ≤ faults_of S.faults given.new }
-    ensures source { result ≡ Err (Stop.Fault Fault.TraceSource) → Rose (faults_of S.faults given.old) (faults_of S.faults given.new) }
+    ensures source { result ≡ Err (Stop.Fault Fault.TraceSource)
+        → Rose (faults_of S.faults given.old) (faults_of S.faults given.new) }
     ensures same_borrow { borrow_of S.borrow given.new ≡ borrow_of S.borrow given.old }
     ensures within { IsWithin given.new }
 {
@@ -114,11 +117,14 @@ fn replay_in<D: Disk + Send, R: Threads + Wait + Sync, S: Source, K: Sink, G: Ga
     requires options { AreOptions options }
     requires new { IsNew given.old }
     requires few { length rack.old.faults.items ≤ 2 ^ 32 }
-    requires can_serve { first_closed 0 rack.old.faults.items ≡ None → CanServe config.now rack.old.shared rack.old.stations.items rack.old.keepers.items }
-    ensures runs { RunsIn D.tells S.left config.now options given.old given.new rack.old rack.new (K.faults out.old) (K.faults out.new) (K.taken out.old) (K.taken out.new) result }
+    requires can_serve { first_closed 0 rack.old.faults.items ≡ None
+        → CanServe config.now rack.old.shared rack.old.stations.items rack.old.keepers.items }
+    ensures runs { RunsIn D.tells S.left config.now options given.old given.new rack.old rack.new
+        (K.faults out.old) (K.faults out.new) (K.taken out.old) (K.taken out.new) result }
     ensures later { K.faults out.old ≤ K.faults out.new }
     ensures source_later { faults_of S.faults given.old ≤ faults_of S.faults given.new }
-    ensures source { result ≡ Err (Stop.Fault Fault.TraceSource) → Rose (faults_of S.faults given.old) (faults_of S.faults given.new) }
+    ensures source { result ≡ Err (Stop.Fault Fault.TraceSource)
+        → Rose (faults_of S.faults given.old) (faults_of S.faults given.new) }
     ensures same_borrow { borrow_of S.borrow given.new ≡ borrow_of S.borrow given.old }
     ensures within { IsWithin given.new }
 {
@@ -159,21 +165,30 @@ where
     requires new { IsNew given.old }
     requires home { NoneOut config.now (B.state bay.old) }
     // The headline, at each exit.
-    ensures headline { KeepsHeadline B.Part.tells B.Part.state S.left config.now options.each given.old given.new (B.state bay.old) (B.state bay.new) (status_in result) (K.taken out.old) (K.taken out.new) }
+    ensures headline { KeepsHeadline B.Part.tells B.Part.state S.left config.now options.each
+        given.old given.new (B.state bay.old) (B.state bay.new) (status_in result) (K.taken out.old)
+        (K.taken out.new) }
     // The account of placing, reclaim and the disks' time, at each exit.
-    ensures account { KeepsAccount B.Part.tells B.Part.state S.left config.now options.reclaim given.old given.new (B.state bay.old) (B.state bay.new) (status_in result) (K.taken out.old) (K.taken out.new) }
+    ensures account { KeepsAccount B.Part.tells B.Part.state S.left config.now options.reclaim
+        given.old given.new (B.state bay.old) (B.state bay.new) (status_in result) (K.taken out.old)
+        (K.taken out.new) }
     // each exit
     ensures home { NoneOut config.now (B.state bay.new) }
     ensures outs { outs (B.state bay.new) ≡ outs (B.state bay.old) }
     ensures others { IsTold (KeepsOthers config.now) (B.state bay.old).told (B.state bay.new).told }
     ensures counts { (B.state bay.old).faults ≤ (B.state bay.new).faults }
-    ensures replays { Replayed B.Part.tells B.Part.state S.left config.now options given.old given.new (B.state bay.old) (B.state bay.new) (K.faults out.old) (K.faults out.new) (K.taken out.old) (K.taken out.new) result }
+    ensures replays { Replayed B.Part.tells B.Part.state S.left config.now options given.old
+        given.new (B.state bay.old) (B.state bay.new) (K.faults out.old) (K.faults out.new)
+        (K.taken out.old) (K.taken out.new) result }
     ensures later { K.faults out.old ≤ K.faults out.new }
     ensures source_later { faults_of S.faults given.old ≤ faults_of S.faults given.new }
-    ensures source { result ≡ Err (Stop.Fault Fault.TraceSource) → Rose (faults_of S.faults given.old) (faults_of S.faults given.new) }
+    ensures source { result ≡ Err (Stop.Fault Fault.TraceSource)
+        → Rose (faults_of S.faults given.old) (faults_of S.faults given.new) }
     ensures same_borrow { borrow_of S.borrow given.new ≡ borrow_of S.borrow given.old }
     ensures within { IsWithin given.new }
-    ensures complete { MayComplete B.Part.tells S.left config.now given.old given.new (B.state bay.old) (B.state bay.new) (K.faults out.old) (K.faults out.new) (faults_of S.faults given.old) (faults_of S.faults given.new) → Completes result }
+    ensures complete { MayComplete B.Part.tells S.left config.now given.old given.new
+        (B.state bay.old) (B.state bay.new) (K.faults out.old) (K.faults out.new)
+        (faults_of S.faults given.old) (faults_of S.faults given.new) → Completes result }
 {
     let Ok(mut rack) = open_all(alloc, rt, bay, config) else {
         return Err(Stop::Fault(Fault::Memory));

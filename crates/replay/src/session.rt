@@ -81,7 +81,8 @@ fn finish<K: Sink>(
 ) -> Result<(), Stop>
     requires volumes { All (λ (r : _). r.volume < length config.now.volumes.items) requests.now }
     requires count { length window.now.outcomes.items ≡ length requests.now }
-    ensures finishes { Finishes result config.now options requests.now window.now (K.faults out.old) (K.faults out.new) (K.taken out.old) (K.taken out.new) }
+    ensures finishes { Finishes result config.now options requests.now window.now (K.faults out.old)
+        (K.faults out.new) (K.taken out.old) (K.taken out.new) }
     ensures not_source { result ≢ Err (Stop.Fault Fault.TraceSource) }
     ensures later { K.faults out.old ≤ K.faults out.new }
 {
@@ -96,7 +97,12 @@ fn finish<K: Sink>(
 
 impl<'l, D: Disk> Session<'l, D> {
     pub(crate) fn new(floor: Floor<'l, D>, keepers: Vec<Pass<Spindle>>) -> Session<'l, D>
-        ensures { result ≡ record { floor = floor.entry; keepers = keepers; totals = no_totals; started = false } }
+        ensures { result ≡ record {
+          floor = floor.entry;
+          keepers = keepers;
+          totals = no_totals;
+          started = false;
+        } }
     {
         Session {
             floor,
@@ -111,7 +117,8 @@ impl<'l, D: Disk> Session<'l, D> {
         requires ready { IsReady shared.now self.old }
         ensures ready { IsReady shared.now self.new }
         ensures same { AreSamePasses self.old.keepers.items self.new.keepers.items }
-        ensures starts { StartsOnce self.old.started moment self.old.keepers.items self.new.keepers.items }
+        ensures starts { StartsOnce self.old.started moment self.old.keepers.items
+            self.new.keepers.items }
         ensures only { self.new ≡ record self.old { keepers = self.new.keepers; started = true } }
     {
         if !self.started {
@@ -163,7 +170,8 @@ impl<'l, D: Disk> Session<'l, D> {
         requires valid { IsValid config.now }
         requires session { IsSession config.now shared.now self.old }
         requires crew { IsCrew crew.old }
-        requires inside { AllByRecursion (IsInside (most_of config.now) (targets_of config.now)) batch.now.requests }
+        requires inside { AllByRecursion (IsInside (most_of config.now) (targets_of config.now))
+            batch.now.requests }
         requires room { HasRoomFor 131073 self.old.totals }
         ensures session { IsSession config.now shared.now self.new }
         ensures crew { IsCrew crew.new }
@@ -171,8 +179,11 @@ impl<'l, D: Disk> Session<'l, D> {
         ensures locks { self.new.floor.locks ≡ self.old.floor.locks }
         ensures few { OnOk result (AddsAtMost 131073 self.old.totals self.new.totals) }
         ensures started { OnOk result (self.new.started ≡ true) }
-        ensures ok { OnOk result (GoesOn D.tells config.now options batch.now self.old self.new (K.faults out.old) (K.faults out.new) (K.taken out.old) (K.taken out.new)) }
-        ensures err { IfErr result (λ e. EndsIn e D.tells config.now options batch.now self.old self.new (K.faults out.old) (K.faults out.new) (K.taken out.old) (K.taken out.new)) }
+        ensures ok { OnOk result (GoesOn D.tells config.now options batch.now self.old self.new
+            (K.faults out.old) (K.faults out.new) (K.taken out.old) (K.taken out.new)) }
+        ensures err { IfErr result (λ e.
+            EndsIn e D.tells config.now options batch.now self.old self.new (K.faults out.old)
+            (K.faults out.new) (K.taken out.old) (K.taken out.new)) }
         ensures not_source { result ≢ Err (Stop.Fault Fault.TraceSource) }
         ensures later { K.faults out.old ≤ K.faults out.new }
     {
@@ -217,10 +228,16 @@ impl<'l, D: Disk> Session<'l, D> {
         ensures locks { self.new.floor.locks ≡ self.old.floor.locks }
         ensures lines { OnOk result (cutter.new.tally.lines ≡ cutter.old.tally.lines + 1) }
         ensures few { OnOk result (AddsAtMost 131073 self.old.totals self.new.totals) }
-        ensures ok { OnOk result ((ls : List _) (ws : List _) → HasCut (most_of config.now) (targets_of config.now) ls ws cutter.old
-            → TakesOn D.tells config.now options ls ws (option_map (λ l. trace_line l.now) line.entry) cutter.new self.old self.new (K.faults out.old) (K.faults out.new) (K.taken out.old) (K.taken out.new)) }
-        ensures err { IfErr result (λ e. (ls : List _) (ws : List _) → HasCut (most_of config.now) (targets_of config.now) ls ws cutter.old
-            → StopsAtLine e D.tells config.now options ls ws (option_map (λ l. trace_line l.now) line.entry) cutter.new self.old self.new (K.faults out.old) (K.faults out.new) (K.taken out.old) (K.taken out.new)) }
+        ensures ok { OnOk result ((ls : List _) (ws : List _)
+            → HasCut (most_of config.now) (targets_of config.now) ls ws cutter.old
+            → TakesOn D.tells config.now options ls ws
+            (option_map (λ l. trace_line l.now) line.entry) cutter.new self.old self.new
+            (K.faults out.old) (K.faults out.new) (K.taken out.old) (K.taken out.new)) }
+        ensures err { IfErr result (λ e. (ls : List _) (ws : List _)
+            → HasCut (most_of config.now) (targets_of config.now) ls ws cutter.old
+            → StopsAtLine e D.tells config.now options ls ws
+            (option_map (λ l. trace_line l.now) line.entry) cutter.new self.old self.new
+            (K.faults out.old) (K.faults out.new) (K.taken out.old) (K.taken out.new)) }
         ensures not_source { result ≢ Err (Stop.Fault Fault.TraceSource) }
         ensures later { K.faults out.old ≤ K.faults out.new }
     {
@@ -246,15 +263,20 @@ impl<'l, D: Disk> Session<'l, D> {
         requires valid { IsValid config.now }
         requires session { IsSession config.now shared.now self.old }
         requires crew { IsCrew crew.old }
-        requires inside { AllByRecursion (IsInside (most_of config.now) (targets_of config.now)) batch.now.requests }
+        requires inside { AllByRecursion (IsInside (most_of config.now) (targets_of config.now))
+            batch.now.requests }
         requires room { HasRoomFor 131073 self.old.totals }
         ensures session { IsSession config.now shared.now self.new }
         ensures crew { IsCrew crew.new }
         ensures same { AreSamePasses self.old.keepers.items self.new.keepers.items }
         ensures locks { self.new.floor.locks ≡ self.old.floor.locks }
-        ensures ok { OnOk result (((batch.now.lines ≡ 0) × (self.new ≡ self.old) × (out.new ≡ out.old))
-            ⊎ ((0 < batch.now.lines) × GoesOn D.tells config.now options batch.now self.old self.new (K.faults out.old) (K.faults out.new) (K.taken out.old) (K.taken out.new))) }
-        ensures err { IfErr result (λ e. (0 < batch.now.lines) × EndsIn e D.tells config.now options batch.now self.old self.new (K.faults out.old) (K.faults out.new) (K.taken out.old) (K.taken out.new)) }
+        ensures ok { OnOk result
+            (((batch.now.lines ≡ 0) × (self.new ≡ self.old) × (out.new ≡ out.old))
+            ⊎ ((0 < batch.now.lines) × GoesOn D.tells config.now options batch.now self.old self.new
+            (K.faults out.old) (K.faults out.new) (K.taken out.old) (K.taken out.new))) }
+        ensures err { IfErr result (λ e.
+            (0 < batch.now.lines) × EndsIn e D.tells config.now options batch.now self.old
+            self.new (K.faults out.old) (K.faults out.new) (K.taken out.old) (K.taken out.new)) }
         ensures not_source { result ≢ Err (Stop.Fault Fault.TraceSource) }
         ensures later { K.faults out.old ≤ K.faults out.new }
     {
@@ -267,7 +289,12 @@ impl<'l, D: Disk> Session<'l, D> {
     // What was counted of the trace.
     fn counted(&self, tally: Tally) -> Counted
         requires order { tally.started ≤ tally.ended }
-        ensures totals { result.totals ≡ record self.now.totals { lines = tally.lines; blank = tally.blank; skipped = tally.skipped; span = tally.ended - tally.started } }
+        ensures totals { result.totals ≡ record self.now.totals {
+          lines = tally.lines;
+          blank = tally.blank;
+          skipped = tally.skipped;
+          span = tally.ended - tally.started;
+        } }
         ensures started { result.started ≡ tally.started }
         ensures ended { result.ended ≡ tally.ended }
     {
@@ -307,13 +334,18 @@ impl<'l, D: Disk> Session<'l, D> {
         ensures crew { IsCrew crew.new }
         ensures same { AreSamePasses self.old.keepers.items self.new.keepers.items }
         ensures locks { self.new.floor.locks ≡ self.old.floor.locks }
-        ensures whole { IfOk result (λ counted. ServesWhole D.tells S.left config.now options given.old given.new self.old.floor self.old.keepers.items self.new.floor self.new.keepers.items
+        ensures whole { IfOk result (λ counted.
+            ServesWhole D.tells S.left config.now options given.old given.new self.old.floor
+            self.old.keepers.items self.new.floor self.new.keepers.items
             counted (K.faults out.old) (K.faults out.new) (K.taken out.old) (K.taken out.new)) }
-        ensures some { IfErr result (λ e. ServesSome D.tells S.left config.now options given.old e given.new self.old.floor self.old.keepers.items self.new.floor self.new.keepers.items
+        ensures some { IfErr result (λ e.
+            ServesSome D.tells S.left config.now options given.old e given.new self.old.floor
+            self.old.keepers.items self.new.floor self.new.keepers.items
             (K.faults out.old) (K.faults out.new) (K.taken out.old) (K.taken out.new)) }
         ensures later { K.faults out.old ≤ K.faults out.new }
         ensures source_later { faults_of S.faults given.old ≤ faults_of S.faults given.new }
-        ensures source { result ≡ Err (Stop.Fault Fault.TraceSource) → Rose (faults_of S.faults given.old) (faults_of S.faults given.new) }
+        ensures source { result ≡ Err (Stop.Fault Fault.TraceSource)
+            → Rose (faults_of S.faults given.old) (faults_of S.faults given.new) }
         ensures same_borrow { borrow_of S.borrow given.new ≡ borrow_of S.borrow given.old }
         ensures within { IsWithin given.new }
     {

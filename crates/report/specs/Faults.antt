@@ -36,8 +36,10 @@ bad_line_text bad.Quote = codes "quote"
 unfoldable pub cause_text : (names : List (List ℕ)) → Fault → List ℕ
 cause_text names fault.Words = codes "words"
 cause_text names (fault.Config why) = text_of (codes "config" ∷ config_text why ∷ [])
-cause_text names (fault.Line line why) = text_of (codes "line" ∷ decimal line ∷ bad_line_text why ∷ [])
-cause_text names (fault.Volume volume trouble) = text_of (name_at names volume ∷ trouble_text names trouble ∷ [])
+cause_text names (fault.Line line why) =
+    text_of (codes "line" ∷ decimal line ∷ bad_line_text why ∷ [])
+cause_text names (fault.Volume volume trouble) =
+    text_of (name_at names volume ∷ trouble_text names trouble ∷ [])
 cause_text names fault.ConfigSource = codes "config"
 cause_text names fault.TraceSource = codes "trace"
 cause_text names fault.Memory = codes "memory"

@@ -3,7 +3,8 @@ use Rattle.std.specs.Prelude.{ℕ, List, [], ◌∷◌, length, codes, slice_ind
 use Rattle.wol_config.specs.declared.config.VolumeConf.{VolumeConf}
 use Rattle.wol_config.specs.Documents.{names_of}
 
--- the names of volumes by their numbers; where no volumes are given, that of the one volume of `solo`
+-- the names of volumes by their numbers; where no volumes are given, that of the one volume of
+-- `solo`
 abbrev pub printed_names : List VolumeConf → List (List ℕ)
 printed_names [] = codes "solo" ∷ []
 printed_names (v ∷ vs) = names_of (v ∷ vs)

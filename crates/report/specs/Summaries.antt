@@ -1,11 +1,13 @@
--- What is printed of a run that was done: its reads, what it formatted, what it counted, and what its disks used.
+-- What is printed of a run that was done: its reads, what it formatted, what it counted, and what
+-- its disks used.
 use Rattle.std.specs.Prelude.{ℕ, ◌++◌, ◌/◌, List, [], ◌∷◌, codes, decimal, sum_by, Option, None, Some}
 use Rattle.std.specs.List.{flat_map, zip}
 use Rattle.energy.specs.declared.Amounts.{Amounts}
 use Rattle.report.specs.declared.totals.Totals.{Totals}
 use Rattle.report.specs.Words.{line_of}
 
--- the line of a read: its line in the trace, its volume where that is named, its first block, the number of its blocks, and the mark of what it read
+-- the line of a read: its line in the trace, its volume where that is named, its first block, the
+-- number of its blocks, and the mark of what it read
 unfoldable pub read_text : (name : Option (List ℕ)) → (line first count mark : ℕ) → List ℕ
 read_text None line first count mark =
     line_of (codes "read" ∷ decimal line ∷ decimal first ∷ decimal count ∷ decimal mark ∷ [])
@@ -19,20 +21,24 @@ format_text name blocks = line_of (codes "format" ∷ name ∷ codes "blocks" �
 -- the last line of `solo`
 unfoldable pub solo_text : Totals → List ℕ
 solo_text t =
-    line_of (codes "solo lines" ∷ decimal t.lines ∷ codes "blank" ∷ decimal t.blank ∷ codes "skipped" ∷ decimal t.skipped
+    line_of (codes "solo lines" ∷ decimal t.lines ∷ codes "blank" ∷ decimal t.blank
+    ∷ codes "skipped" ∷ decimal t.skipped
     ∷ codes "reads" ∷ decimal t.reads ∷ codes "writes" ∷ decimal t.writes ∷ [])
 
 -- the lines that were read, and the requests that were answered
 unfoldable pub requests_text : Totals → List ℕ
 requests_text t =
-    line_of (codes "lines" ∷ decimal t.lines ∷ codes "blank" ∷ decimal t.blank ∷ codes "skipped" ∷ decimal t.skipped ∷ [])
+    line_of (codes "lines" ∷ decimal t.lines ∷ codes "blank" ∷ decimal t.blank ∷ codes "skipped"
+    ∷ decimal t.skipped ∷ [])
     ++ line_of (codes "reads" ∷ decimal t.reads ∷ codes "writes" ∷ decimal t.writes ∷ [])
 
 -- where writes went, what was reclaimed, and the time from the first line to the last
 unfoldable pub places_text : Totals → List ℕ
 places_text t =
-    line_of (codes "placed home" ∷ decimal t.home ∷ codes "log" ∷ decimal t.log ∷ codes "drains" ∷ decimal t.drains ∷ [])
-    ++ line_of (codes "reclaimed blocks" ∷ decimal t.blocks ∷ codes "records" ∷ decimal t.records ∷ [])
+    line_of (codes "placed home" ∷ decimal t.home ∷ codes "log" ∷ decimal t.log ∷ codes "drains"
+    ∷ decimal t.drains ∷ [])
+    ++ line_of (codes "reclaimed blocks" ∷ decimal t.blocks ∷ codes "records" ∷ decimal t.records
+    ∷ [])
     ++ line_of (codes "span" ∷ decimal t.span ∷ [])
 
 -- energy in mJ, rounded down, of units of 100 pJ
@@ -42,7 +48,8 @@ energy_of units = units / 10000000
 -- what the disk of one volume used
 unfoldable pub volume_text : (name : List ℕ) → Amounts → List ℕ
 volume_text name a =
-    line_of (codes "volume" ∷ name ∷ codes "wakes" ∷ decimal a.wakes ∷ codes "sleeps" ∷ decimal a.sleeps ∷ codes "awake" ∷ decimal a.awake
+    line_of (codes "volume" ∷ name ∷ codes "wakes" ∷ decimal a.wakes ∷ codes "sleeps"
+    ∷ decimal a.sleeps ∷ codes "awake" ∷ decimal a.awake
     ∷ codes "standby" ∷ decimal a.standby ∷ codes "energy" ∷ decimal (energy_of a.units) ∷ [])
 
 -- what the disks of the volumes used, a line for each volume in order
@@ -61,8 +68,11 @@ units_of amounts = sum_by (λ (a : Amounts). a.units) amounts
 -- what all disks used; the energy is rounded once, from the sum of the units
 unfoldable pub total_text : List Amounts → List ℕ
 total_text amounts =
-    line_of (codes "total wakes" ∷ decimal (wakes_of amounts) ∷ codes "sleeps" ∷ decimal (sleeps_of amounts) ∷ codes "energy" ∷ decimal (energy_of (units_of amounts)) ∷ [])
+    line_of (codes "total wakes" ∷ decimal (wakes_of amounts) ∷ codes "sleeps"
+    ∷ decimal (sleeps_of amounts) ∷ codes "energy" ∷ decimal (energy_of (units_of amounts))
+    ∷ [])
 
 -- the summary of a run over volumes of these names
 unfoldable pub summary_text : Totals → (names : List (List ℕ)) → List Amounts → List ℕ
-summary_text t names amounts = requests_text t ++ places_text t ++ volumes_text names amounts ++ total_text amounts
+summary_text t names amounts =
+    requests_text t ++ places_text t ++ volumes_text names amounts ++ total_text amounts

@@ -61,7 +61,8 @@ impl Fault {
 /// want of memory has no line of its own: that fault is `Memory`.
 pub fn fault_text(volumes: &[VolumeConf], fault: &Fault, out: &mut Vec<u8>) -> Result<(), NoMemory>
     requires told { fault.now ≢ Fault.Config ConfigFault.NoMemory }
-    ensures ok { OnOk result (out.new.items ≡ out.old.items ++ fault_text (printed_names volumes.now) fault.now) }
+    ensures ok { OnOk result
+        (out.new.items ≡ out.old.items ++ fault_text (printed_names volumes.now) fault.now) }
     ensures err { OnErr result (out.new.items ≡ out.old.items) }
 {
     let start = out.len();
@@ -78,7 +79,8 @@ pub fn fault_text(volumes: &[VolumeConf], fault: &Fault, out: &mut Vec<u8>) -> R
 #[tactic(auto, unfolding(crate::specs::Faults::fault_text))]
 fn put_fault(volumes: &[VolumeConf], fault: &Fault, out: &mut Vec<u8>) -> Result<(), NoMemory>
     requires told { fault.now ≢ Fault.Config ConfigFault.NoMemory }
-    ensures ok { OnOk result (out.new.items ≡ out.old.items ++ fault_text (printed_names volumes.now) fault.now) }
+    ensures ok { OnOk result
+        (out.new.items ≡ out.old.items ++ fault_text (printed_names volumes.now) fault.now) }
     ensures starts { StartsWith out.new.items out.old.items }
 {
     let status = u64::from(fault.status());
@@ -92,7 +94,8 @@ fn put_fault(volumes: &[VolumeConf], fault: &Fault, out: &mut Vec<u8>) -> Result
 #[tactic(auto, unfolding(crate::specs::Faults::cause_text))]
 fn put_cause(volumes: &[VolumeConf], fault: &Fault, out: &mut Vec<u8>) -> Result<(), NoMemory>
     requires told { fault.now ≢ Fault.Config ConfigFault.NoMemory }
-    ensures ok { OnOk result (out.new.items ≡ out.old.items ++ cause_text (printed_names volumes.now) fault.now) }
+    ensures ok { OnOk result
+        (out.new.items ≡ out.old.items ++ cause_text (printed_names volumes.now) fault.now) }
     ensures starts { StartsWith out.new.items out.old.items }
 {
     match fault {

@@ -18,7 +18,8 @@ pub fn read_line_text(
     mark: u64,
     out: &mut Vec<u8>,
 ) -> Result<(), NoMemory>
-    ensures ok { OnOk result (out.new.items ≡ out.old.items ++ read_text (option_copied name.entry) line lbn count mark) }
+    ensures ok { OnOk result (out.new.items
+        ≡ out.old.items ++ read_text (option_copied name.entry) line lbn count mark) }
     ensures err { OnErr result (out.new.items ≡ out.old.items) }
 {
     let read = Text(b"read");

@@ -73,7 +73,8 @@ pub fn summary(
     requires each { length amounts.now ≡ length (printed_names volumes.now) }
     requires few { length volumes.now ≤ 64 }
     requires units { units_of amounts.now < 2 ^ 128 }
-    ensures ok { OnOk result (out.new.items ≡ out.old.items ++ summary_text totals.now (printed_names volumes.now) amounts.now) }
+    ensures ok { OnOk result (out.new.items
+        ≡ out.old.items ++ summary_text totals.now (printed_names volumes.now) amounts.now) }
     ensures err { OnErr result (out.new.items ≡ out.old.items) }
 {
     let start = out.len();
@@ -97,7 +98,8 @@ fn put_summary(
     requires each { length amounts.now ≡ length (printed_names volumes.now) }
     requires few { length volumes.now ≤ 64 }
     requires units { units_of amounts.now < 2 ^ 128 }
-    ensures ok { OnOk result (out.new.items ≡ out.old.items ++ summary_text totals.now (printed_names volumes.now) amounts.now) }
+    ensures ok { OnOk result (out.new.items
+        ≡ out.old.items ++ summary_text totals.now (printed_names volumes.now) amounts.now) }
     ensures starts { StartsWith out.new.items out.old.items }
 {
     put_requests(totals, out)?;

@@ -84,7 +84,8 @@ pub fn trouble_text(
     trouble: &Trouble,
     out: &mut Vec<u8>,
 ) -> Result<(), NoMemory>
-    ensures ok { OnOk result (out.new.items ≡ out.old.items ++ trouble_text (printed_names volumes.now) trouble.now) }
+    ensures ok { OnOk result
+        (out.new.items ≡ out.old.items ++ trouble_text (printed_names volumes.now) trouble.now) }
     ensures err { OnErr result (out.new.items ≡ out.old.items) }
 {
     match *trouble {
@@ -152,7 +153,8 @@ fn append_twins<'a>(
     other: &'a [u8],
     out: &mut Vec<u8>,
 ) -> Result<(), NoMemory>
-    ensures ok { OnOk result (out.new.items ≡ out.old.items ++ twins_text first name.now second other.now) }
+    ensures ok { OnOk result
+        (out.new.items ≡ out.old.items ++ twins_text first name.now second other.now) }
     ensures err { OnErr result (out.new.items ≡ out.old.items) }
 {
     append_words(

@@ -48,7 +48,8 @@ pub fn append_line(words: &[Word<'_>], out: &mut Vec<u8>) -> Result<(), NoMemory
 
 // Appends words with a space between each two, and a byte behind them. A front of that may be left behind.
 pub(crate) fn put_ended(words: &[Word<'_>], end: u8, out: &mut Vec<u8>) -> Result<(), NoMemory>
-    ensures ok { OnOk result (out.new.items ≡ out.old.items ++ (text_of (map word_of words.now) ++ end ∷ [])) }
+    ensures ok { OnOk result
+        (out.new.items ≡ out.old.items ++ (text_of (map word_of words.now) ++ end ∷ [])) }
     ensures starts { StartsWith out.new.items out.old.items }
 {
     put_words(words, out)?;

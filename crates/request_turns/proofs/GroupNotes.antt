@@ -14,7 +14,7 @@ use Rattle.wol_promise.specs.Ruled.{Noted, IsStep, last_look}
 use Rattle.wol_promise.specs.Ruled as ruled
 use Rattle.log_segment.specs.declared.item.Item.{Item}
 use Rattle.manager.specs.Answers.{IsPlaceOf, home_write, log_write}
-use Rattle.manager.specs.Groups.{home_writes, log_writes, run_writes, run_written, ruled_run, placed_all, AreTried}
+use Rattle.manager.specs.Groups.{writes_to_home, log_writes, run_writes, run_written, ruled_run, placed_all, AreTried}
 use Rattle.manager.specs.Seen.{down_of, look_of_manager}
 use Rattle.manager.specs.Stands.{IsNote, passed_in}
 use Rattle.manager.specs.Writing as writing
@@ -36,15 +36,15 @@ use Rattle.request_turns.proofs.Counting.{entry_same, entry_quiet}
 
 -- ---- Writes without their versions
 
-pub logged_bare : (next : ℕ) (items : List Item) (from : List Block) → map unversioned (log_writes next items from) ≡ home_writes items from
+pub logged_bare : (next : ℕ) (items : List Item) (from : List Block) → map unversioned (log_writes next items from) ≡ writes_to_home items from
 logged_bare next [] from = refl
 logged_bare next (i ∷ items) from = λ t. home_write i.lbn (take i.count from) ∷ logged_bare (next + 1) items (drop i.count from) t
 
-pub home_bare : (items : List Item) (from : List Block) → map unversioned (home_writes items from) ≡ home_writes items from
+pub home_bare : (items : List Item) (from : List Block) → map unversioned (writes_to_home items from) ≡ writes_to_home items from
 home_bare [] from = refl
 home_bare (i ∷ items) from = λ t. home_write i.lbn (take i.count from) ∷ home_bare items (drop i.count from) t
 
-pub front_writes : (n : ℕ) (items : List Item) (from : List Block) → home_writes (take n items) from ≡ take n (home_writes items from)
+pub front_writes : (n : ℕ) (items : List Item) (from : List Block) → writes_to_home (take n items) from ≡ take n (writes_to_home items from)
 front_writes zero items from = refl
 front_writes (suc n) [] from = refl
 front_writes (suc n) (i ∷ items) from = λ t. home_write i.lbn (take i.count from) ∷ front_writes n items (drop i.count from) t
@@ -53,11 +53,11 @@ logged_versions : (next : ℕ) (items : List Item) (from : List Block) → AllBy
 logged_versions next [] from = tt
 logged_versions next (i ∷ items) from = (refl, logged_versions (next + 1) items (drop i.count from))
 
-home_versions : (items : List Item) (from : List Block) → AllByRecursion (λ (w : Write). is_some w.version ≡ false) (home_writes items from)
+home_versions : (items : List Item) (from : List Block) → AllByRecursion (λ (w : Write). is_some w.version ≡ false) (writes_to_home items from)
 home_versions [] from = tt
 home_versions (i ∷ items) from = (refl, home_versions items (drop i.count from))
 
-home_long : (items : List Item) (from : List Block) → length (home_writes items from) ≡ length items
+home_long : (items : List Item) (from : List Block) → length (writes_to_home items from) ≡ length items
 home_long [] from = refl
 home_long (i ∷ items) from = ap suc (home_long items (drop i.count from))
 
@@ -94,14 +94,14 @@ module _ {D : Type 0} (old new : Manager D) where
 
 -- ---- The entry of some first ones
 
-front_long : (n : ℕ) (items : List Item) (from : List Block) → n ≤ length items → n ≤ length (home_writes items from)
+front_long : (n : ℕ) (items : List Item) (from : List Block) → n ≤ length items → n ≤ length (writes_to_home items from)
 front_long n items from le = let e = home_long items from in omega (arith, le, e)
 
 log_entry : (view : List ℕ) (logger next n : ℕ) (items : List Item) (from : List Block) (note : Noted) → 1 ≤ n → n ≤ length items → note.entry.operation ≡ Wrote (log_writes next (take n items) from)
-    → IsPlaced view (place.Log logger) note.look → note.after_drain ≡ false → AreWrittenAs view (home_writes items from) n (outcome.Wrote (place.Log logger) false) note
+    → IsPlaced view (place.Log logger) note.look → note.after_drain ≡ false → AreWrittenAs view (writes_to_home items from) n (outcome.Wrote (place.Log logger) false) note
 log_entry view logger next zero items from note some le is at drain = absurd (omega arith)
 log_entry view logger next (suc zero) [] from note some le is at drain = absurd (omega arith)
-log_entry view logger next (suc zero) (i ∷ items) from note some le is at drain = one (home_write i.lbn (take i.count from)) (home_writes items (drop i.count from)) refl refl
+log_entry view logger next (suc zero) (i ∷ items) from note some le is at drain = one (home_write i.lbn (take i.count from)) (writes_to_home items (drop i.count from)) refl refl
     (record { write = log_write next i.lbn (take i.count from); operation = is; same = refl; logged = refl; placed = at; drain = drain })
 log_entry view logger next (suc (suc n)) items from note some le is at drain = several (place.Log logger) (omega arith) (front_long (suc (suc n)) items from le) refl
     (record {
@@ -114,23 +114,23 @@ log_entry view logger next (suc (suc n)) items from note some le is at drain = s
       drain = drain;
     })
 
-home_entry : (view : List ℕ) (n : ℕ) (items : List Item) (from : List Block) (note : Noted) → n ≡ 1 → n ≤ length items → note.entry.operation ≡ Wrote (home_writes (take n items) from)
-    → note.after_drain ≡ false → AreWrittenAs view (home_writes items from) n (outcome.Wrote place.Home false) note
+home_entry : (view : List ℕ) (n : ℕ) (items : List Item) (from : List Block) (note : Noted) → n ≡ 1 → n ≤ length items → note.entry.operation ≡ Wrote (writes_to_home (take n items) from)
+    → note.after_drain ≡ false → AreWrittenAs view (writes_to_home items from) n (outcome.Wrote place.Home false) note
 home_entry view n [] from note alone le is drain = absurd (omega arith)
-home_entry view n (i ∷ items) from note alone le is drain = one (home_write i.lbn (take i.count from)) (home_writes items (drop i.count from)) refl alone
+home_entry view n (i ∷ items) from note alone le is drain = one (home_write i.lbn (take i.count from)) (writes_to_home items (drop i.count from)) refl alone
     (record {
       write = home_write i.lbn (take i.count from);
-      operation = is ∙ ap (λ (k : ℕ). Wrote (home_writes (take k (i ∷ items)) from)) alone;
+      operation = is ∙ ap (λ (k : ℕ). Wrote (writes_to_home (take k (i ∷ items)) from)) alone;
       same = refl;
       logged = refl;
       placed = tt;
       drain = drain;
     })
 
-refused_entry : (view : List ℕ) (items : List Item) (from : List Block) (e : WriteRefusal) (note : Noted) → 1 ≤ length items → IsRefusedWrite (home_writes items from) e note
-    → AreWrittenAs view (home_writes items from) 1 (outcome.NoWrite e) note
+refused_entry : (view : List ℕ) (items : List Item) (from : List Block) (e : WriteRefusal) (note : Noted) → 1 ≤ length items → IsRefusedWrite (writes_to_home items from) e note
+    → AreWrittenAs view (writes_to_home items from) 1 (outcome.NoWrite e) note
 refused_entry view [] from e note some is = absurd (omega arith)
-refused_entry view (i ∷ items) from e note some is = one (home_write i.lbn (take i.count from)) (home_writes items (drop i.count from)) refl refl is
+refused_entry view (i ∷ items) from e note some is = one (home_write i.lbn (take i.count from)) (writes_to_home items (drop i.count from)) refl refl is
 
 -- ---- The entry
 
@@ -164,12 +164,12 @@ module _ {D : Type 0} (tells : Bool) (state : D → State) (old new : Manager D)
   is_group_note a rule look was k is = subst (λ (j : Look). IsNote j (run_written (ws a) a) passed (look_of_manager new) (group_note a)) (sym is)
       (record { operation_is = refl; look_is = refl; passed_is = refl; drain = refl; follows = λ _. group_step a rule look was })
 
-  group_flight : (p : Part) → ((v : ℕ) → p ≡ part.Home v → n ≡ 1) → IsFlight (home_writes items from) (ws (Err (DiskFault p)))
+  group_flight : (p : Part) → ((v : ℕ) → p ≡ part.Home v → n ≡ 1) → IsFlight (writes_to_home items from) (ws (Err (DiskFault p)))
   group_flight (part.Home volume) alone = record { count = n; same = home_bare (take n items) from ∙ front_writes n items from; logged = inl (let e = alone volume refl in omega (arith, e)) }
   group_flight (part.Segment volume index) alone = record { count = n; same = logged_bare old.next (take n items) from ∙ front_writes n items from; logged = inr (logged_versions old.next (take n items) from) }
 
   pub group_entry : (view : List ℕ) (a : Result Place WriteRefusal) → 1 ≤ length items → is_full a ≡ false → AreTried n items a → IsPlaceOf view a P → OnOk a (look_of_manager new ≡ placed_all P l (ws a)) → IsAsBefore a old new
-      → (a ≡ Err VersionsSpent → old.next ≡ 2 ^ 63) → AreWrittenAs view (home_writes items from) (answered_of n a) (written_outcome false a) (group_note a)
+      → (a ≡ Err VersionsSpent → old.next ≡ 2 ^ 63) → AreWrittenAs view (writes_to_home items from) (answered_of n a) (written_outcome false a) (group_note a)
   group_entry view (Ok place.Home) some not_full are at look was spent = home_entry view n items from (group_note (Ok place.Home)) (are.home (inl refl)) are.within refl refl
   group_entry view (Ok (place.Log logger)) some not_full are at look was spent =
       log_entry view logger old.next n items from (group_note (Ok (place.Log logger))) (are.some refl) are.within refl

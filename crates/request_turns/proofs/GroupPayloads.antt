@@ -12,7 +12,7 @@ use Rattle.wol_disk.specs.Disk.{Block}
 use Rattle.wol_model.specs.Trace.{payload, payload_block}
 use Rattle.log_segment.specs.Records.{count_of}
 use Rattle.log_segment.specs.declared.item.Item.{Item}
-use Rattle.manager.specs.Groups.{home_writes}
+use Rattle.manager.specs.Groups.{writes_to_home}
 use Rattle.trace_windows.specs.Requests.{asked}
 use Rattle.trace_windows.specs.declared.request.Request.{Request}
 use Rattle.manager.specs.declared.base.ManagerBase.{ManagerBase}
@@ -37,7 +37,7 @@ front_is x y out m is = sym (take-take (length x) (length x + m) out (omega arit
 behind_is : (x : List Block) (y out : List Block) (m : ℕ) → take (length x + m) out ≡ x ++ y → take m (drop (length x) out) ≡ y
 behind_is x y out m is = sym (drop-take (length x) m out) ∙ ap (drop (length x)) is ∙ drop-append_seam x y
 
-pub requests_write : (rs : List Request) (out : List Block) → take (blocks_in rs) out ≡ flat_map blocks_of rs → home_writes (map item_of rs) out ≡ map (λ (r : Request). payload (asked r)) rs
+pub requests_write : (rs : List Request) (out : List Block) → take (blocks_in rs) out ≡ flat_map blocks_of rs → writes_to_home (map item_of rs) out ≡ map (λ (r : Request). payload (asked r)) rs
 requests_write [] out is = refl
 requests_write (r ∷ rs) out is =
     let counted : blocks_in (r ∷ rs) ≡ r.count + blocks_in rs = sum_by-cons (λ (q : Request). q.count) r rs in

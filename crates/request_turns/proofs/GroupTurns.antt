@@ -18,7 +18,7 @@ use Rattle.logger.specs.Lanes.{logger_of}
 use Rattle.manager.specs.Answers.{IsPlaceOf, home_write}
 use Rattle.log_segment.specs.Records.{count_of}
 use Rattle.std.proofs.lemmas.List.Sums.{sum_by-cons}
-use Rattle.manager.specs.Groups.{IsItemOf, AreItemsOf, first_lbn, first_blocks, home_writes, run_writes, run_written, ruled_run, HasRun}
+use Rattle.manager.specs.Groups.{IsItemOf, AreItemsOf, first_lbn, first_blocks, writes_to_home, run_writes, run_written, ruled_run, HasRun}
 use Rattle.manager.specs.Seen.{look_of_manager}
 use Rattle.manager.specs.Stands.{Keeps, Stands, notes_of, passed_in}
 use Rattle.manager.specs.Writing as writing
@@ -139,7 +139,7 @@ group_of_one tells i items from o t u p q w = record {
   note = w.note;
   left = w.left;
   ruled = w.ruled;
-  entry = one (home_write i.lbn (take i.count from)) (home_writes items (drop i.count from)) refl refl (written_more (began p).view (home_write i.lbn (take i.count from)) (home_writes items (drop i.count from)) o w.note w.entry);
+  entry = one (home_write i.lbn (take i.count from)) (writes_to_home items (drop i.count from)) refl refl (written_more (began p).view (home_write i.lbn (take i.count from)) (writes_to_home items (drop i.count from)) o w.note w.entry);
   stays = w.stays;
   cause = w.cause;
   fault = w.fault;
@@ -182,7 +182,7 @@ of_requests view rs count o n all (several place two within o_is is) = entries.s
     (record { kinds = all_front count rs all; together = subst (λ (ws : List Write). AreWrittenTogether view ws place n) (take-map (λ (r : Request). payload (asked r)) count rs) is })
 
 pub answered_many : {D : Type 0} (tells : Bool) (rs : List Request) (items : List Item) (from : List Block) (count : ℕ) (o : Outcome) (p i q : ManagerPass D) (t u : Tally) → AllByRecursion (λ (r : Request). r.kind ≡ kind.Write) rs
-    → home_writes items from ≡ map (λ (r : Request). payload (asked r)) rs → length items ≡ length rs
+    → writes_to_home items from ≡ map (λ (r : Request). payload (asked r)) rs → length items ≡ length rs
     → IsSamePass p i → Begins (pass_seen p) (pass_seen i) → pass_mine i ≡ pass_mine p → own (pass_number i) (pass_seen i) ≡ pass_mine i → HasWrittenMany tells items from count o t u i q → HasAnsweredMany tells rs count o p q
 answered_many tells rs items from count o p i q t u all payloads long same begins mine owns w = record {
   some = w.some;
@@ -191,7 +191,7 @@ answered_many tells rs items from count o p i q t u all payloads long same begin
   note = w.note;
   turned = turned tells p i q w.note same begins mine owns w.left w.ruled;
   entry = of_requests (began p).view rs count o w.note all (subst (λ (ws : List Write). AreWrittenAs (began p).view ws count o w.note) payloads
-      (subst (λ (l : LockId ManagerBase). AreWrittenAs l.base.volume.began.view (home_writes items from) count o w.note) same.0 w.entry));
+      (subst (λ (l : LockId ManagerBase). AreWrittenAs l.base.volume.began.view (writes_to_home items from) count o w.note) same.0 w.entry));
   stays = λ kept. subst (λ (l : LockId ManagerBase). Stays (last_look l.base.volume.began.look (notes_seen i)) w.note) same.0 (w.stays kept);
   fault = w.fault;
 }

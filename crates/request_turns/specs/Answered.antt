@@ -10,7 +10,8 @@ use Rattle.request_turns.specs.Entries.{IsEntryOf, IsEntryOfFirst, TellsFault}
 use Rattle.request_turns.specs.declared.outcome.Outcome.{Outcome}
 
 -- one request, in one turn
-pub record HasAnswered {D : Type 0} (tells : Bool) (r : Request) (o : Outcome) (p q : ManagerPass D) : Type 0 where
+pub record HasAnswered {D : Type 0} (tells : Bool) (r : Request) (o : Outcome)
+    (p q : ManagerPass D) : Type 0 where
   pub before : List Entry
   pub note : Noted
   pub turned : HasTurned tells p q before note
@@ -19,7 +20,8 @@ pub record HasAnswered {D : Type 0} (tells : Bool) (r : Request) (o : Outcome) (
   pub fault : TellsFault (notes_seen q) o
 
 -- some first ones of these requests, `count`, in one turn, all with this outcome
-pub record HasAnsweredMany {D : Type 0} (tells : Bool) (rs : List Request) (count : ℕ) (o : Outcome) (p q : ManagerPass D) : Type 0 where
+pub record HasAnsweredMany {D : Type 0} (tells : Bool) (rs : List Request) (count : ℕ) (o : Outcome)
+    (p q : ManagerPass D) : Type 0 where
   pub some : 1 ≤ count
   pub within : count ≤ length rs
   pub before : List Entry

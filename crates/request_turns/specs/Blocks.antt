@@ -16,7 +16,8 @@ use Rattle.request_turns.specs.Turns.{ManagerPass, began, notes_seen, HasTurned,
 use Rattle.request_turns.specs.declared.outcome.Outcome.{Outcome}
 
 -- a read of the blocks from `first` on came to this answer, and gave these
-pub record HasReadBlocks {D : Type 0} (tells : Bool) (first : ℕ) (blocks : List Block) (answer : Result Sources ReadRefusal) (p q : ManagerPass D) : Type 0 where
+pub record HasReadBlocks {D : Type 0} (tells : Bool) (first : ℕ) (blocks : List Block)
+    (answer : Result Sources ReadRefusal) (p q : ManagerPass D) : Type 0 where
   pub before : List Entry
   pub note : Noted
   pub turned : HasTurned tells p q before note
@@ -26,7 +27,8 @@ pub record HasReadBlocks {D : Type 0} (tells : Bool) (first : ℕ) (blocks : Lis
   pub fault : TellsFault (notes_seen q) (read_outcome blocks answer)
 
 -- a write of these blocks from `first` on had this outcome
-pub record HasWrittenBlocks {D : Type 0} (tells : Bool) (first : ℕ) (blocks : List Block) (o : Outcome) (p q : ManagerPass D) : Type 0 where
+pub record HasWrittenBlocks {D : Type 0} (tells : Bool) (first : ℕ) (blocks : List Block)
+    (o : Outcome) (p q : ManagerPass D) : Type 0 where
   pub before : List Entry
   pub note : Noted
   pub turned : HasTurned tells p q before note
@@ -35,9 +37,10 @@ pub record HasWrittenBlocks {D : Type 0} (tells : Bool) (first : ℕ) (blocks : 
   pub cause : IsCauseOfWrite (notes_of before) (last_look (began p).look (notes_of before)) o
   pub fault : TellsFault (notes_seen q) o
 
--- a look, which leaves all as it was: a part is told exactly where a disk call had failed before, and it is the one that the last
--- entry's look names
-pub record HasLooked {D : Type 0} (tells : Bool) (down : Option Part) (p q : ManagerPass D) : Type 0 where
+-- a look, which leaves all as it was: a part is told exactly where a disk call had failed before,
+-- and it is the one that the last entry's look names
+pub record HasLooked {D : Type 0} (tells : Bool) (down : Option Part) (p q : ManagerPass D) :
+    Type 0 where
   pub before : List Entry
   pub note : Noted
   pub turned : HasTurned tells p q before note

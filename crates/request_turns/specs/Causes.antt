@@ -26,7 +26,8 @@ IsCauseOfRead before (Ok sources) = IsUnbroken before
 IsCauseOfRead before (Err (refused_read.DiskFault p)) = IsUnbroken before
 IsCauseOfRead before (Err (refused_read.Down p)) = IsBroken before
 
--- a write is refused as down exactly so, and else for want of a version exactly where none was left; none is refused as full
+-- a write is refused as down exactly so, and else for want of a version exactly where none was
+-- left; none is refused as full
 abbrev pub IsCauseOfRefusal : (before : List Noted) → Look → WriteRefusal → Type 0
 IsCauseOfRefusal before l refused.Full = ⊥
 IsCauseOfRefusal before l (refused.DiskFault p) = CanTake before l

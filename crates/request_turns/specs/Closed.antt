@@ -17,8 +17,10 @@ use Rattle.request_turns.specs.declared.tally.Tally.{Tally}
 abbrev pub GoesOn : (l m : Look) → Type 0
 GoesOn l m = (k : Look) → AreReclaims k l → AreReclaims k m
 
--- a manager from which all that was due or could go was reclaimed, with this answer, and what was counted
-pub record HasReclaimed {D T : Type 0} (tells : Bool) (state : D → State) (answer : Result T StepFault) (done : Tally) (m n : Manager D) : Type 0 where
+-- a manager from which all that was due or could go was reclaimed, with this answer, and what was
+-- counted
+pub record HasReclaimed {D T : Type 0} (tells : Bool) (state : D → State)
+    (answer : Result T StepFault) (done : Tally) (m n : Manager D) : Type 0 where
   pub down : IfErr answer (λ f. n.down ≡ Some (faulty_part f))
   pub idle : OnOk answer (IsIdleLook (look_of_manager n))
   pub look : OnKept answer (GoesOn (look_of_manager m) (look_of_manager n))
@@ -28,8 +30,10 @@ pub record HasReclaimed {D T : Type 0} (tells : Bool) (state : D → State) (ans
   pub keeps : OnKept answer (KeepsOn tells state m n Always)
   pub broke : OnFailed answer (BreaksOff tells state m n Always)
 
--- One turn, whose entry changes no content. It leaves an idle look, unless a step was refused; that comes only where the part that it names was down.
-pub record HasClosed {D : Type 0} (tells : Bool) (fault : Option StepFault) (p q : ManagerPass D) : Type 0 where
+-- One turn, whose entry changes no content. It leaves an idle look, unless a step was refused; that
+-- comes only where the part that it names was down.
+pub record HasClosed {D : Type 0} (tells : Bool) (fault : Option StepFault) (p q : ManagerPass D) :
+    Type 0 where
   pub before : List Entry
   pub note : Noted
   pub turned : HasTurned tells p q before note

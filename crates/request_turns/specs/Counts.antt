@@ -1,4 +1,5 @@
--- How many blocks the entries of a pass put home and how many records they dropped, and what is counted of it.
+-- How many blocks the entries of a pass put home and how many records they dropped, and what is
+-- counted of it.
 use Rattle.std.specs.Prelude.{◌≡◌, ◌+◌, ◌-◌, ◌^◌, ◌==◌, ℕ, Bool, true, false, List, [], ◌∷◌, cond, drop, length, min}
 use Rattle.turn_lock.specs.Histories.{Entry}
 use Rattle.turn_lock.specs.Passes.{pass_number, pass_seen}
@@ -14,7 +15,8 @@ use Rattle.request_turns.specs.declared.tally.Tally.{Tally}
 
 -- ---- Entries
 
--- the records dropped by an entry that reclaims, which leads from one look to the other; it lists none
+-- the records dropped by an entry that reclaims, which leads from one look to the other; it lists
+-- none
 abbrev pub dropped_by : Bool → (l m : Look) → ℕ
 dropped_by true l m = length l.listed - length m.listed
 dropped_by false l m = 0
@@ -22,12 +24,15 @@ dropped_by false l m = 0
 -- the records dropped by the entries that follow a look
 abbrev pub records_dropped : Look → List Noted → ℕ
 records_dropped l [] = 0
-records_dropped l (n ∷ notes) = dropped_by (reclaims n.after_drain n.entry.operation) l n.look + records_dropped n.look notes
+records_dropped l (n ∷ notes) =
+    dropped_by (reclaims n.after_drain n.entry.operation) l n.look + records_dropped n.look notes
 
--- what the entries after a look that are of this pass come to, each by the look before it and the look that it leaves
+-- what the entries after a look that are of this pass come to, each by the look before it and the
+-- look that it leaves
 abbrev pub added_up : (Bool → Look → Look → ℕ) → (pass : ℕ) → Look → List Noted → ℕ
 added_up worth pass l [] = 0
-added_up worth pass l (n ∷ notes) = cond (n.entry.pass == pass) (worth (reclaims n.after_drain n.entry.operation) l n.look) 0 + added_up worth pass n.look notes
+added_up worth pass l (n ∷ notes) = cond (n.entry.pass == pass)
+    (worth (reclaims n.after_drain n.entry.operation) l n.look) 0 + added_up worth pass n.look notes
 
 -- ---- Passes
 
@@ -37,7 +42,8 @@ seen_since p q = drop (length (pass_seen p)) (pass_seen q)
 
 -- what its own entries among these come to
 abbrev pub added_between : {D : Type 0} → (Bool → Look → Look → ℕ) → (p q : ManagerPass D) → ℕ
-added_between worth p q = added_up worth (pass_number p) (last_look (began p).look (notes_seen p)) (notes_of (seen_since p q))
+added_between worth p q = added_up worth (pass_number p) (last_look (began p).look (notes_seen p))
+    (notes_of (seen_since p q))
 
 -- the blocks that they put home
 abbrev pub blocks_between : {D : Type 0} → (p q : ManagerPass D) → ℕ
@@ -80,11 +86,14 @@ pub record IsTakenOff (t : Tally) (l m : Look) : Type 0 where
 
 -- what an entry behind this look put home and dropped was counted
 abbrev pub CountsEntry : Look → Noted → (t u : Tally) → Type 0
-CountsEntry l n t u = CountsMore (put_home_by (reclaims n.after_drain n.entry.operation) l n.look) (dropped_by (reclaims n.after_drain n.entry.operation) l n.look) t u
+CountsEntry l n t u = CountsMore (put_home_by (reclaims n.after_drain n.entry.operation) l n.look)
+    (dropped_by (reclaims n.after_drain n.entry.operation) l n.look) t u
 
 -- what the pass's own entries put home and dropped was counted
-abbrev pub HasCounted : {D : Type 0} → (tells : Bool) → (t u : Tally) → (p q : ManagerPass D) → Type 0
-HasCounted tells t u p q = IsHonest tells p → CountsMore (blocks_between p q) (records_between p q) t u
+abbrev pub HasCounted : {D : Type 0} → (tells : Bool) → (t u : Tally) → (p q : ManagerPass D)
+    → Type 0
+HasCounted tells t u p q =
+    IsHonest tells p → CountsMore (blocks_between p q) (records_between p q) t u
 
 -- they put nothing home and dropped nothing
 abbrev pub ReclaimsNothing : {D : Type 0} → (tells : Bool) → (p q : ManagerPass D) → Type 0

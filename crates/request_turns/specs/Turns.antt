@@ -62,7 +62,8 @@ abbrev pub faulty_part : StepFault → Part
 faulty_part (fault.DiskFault p) = p
 faulty_part (fault.Down p) = p
 
--- what the pass has seen is a legal history whose ruled entries follow the rules, and its own entries are those with its number
+-- what the pass has seen is a legal history whose ruled entries follow the rules, and its own
+-- entries are those with its number
 pub record IsHonest {D : Type 0} (tells : Bool) (p : ManagerPass D) : Type 0 where
   pub history : HasHistory (IsTrue tells) (began p) (notes_seen p)
   pub mine : own (pass_number p) (pass_seen p) ≡ pass_mine p
@@ -77,7 +78,8 @@ pub record HasLeft {D : Type 0} (tells : Bool) (n : Noted) (p q : ManagerPass D)
   pub history : HasHistory (IsTrue tells) (began q) (notes_seen q)
 
 -- one turn of a pass, behind these entries: it adds this entry, which is ruled
-pub record HasTurned {D : Type 0} (tells : Bool) (p q : ManagerPass D) (before : List Entry) (n : Noted) : Type 0 where
+pub record HasTurned {D : Type 0} (tells : Bool) (p q : ManagerPass D) (before : List Entry)
+    (n : Noted) : Type 0 where
   pub same : IsSamePass p q
   pub free : IsFree q
   pub begins : Begins (pass_seen p) before
@@ -89,7 +91,8 @@ pub record HasTurned {D : Type 0} (tells : Bool) (p q : ManagerPass D) (before :
   pub history : HasHistory (IsTrue tells) (began q) (notes_seen q)
 
 -- any number of turns: these entries were added, and these were seen
-pub record Gains {D : Type 0} (tells : Bool) (p q : ManagerPass D) (more : List Entry) (notes : List Noted) : Type 0 where
+pub record Gains {D : Type 0} (tells : Bool) (p q : ManagerPass D) (more : List Entry)
+    (notes : List Noted) : Type 0 where
   pub same : IsSamePass p q
   pub free : IsFree q
   pub seen : pass_seen q ≡ pass_seen p ++ more
@@ -107,7 +110,8 @@ Stays l n = (n.look ≡ l) ⊎ ((w : Write) × IsDrained n.passed l w n.look)
 -- each Kept of the worker does so
 abbrev pub KeptStay : Look → List Noted → Type 0
 KeptStay l [] = ⊤
-KeptStay l (n ∷ notes) = (n.entry.pass ≡ worker → n.entry.operation ≡ Kept → Stays l n) × KeptStay n.look notes
+KeptStay l (n ∷ notes) =
+    (n.entry.pass ≡ worker → n.entry.operation ≡ Kept → Stays l n) × KeptStay n.look notes
 
 -- so do the entries that the pass saw since
 abbrev pub LooksStay : {D : Type 0} → ManagerPass D → List Entry → Type 0

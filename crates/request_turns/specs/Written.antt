@@ -15,8 +15,10 @@ use Rattle.request_turns.specs.Turns.{ManagerPass, began, notes_seen, HasLeft, S
 use Rattle.request_turns.specs.declared.outcome.Outcome.{Outcome}
 use Rattle.request_turns.specs.declared.tally.Tally.{Tally}
 
--- a pass in a turn leaves it with the entry of a write of these blocks that had this outcome; what it reclaimed was counted
-pub record HasWritten {D : Type 0} (tells : Bool) (first : ℕ) (blocks : List Block) (o : Outcome) (t u : Tally) (p q : ManagerPass D) : Type 0 where
+-- a pass in a turn leaves it with the entry of a write of these blocks that had this outcome; what
+-- it reclaimed was counted
+pub record HasWritten {D : Type 0} (tells : Bool) (first : ℕ) (blocks : List Block) (o : Outcome)
+    (t u : Tally) (p q : ManagerPass D) : Type 0 where
   pub note : Noted
   pub left : HasLeft tells note p q
   pub ruled : IsTrue note.ruled
@@ -27,7 +29,8 @@ pub record HasWritten {D : Type 0} (tells : Bool) (first : ℕ) (blocks : List B
   pub counted : CountsEntry (last_look (began p).look (notes_seen p)) note t u
 
 -- the same of a read that gave these blocks; it reclaims nothing
-pub record HasRead {D : Type 0} (tells : Bool) (first : ℕ) (blocks : List Block) (answer : Result Sources ReadRefusal) (p q : ManagerPass D) : Type 0 where
+pub record HasRead {D : Type 0} (tells : Bool) (first : ℕ) (blocks : List Block)
+    (answer : Result Sources ReadRefusal) (p q : ManagerPass D) : Type 0 where
   pub note : Noted
   pub left : HasLeft tells note p q
   pub ruled : IsTrue note.ruled

@@ -22,7 +22,8 @@ fn flags<D: Disk>(manager: &Manager<D>, awake: &[bool]) -> [bool; LANES]
     requires few { length manager.now.lanes.items ≤ 16 }
     requires count { length manager.now.ups.items ≡ length manager.now.lanes.items }
     requires view { All (λ v. v < length awake.now) (map logger_of manager.now.lanes.items) }
-    ensures { take (length manager.now.lanes.items) result ≡ map (λ v. slice_index_or awake.now v false) (map logger_of manager.now.lanes.items) }
+    ensures { take (length manager.now.lanes.items) result
+        ≡ map (λ v. slice_index_or awake.now v false) (map logger_of manager.now.lanes.items) }
 {
     let mut flags = [false; LANES];
     for lane in 0..manager.ups().len() {
@@ -52,7 +53,8 @@ pub fn begin_volume<R: Wait, D: Disk>(
     requires pass { IsPassAt lock.now keeper pass.old }
     requires owner { (pass_lock pass.old).base.volume.began.owner ≡ volume }
     requires volume { volume < length awake.now }
-    requires view { AllByRecursion (λ (b : LaneBase). b.logger < length awake.now) (pass_lock pass.old).base.lanes }
+    requires view { AllByRecursion (λ (b : LaneBase). b.logger < length awake.now)
+        (pass_lock pass.old).base.lanes }
     ensures { HasBegunVolume D.tells awake.now pass.old pass.new }
 {
     lock.enter_in_place(rt, pass);

@@ -41,10 +41,12 @@ fn drain<R: Wait, D: Disk>(
     requires up { m.old.down ≡ None }
     ensures ready { IsReady D.state m.new }
     ensures at { IsHome shared.now m.new }
-    ensures drained { OnOk result ((m.new.down ≡ None) × (look_of_manager m.new ≡ drained (look_of_manager m.old))) }
+    ensures drained { OnOk result
+        ((m.new.down ≡ None) × (look_of_manager m.new ≡ drained (look_of_manager m.old))) }
     ensures refused { IfErr result IsDiskFault }
     ensures down { IfErr result (λ f. m.new.down ≡ Some (faulty_part f)) }
-    ensures taken { OnOk result (HasTaken tally.old tally.new (look_of_manager m.old) (look_of_manager m.new)) }
+    ensures taken { OnOk result
+        (HasTaken tally.old tally.new (look_of_manager m.old) (look_of_manager m.new)) }
     ensures keeps { OnKept result (KeepsOn D.tells D.state m.old m.new Always) }
     ensures broke { OnFailed result (BreaksOff D.tells D.state m.old m.new Always) }
 {
@@ -81,8 +83,10 @@ fn leave_broken<D: Disk, B: Memo, N: Memo>(
 )
     requires own { IsPassOf lock.now pass.old }
     requires turn { IsInTurn pass.old }
-    requires note { N.note ≡ note_of (pass_number pass.old) (Broke []) (look_of_manager turn.value) B.note.passed false }
-    requires value { Stands D.tells D.state turn.value (pass_lock pass.old).base (notes_seen pass.old ++ N.note ∷ []) }
+    requires note { N.note ≡ note_of (pass_number pass.old) (Broke []) (look_of_manager turn.value)
+        B.note.passed false }
+    requires value { Stands D.tells D.state turn.value (pass_lock pass.old).base
+        (notes_seen pass.old ++ N.note ∷ []) }
     ensures left { HasLeft D.tells N.note pass.old pass.new }
     ensures broken { (p : Part) → turn.value.down ≡ Some p → WasDown p (notes_seen pass.new) }
 {
@@ -100,8 +104,10 @@ fn leave_drained<D: Disk, B: Memo, N: Memo>(
 )
     requires own { IsPassOf lock.now pass.old }
     requires turn { IsInTurn pass.old }
-    requires note { N.note ≡ note_of (pass_number pass.old) (written B.next lbn from.now answer.now) (look_of_manager turn.value) B.note.passed (is_ok answer.now) }
-    requires value { Stands D.tells D.state turn.value (pass_lock pass.old).base (notes_seen pass.old ++ N.note ∷ []) }
+    requires note { N.note ≡ note_of (pass_number pass.old) (written B.next lbn from.now answer.now)
+        (look_of_manager turn.value) B.note.passed (is_ok answer.now) }
+    requires value { Stands D.tells D.state turn.value (pass_lock pass.old).base
+        (notes_seen pass.old ++ N.note ∷ []) }
     ensures left { HasLeft D.tells N.note pass.old pass.new }
     ensures broken { (p : Part) → turn.value.down ≡ Some p → WasDown p (notes_seen pass.new) }
     ensures unbroken { turn.value.down ≡ None → IsBroken (notes_seen pass.new) → ⊥ }
@@ -127,16 +133,23 @@ fn write_home<D: Disk, R: Wait, B: Memo>(
     requires client { pass_number pass.old ≡ worker }
     requires next { B.next ≡ turn.value.next }
     requires note { B.note ≡ full_note (pass_number pass.old) B.note.look B.note.passed }
-    requires full { place_of B.note.passed (last_look (pass_lock pass.old).base.volume.began.look (notes_seen pass.old)) (home_write lbn from.now) ≡ Nowhere }
-    requires done { IsTakenOff done (last_look (pass_lock pass.old).base.volume.began.look (notes_seen pass.old)) (look_of_manager turn.value) }
-    requires bare { look_of_manager turn.value ≡ drained (last_look (pass_lock pass.old).base.volume.began.look (notes_seen pass.old)) }
+    requires full { place_of B.note.passed
+        (last_look (pass_lock pass.old).base.volume.began.look (notes_seen pass.old))
+        (home_write lbn from.now) ≡ Nowhere }
+    requires done { IsTakenOff done (last_look (pass_lock pass.old).base.volume.began.look
+        (notes_seen pass.old)) (look_of_manager turn.value) }
+    requires bare { look_of_manager turn.value
+        ≡ drained (last_look (pass_lock pass.old).base.volume.began.look (notes_seen pass.old)) }
     requires up { turn.value.down ≡ None }
-    requires takes { CanTake (notes_seen pass.old) (last_look (pass_lock pass.old).base.volume.began.look (notes_seen pass.old)) }
+    requires takes { CanTake (notes_seen pass.old)
+        (last_look (pass_lock pass.old).base.volume.began.look (notes_seen pass.old)) }
     requires ready { IsReady D.state turn.value }
     requires at { IsHome shared.now turn.value }
-    requires count { (1 ≤ length from.now) × (length from.now ≤ (pass_lock pass.old).base.volume.began.most) }
+    requires count { (1 ≤ length from.now)
+        × (length from.now ≤ (pass_lock pass.old).base.volume.began.most) }
     requires fits { lbn + length from.now ≤ (pass_lock pass.old).base.volume.began.home_blocks }
-    requires value { Keeps D.tells D.state turn.value (pass_lock pass.old).base (notes_seen pass.old ++ B.note ∷ []) }
+    requires value { Keeps D.tells D.state turn.value (pass_lock pass.old).base
+        (notes_seen pass.old ++ B.note ∷ []) }
     ensures { HasWritten D.tells lbn from.now result tally.old tally.new pass.old pass.new }
 {
     let answer = turn.value.write(rt, shared, lbn, from);
@@ -161,15 +174,22 @@ pub(crate) fn drain_and_write<D: Disk, R: Wait, B: Memo>(
     requires own { IsPassOf lock.now pass.old }
     requires turn { IsInTurn pass.old }
     requires client { pass_number pass.old ≡ worker }
-    requires note { B.note ≡ full_note (pass_number pass.old) (look_of_manager turn.value) (passed_in turn.value.rooms.items) }
-    requires full { place_of B.note.passed (last_look (pass_lock pass.old).base.volume.began.look (notes_seen pass.old)) (home_write lbn from.now) ≡ Nowhere }
-    requires look { look_of_manager turn.value ≡ last_look (pass_lock pass.old).base.volume.began.look (notes_seen pass.old) }
+    requires note { B.note ≡ full_note (pass_number pass.old) (look_of_manager turn.value)
+        (passed_in turn.value.rooms.items) }
+    requires full { place_of B.note.passed
+        (last_look (pass_lock pass.old).base.volume.began.look (notes_seen pass.old))
+        (home_write lbn from.now) ≡ Nowhere }
+    requires look { look_of_manager turn.value
+        ≡ last_look (pass_lock pass.old).base.volume.began.look (notes_seen pass.old) }
     requires up { turn.value.down ≡ None }
-    requires takes { CanTake (notes_seen pass.old) (last_look (pass_lock pass.old).base.volume.began.look (notes_seen pass.old)) }
+    requires takes { CanTake (notes_seen pass.old)
+        (last_look (pass_lock pass.old).base.volume.began.look (notes_seen pass.old)) }
     requires shared { IsShared shared.now (pass_lock pass.old).base }
-    requires count { (1 ≤ length from.now) × (length from.now ≤ (pass_lock pass.old).base.volume.began.most) }
+    requires count { (1 ≤ length from.now)
+        × (length from.now ≤ (pass_lock pass.old).base.volume.began.most) }
     requires fits { lbn + length from.now ≤ (pass_lock pass.old).base.volume.began.home_blocks }
-    requires value { Keeps D.tells D.state turn.value (pass_lock pass.old).base (notes_seen pass.old ++ B.note ∷ []) }
+    requires value { Keeps D.tells D.state turn.value (pass_lock pass.old).base
+        (notes_seen pass.old ++ B.note ∷ []) }
     ensures { HasWritten D.tells lbn from.now result tally.old tally.new pass.old pass.new }
 {
     let mut done = Tally::new();

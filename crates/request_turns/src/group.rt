@@ -53,7 +53,8 @@ fn fill_all(requests: &[Request], out: &mut [Block])
     requires room { sum_by (λ r. r.count) requests.now ≤ length out.old }
     requires within { AllByRecursion (λ r. r.lbn + r.count ≤ 2 ^ 64) requests.now }
     ensures same { length out.new ≡ length out.old }
-    ensures filled { take (sum_by (λ r. r.count) requests.now) out.new ≡ flat_map blocks_of requests.now }
+    ensures filled { take (sum_by (λ r. r.count) requests.now) out.new
+        ≡ flat_map blocks_of requests.now }
 {
     let mut at = 0;
     for request in requests {
@@ -75,9 +76,12 @@ fn leave_run<D: Disk, B: Memo, N: Memo>(
 )
     requires own { IsPassOf lock.now pass.old }
     requires turn { IsInTurn pass.old }
-    requires note { N.note ≡ note_of (pass_number pass.old) (run_written (run_writes B.next (take ran.now.items items.now) from.now ran.now.answer) ran.now.answer)
+    requires note { N.note ≡ note_of (pass_number pass.old)
+        (run_written (run_writes B.next (take ran.now.items items.now) from.now ran.now.answer)
+        ran.now.answer)
         (look_of_manager turn.value) (passed_in turn.value.rooms.items) false }
-    requires value { Stands D.tells D.state turn.value (pass_lock pass.old).base (notes_seen pass.old ++ N.note ∷ []) }
+    requires value { Stands D.tells D.state turn.value (pass_lock pass.old).base
+        (notes_seen pass.old ++ N.note ∷ []) }
     ensures left { HasLeft D.tells N.note pass.old pass.new }
     ensures broken { (p : Part) → turn.value.down ≡ Some p → WasDown p (notes_seen pass.new) }
     ensures unbroken { turn.value.down ≡ None → IsBroken (notes_seen pass.new) → ⊥ }
@@ -113,10 +117,13 @@ fn write_run_within<D: Disk, R: Wait, B: Memo>(
     requires next { B.next ≡ turn.value.next }
     requires shared { IsShared shared.now (pass_lock pass.old).base }
     requires some { 1 ≤ length items.now }
-    requires items { AreItemsOf (pass_lock pass.old).base.volume.began.most (pass_lock pass.old).base.volume.began.home_blocks items.now }
+    requires items { AreItemsOf (pass_lock pass.old).base.volume.began.most
+        (pass_lock pass.old).base.volume.began.home_blocks items.now }
     requires blocks { count_of items.now ≤ length from.now }
-    requires value { Stands D.tells D.state turn.value (pass_lock pass.old).base (notes_seen pass.old) }
-    ensures { HasWrittenMany D.tells items.now from.now result.0 result.1 tally.old tally.new pass.old pass.new }
+    requires value { Stands D.tells D.state turn.value (pass_lock pass.old).base
+        (notes_seen pass.old) }
+    ensures { HasWrittenMany D.tells items.now from.now result.0 result.1 tally.old tally.new
+        pass.old pass.new }
 {
     let ran = turn.value.write_some(rt, shared, items, from);
     if is_full(&ran.answer) {

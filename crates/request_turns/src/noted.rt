@@ -37,7 +37,8 @@ pub fn leave_noted<D: Disk, N: Memo>(
     requires own { IsPassOf lock.now pass.old }
     requires turn { IsInTurn pass.old }
     requires number { N.note.entry.pass ≡ pass_number pass.old }
-    requires value { Stands D.tells D.state turn.value (pass_lock pass.old).base (notes_seen pass.old ++ N.note ∷ []) }
+    requires value { Stands D.tells D.state turn.value (pass_lock pass.old).base
+        (notes_seen pass.old ++ N.note ∷ []) }
     ensures left { HasLeft D.tells N.note pass.old pass.new }
     ensures broken { (p : Part) → turn.value.down ≡ Some p → WasDown p (notes_seen pass.new) }
     ensures unbroken { turn.value.down ≡ None → IsBroken (notes_seen pass.new) → ⊥ }
@@ -54,10 +55,14 @@ fn leave_named<D: Disk, N: Memo>(
 )
     requires own { IsPassOf lock.now pass.old }
     requires turn { IsInTurn pass.old }
-    requires note { N.note ≡ note_of (pass_number pass.old) (step_operation failed) (look_of_manager turn.value) [] false }
-    requires value { Stands D.tells D.state turn.value (pass_lock pass.old).base (notes_seen pass.old ++ note_of (pass_number pass.old) (step_operation failed) (look_of_manager turn.value) [] false ∷ []) }
+    requires note { N.note ≡ note_of (pass_number pass.old) (step_operation failed)
+        (look_of_manager turn.value) [] false }
+    requires value { Stands D.tells D.state turn.value (pass_lock pass.old).base
+        (notes_seen pass.old ++ note_of (pass_number pass.old) (step_operation failed)
+        (look_of_manager turn.value) [] false ∷ []) }
     ensures broken { (p : Part) → turn.value.down ≡ Some p → WasDown p (notes_seen pass.new) }
-    ensures left { HasLeft D.tells (note_of (pass_number pass.old) (step_operation failed) (look_of_manager turn.value) [] false) pass.old pass.new }
+    ensures left { HasLeft D.tells (note_of (pass_number pass.old) (step_operation failed)
+        (look_of_manager turn.value) [] false) pass.old pass.new }
 {
     let _ = failed;
     leave_noted::<D, N>(lock, turn, pass);
@@ -72,9 +77,12 @@ pub(crate) fn leave_step<D: Disk>(
 )
     requires own { IsPassOf lock.now pass.old }
     requires turn { IsInTurn pass.old }
-    requires value { Stands D.tells D.state turn.value (pass_lock pass.old).base (notes_seen pass.old ++ note_of (pass_number pass.old) (step_operation failed) (look_of_manager turn.value) [] false ∷ []) }
+    requires value { Stands D.tells D.state turn.value (pass_lock pass.old).base
+        (notes_seen pass.old ++ note_of (pass_number pass.old) (step_operation failed)
+        (look_of_manager turn.value) [] false ∷ []) }
     ensures broken { (p : Part) → turn.value.down ≡ Some p → WasDown p (notes_seen pass.new) }
-    ensures left { HasLeft D.tells (note_of (pass_number pass.old) (step_operation failed) (look_of_manager turn.value) [] false) pass.old pass.new }
+    ensures left { HasLeft D.tells (note_of (pass_number pass.old) (step_operation failed)
+        (look_of_manager turn.value) [] false) pass.old pass.new }
 {
     leave_named::<D, Brand>(lock, turn, pass, failed);
 }
@@ -86,10 +94,17 @@ fn leave_named_in_place<D: Disk, N: Memo>(
     failed: bool,
 )
     requires own { IsPassOf lock.now pass.old }
-    requires note { N.note ≡ note_of (pass_number pass.old) (step_operation failed) (look_in_place pass.old) [] false }
-    requires value { (m : Manager _) × IsInTurnWith m pass.old × Stands D.tells D.state m (pass_lock pass.old).base (notes_seen pass.old ++ note_of (pass_number pass.old) (step_operation failed) (look_of_manager m) [] false ∷ []) }
-    ensures broken { (m : Manager _) (p : Part) → IsInTurnWith m pass.old → m.down ≡ Some p → WasDown p (notes_seen pass.new) }
-    ensures left { (m : Manager _) → IsInTurnWith m pass.old → HasLeft D.tells (note_of (pass_number pass.old) (step_operation failed) (look_of_manager m) [] false) pass.old pass.new }
+    requires note { N.note
+        ≡ note_of (pass_number pass.old) (step_operation failed) (look_in_place pass.old) [] false }
+    requires value { (m : Manager _) × IsInTurnWith m pass.old
+        × Stands D.tells D.state m (pass_lock pass.old).base
+        (notes_seen pass.old ++ note_of (pass_number pass.old) (step_operation failed)
+        (look_of_manager m) [] false ∷ []) }
+    ensures broken { (m : Manager _) (p : Part) → IsInTurnWith m pass.old → m.down ≡ Some p
+        → WasDown p (notes_seen pass.new) }
+    ensures left { (m : Manager _) → IsInTurnWith m pass.old
+        → HasLeft D.tells (note_of (pass_number pass.old) (step_operation failed)
+        (look_of_manager m) [] false) pass.old pass.new }
 {
     let _ = failed;
     lock.leave_in_place::<Brand>(pass);
@@ -102,9 +117,15 @@ pub(crate) fn leave_step_in_place<D: Disk>(
     failed: bool,
 )
     requires own { IsPassOf lock.now pass.old }
-    requires value { (m : Manager _) × IsInTurnWith m pass.old × Stands D.tells D.state m (pass_lock pass.old).base (notes_seen pass.old ++ note_of (pass_number pass.old) (step_operation failed) (look_of_manager m) [] false ∷ []) }
-    ensures broken { (m : Manager _) (p : Part) → IsInTurnWith m pass.old → m.down ≡ Some p → WasDown p (notes_seen pass.new) }
-    ensures left { (m : Manager _) → IsInTurnWith m pass.old → HasLeft D.tells (note_of (pass_number pass.old) (step_operation failed) (look_of_manager m) [] false) pass.old pass.new }
+    requires value { (m : Manager _) × IsInTurnWith m pass.old
+        × Stands D.tells D.state m (pass_lock pass.old).base
+        (notes_seen pass.old ++ note_of (pass_number pass.old) (step_operation failed)
+        (look_of_manager m) [] false ∷ []) }
+    ensures broken { (m : Manager _) (p : Part) → IsInTurnWith m pass.old → m.down ≡ Some p
+        → WasDown p (notes_seen pass.new) }
+    ensures left { (m : Manager _) → IsInTurnWith m pass.old
+        → HasLeft D.tells (note_of (pass_number pass.old) (step_operation failed)
+        (look_of_manager m) [] false) pass.old pass.new }
 {
     leave_named_in_place::<D, Brand>(lock, pass, failed);
 }

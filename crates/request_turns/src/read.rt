@@ -51,8 +51,10 @@ fn leave_read<D: Disk, N: Memo>(
 )
     requires own { IsPassOf lock.now pass.old }
     requires turn { IsInTurn pass.old }
-    requires note { N.note ≡ note_of (pass_number pass.old) (was_read lbn out.now answer.now) (look_of_manager turn.value) [] false }
-    requires value { Stands D.tells D.state turn.value (pass_lock pass.old).base (notes_seen pass.old ++ N.note ∷ []) }
+    requires note { N.note ≡ note_of (pass_number pass.old) (was_read lbn out.now answer.now)
+        (look_of_manager turn.value) [] false }
+    requires value { Stands D.tells D.state turn.value (pass_lock pass.old).base
+        (notes_seen pass.old ++ N.note ∷ []) }
     ensures left { HasLeft D.tells N.note pass.old pass.new }
     ensures broken { (p : Part) → turn.value.down ≡ Some p → WasDown p (notes_seen pass.new) }
 {
@@ -74,9 +76,11 @@ fn read_within<D: Disk, R: Wait>(
     requires turn { IsInTurn pass.old }
     requires client { pass_number pass.old ≡ worker }
     requires shared { IsShared shared.now (pass_lock pass.old).base }
-    requires count { (1 ≤ length out.old) × (length out.old ≤ (pass_lock pass.old).base.volume.began.most) }
+    requires count { (1 ≤ length out.old)
+        × (length out.old ≤ (pass_lock pass.old).base.volume.began.most) }
     requires fits { lbn + length out.old ≤ (pass_lock pass.old).base.volume.began.home_blocks }
-    requires value { Stands D.tells D.state turn.value (pass_lock pass.old).base (notes_seen pass.old) }
+    requires value { Stands D.tells D.state turn.value (pass_lock pass.old).base
+        (notes_seen pass.old) }
     ensures { HasRead D.tells lbn out.new result pass.old pass.new }
 {
     let answer = turn.value.read(rt, shared, lbn, out);
@@ -98,7 +102,8 @@ pub fn read_blocks<D: Disk, R: Wait>(
     requires free { IsFree pass.old }
     requires client { pass_number pass.old ≡ worker }
     requires shared { IsShared shared.now (pass_lock pass.old).base }
-    requires count { (1 ≤ length out.old) × (length out.old ≤ (pass_lock pass.old).base.volume.began.most) }
+    requires count { (1 ≤ length out.old)
+        × (length out.old ≤ (pass_lock pass.old).base.volume.began.most) }
     requires fits { lbn + length out.old ≤ (pass_lock pass.old).base.volume.began.home_blocks }
     ensures read { HasReadBlocks D.tells lbn out.new result pass.old pass.new }
     ensures counted { ReclaimsNothing D.tells pass.old pass.new }

@@ -38,8 +38,10 @@ fn put_due<R: Wait, D: Disk>(
     ensures down { IfErr result (λ f. m.new.down ≡ Some (faulty_part f)) }
     ensures nothing { OnOk result (due_entry m.new ≡ None) }
     ensures look { OnKept result (GoesOn (look_of_manager m.old) (look_of_manager m.new)) }
-    ensures taken { OnKept result (HasTaken tally.old tally.new (look_of_manager m.old) (look_of_manager m.new)) }
-    ensures no_more { OnOk result (left (listed_in m.new.index.entries) ≤ left (listed_in m.old.index.entries)) }
+    ensures taken { OnKept result
+        (HasTaken tally.old tally.new (look_of_manager m.old) (look_of_manager m.new)) }
+    ensures no_more { OnOk result
+        (left (listed_in m.new.index.entries) ≤ left (listed_in m.old.index.entries)) }
     ensures keeps { OnKept result (KeepsOn D.tells D.state m.old m.new Always) }
     ensures broke { OnFailed result (BreaksOff D.tells D.state m.old m.new Always) }
 {
@@ -69,8 +71,10 @@ fn give_up<R: Wait, D: Disk>(
     ensures nothing { OnOk result (going_entry m.new ≡ None) }
     ensures none { result ≡ Ok false → m.new ≡ m.old }
     ensures look { OnKept result (GoesOn (look_of_manager m.old) (look_of_manager m.new)) }
-    ensures taken { OnKept result (HasTaken tally.old tally.new (look_of_manager m.old) (look_of_manager m.new)) }
-    ensures fewer { result ≡ Ok true → left (listed_in m.new.index.entries) < left (listed_in m.old.index.entries) }
+    ensures taken { OnKept result
+        (HasTaken tally.old tally.new (look_of_manager m.old) (look_of_manager m.new)) }
+    ensures fewer { result ≡ Ok true
+        → left (listed_in m.new.index.entries) < left (listed_in m.old.index.entries) }
     ensures keeps { OnKept result (KeepsOn D.tells D.state m.old m.new Always) }
     ensures broke { OnFailed result (BreaksOff D.tells D.state m.old m.new Always) }
 {
@@ -100,7 +104,8 @@ fn reclaim_all<R: Wait, D: Disk>(
     ensures down { IfErr result (λ f. m.new.down ≡ Some (faulty_part f)) }
     ensures idle { OnOk result (IsIdleLook (look_of_manager m.new)) }
     ensures look { OnKept result (GoesOn (look_of_manager m.old) (look_of_manager m.new)) }
-    ensures taken { OnKept result (HasTaken tally.old tally.new (look_of_manager m.old) (look_of_manager m.new)) }
+    ensures taken { OnKept result
+        (HasTaken tally.old tally.new (look_of_manager m.old) (look_of_manager m.new)) }
     ensures keeps { OnKept result (KeepsOn D.tells D.state m.old m.new Always) }
     ensures broke { OnFailed result (BreaksOff D.tells D.state m.old m.new Always) }
 {

@@ -52,8 +52,10 @@ fn leave_written<D: Disk, B: Memo, N: Memo>(
 )
     requires own { IsPassOf lock.now pass.old }
     requires turn { IsInTurn pass.old }
-    requires note { N.note ≡ note_of (pass_number pass.old) (written B.next lbn from.now answer.now) (look_of_manager turn.value) (passed_in turn.value.rooms.items) false }
-    requires value { Stands D.tells D.state turn.value (pass_lock pass.old).base (notes_seen pass.old ++ N.note ∷ []) }
+    requires note { N.note ≡ note_of (pass_number pass.old) (written B.next lbn from.now answer.now)
+        (look_of_manager turn.value) (passed_in turn.value.rooms.items) false }
+    requires value { Stands D.tells D.state turn.value (pass_lock pass.old).base
+        (notes_seen pass.old ++ N.note ∷ []) }
     ensures left { HasLeft D.tells N.note pass.old pass.new }
     ensures broken { (p : Part) → turn.value.down ≡ Some p → WasDown p (notes_seen pass.new) }
     ensures unbroken { turn.value.down ≡ None → IsBroken (notes_seen pass.new) → ⊥ }
@@ -79,9 +81,11 @@ fn write_within<D: Disk, R: Wait, B: Memo>(
     requires client { pass_number pass.old ≡ worker }
     requires next { B.next ≡ turn.value.next }
     requires shared { IsShared shared.now (pass_lock pass.old).base }
-    requires count { (1 ≤ length from.now) × (length from.now ≤ (pass_lock pass.old).base.volume.began.most) }
+    requires count { (1 ≤ length from.now)
+        × (length from.now ≤ (pass_lock pass.old).base.volume.began.most) }
     requires fits { lbn + length from.now ≤ (pass_lock pass.old).base.volume.began.home_blocks }
-    requires value { Stands D.tells D.state turn.value (pass_lock pass.old).base (notes_seen pass.old) }
+    requires value { Stands D.tells D.state turn.value (pass_lock pass.old).base
+        (notes_seen pass.old) }
     ensures { HasWritten D.tells lbn from.now result tally.old tally.new pass.old pass.new }
 {
     let answer = turn.value.write(rt, shared, lbn, from);
@@ -112,7 +116,8 @@ pub fn write_blocks<D: Disk, R: Wait>(
     requires free { IsFree pass.old }
     requires client { pass_number pass.old ≡ worker }
     requires shared { IsShared shared.now (pass_lock pass.old).base }
-    requires count { (1 ≤ length from.now) × (length from.now ≤ (pass_lock pass.old).base.volume.began.most) }
+    requires count { (1 ≤ length from.now)
+        × (length from.now ≤ (pass_lock pass.old).base.volume.began.most) }
     requires fits { lbn + length from.now ≤ (pass_lock pass.old).base.volume.began.home_blocks }
     ensures written { HasWrittenBlocks D.tells lbn from.now result pass.old pass.new }
     ensures counted { HasCounted D.tells tally.old tally.new pass.old pass.new }

@@ -17,30 +17,36 @@ pub record IsIdleSeat {D : Type 0} (e : Errands (Job D)) (s : Seat D) : Type 0 w
 
 -- each of these seats is idle, one for each of the first errands
 abbrev pub AreIdleSeats : {D : Type 0} → List (Errands (Job D)) → List (Seat D) → Type 0
-AreIdleSeats {D} es ss = (k : ℕ) (e : Errands (Job D)) (s : Seat D) → k < length ss → IsIdleSeat (slice_index_or es k e) (slice_index_or ss k s)
+AreIdleSeats {D} es ss = (k : ℕ) (e : Errands (Job D)) (s : Seat D) → k < length ss
+    → IsIdleSeat (slice_index_or es k e) (slice_index_or ss k s)
 
 -- .. told its worker that nothing more comes
 abbrev pub AreOver : {D : Type 0} → List (Errands (Job D)) → List (Seat D) → Type 0
-AreOver {D} es ss = (k : ℕ) (e : Errands (Job D)) (s : Seat D) → k < length ss → IsOver (slice_index_or es k e) (slice_index_or ss k s).sender
+AreOver {D} es ss = (k : ℕ) (e : Errands (Job D)) (s : Seat D) → k < length ss
+    → IsOver (slice_index_or es k e) (slice_index_or ss k s).sender
 
 -- ---- Workers
 
 module _ {T : Type 0} where
   -- each of these workers waits for what is handed over, from a place of the errands on
   abbrev pub AreWaitingFrom : ℕ → List (Errands T) → List (Worker T) → Type 0
-  AreWaitingFrom start es ws = (k : ℕ) (e : Errands T) (w : Worker T) → k < length ws → IsWaiting (slice_index_or es (start + k) e) (slice_index_or ws k w)
+  AreWaitingFrom start es ws = (k : ℕ) (e : Errands T) (w : Worker T) → k < length ws
+      → IsWaiting (slice_index_or es (start + k) e) (slice_index_or ws k w)
 
   -- .. from the first on
   abbrev pub AreWaiting : List (Errands T) → List (Worker T) → Type 0
-  AreWaiting es ws = (k : ℕ) (e : Errands T) (w : Worker T) → k < length ws → IsWaiting (slice_index_or es k e) (slice_index_or ws k w)
+  AreWaiting es ws = (k : ℕ) (e : Errands T) (w : Worker T) → k < length ws
+      → IsWaiting (slice_index_or es k e) (slice_index_or ws k w)
 
   -- each of these workers was told that nothing more comes, from a place of the errands on
   abbrev pub AreToldFrom : ℕ → List (Errands T) → List (Worker T) → Type 0
-  AreToldFrom start es ws = (k : ℕ) (e : Errands T) (w : Worker T) → k < length ws → IsTold (slice_index_or es (start + k) e) (slice_index_or ws k w)
+  AreToldFrom start es ws = (k : ℕ) (e : Errands T) (w : Worker T) → k < length ws
+      → IsTold (slice_index_or es (start + k) e) (slice_index_or ws k w)
 
   -- .. from the first on
   abbrev pub AreTold : List (Errands T) → List (Worker T) → Type 0
-  AreTold es ws = (k : ℕ) (e : Errands T) (w : Worker T) → k < length ws → IsTold (slice_index_or es k e) (slice_index_or ws k w)
+  AreTold es ws = (k : ℕ) (e : Errands T) (w : Worker T) → k < length ws
+      → IsTold (slice_index_or es k e) (slice_index_or ws k w)
 
 -- ---- Crews
 

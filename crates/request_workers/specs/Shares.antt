@@ -1,4 +1,5 @@
--- Desks that are served by the caller and its workers, and what a window makes of a floor beside the sums.
+-- Desks that are served by the caller and its workers, and what a window makes of a floor beside
+-- the sums.
 use Rattle.std.specs.Prelude.{◌≡◌, ◌^◌, ◌≤◌, ◌+◌, ◌-◌, ◌/◌, ◌%◌, ℕ, min, max, Bool, List, length, vec_capacity}
 use Rattle.wol_model.specs.History.{helper}
 use Rattle.logger.specs.declared.shared.Shared.{Shared}
@@ -15,7 +16,8 @@ use Rattle.trace_windows.specs.declared.request.Request.{Request}
 abbrev pub size_of_runs : (workers desks : ℕ) → ℕ
 size_of_runs workers desks = max 1 (desks / workers + min 1 (desks % workers))
 
--- so many desks make the last run of n, where runs of this size are cut in order: the last alone may be shorter
+-- so many desks make the last run of n, where runs of this size are cut in order: the last alone
+-- may be shorter
 pub record IsLastRun (size n last : ℕ) : Type 0 where
   pub some : 1 ≤ last
   pub few : last ≤ size
@@ -53,7 +55,8 @@ pub record HasShared {D : Type 0} (tells : Bool) (mode : Reclaim) (f g : Floor D
   pub room : vec_capacity f.desks ≤ vec_capacity g.desks
 
 -- the requests were served, each volume had its reclaim turn, and the outcomes were taken
-pub record HasRunOn {D : Type 0} (tells : Bool) (rs : List Request) (os : List Outcome) (mode : Reclaim) (f g : Floor D) : Type 0 where
+pub record HasRunOn {D : Type 0} (tells : Bool) (rs : List Request) (os : List Outcome)
+    (mode : Reclaim) (f g : Floor D) : Type 0 where
   pub len : length os ≡ length rs
   pub desk_count : length g.desks.items ≡ length f.desks.items
   pub worked : AreWorked tells rs os mode f.desks.items g.desks.items

@@ -22,7 +22,8 @@ use wol_io::Gate;
 
 // What was reclaimed by the workers and the helper.
 fn reclaimed<D: Disk>(desks: &[Desk<D>], help: &HelperRoom) -> Tally
-    ensures { CountsMore (sum_by (λ (d : Desk _). d.tally.blocks) desks.now) (sum_by (λ (d : Desk _). d.tally.records) desks.now) help.now.tally result }
+    ensures { CountsMore (sum_by (λ (d : Desk _). d.tally.blocks) desks.now)
+        (sum_by (λ (d : Desk _). d.tally.records) desks.now) help.now.tally result }
 {
     let mut tally = help.tally;
     for desk in desks {

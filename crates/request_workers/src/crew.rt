@@ -78,7 +78,12 @@ impl<'e, 'l, D: Disk, G> Crew<'e, 'l, D, G> {
         requires idle { AreIdleSeats errands.now seats.items }
         ensures crew { IsCrew result }
         ensures errands { result.errands.now ≡ errands.now }
-        ensures parts { result ≡ record { errands = errands.entry; seats = seats.entry; workers = workers; gate = gate.entry } }
+        ensures parts { result ≡ record {
+          errands = errands.entry;
+          seats = seats.entry;
+          workers = workers;
+          gate = gate.entry;
+        } }
     {
         Crew {
             errands,

@@ -94,7 +94,8 @@ fn cut_run<D: Disk>(desks: &mut Vec<Desk<D>>, room: &mut Vec<Desk<D>>, size: usi
     requires size { 0 < size }
     requires empty { room.old.items ≡ [] }
     ensures cut { desks.old.items ≡ desks.new.items ++ room.new.items }
-    ensures run { size ≤ vec_capacity room.old → IsLastRun size (length desks.old.items) (length room.new.items) }
+    ensures run { size ≤ vec_capacity room.old
+        → IsLastRun size (length desks.old.items) (length room.new.items) }
     ensures room { vec_capacity desks.new ≡ vec_capacity desks.old }
 {
     for _ in 0..last_run(desks.len(), size) {

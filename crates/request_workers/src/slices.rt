@@ -31,8 +31,10 @@ pub(crate) fn run_window<'e, 'l, D: Disk, G: Gate, R: Wait>(
     requires count { length floor.old.desks.items ≡ length floor.old.locks.now }
     requires crew { IsCrew crew.old }
     requires own { HaveOwn requests.now floor.old.desks.items }
-    requires faultless { (k : ℕ) (d : Desk _) → k < length floor.old.desks.items → (slice_index_or floor.old.desks.items k d).fault ≡ None }
-    requires fresh { (k : ℕ) (d : Desk _) → k < length floor.old.desks.items → Counts 0 0 (slice_index_or floor.old.desks.items k d).tally }
+    requires faultless { (k : ℕ) (d : Desk _) → k < length floor.old.desks.items
+        → (slice_index_or floor.old.desks.items k d).fault ≡ None }
+    requires fresh { (k : ℕ) (d : Desk _) → k < length floor.old.desks.items
+        → Counts 0 0 (slice_index_or floor.old.desks.items k d).tally }
     requires volumes { AreOfVolumes (length floor.old.desks.items) requests.now }
     requires empty { out.old.items ≡ [] }
     requires room { length requests.now ≤ vec_capacity out.old }

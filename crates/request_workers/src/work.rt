@@ -58,8 +58,10 @@ pub fn work_all<T: Task<G> + Send, G: Sync, R: Threads + Wait + Sync>(
         workers,
         1,
         &|start: usize, run: &mut [Worker<T>]|
-            requires { (start + length run.now ≤ length errands.now) × AreWaitingFrom start errands.now run.now }
-            ensures { (length run.new ≡ length run.old) × AreToldFrom start errands.entry.now run.new }
+            requires { (start + length run.now ≤ length errands.now)
+                × AreWaitingFrom start errands.now run.now }
+            ensures { (length run.new ≡ length run.old)
+                × AreToldFrom start errands.entry.now run.new }
         { work_run(rt, errands, start, gate, run) },
     );
 }

@@ -19,8 +19,10 @@ answered_count answers v = length (answered_in (answers_of v answers))
 
 -- the answered requests of a volume are its first ones
 abbrev pub AreFirst : (v : ℕ) → List Answered → Type 0
-AreFirst v answers = answered_in (answers_of v answers) ≡ take (answered_count answers v) (answers_of v answers)
+AreFirst v answers =
+    answered_in (answers_of v answers) ≡ take (answered_count answers v) (answers_of v answers)
 
 -- the lines of the answered reads, with the marks that were told
 abbrev pub told_lines : (text : Request → ℕ → List ℕ) → List Answered → List (List ℕ)
-told_lines text answers = flat_map (λ (a : Answered). read_text text a.request (mark_in a.outcome)) answers
+told_lines text answers =
+    flat_map (λ (a : Answered). read_text text a.request (mark_in a.outcome)) answers

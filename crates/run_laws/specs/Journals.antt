@@ -10,9 +10,11 @@ uses_by pass uses = map (λ (u : ℕ × Use). u.1) (filter (λ (u : ℕ × Use).
 
 -- each use of another pass is one of an access
 abbrev pub OthersAccess : (keeper : ℕ) → List (ℕ × Use) → Type 0
-OthersAccess keeper uses = AllByRecursion (λ (u : ℕ × Use). u.0 ≢ keeper → (u.1 ≡ Needed) ⊎ (u.1 ≡ Done)) uses
+OthersAccess keeper uses =
+    AllByRecursion (λ (u : ℕ × Use). u.0 ≢ keeper → (u.1 ≡ Needed) ⊎ (u.1 ≡ Done)) uses
 
--- the answer of a use that is this pass's, before the answers of the later ones: a Began tells whether the disk is awake then
+-- the answer of a use that is this pass's, before the answers of the later ones: a Began tells
+-- whether the disk is awake then
 abbrev pub answer_then : (own : Bool) → Use → (awake : Bool) → List Bool → List Bool
 answer_then true (Began at) awake rest = awake ∷ rest
 answer_then true (Started at) awake rest = rest
@@ -24,15 +26,21 @@ answer_then false u awake rest = rest
 -- whether the disk was awake behind each Began of this pass, in order
 abbrev pub answers_by : (timeout : ℕ) → SpindleState → (pass : ℕ) → List (ℕ × Use) → List Bool
 answers_by timeout s pass [] = []
-answers_by timeout s pass (u ∷ uses) = answer_then (u.0 == pass) u.1 (used timeout s u.0 u.1).awake (answers_by timeout (used timeout s u.0 u.1) pass uses)
+answers_by timeout s pass (u ∷ uses) = answer_then (u.0 == pass) u.1 (used timeout s u.0 u.1).awake
+    (answers_by timeout (used timeout s u.0 u.1) pass uses)
 
--- where the keeper began the account, and windows up to its end, a spindle's time is that of the account
+-- where the keeper began the account, and windows up to its end, a spindle's time is that of the
+-- account
 abbrev pub AccountCovers : Type 0
-AccountCovers = (timeout keeper start ended : ℕ) (moments : List ℕ) (uses : List (ℕ × Use)) → OthersAccess keeper uses → uses_by keeper uses ≡ keeper_uses start moments
+AccountCovers = (timeout keeper start ended : ℕ) (moments : List ℕ) (uses : List (ℕ × Use))
+    → OthersAccess keeper uses → uses_by keeper uses ≡ keeper_uses start moments
     → start ≤ ended → AllByRecursion (λ m. m ≤ ended) moments
-    → ((spindle_after timeout new_spindle uses).from ≡ start) × ((spindle_after timeout new_spindle uses).now ≤ ended)
+    → ((spindle_after timeout new_spindle uses).from ≡ start)
+    × ((spindle_after timeout new_spindle uses).now ≤ ended)
 
 -- where it began none, no time went by
 abbrev pub NoAccount : Type 0
-NoAccount = (timeout keeper : ℕ) (uses : List (ℕ × Use)) → OthersAccess keeper uses → uses_by keeper uses ≡ []
-    → ((spindle_after timeout new_spindle uses).from ≡ 0) × ((spindle_after timeout new_spindle uses).now ≡ 0)
+NoAccount = (timeout keeper : ℕ) (uses : List (ℕ × Use)) → OthersAccess keeper uses
+    → uses_by keeper uses ≡ []
+    → ((spindle_after timeout new_spindle uses).from ≡ 0)
+    × ((spindle_after timeout new_spindle uses).now ≡ 0)

@@ -18,7 +18,8 @@ pool_used holders pass (Took None) = holders
 pool_used holders pass (Took (Some index)) = slice_set holders index (HeldBy pass)
 pool_used holders pass (Gave index) = slice_set holders index InPool
 
--- none is taken only where none is free; a segment is taken from the pool, and given by the pass that holds it
+-- none is taken only where none is free; a segment is taken from the pool, and given by the pass
+-- that holds it
 abbrev pub MayUsePool : List Holder → (pass : ℕ) → PoolUse → Type 0
 MayUsePool holders pass (Took None) = (index : ℕ) → holder holders index ≢ InPool
 MayUsePool holders pass (Took (Some index)) = holder holders index ≡ InPool
@@ -32,7 +33,8 @@ pool_after holders (u ∷ uses) = pool_after (pool_used holders u.0 u.1) uses
 -- uses that may follow one another
 abbrev pub ArePoolUses : List Holder → List (ℕ × PoolUse) → Type 0
 ArePoolUses holders [] = ⊤
-ArePoolUses holders (u ∷ uses) = MayUsePool holders u.0 u.1 × ArePoolUses (pool_used holders u.0 u.1) uses
+ArePoolUses holders (u ∷ uses) =
+    MayUsePool holders u.0 u.1 × ArePoolUses (pool_used holders u.0 u.1) uses
 
 -- whether the segment is free
 abbrev pub is_in_pool : Holder → Bool
@@ -50,5 +52,6 @@ is_held_by pass Elsewhere = false
 abbrev pub holds_after : (index : ℕ) → (held : Bool) → List PoolUse → Bool
 holds_after index held [] = held
 holds_after index held (Took None ∷ uses) = holds_after index held uses
-holds_after index held (Took (Some i) ∷ uses) = holds_after index (if i == index then true else held) uses
+holds_after index held (Took (Some i) ∷ uses) =
+    holds_after index (if i == index then true else held) uses
 holds_after index held (Gave i ∷ uses) = holds_after index (if i == index then false else held) uses

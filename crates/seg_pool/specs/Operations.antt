@@ -14,7 +14,8 @@ operation_of (Gave index) = 3 ∷ index ∷ []
 abbrev pub use_of : List ℕ → PoolUse
 use_of [] = Took None
 use_of (kind ∷ []) = Took None
-use_of (kind ∷ index ∷ []) = if kind == 1 then Took (Some index) else if kind == 3 then Gave index else Took None
+use_of (kind ∷ index ∷ []) =
+    if kind == 1 then Took (Some index) else if kind == 3 then Gave index else Took None
 use_of (kind ∷ index ∷ more ∷ rest) = Took None
 
 -- the uses of a lock's entries, each with the number of its pass
@@ -27,7 +28,8 @@ entries_of uses = map (λ (u : ℕ × PoolUse). (u.0, operation_of u.1)) uses
 
 -- whether a pass that made these entries holds the segment of an index
 abbrev pub holds : PoolBase → (pass : ℕ) → List Entry → (index : ℕ) → Bool
-holds b pass entries index = holds_after index (is_held_by pass (holder b.holders index)) (map (λ (e : Entry). use_of e.1) entries)
+holds b pass entries index = holds_after index (is_held_by pass (holder b.holders index))
+    (map (λ (e : Entry). use_of e.1) entries)
 
 -- the use of a turn in which `take` gave this answer
 abbrev pub taken : {T : Type 0} → Option (ℕ × T) → PoolUse

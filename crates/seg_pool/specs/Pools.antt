@@ -61,7 +61,8 @@ module _ {T : Type 0} where
     pub room : room_of new ≡ room_of old
 
   -- at this index is then this item and this note, and at each other what was there
-  pub record ChangesOnly (old new : Pool T) (index : ℕ) (item : Option T) (note : Option ℕ) : Type 0 where
+  pub record ChangesOnly (old new : Pool T) (index : ℕ) (item : Option T) (note : Option ℕ) :
+      Type 0 where
     pub item_here : item_at new index ≡ item
     pub note_here : note_at new index ≡ note
     pub items : (i : ℕ) → i ≢ index → item_at new i ≡ item_at old i
@@ -69,19 +70,25 @@ module _ {T : Type 0} where
 
   -- the base of a pool whose lock is made now
   abbrev pub base_of : Pool T → PoolBase
-  base_of p = record { volume = p.volume; blocks = p.blocks; holders = map (λ (s : Slot T). holder_in s) p.slots.items }
+  base_of p = record {
+    volume = p.volume;
+    blocks = p.blocks;
+    holders = map (λ (s : Slot T). holder_in s) p.slots.items;
+  }
 
 -- the holders after the entries
 abbrev pub holders_after : PoolBase → List Entry → List Holder
 holders_after b entries = pool_after b.holders (uses_of entries)
 
--- a pool stands for its base and for entries that are uses, each of which may be made where it stands: its items are
--- those of the free indexes, all blank and of its volume and number of blocks
-pub record StandsFor {T : Type 0} (blank : ℕ → ℕ → T → Type 0) (p : Pool T) (b : PoolBase) (entries : List Entry) : Type 0 where
+-- a pool stands for its base and for entries that are uses, each of which may be made where it
+-- stands: its items are those of the free indexes, all blank and of its volume and number of blocks
+pub record StandsFor {T : Type 0} (blank : ℕ → ℕ → T → Type 0) (p : Pool T) (b : PoolBase)
+    (entries : List Entry) : Type 0 where
   pub volume : volume_of p ≡ b.volume
   pub blocks : blocks_of p ≡ b.blocks
   pub room : room_of p ≡ length b.holders
   pub spelled : entries_of (uses_of entries) ≡ entries
   pub legal : ArePoolUses b.holders (uses_of entries)
-  pub free : (index : ℕ) → is_some (item_at p index) ≡ is_in_pool (holder (holders_after b entries) index)
+  pub free : (index : ℕ)
+      → is_some (item_at p index) ≡ is_in_pool (holder (holders_after b entries) index)
   pub items : (index : ℕ) (item : T) → item_at p index ≡ Some item → blank b.volume b.blocks item

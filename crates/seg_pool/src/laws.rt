@@ -17,6 +17,8 @@ pub fn pool_laws()
 
 /// What the base of a pool's lock says: a noted index is held by its pass, and an item is in the pool.
 pub fn opening_laws<T: Blank>()
-    ensures notes { (p : Pool T) (index pass : ℕ) → note_at p index ≡ Some pass → holder (base_of p).holders index ≡ HeldBy pass }
-    ensures items { (p : Pool T) (index : ℕ) (item : T) → item_at p index ≡ Some item → holder (base_of p).holders index ≡ InPool }
+    ensures notes { (p : Pool T) (index pass : ℕ) → note_at p index ≡ Some pass
+        → holder (base_of p).holders index ≡ HeldBy pass }
+    ensures items { (p : Pool T) (index : ℕ) (item : T) → item_at p index ≡ Some item
+        → holder (base_of p).holders index ≡ InPool }
 {}

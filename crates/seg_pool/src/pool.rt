@@ -74,7 +74,8 @@ impl<T: Blank> Pool<T> {
         requires not_noted { note_at self.old index ≡ None }
         ensures same { IsSamePool self.old self.new }
         ensures noted { ChangesOnly self.old self.new index None (Some pass) }
-        ensures stands { StandsFor T.blank self.old (base_of self.old) [] → StandsFor T.blank self.new (base_of self.new) [] }
+        ensures stands { StandsFor T.blank self.old (base_of self.old) []
+            → StandsFor T.blank self.new (base_of self.new) [] }
     {
         self.put(index, Slot::Noted(pass));
     }
@@ -85,11 +86,15 @@ impl<T: Blank> Pool<T> {
         ensures none { IsNone result ↔ IsEmptyPool self.old }
         ensures unchanged { IfNone result (self.new ≡ self.old) }
         ensures item { IfSome result (λ r. item_at self.old r.0 ≡ Some r.1) }
-        ensures least { IfSome result (λ r. (index : ℕ) → index < r.0 → item_at self.old index ≡ None) }
+        ensures least { IfSome result
+            (λ r. (index : ℕ) → index < r.0 → item_at self.old index ≡ None) }
         ensures within { IfSome result (λ r. r.0 < room_of self.old) }
         ensures rest { IfSome result (λ r. ChangesOnly self.old self.new r.0 None None) }
         ensures stands { (b : PoolBase) (es : List Entry) (n : ℕ) → StandsFor T.blank self.old b es
-            → MatchOption result (StandsFor T.blank self.new b (es ++ (n, operation_of (Took None)) ∷ [])) (λ r. StandsFor T.blank self.new b (es ++ (n, operation_of (Took (Some r.0))) ∷ []) × T.blank b.volume b.blocks r.1) }
+            → MatchOption result (StandsFor T.blank self.new b
+            (es ++ (n, operation_of (Took None)) ∷ []))
+            (λ r. StandsFor T.blank self.new b (es ++ (n, operation_of (Took (Some r.0))) ∷ [])
+            × T.blank b.volume b.blocks r.1) }
     {
         match self.least() {
             Some(index) => Some((index, self.remove(index))),
@@ -104,8 +109,11 @@ impl<T: Blank> Pool<T> {
         requires blank { T.blank (volume_of self.old) (blocks_of self.old) item }
         ensures same { IsSamePool self.old self.new }
         ensures free { ChangesOnly self.old self.new index (Some item) None }
-        ensures opens { StandsFor T.blank self.old (base_of self.old) [] → StandsFor T.blank self.new (base_of self.new) [] }
-        ensures stands { (b : PoolBase) (es : List Entry) (n : ℕ) → StandsFor T.blank self.old b es → MayUsePool (holders_after b es) n (Gave index) → StandsFor T.blank self.new b (es ++ (n, operation_of (Gave index)) ∷ []) }
+        ensures opens { StandsFor T.blank self.old (base_of self.old) []
+            → StandsFor T.blank self.new (base_of self.new) [] }
+        ensures stands { (b : PoolBase) (es : List Entry) (n : ℕ) → StandsFor T.blank self.old b es
+            → MayUsePool (holders_after b es) n (Gave index)
+            → StandsFor T.blank self.new b (es ++ (n, operation_of (Gave index)) ∷ []) }
     {
         self.put(index, Slot::Free(item));
     }

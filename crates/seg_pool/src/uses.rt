@@ -26,14 +26,21 @@ pub fn take_item<R: Wait, T: Blank>(
     requires free { IsFree pass.old }
     ensures same { IsSamePass pass.old pass.new }
     ensures free { IsFree pass.new }
-    ensures mine { pass_mine pass.new ≡ pass_mine pass.old ++ (pass_number pass.old, operation_of (taken result)) ∷ [] }
-    ensures seen { (before : List Entry) × Begins (pass_seen pass.old) before × (pass_seen pass.new ≡ before ++ (pass_number pass.old, operation_of (taken result)) ∷ []) }
+    ensures mine { pass_mine pass.new
+        ≡ pass_mine pass.old ++ (pass_number pass.old, operation_of (taken result)) ∷ [] }
+    ensures seen { (before : List Entry) × Begins (pass_seen pass.old) before
+        × (pass_seen pass.new ≡ before ++ (pass_number pass.old, operation_of (taken result)) ∷ []) }
     ensures legal { ArePoolUses (pass_lock pass.new).base.holders (uses_of (pass_seen pass.new)) }
-    ensures holds { IfSome result (λ r. holds (pass_lock pass.new).base (pass_number pass.new) (pass_mine pass.new) r.0 ≡ true) }
-    ensures fresh { IfSome result (λ r. holds (pass_lock pass.old).base (pass_number pass.old) (pass_mine pass.old) r.0 ≡ false) }
+    ensures holds { IfSome result (λ r.
+        holds (pass_lock pass.new).base (pass_number pass.new) (pass_mine pass.new) r.0 ≡ true) }
+    ensures fresh { IfSome result (λ r.
+        holds (pass_lock pass.old).base (pass_number pass.old) (pass_mine pass.old) r.0 ≡ false) }
     ensures within { IfSome result (λ r. r.0 < length (pass_lock pass.new).base.holders) }
-    ensures kept { (index : ℕ) → holds (pass_lock pass.old).base (pass_number pass.old) (pass_mine pass.old) index ≡ true → holds (pass_lock pass.new).base (pass_number pass.new) (pass_mine pass.new) index ≡ true }
-    ensures blank { IfSome result (λ r. T.blank (pass_lock pass.new).base.volume (pass_lock pass.new).base.blocks r.1) }
+    ensures kept { (index : ℕ) → holds (pass_lock pass.old).base (pass_number pass.old)
+        (pass_mine pass.old) index ≡ true
+        → holds (pass_lock pass.new).base (pass_number pass.new) (pass_mine pass.new) index ≡ true }
+    ensures blank { IfSome result
+        (λ r. T.blank (pass_lock pass.new).base.volume (pass_lock pass.new).base.blocks r.1) }
 {
     let mut turn = lock.enter(rt, pass);
     let taken = turn.value.take();
@@ -59,14 +66,19 @@ pub fn give_item<R: Wait, T: Blank>(
 )
     requires own { IsPassOf lock.now pass.old }
     requires free { IsFree pass.old }
-    requires holds { holds (pass_lock pass.old).base (pass_number pass.old) (pass_mine pass.old) index ≡ true }
+    requires holds { holds (pass_lock pass.old).base (pass_number pass.old) (pass_mine pass.old)
+        index ≡ true }
     requires blank { T.blank (pass_lock pass.old).base.volume (pass_lock pass.old).base.blocks item }
     ensures same { IsSamePass pass.old pass.new }
     ensures free { IsFree pass.new }
-    ensures mine { pass_mine pass.new ≡ pass_mine pass.old ++ (pass_number pass.old, operation_of (Gave index)) ∷ [] }
-    ensures seen { (before : List Entry) × Begins (pass_seen pass.old) before × (pass_seen pass.new ≡ before ++ (pass_number pass.old, operation_of (Gave index)) ∷ []) }
+    ensures mine { pass_mine pass.new
+        ≡ pass_mine pass.old ++ (pass_number pass.old, operation_of (Gave index)) ∷ [] }
+    ensures seen { (before : List Entry) × Begins (pass_seen pass.old) before
+        × (pass_seen pass.new ≡ before ++ (pass_number pass.old, operation_of (Gave index)) ∷ []) }
     ensures legal { ArePoolUses (pass_lock pass.new).base.holders (uses_of (pass_seen pass.new)) }
-    ensures kept { (i : ℕ) → i ≢ index → holds (pass_lock pass.old).base (pass_number pass.old) (pass_mine pass.old) i ≡ true → holds (pass_lock pass.new).base (pass_number pass.new) (pass_mine pass.new) i ≡ true }
+    ensures kept { (i : ℕ) → i ≢ index → holds (pass_lock pass.old).base (pass_number pass.old)
+        (pass_mine pass.old) i ≡ true
+        → holds (pass_lock pass.new).base (pass_number pass.new) (pass_mine pass.new) i ≡ true }
 {
     let mut turn = lock.enter(rt, pass);
     turn.value.give(index, item);

@@ -18,14 +18,18 @@ NoneOut bay = IfSome bay.told (λ t. t.out ≡ [])
 abbrev pub BeginsBlank : Target → Option Told → (array : Option (List Block)) → Type 0
 BeginsBlank target told array = IfSome told (λ t. array ≡ Some (zeros target.home))
 
--- the image `solo` is in the bay with these values, in place of one that was there, and the others are as they were
+-- the image `solo` is in the bay with these values, in place of one that was there, and the others
+-- are as they were
 abbrev pub Stores : (old new : Option Told) → (values : Option (List (Values Block))) → Type 0
 Stores None new values = ⊤
 Stores (Some old) None values = ⊥
-Stores (Some old) (Some new) values = new.images ≡ stored (codes "solo") values (without (codes "solo") old.images)
+Stores (Some old) (Some new) values =
+    new.images ≡ stored (codes "solo") values (without (codes "solo") old.images)
 
--- what a fault leaves of the images: all as it was where the image wasn't made, which want of memory may also come of
-abbrev pub LeavesBy : Fault → (old new : Option Told) → (values : Option (List (Values Block))) → Type 0
+-- what a fault leaves of the images: all as it was where the image wasn't made, which want of
+-- memory may also come of
+abbrev pub LeavesBy : Fault → (old new : Option Told) → (values : Option (List (Values Block)))
+    → Type 0
 LeavesBy fault.Bay old new values = new ≡ old
 LeavesBy fault.NoMemory old new values = (new ≡ old) ⊎ Stores old new values
 LeavesBy fault.Disk old new values = Stores old new values
@@ -34,26 +38,35 @@ LeavesBy fault.Source old new values = Stores old new values
 LeavesBy fault.Spent old new values = Stores old new values
 LeavesBy (fault.BadLine line why) old new values = Stores old new values
 
-abbrev pub LeavesImages : {T : Type 0} → Result T Fault → (old new : Option Told) → (values : Option (List (Values Block))) → Type 0
-LeavesImages result old new values = MatchResult result (λ _. Stores old new values) (λ e. LeavesBy e old new values)
+abbrev pub LeavesImages : {T : Type 0} → Result T Fault → (old new : Option Told)
+    → (values : Option (List (Values Block))) → Type 0
+LeavesImages result old new values =
+    MatchResult result (λ _. Stores old new values) (λ e. LeavesBy e old new values)
 
 -- there is one part, of this size, without a fault, and with one value for each block
 abbrev pub IsOnePart : {D : Type 0} → (D → State) → (size : ℕ) → List D → Type 0
 IsOnePart state size [] = ⊥
-IsOnePart state size (part ∷ []) = ((state part).size ≡ size) × ((state part).faults ≡ 0) × IsSettled (state part).values
+IsOnePart state size (part ∷ []) =
+    ((state part).size ≡ size) × ((state part).faults ≡ 0) × IsSettled (state part).values
 IsOnePart state size (part ∷ next ∷ parts) = ⊥
 
 -- what the run leaves of the one part
-abbrev pub RunsOnFirst : {D : Type 0} → (D → State) → Target → (trace left : Option (List ℕ)) → (parts parts' : List D) → Result Tally Fault → (old new : Option (List ℕ)) → Type 0
+abbrev pub RunsOnFirst : {D : Type 0} → (D → State) → Target → (trace left : Option (List ℕ))
+    → (parts parts' : List D) → Result Tally Fault → (old new : Option (List ℕ)) → Type 0
 RunsOnFirst state target trace left [] parts' result old new = ⊤
 RunsOnFirst state target trace left (part ∷ parts) [] result old new = ⊥
-RunsOnFirst state target trace left (part ∷ parts) (part' ∷ parts') result old new = Runs target trace left (content_of (state part).values) result old new (state part').values
+RunsOnFirst state target trace left (part ∷ parts) (part' ∷ parts') result old new =
+    Runs target trace left (content_of (state part).values) result old new (state part').values
 
 -- what a run leaves of its bay and of its sink
-abbrev pub RunsInBay : {T : Type 0} → Target → (trace left : Option (List ℕ)) → (told told' : Option Told) → Result T Fault → (old new : Option (List ℕ)) → Type 0
+abbrev pub RunsInBay : {T : Type 0} → Target → (trace left : Option (List ℕ))
+    → (told told' : Option Told) → Result T Fault → (old new : Option (List ℕ)) → Type 0
 RunsInBay target trace left told told' result old new =
-    (array : Option (List Block)) × BeginsBlank target told array × (values : Option (List (Values Block))) × LeavesImages result told told' values × Ends target trace left array result old new values
+    (array : Option (List Block)) × BeginsBlank target told array
+    × (values : Option (List (Values Block))) × LeavesImages result told told' values
+    × Ends target trace left array result old new values
 
 -- the bay lists the one part of the image `solo` as one that came back with a fault
 abbrev pub PartCameBackFaulty : (old new : Option Told) → Type 0
-PartCameBackFaulty old new = IfSome old (λ o. IfSome new (λ n. n.faulty ≡ o.faulty ++ (codes "solo", 0) ∷ []))
+PartCameBackFaulty old new =
+    IfSome old (λ o. IfSome new (λ n. n.faulty ≡ o.faulty ++ (codes "solo", 0) ∷ []))

@@ -18,17 +18,20 @@ abbrev pub lines_read : List ℕ → List LineRead
 lines_read trace = map read_of (lines_of trace)
 
 -- a trace, where it is told, has these lines, none of which is bad, and then more
-abbrev pub HasLines : (trace : Option (List ℕ)) → (lines : List (Option TraceLine)) → (more : List LineRead) → Type 0
+abbrev pub HasLines : (trace : Option (List ℕ)) → (lines : List (Option TraceLine))
+    → (more : List LineRead) → Type 0
 HasLines None lines more = ⊤
 HasLines (Some trace) lines more = lines_read trace ≡ map Ok lines ++ more
 
 -- .. and these bytes are left of it
-abbrev pub HasLinesBefore : (trace : Option (List ℕ)) → (lines : List (Option TraceLine)) → (left : Option (List ℕ)) → Type 0
+abbrev pub HasLinesBefore : (trace : Option (List ℕ)) → (lines : List (Option TraceLine))
+    → (left : Option (List ℕ)) → Type 0
 HasLinesBefore None lines left = ⊤
 HasLinesBefore (Some trace) lines None = ⊥
 HasLinesBefore (Some trace) lines (Some left) = HasLines (Some trace) lines (lines_read left)
 
--- the requests that these lines ask of the volume, in pieces of at most 128 blocks; the volume has number 0
+-- the requests that these lines ask of the volume, in pieces of at most 128 blocks; the volume has
+-- number 0
 abbrev pub asked_of : Target → List (Option TraceLine) → List model.Request
 asked_of target lines = requests 128 (target ∷ []) lines
 
@@ -38,7 +41,8 @@ request_of r = record { line = r.line; volume = 0; kind = r.kind; first = r.firs
 
 -- the requests that a line asks of a volume of `home` blocks to which it belongs
 abbrev pub piece_request : (number : ℕ) → Kind → Piece → model.Request
-piece_request number kind piece = record { line = number; volume = 0; kind = kind; first = piece.lbn; count = piece.count }
+piece_request number kind piece =
+    record { line = number; volume = 0; kind = kind; first = piece.lbn; count = piece.count }
 
 abbrev pub line_requests : (home number : ℕ) → TraceLine → List model.Request
 line_requests home number line = map (piece_request number line.kind) (pieces home 128 line)

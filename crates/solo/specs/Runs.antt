@@ -14,61 +14,100 @@ use Rattle.solo.specs.Texts.{AreMarks, read_lines, summary_text}
 use Rattle.solo.specs.Served.{Answered, LeavesCutOf, LeftBy}
 
 -- all that these lines ask was answered
-abbrev pub AnsweredAll : Target → (lines : List (Option TraceLine)) → (array : Option (List Block)) → (old new : Option (List ℕ)) → (values : Option (List (Values Block))) → Type 0
-AnsweredAll target lines array old new values = Answered array (asked_of target lines) old new × LeavesCutOf array (asked_of target lines) [] values
+abbrev pub AnsweredAll : Target → (lines : List (Option TraceLine)) → (array : Option (List Block))
+    → (old new : Option (List ℕ)) → (values : Option (List (Values Block))) → Type 0
+AnsweredAll target lines array old new values =
+    Answered array (asked_of target lines) old new
+    × LeavesCutOf array (asked_of target lines) [] values
 
--- How a run ended before the end of its trace. `left` is what is then left of the trace.
--- At a bad line, after 2^32 lines and where the source failed all lines before were run; of a source that failed
--- no whole line is held back.
-abbrev pub StopsBy : Fault → Target → (trace left : Option (List ℕ)) → (array : Option (List Block)) → (old new : Option (List ℕ)) → (values : Option (List (Values Block))) → Type 0
+-- How a run ended before the end of its trace. `left` is what is then left of the trace. At a bad
+-- line, after 2^32 lines and where the source failed all lines before were run; of a source that
+-- failed no whole line is held back.
+abbrev pub StopsBy : Fault → Target → (trace left : Option (List ℕ)) → (array : Option (List Block))
+    → (old new : Option (List ℕ)) → (values : Option (List (Values Block))) → Type 0
 StopsBy (fault.BadLine line why) target trace left array old new values =
-    (lines : List (Option TraceLine)) × (more : List LineRead) × HasLines trace lines (Err why ∷ more) × (line ≡ length lines + 1) × AnsweredAll target lines array old new values
+    (lines : List (Option TraceLine)) × (more : List LineRead)
+    × HasLines trace lines (Err why ∷ more) × (line ≡ length lines + 1)
+    × AnsweredAll target lines array old new values
 StopsBy fault.Spent target trace left array old new values =
-    (lines : List (Option TraceLine)) × (next : LineRead) × (more : List LineRead) × HasLines trace lines (next ∷ more) × (length lines ≡ 2 ^ 32) × AnsweredAll target lines array old new values
+    (lines : List (Option TraceLine)) × (next : LineRead) × (more : List LineRead)
+    × HasLines trace lines (next ∷ more) × (length lines ≡ 2 ^ 32)
+    × AnsweredAll target lines array old new values
 StopsBy fault.Source target trace left array old new values =
-    (lines : List (Option TraceLine)) × (held : List ℕ) × (list_any is_feed held ≡ false) × HasLinesBefore trace lines (prepend_known held left) × AnsweredAll target lines array old new values
+    (lines : List (Option TraceLine)) × (held : List ℕ) × (list_any is_feed held ≡ false)
+    × HasLinesBefore trace lines (prepend_known held left)
+    × AnsweredAll target lines array old new values
 StopsBy fault.Disk target trace left array old new values =
-    (lines : List (Option TraceLine)) × (more : List LineRead) × HasLines trace lines more × LeftBy fault.Disk array (asked_of target lines) old new values
+    (lines : List (Option TraceLine)) × (more : List LineRead) × HasLines trace lines more
+    × LeftBy fault.Disk array (asked_of target lines) old new values
 StopsBy fault.NoMemory target trace left array old new values =
-    (lines : List (Option TraceLine)) × (more : List LineRead) × HasLines trace lines more × LeftBy fault.NoMemory array (asked_of target lines) old new values
+    (lines : List (Option TraceLine)) × (more : List LineRead) × HasLines trace lines more
+    × LeftBy fault.NoMemory array (asked_of target lines) old new values
 StopsBy fault.Sink target trace left array old new values =
-    (lines : List (Option TraceLine)) × (more : List LineRead) × HasLines trace lines more × LeftBy fault.Sink array (asked_of target lines) old new values
+    (lines : List (Option TraceLine)) × (more : List LineRead) × HasLines trace lines more
+    × LeftBy fault.Sink array (asked_of target lines) old new values
 StopsBy fault.Bay target trace left array old new values = ⊥
 
 -- the trace was run to its end, and this is what is counted of it
-abbrev pub RunsWhole : Target → (trace : Option (List ℕ)) → (array : Option (List Block)) → Tally → (old new : Option (List ℕ)) → (values : Option (List (Values Block))) → Type 0
+abbrev pub RunsWhole : Target → (trace : Option (List ℕ)) → (array : Option (List Block)) → Tally
+    → (old new : Option (List ℕ)) → (values : Option (List (Values Block))) → Type 0
 RunsWhole target trace array tally old new values =
-    (lines : List (Option TraceLine)) × HasLines trace lines [] × (length lines ≤ 2 ^ 32) × (tally ≡ tally_of target lines) × AnsweredAll target lines array old new values
+    (lines : List (Option TraceLine)) × HasLines trace lines [] × (length lines ≤ 2 ^ 32)
+    × (tally ≡ tally_of target lines) × AnsweredAll target lines array old new values
 
-abbrev pub Runs : Target → (trace left : Option (List ℕ)) → (array : Option (List Block)) → Result Tally Fault → (old new : Option (List ℕ)) → (values : Option (List (Values Block))) → Type 0
+abbrev pub Runs : Target → (trace left : Option (List ℕ)) → (array : Option (List Block))
+    → Result Tally Fault → (old new : Option (List ℕ)) → (values : Option (List (Values Block)))
+    → Type 0
 Runs target trace left array result old new values =
-    MatchResult result (λ tally. RunsWhole target trace array tally old new values) (λ e. StopsBy e target trace left array old new values)
+    MatchResult result (λ tally. RunsWhole target trace array tally old new values)
+    (λ e. StopsBy e target trace left array old new values)
 
 -- ---- The run with its image and its last line
 
 -- all that a run prints: a line for each read, and the last line
 abbrev pub whole_text : Target → List (Option TraceLine) → (marks : List (Option ℕ)) → List ℕ
-whole_text target lines marks = read_lines (asked_of target lines) marks ++ summary_text (tally_of target lines)
+whole_text target lines marks =
+    read_lines (asked_of target lines) marks ++ summary_text (tally_of target lines)
 
 -- the whole text was printed
-abbrev pub Prints : Target → (trace : Option (List ℕ)) → (array : Option (List Block)) → (old new : Option (List ℕ)) → (values : Option (List (Values Block))) → Type 0
+abbrev pub Prints : Target → (trace : Option (List ℕ)) → (array : Option (List Block))
+    → (old new : Option (List ℕ)) → (values : Option (List (Values Block))) → Type 0
 Prints target trace array old new values =
-    (lines : List (Option TraceLine)) × HasLines trace lines [] × (length lines ≤ 2 ^ 32) × (marks : List (Option ℕ)) × AreMarks array (asked_of target lines) marks × Appends old new (whole_text target lines marks) × LeavesCutOf array (asked_of target lines) [] values
+    (lines : List (Option TraceLine)) × HasLines trace lines [] × (length lines ≤ 2 ^ 32)
+    × (marks : List (Option ℕ)) × AreMarks array (asked_of target lines) marks
+    × Appends old new (whole_text target lines marks)
+    × LeavesCutOf array (asked_of target lines) [] values
 
 -- .. or a front of it
-abbrev pub PrintsFront : Target → (trace : Option (List ℕ)) → (array : Option (List Block)) → (old new : Option (List ℕ)) → (values : Option (List (Values Block))) → Type 0
+abbrev pub PrintsFront : Target → (trace : Option (List ℕ)) → (array : Option (List Block))
+    → (old new : Option (List ℕ)) → (values : Option (List (Values Block))) → Type 0
 PrintsFront target trace array old new values =
-    (lines : List (Option TraceLine)) × HasLines trace lines [] × (length lines ≤ 2 ^ 32) × (marks : List (Option ℕ)) × AreMarks array (asked_of target lines) marks × AppendsFront old new (whole_text target lines marks) × LeavesCutOf array (asked_of target lines) [] values
+    (lines : List (Option TraceLine)) × HasLines trace lines [] × (length lines ≤ 2 ^ 32)
+    × (marks : List (Option ℕ)) × AreMarks array (asked_of target lines) marks
+    × AppendsFront old new (whole_text target lines marks)
+    × LeavesCutOf array (asked_of target lines) [] values
 
 -- how a run ended that wasn't done: without an image, in the trace, or at the last line
-abbrev pub EndsBy : Fault → Target → (trace left : Option (List ℕ)) → (array : Option (List Block)) → (old new : Option (List ℕ)) → (values : Option (List (Values Block))) → Type 0
+abbrev pub EndsBy : Fault → Target → (trace left : Option (List ℕ)) → (array : Option (List Block))
+    → (old new : Option (List ℕ)) → (values : Option (List (Values Block))) → Type 0
 EndsBy fault.Bay target trace left array old new values = Keeps old new
-EndsBy fault.Sink target trace left array old new values = StopsBy fault.Sink target trace left array old new values ⊎ PrintsFront target trace array old new values
-EndsBy fault.Disk target trace left array old new values = StopsBy fault.Disk target trace left array old new values
-EndsBy fault.NoMemory target trace left array old new values = StopsBy fault.NoMemory target trace left array old new values
-EndsBy (fault.BadLine line why) target trace left array old new values = StopsBy (fault.BadLine line why) target trace left array old new values
-EndsBy fault.Spent target trace left array old new values = StopsBy fault.Spent target trace left array old new values
-EndsBy fault.Source target trace left array old new values = StopsBy fault.Source target trace left array old new values
+EndsBy fault.Sink target trace left array old new values =
+    StopsBy fault.Sink target trace left array old new values
+    ⊎ PrintsFront target trace array old new values
+EndsBy fault.Disk target trace left array old new values =
+    StopsBy fault.Disk target trace left array old new values
+EndsBy fault.NoMemory target trace left array old new values =
+    StopsBy fault.NoMemory target trace left array old new values
+EndsBy (fault.BadLine line why) target trace left array old new values =
+    StopsBy (fault.BadLine line why) target trace left array old new values
+EndsBy fault.Spent target trace left array old new values =
+    StopsBy fault.Spent target trace left array old new values
+EndsBy fault.Source target trace left array old new values =
+    StopsBy fault.Source target trace left array old new values
 
-abbrev pub Ends : {T : Type 0} → Target → (trace left : Option (List ℕ)) → (array : Option (List Block)) → Result T Fault → (old new : Option (List ℕ)) → (values : Option (List (Values Block))) → Type 0
-Ends target trace left array result old new values = MatchResult result (λ _. Prints target trace array old new values) (λ e. EndsBy e target trace left array old new values)
+abbrev pub Ends : {T : Type 0} → Target → (trace left : Option (List ℕ))
+    → (array : Option (List Block)) → Result T Fault → (old new : Option (List ℕ))
+    → (values : Option (List (Values Block))) → Type 0
+Ends target trace left array result old new values =
+    MatchResult result (λ _. Prints target trace array old new values)
+    (λ e. EndsBy e target trace left array old new values)

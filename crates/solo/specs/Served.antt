@@ -23,35 +23,53 @@ abbrev pub IsSettled : Option (List (Values Block)) → Type 0
 IsSettled values = values ≡ option_map only (content_of values)
 
 -- a stop leaves the array after the answered writes, and maybe some blocks of the write in flight
-abbrev pub LeavesCutOf : (array : Option (List Block)) → (answered flight : List Request) → (values : Option (List (Values Block))) → Type 0
+abbrev pub LeavesCutOf : (array : Option (List Block)) → (answered flight : List Request)
+    → (values : Option (List (Values Block))) → Type 0
 LeavesCutOf None answered flight values = ⊤
-LeavesCutOf (Some a) answered flight values = (image : List Block) → IsImageOf values image → IsCut a (payloads 0 answered) (payloads 0 flight) image
+LeavesCutOf (Some a) answered flight values =
+    (image : List Block) → IsImageOf values image
+    → IsCut a (payloads 0 answered) (payloads 0 flight) image
 
 -- the sink took the lines of the reads
-abbrev pub Answered : (array : Option (List Block)) → List Request → (old new : Option (List ℕ)) → Type 0
-Answered array rs old new = (marks : List (Option ℕ)) × AreMarks array rs marks × Appends old new (read_lines rs marks)
+abbrev pub Answered : (array : Option (List Block)) → List Request → (old new : Option (List ℕ))
+    → Type 0
+Answered array rs old new =
+    (marks : List (Option ℕ)) × AreMarks array rs marks × Appends old new (read_lines rs marks)
 
 -- .. or a front of them
-abbrev pub AnsweredFront : (array : Option (List Block)) → List Request → (old new : Option (List ℕ)) → Type 0
-AnsweredFront array rs old new = (marks : List (Option ℕ)) × AreMarks array rs marks × AppendsFront old new (read_lines rs marks)
+abbrev pub AnsweredFront : (array : Option (List Block)) → List Request
+    → (old new : Option (List ℕ)) → Type 0
+AnsweredFront array rs old new =
+    (marks : List (Option ℕ)) × AreMarks array rs marks × AppendsFront old new (read_lines rs marks)
 
 -- some first requests were answered, and no more than the next one was in flight
-abbrev pub StopsAfter : (first rest : List Request) → (array : Option (List Block)) → List Request → (values : Option (List (Values Block))) → Type 0
-StopsAfter first rest array rs values = (rs ≡ first ++ rest) × LeavesCutOf array first (take 1 rest) values
+abbrev pub StopsAfter : (first rest : List Request) → (array : Option (List Block)) → List Request
+    → (values : Option (List (Values Block))) → Type 0
+StopsAfter first rest array rs values =
+    (rs ≡ first ++ rest) × LeavesCutOf array first (take 1 rest) values
 
 -- how requests end that weren't all answered: only by their disk, the sink, or want of memory
-abbrev pub LeftBy : Fault → (array : Option (List Block)) → List Request → (old new : Option (List ℕ)) → (values : Option (List (Values Block))) → Type 0
-LeftBy fault.Disk array rs old new values = (first rest : List Request) × StopsAfter first rest array rs values × Answered array first old new
-LeftBy fault.NoMemory array rs old new values = (first rest : List Request) × StopsAfter first rest array rs values × Answered array first old new
-LeftBy fault.Sink array rs old new values = (first rest : List Request) × StopsAfter first rest array rs values × AnsweredFront array first old new
+abbrev pub LeftBy : Fault → (array : Option (List Block)) → List Request
+    → (old new : Option (List ℕ)) → (values : Option (List (Values Block))) → Type 0
+LeftBy fault.Disk array rs old new values =
+    (first rest : List Request) × StopsAfter first rest array rs values
+    × Answered array first old new
+LeftBy fault.NoMemory array rs old new values =
+    (first rest : List Request) × StopsAfter first rest array rs values
+    × Answered array first old new
+LeftBy fault.Sink array rs old new values =
+    (first rest : List Request) × StopsAfter first rest array rs values
+    × AnsweredFront array first old new
 LeftBy fault.Bay array rs old new values = ⊥
 LeftBy (fault.BadLine line why) array rs old new values = ⊥
 LeftBy fault.Spent array rs old new values = ⊥
 LeftBy fault.Source array rs old new values = ⊥
 
 -- what requests in order leave of the sink, and of the disk where they weren't all answered
-abbrev pub Serves : {T : Type 0} → (array : Option (List Block)) → List Request → Result T Fault → (old new : Option (List ℕ)) → (values : Option (List (Values Block))) → Type 0
-Serves array rs result old new values = MatchResult result (λ _. Answered array rs old new) (λ e. LeftBy e array rs old new values)
+abbrev pub Serves : {T : Type 0} → (array : Option (List Block)) → List Request → Result T Fault
+    → (old new : Option (List ℕ)) → (values : Option (List (Values Block))) → Type 0
+Serves array rs result old new values =
+    MatchResult result (λ _. Answered array rs old new) (λ e. LeftBy e array rs old new values)
 
 -- the count of a sink that isn't the fault is as before
 abbrev pub CalmBut : Fault → (before now : ℕ) → Type 0

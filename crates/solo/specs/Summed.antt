@@ -15,5 +15,7 @@ SummedBy (fault.BadLine line why) old new text = ⊥
 SummedBy fault.Spent old new text = ⊥
 SummedBy fault.Source old new text = ⊥
 
-abbrev pub SumsUp : {T : Type 0} → Result T Fault → (old new : Option (List ℕ)) → (text : List ℕ) → Type 0
-SumsUp result old new text = MatchResult result (λ _. Appends old new text) (λ e. SummedBy e old new text)
+abbrev pub SumsUp : {T : Type 0} → Result T Fault → (old new : Option (List ℕ)) → (text : List ℕ)
+    → Type 0
+SumsUp result old new text =
+    MatchResult result (λ _. Appends old new text) (λ e. SummedBy e old new text)

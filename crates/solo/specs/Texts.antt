@@ -6,10 +6,13 @@ use Rattle.wol_model.specs.declared.trace.Kind.{Kind}
 use Rattle.wol_model.specs.declared.trace.Kind.TheVariants as kind
 use Rattle.solo.specs.declared.tally.Tally.{Tally}
 
--- the line of a read: its line in the trace, its first block, the number of its blocks, and the mark of what it read
+-- the line of a read: its line in the trace, its first block, the number of its blocks, and the
+-- mark of what it read
 unfoldable pub read_text : Request → (mark : ℕ) → List ℕ
 read_text r mark =
-    codes "read " ++ (decimal r.line ++ (codes " " ++ (decimal r.first ++ (codes " " ++ (decimal r.count ++ (codes " " ++ (decimal mark ++ codes "\n")))))))
+    codes "read " ++ (decimal r.line ++ (codes " "
+    ++ (decimal r.first
+    ++ (codes " " ++ (decimal r.count ++ (codes " " ++ (decimal mark ++ codes "\n")))))))
 
 -- a read has a mark, and is printed; a write has none
 abbrev pub text_of : Request → (mark : Option ℕ) → List ℕ
@@ -43,5 +46,7 @@ AreMarks (Some array) rs marks = marks ≡ plain (λ _. array) rs
 -- the last line
 unfoldable pub summary_text : Tally → List ℕ
 summary_text t =
-    codes "solo lines " ++ (decimal t.lines ++ (codes " blank " ++ (decimal t.blank ++ (codes " skipped " ++ (decimal t.skipped
-    ++ (codes " reads " ++ (decimal t.reads ++ (codes " writes " ++ (decimal t.writes ++ codes "\n")))))))))
+    codes "solo lines " ++ (decimal t.lines
+    ++ (codes " blank " ++ (decimal t.blank ++ (codes " skipped " ++ (decimal t.skipped
+    ++ (codes " reads "
+    ++ (decimal t.reads ++ (codes " writes " ++ (decimal t.writes ++ codes "\n")))))))))

@@ -37,9 +37,12 @@ fn read_blocks<D: Disk, K: Sink>(
     requires settled { IsSettled (D.state part.old).values }
     ensures size { (D.state part.new).size ≡ (D.state part.old).size }
     ensures settled { OnOk result (IsSettled (D.state part.new).values) }
-    ensures values { OnOk result (content_of (D.state part.new).values ≡ content_after (request_of request.now ∷ []) (content_of (D.state part.old).values)) }
-    ensures content { Serves (content_of (D.state part.old).values) (request_of request.now ∷ []) result (K.taken out.old) (K.taken out.new) (D.state part.new).values }
-    ensures disk { IsErrOf result Fault.Disk → Rose (D.state part.old).faults (D.state part.new).faults }
+    ensures values { OnOk result (content_of (D.state part.new).values
+        ≡ content_after (request_of request.now ∷ []) (content_of (D.state part.old).values)) }
+    ensures content { Serves (content_of (D.state part.old).values) (request_of request.now ∷ [])
+        result (K.taken out.old) (K.taken out.new) (D.state part.new).values }
+    ensures disk { IsErrOf result Fault.Disk
+        → Rose (D.state part.old).faults (D.state part.new).faults }
     ensures disk_later { (D.state part.old).faults ≤ (D.state part.new).faults }
     ensures cause { IsErrOf result Fault.Sink → Rose (K.faults out.old) (K.faults out.new) }
     ensures later { K.faults out.old ≤ K.faults out.new }
@@ -66,10 +69,13 @@ fn write_blocks<D: Disk>(part: &mut D, blocks: &mut [Block], request: &Request) 
     requires settled { IsSettled (D.state part.old).values }
     ensures size { (D.state part.new).size ≡ (D.state part.old).size }
     ensures settled { OnOk result (IsSettled (D.state part.new).values) }
-    ensures values { OnOk result (content_of (D.state part.new).values ≡ content_after (request_of request.now ∷ []) (content_of (D.state part.old).values)) }
-    ensures disk { IsErrOf result Fault.Disk → Rose (D.state part.old).faults (D.state part.new).faults }
+    ensures values { OnOk result (content_of (D.state part.new).values
+        ≡ content_after (request_of request.now ∷ []) (content_of (D.state part.old).values)) }
+    ensures disk { IsErrOf result Fault.Disk
+        → Rose (D.state part.old).faults (D.state part.new).faults }
     ensures disk_later { (D.state part.old).faults ≤ (D.state part.new).faults }
-    ensures images { LeavesCutOf (content_of (D.state part.old).values) [] (request_of request.now ∷ []) (D.state part.new).values }
+    ensures images { LeavesCutOf (content_of (D.state part.old).values) []
+        (request_of request.now ∷ []) (D.state part.new).values }
     ensures only { IsOnlyDisk result }
 {
     fill(request.line, request.first, blocks);
@@ -96,9 +102,12 @@ pub fn serve<D: Disk, K: Sink>(
     requires settled { IsSettled (D.state part.old).values }
     ensures size { (D.state part.new).size ≡ (D.state part.old).size }
     ensures settled { OnOk result (IsSettled (D.state part.new).values) }
-    ensures values { OnOk result (content_of (D.state part.new).values ≡ content_after (request_of request.now ∷ []) (content_of (D.state part.old).values)) }
-    ensures content { Serves (content_of (D.state part.old).values) (request_of request.now ∷ []) result (K.taken out.old) (K.taken out.new) (D.state part.new).values }
-    ensures disk { IsErrOf result Fault.Disk → Rose (D.state part.old).faults (D.state part.new).faults }
+    ensures values { OnOk result (content_of (D.state part.new).values
+        ≡ content_after (request_of request.now ∷ []) (content_of (D.state part.old).values)) }
+    ensures content { Serves (content_of (D.state part.old).values) (request_of request.now ∷ [])
+        result (K.taken out.old) (K.taken out.new) (D.state part.new).values }
+    ensures disk { IsErrOf result Fault.Disk
+        → Rose (D.state part.old).faults (D.state part.new).faults }
     ensures disk_later { (D.state part.old).faults ≤ (D.state part.new).faults }
     ensures cause { IsErrOf result Fault.Sink → Rose (K.faults out.old) (K.faults out.new) }
     ensures later { K.faults out.old ≤ K.faults out.new }

@@ -65,11 +65,14 @@ fn run_on<S: Source, D: Disk, K: Sink, G: Gate>(
     requires size { (D.state part.old).size ≡ volume.now.blocks }
     requires settled { IsSettled (D.state part.old).values }
     ensures size { (D.state part.new).size ≡ (D.state part.old).size }
-    ensures content { Runs (target_of volume.now) (S.left trace.old) (S.left trace.new) (content_of (D.state part.old).values) result (K.taken out.old) (K.taken out.new) (D.state part.new).values }
+    ensures content { Runs (target_of volume.now) (S.left trace.old) (S.left trace.new)
+        (content_of (D.state part.old).values) result (K.taken out.old) (K.taken out.new)
+        (D.state part.new).values }
     ensures end { OnOk result (IsAtEnd (S.left trace.new)) }
     ensures source { IsErrOf result Fault.Source → Rose (S.faults trace.old) (S.faults trace.new) }
     ensures source_later { S.faults trace.old ≤ S.faults trace.new }
-    ensures disk { IsErrOf result Fault.Disk → Rose (D.state part.old).faults (D.state part.new).faults }
+    ensures disk { IsErrOf result Fault.Disk
+        → Rose (D.state part.old).faults (D.state part.new).faults }
     ensures disk_later { (D.state part.old).faults ≤ (D.state part.new).faults }
     ensures cause { IsErrOf result Fault.Sink → Rose (K.faults out.old) (K.faults out.new) }
     ensures later { K.faults out.old ≤ K.faults out.new }
@@ -97,7 +100,8 @@ fn run_parts<S: Source, D: Disk, K: Sink, G: Gate>(
     requires volume { IsVolume (target_of volume.now) }
     requires blank { IsOnePart D.state volume.now.blocks parts.old }
     ensures sizes { sizes_of D.state parts.new ≡ sizes_of D.state parts.old }
-    ensures content { RunsOnFirst D.state (target_of volume.now) (S.left trace.old) (S.left trace.new) parts.old parts.new result (K.taken out.old) (K.taken out.new) }
+    ensures content { RunsOnFirst D.state (target_of volume.now) (S.left trace.old)
+        (S.left trace.new) parts.old parts.new result (K.taken out.old) (K.taken out.new) }
     ensures end { OnOk result (IsAtEnd (S.left trace.new)) }
     ensures source { IsErrOf result Fault.Source → Rose (S.faults trace.old) (S.faults trace.new) }
     ensures source_later { S.faults trace.old ≤ S.faults trace.new }
@@ -121,13 +125,17 @@ pub fn run<S: Source, K: Sink, B: Bay, G: Gate>(
     requires volume { IsVolume (target_of volume.now) }
     requires home { NoneOut (B.state bay.old) }
     ensures home { NoneOut (B.state bay.new) }
-    ensures content { RunsInBay (target_of volume.now) (S.left trace.old) (S.left trace.new) (B.state bay.old).told (B.state bay.new).told result (K.taken out.old) (K.taken out.new) }
+    ensures content { RunsInBay (target_of volume.now) (S.left trace.old) (S.left trace.new)
+        (B.state bay.old).told (B.state bay.new).told result (K.taken out.old) (K.taken out.new) }
     ensures end { OnOk result (IsAtEnd (S.left trace.new)) }
     ensures source { IsErrOf result Fault.Source → Rose (S.faults trace.old) (S.faults trace.new) }
     ensures source_later { S.faults trace.old ≤ S.faults trace.new }
-    ensures disk { IsErrOf result Fault.Disk → Rose (B.state bay.old).faults (B.state bay.new).faults }
-    ensures faulty { IsErrOf result Fault.Disk → PartCameBackFaulty (B.state bay.old).told (B.state bay.new).told }
-    ensures bay { IsErrOf result Fault.Bay → Rose (B.state bay.old).faults (B.state bay.new).faults }
+    ensures disk { IsErrOf result Fault.Disk
+        → Rose (B.state bay.old).faults (B.state bay.new).faults }
+    ensures faulty { IsErrOf result Fault.Disk
+        → PartCameBackFaulty (B.state bay.old).told (B.state bay.new).told }
+    ensures bay { IsErrOf result Fault.Bay
+        → Rose (B.state bay.old).faults (B.state bay.new).faults }
     ensures bay_later { (B.state bay.old).faults ≤ (B.state bay.new).faults }
     ensures cause { IsErrOf result Fault.Sink → Rose (K.faults out.old) (K.faults out.new) }
     ensures later { K.faults out.old ≤ K.faults out.new }

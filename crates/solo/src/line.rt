@@ -37,11 +37,17 @@ pub fn run_line<D: Disk, K: Sink, G: Gate>(
     ensures size { (D.state part.new).size ≡ (D.state part.old).size }
     ensures room { length blocks.new ≡ 128 }
     ensures few { IfOk result (λ count. count ≤ 131073) }
-    ensures count { IfOk result (λ count. count ≡ length (line_requests (D.state part.old).size number (trace_line line.now))) }
+    ensures count { IfOk result (λ count.
+        count ≡ length (line_requests (D.state part.old).size number (trace_line line.now))) }
     ensures settled { OnOk result (IsSettled (D.state part.new).values) }
-    ensures values { OnOk result (content_of (D.state part.new).values ≡ content_after (line_requests (D.state part.old).size number (trace_line line.now)) (content_of (D.state part.old).values)) }
-    ensures content { Serves (content_of (D.state part.old).values) (line_requests (D.state part.old).size number (trace_line line.now)) result (K.taken out.old) (K.taken out.new) (D.state part.new).values }
-    ensures disk { IsErrOf result Fault.Disk → Rose (D.state part.old).faults (D.state part.new).faults }
+    ensures values { OnOk result (content_of (D.state part.new).values
+        ≡ content_after (line_requests (D.state part.old).size number (trace_line line.now))
+        (content_of (D.state part.old).values)) }
+    ensures content { Serves (content_of (D.state part.old).values)
+        (line_requests (D.state part.old).size number (trace_line line.now)) result
+        (K.taken out.old) (K.taken out.new) (D.state part.new).values }
+    ensures disk { IsErrOf result Fault.Disk
+        → Rose (D.state part.old).faults (D.state part.new).faults }
     ensures disk_later { (D.state part.old).faults ≤ (D.state part.new).faults }
     ensures cause { IsErrOf result Fault.Sink → Rose (K.faults out.old) (K.faults out.new) }
     ensures later { K.faults out.old ≤ K.faults out.new }

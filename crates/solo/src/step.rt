@@ -37,14 +37,22 @@ pub fn take_line<D: Disk, K: Sink, G: Gate>(
     requires requests { tally.old.reads + tally.old.writes ≤ 2 ^ 61 }
     ensures size { (D.state part.new).size ≡ (D.state part.old).size }
     ensures room { length blocks.new ≡ 128 }
-    ensures tally { OnOk result (tally.new ≡ tally_with (target_of volume.now) number (option_map trace_line line) tally.old) }
+    ensures tally { OnOk result (tally.new
+        ≡ tally_with (target_of volume.now) number (option_map trace_line line) tally.old) }
     ensures lines { OnOk result (tally.new.lines ≡ tally.old.lines + 1) }
-    ensures others { OnOk result (tally.new.blank + tally.new.skipped ≤ tally.old.blank + tally.old.skipped + 1) }
-    ensures requests { OnOk result (tally.new.reads + tally.new.writes ≤ tally.old.reads + tally.old.writes + 131073) }
+    ensures others { OnOk result
+        (tally.new.blank + tally.new.skipped ≤ tally.old.blank + tally.old.skipped + 1) }
+    ensures requests { OnOk result
+        (tally.new.reads + tally.new.writes ≤ tally.old.reads + tally.old.writes + 131073) }
     ensures settled { OnOk result (IsSettled (D.state part.new).values) }
-    ensures values { OnOk result (content_of (D.state part.new).values ≡ content_after (requests_at (target_of volume.now) number (option_map trace_line line)) (content_of (D.state part.old).values)) }
-    ensures content { Serves (content_of (D.state part.old).values) (requests_at (target_of volume.now) number (option_map trace_line line)) result (K.taken out.old) (K.taken out.new) (D.state part.new).values }
-    ensures disk { IsErrOf result Fault.Disk → Rose (D.state part.old).faults (D.state part.new).faults }
+    ensures values { OnOk result (content_of (D.state part.new).values
+        ≡ content_after (requests_at (target_of volume.now) number (option_map trace_line line))
+        (content_of (D.state part.old).values)) }
+    ensures content { Serves (content_of (D.state part.old).values)
+        (requests_at (target_of volume.now) number (option_map trace_line line)) result
+        (K.taken out.old) (K.taken out.new) (D.state part.new).values }
+    ensures disk { IsErrOf result Fault.Disk
+        → Rose (D.state part.old).faults (D.state part.new).faults }
     ensures disk_later { (D.state part.old).faults ≤ (D.state part.new).faults }
     ensures cause { IsErrOf result Fault.Sink → Rose (K.faults out.old) (K.faults out.new) }
     ensures later { K.faults out.old ≤ K.faults out.new }

@@ -34,12 +34,16 @@ pub fn run_lines<S: Source, D: Disk, K: Sink, G: Gate>(
     requires settled { IsSettled (D.state part.old).values }
     requires room { length blocks.old ≡ 128 }
     ensures size { (D.state part.new).size ≡ (D.state part.old).size }
-    ensures content { Runs (target_of volume.now) (pending S.left lines.old) (S.left lines.new.source) (content_of (D.state part.old).values) result (K.taken out.old) (K.taken out.new) (D.state part.new).values }
+    ensures content { Runs (target_of volume.now) (pending S.left lines.old)
+        (S.left lines.new.source) (content_of (D.state part.old).values) result (K.taken out.old)
+        (K.taken out.new) (D.state part.new).values }
     ensures end { OnOk result (IsAtEnd (S.left lines.new.source)) }
     ensures same_borrow { S.borrow lines.new.source ≡ S.borrow lines.old.source }
-    ensures source { IsErrOf result Fault.Source → Rose (S.faults lines.old.source) (S.faults lines.new.source) }
+    ensures source { IsErrOf result Fault.Source
+        → Rose (S.faults lines.old.source) (S.faults lines.new.source) }
     ensures source_later { S.faults lines.old.source ≤ S.faults lines.new.source }
-    ensures disk { IsErrOf result Fault.Disk → Rose (D.state part.old).faults (D.state part.new).faults }
+    ensures disk { IsErrOf result Fault.Disk
+        → Rose (D.state part.old).faults (D.state part.new).faults }
     ensures disk_later { (D.state part.old).faults ≤ (D.state part.new).faults }
     ensures cause { IsErrOf result Fault.Sink → Rose (K.faults out.old) (K.faults out.new) }
     ensures later { K.faults out.old ≤ K.faults out.new }

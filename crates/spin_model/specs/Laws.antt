@@ -13,16 +13,20 @@ OperationsDiffer = (u : Use) → use_of (operation_of u) ≡ u
 
 -- a pass has a token after a Needed, and none after a Done; other uses change nothing of it
 abbrev pub TokenAfterUse : Type 0
-TokenAfterUse = (entries : List Entry) (pass : ℕ) (u : Use) → has_token (entries ++ (pass, operation_of u) ∷ []) ≡ needs_after (has_token entries) (u ∷ [])
+TokenAfterUse = (entries : List Entry) (pass : ℕ) (u : Use)
+    → has_token (entries ++ (pass, operation_of u) ∷ []) ≡ needs_after (has_token entries) (u ∷ [])
 
 -- whether a pass has a token follows from its own entries
 abbrev pub TokenByOwnEntries : Type 0
-TokenByOwnEntries = (b : SpindleBase) (entries : List Entry) (pass : ℕ) → list_any (λ p. p == pass) (state_after b entries).needing ≡ has_token (own pass entries)
+TokenByOwnEntries = (b : SpindleBase) (entries : List Entry) (pass : ℕ)
+    → list_any (λ p. p == pass) (state_after b entries).needing ≡ has_token (own pass entries)
 
 -- no more tokens are out than there are passes
 abbrev pub FewTokens : Type 0
-FewTokens = (s : SpindleView) (b : SpindleBase) (entries : List Entry) (passes : ℕ) → StandsFor s b entries → AreNumberedBelow passes entries → s.out ≤ passes
+FewTokens = (s : SpindleView) (b : SpindleBase) (entries : List Entry) (passes : ℕ)
+    → StandsFor s b entries → AreNumberedBelow passes entries → s.out ≤ passes
 
 -- the journal of a spindle is one, from the start of the account to any later moment
 abbrev pub JournalIsLegal : Type 0
-JournalIsLegal = (s : SpindleView) (b : SpindleBase) (entries : List Entry) (to : ℕ) → StandsFor s b entries → s.moment ≤ to → IsJournal (state_after b entries).from s.journal to
+JournalIsLegal = (s : SpindleView) (b : SpindleBase) (entries : List Entry) (to : ℕ)
+    → StandsFor s b entries → s.moment ≤ to → IsJournal (state_after b entries).from s.journal to

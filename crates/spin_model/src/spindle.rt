@@ -74,7 +74,8 @@ impl Spindle {
     pub fn start(&mut self, t0: u64)
         ensures same { IsSameSpindle self.old self.new }
         ensures out { self.new.out ≡ self.old.out }
-        ensures stands { (b : SpindleBase) (es : List Entry) (n : ℕ) → StandsFor self.old b es → StandsFor self.new b (es ++ (n, operation_of (Started t0)) ∷ []) }
+        ensures stands { (b : SpindleBase) (es : List Entry) (n : ℕ) → StandsFor self.old b es
+            → StandsFor self.new b (es ++ (n, operation_of (Started t0)) ∷ []) }
     {
         if self.has_turned() {
             return;
@@ -90,7 +91,8 @@ impl Spindle {
         ensures same { IsSameSpindle self.old self.new }
         ensures out { self.new.out ≡ self.old.out }
         ensures answer { IfOk result (λ awake. awake ≡ self.new.awake) }
-        ensures stands { (b : SpindleBase) (es : List Entry) (n : ℕ) → StandsFor self.old b es → StandsFor self.new b (es ++ (n, operation_of (begun t result)) ∷ []) }
+        ensures stands { (b : SpindleBase) (es : List Entry) (n : ℕ) → StandsFor self.old b es
+            → StandsFor self.new b (es ++ (n, operation_of (begun t result)) ∷ []) }
         ensures unchanged { OnErr result (self.new ≡ self.old) }
     {
         let now = t.max(self.moment);
@@ -105,7 +107,9 @@ impl Spindle {
         ensures volume { token_volume result ≡ self.old.volume }
         ensures same { IsSameSpindle self.old self.new }
         ensures out { self.new.out ≡ self.old.out + 1 }
-        ensures stands { (b : SpindleBase) (es : List Entry) (n : ℕ) → StandsFor self.old b es → MayUse (state_after b es) n Needed → StandsFor self.new b (es ++ (n, operation_of Needed) ∷ []) }
+        ensures stands { (b : SpindleBase) (es : List Entry) (n : ℕ) → StandsFor self.old b es
+            → MayUse (state_after b es) n Needed
+            → StandsFor self.new b (es ++ (n, operation_of Needed) ∷ []) }
     {
         self.wake();
         self.last_use = self.moment;
@@ -119,7 +123,9 @@ impl Spindle {
         requires out { 0 < self.old.out }
         ensures same { IsSameSpindle self.old self.new }
         ensures out { self.new.out + 1 ≡ self.old.out }
-        ensures stands { (b : SpindleBase) (es : List Entry) (n : ℕ) → StandsFor self.old b es → MayUse (state_after b es) n Done → StandsFor self.new b (es ++ (n, operation_of Done) ∷ []) }
+        ensures stands { (b : SpindleBase) (es : List Entry) (n : ℕ) → StandsFor self.old b es
+            → MayUse (state_after b es) n Done
+            → StandsFor self.new b (es ++ (n, operation_of Done) ∷ []) }
     {
         token.spend();
         self.out -= 1;
@@ -135,7 +141,8 @@ impl Spindle {
     /// When the disk went down and came up, in order. It begins with the first time that it went down.
     pub fn journal(&self) -> &[Turned]
         ensures content { result.now ≡ self.now.journal }
-        ensures legal { (b : SpindleBase) (es : List Entry) (to : ℕ) → StandsFor self.now b es → self.now.moment ≤ to → IsJournal (state_after b es).from result.now to }
+        ensures legal { (b : SpindleBase) (es : List Entry) (to : ℕ) → StandsFor self.now b es
+            → self.now.moment ≤ to → IsJournal (state_after b es).from result.now to }
     {
         self.journal.as_slice()
     }
@@ -149,7 +156,14 @@ impl Spindle {
     // Puts the disk down where it is idle at that moment.
     fn rest(&mut self, now: u64) -> Result<(), NoMemory>
         requires { self.old.moment ≤ now }
-        ensures ok { OnOk result (self.new ≡ (if self.old.awake && (self.old.out == 0 && nat_le (self.old.last_use + self.old.timeout) now) then record self.old { awake = false; journal = self.old.journal ++ Down (self.old.last_use + self.old.timeout) ∷ [] } else self.old)) }
+        ensures ok { OnOk result (self.new
+            ≡ (if self.old.awake && (self.old.out == 0
+            && nat_le (self.old.last_use + self.old.timeout) now)
+            then record self.old {
+              awake = false;
+              journal = self.old.journal ++ Down (self.old.last_use + self.old.timeout) ∷ [];
+            }
+            else self.old)) }
         ensures err { OnErr result (self.new ≡ self.old) }
     {
         if !self.is_idle(now) {
@@ -166,13 +180,18 @@ impl Spindle {
 
     fn is_idle(&self, now: u64) -> bool
         requires { self.now.moment ≤ now }
-        ensures { result ≡ (self.now.awake && (self.now.out == 0 && nat_le (self.now.last_use + self.now.timeout) now)) }
+        ensures { result ≡ (self.now.awake
+            && (self.now.out == 0 && nat_le (self.now.last_use + self.now.timeout) now)) }
     {
         self.awake && (self.out == 0 && now - self.last_use >= self.timeout)
     }
 
     fn wake(&mut self)
-        ensures { self.new ≡ record self.old { awake = true; journal = (if self.old.awake then self.old.journal else self.old.journal ++ Up self.old.moment ∷ []) } }
+        ensures { self.new ≡ record self.old {
+          awake = true;
+          journal = (if self.old.awake then self.old.journal
+              else self.old.journal ++ Up self.old.moment ∷ []);
+        } }
     {
         if self.awake {
             return;

@@ -34,9 +34,11 @@ impl<D: Disk> Spun<D> {
     pub fn read(&mut self, token: &Awake, at: u64, out: &mut [Block]) -> Result<(), Failed>
         requires volume { token_volume token.now ≡ volume_of self.old }
         requires fits { at + length out.old ≤ (state_of D.state self.old).size }
-        ensures content { OnOk result (IfSome (state_of D.state self.old).values (λ vs. out.new ≡ take (length out.old) (drop at (reads vs)))) }
+        ensures content { OnOk result (IfSome (state_of D.state self.old).values
+            (λ vs. out.new ≡ take (length out.old) (drop at (reads vs)))) }
         ensures values { (state_of D.state self.new).values ≡ (state_of D.state self.old).values }
-        ensures passes { Passes (state_of D.state self.old) (state_of D.state self.new) (IsErr result) }
+        ensures passes { Passes (state_of D.state self.old) (state_of D.state self.new)
+            (IsErr result) }
         ensures volume { volume_of self.new ≡ volume_of self.old }
     {
         let _ = token;
@@ -47,9 +49,12 @@ impl<D: Disk> Spun<D> {
     pub fn write(&mut self, token: &Awake, at: u64, from: &[Block]) -> Result<(), Failed>
         requires volume { token_volume token.now ≡ volume_of self.old }
         requires fits { at + length from.now ≤ (state_of D.state self.old).size }
-        ensures ok { OnOk result ((state_of D.state self.new).values ≡ option_map (added at from.now) (state_of D.state self.old).values) }
-        ensures err { OnErr result (AddsSomeOf at from.now (state_of D.state self.old).values (state_of D.state self.new).values) }
-        ensures passes { Passes (state_of D.state self.old) (state_of D.state self.new) (IsErr result) }
+        ensures ok { OnOk result ((state_of D.state self.new).values
+            ≡ option_map (added at from.now) (state_of D.state self.old).values) }
+        ensures err { OnErr result (AddsSomeOf at from.now (state_of D.state self.old).values
+            (state_of D.state self.new).values) }
+        ensures passes { Passes (state_of D.state self.old) (state_of D.state self.new)
+            (IsErr result) }
         ensures volume { volume_of self.new ≡ volume_of self.old }
     {
         let _ = token;
@@ -59,9 +64,12 @@ impl<D: Disk> Spun<D> {
     /// After it a crash leaves what a read gives. `Failed` is the disk's, and changes nothing.
     pub fn sync(&mut self, token: &Awake) -> Result<(), Failed>
         requires volume { token_volume token.now ≡ volume_of self.old }
-        ensures ok { OnOk result ((state_of D.state self.new).values ≡ option_map settled (state_of D.state self.old).values) }
-        ensures err { OnErr result ((state_of D.state self.new).values ≡ (state_of D.state self.old).values) }
-        ensures passes { Passes (state_of D.state self.old) (state_of D.state self.new) (IsErr result) }
+        ensures ok { OnOk result ((state_of D.state self.new).values
+            ≡ option_map settled (state_of D.state self.old).values) }
+        ensures err { OnErr result
+            ((state_of D.state self.new).values ≡ (state_of D.state self.old).values) }
+        ensures passes { Passes (state_of D.state self.old) (state_of D.state self.new)
+            (IsErr result) }
         ensures volume { volume_of self.new ≡ volume_of self.old }
     {
         let _ = token;

@@ -28,8 +28,10 @@ pub fn start_turn<R: Wait>(rt: &R, lock: &TurnLock<Spindle>, pass: &mut Pass<Spi
     requires free { IsFree pass.old }
     ensures same { IsSamePass pass.old pass.new }
     ensures free { IsFree pass.new }
-    ensures mine { pass_mine pass.new ≡ pass_mine pass.old ++ (pass_number pass.old, operation_of (Started t0)) ∷ [] }
-    ensures seen { (before : List Entry) × Begins (pass_seen pass.old) before × (pass_seen pass.new ≡ before ++ (pass_number pass.old, operation_of (Started t0)) ∷ []) }
+    ensures mine { pass_mine pass.new
+        ≡ pass_mine pass.old ++ (pass_number pass.old, operation_of (Started t0)) ∷ [] }
+    ensures seen { (before : List Entry) × Begins (pass_seen pass.old) before
+        × (pass_seen pass.new ≡ before ++ (pass_number pass.old, operation_of (Started t0)) ∷ []) }
     ensures token { has_token (pass_mine pass.new) ≡ has_token (pass_mine pass.old) }
 {
     let mut turn = lock.enter(rt, pass);
@@ -49,10 +51,14 @@ pub fn begin_turn<R: Wait>(
     requires free { IsFree pass.old }
     ensures same { IsSamePass pass.old pass.new }
     ensures free { IsFree pass.new }
-    ensures mine { pass_mine pass.new ≡ pass_mine pass.old ++ (pass_number pass.old, operation_of (begun t result)) ∷ [] }
-    ensures seen { (before : List Entry) × Begins (pass_seen pass.old) before × (pass_seen pass.new ≡ before ++ (pass_number pass.old, operation_of (begun t result)) ∷ []) }
+    ensures mine { pass_mine pass.new
+        ≡ pass_mine pass.old ++ (pass_number pass.old, operation_of (begun t result)) ∷ [] }
+    ensures seen { (before : List Entry) × Begins (pass_seen pass.old) before
+        × (pass_seen pass.new
+        ≡ before ++ (pass_number pass.old, operation_of (begun t result)) ∷ []) }
     ensures token { has_token (pass_mine pass.new) ≡ has_token (pass_mine pass.old) }
-    ensures answer { IfOk result (λ awake. awake ≡ (state_after (pass_lock pass.new).base (pass_seen pass.new)).awake) }
+    ensures answer { IfOk result
+        (λ awake. awake ≡ (state_after (pass_lock pass.new).base (pass_seen pass.new)).awake) }
 {
     let mut turn = lock.enter(rt, pass);
     let answer = turn.value.begin(t);
@@ -76,8 +82,10 @@ pub fn take_token<R: Wait>(rt: &R, lock: &TurnLock<Spindle>, pass: &mut Pass<Spi
     requires has_none { has_token (pass_mine pass.old) ≡ false }
     ensures same { IsSamePass pass.old pass.new }
     ensures free { IsFree pass.new }
-    ensures mine { pass_mine pass.new ≡ pass_mine pass.old ++ (pass_number pass.old, operation_of Needed) ∷ [] }
-    ensures seen { (before : List Entry) × Begins (pass_seen pass.old) before × (pass_seen pass.new ≡ before ++ (pass_number pass.old, operation_of Needed) ∷ []) }
+    ensures mine { pass_mine pass.new
+        ≡ pass_mine pass.old ++ (pass_number pass.old, operation_of Needed) ∷ [] }
+    ensures seen { (before : List Entry) × Begins (pass_seen pass.old) before
+        × (pass_seen pass.new ≡ before ++ (pass_number pass.old, operation_of Needed) ∷ []) }
     ensures has_one { has_token (pass_mine pass.new) ≡ true }
     ensures volume { token_volume result ≡ (pass_lock pass.old).base.volume }
 {
@@ -95,8 +103,10 @@ pub fn give_token<R: Wait>(rt: &R, lock: &TurnLock<Spindle>, pass: &mut Pass<Spi
     requires volume { token_volume token ≡ (pass_lock pass.old).base.volume }
     ensures same { IsSamePass pass.old pass.new }
     ensures free { IsFree pass.new }
-    ensures mine { pass_mine pass.new ≡ pass_mine pass.old ++ (pass_number pass.old, operation_of Done) ∷ [] }
-    ensures seen { (before : List Entry) × Begins (pass_seen pass.old) before × (pass_seen pass.new ≡ before ++ (pass_number pass.old, operation_of Done) ∷ []) }
+    ensures mine { pass_mine pass.new
+        ≡ pass_mine pass.old ++ (pass_number pass.old, operation_of Done) ∷ [] }
+    ensures seen { (before : List Entry) × Begins (pass_seen pass.old) before
+        × (pass_seen pass.new ≡ before ++ (pass_number pass.old, operation_of Done) ∷ []) }
     ensures has_none { has_token (pass_mine pass.new) ≡ false }
 {
     let mut turn = lock.enter(rt, pass);

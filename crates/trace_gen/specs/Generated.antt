@@ -24,7 +24,8 @@ targets_of config = map target_of config.volumes.items
 
 -- the volume that a word chooses
 abbrev pub chosen : List Target → (word : ℕ) → Target
-chosen targets word = slice_index_or targets (word % length targets) (record { host = []; disk = 0; home = 0 })
+chosen targets word =
+    slice_index_or targets (word % length targets) (record { host = []; disk = 0; home = 0 })
 
 -- ---- Words
 
@@ -44,7 +45,8 @@ words_of seed n = record {
 
 -- ---- Fields
 
--- the time from the line before, in units of 100 ns: one time in sixteen whole seconds, 1 to 120 of them, else less than 0.1 s
+-- the time from the line before, in units of 100 ns: one time in sixteen whole seconds, 1 to 120 of
+-- them, else less than 0.1 s
 abbrev pub gap_of : (word : ℕ) → ℕ
 gap_of word = if word % 16 == 0 then (1 + word / 16 % 120) * 10000000 else word / 16 % 1000000
 
@@ -77,7 +79,8 @@ line_of target time words = record {
 
 -- line n of a seed, counted from 0
 unfoldable pub line : List Target → (seed n : ℕ) → TraceLine
-line targets seed n = let words = words_of seed n in line_of (chosen targets words.volume) (time_after seed (suc n)) words
+line targets seed n = let words = words_of seed n in
+    line_of (chosen targets words.volume) (time_after seed (suc n)) words
 
 -- the first lines of a seed
 abbrev pub lines : List Target → (seed count : ℕ) → List TraceLine
@@ -94,7 +97,8 @@ pub record Generator : Type 0 where
   pub seed : ℕ
   pub given : ℕ
 
--- the words that come next are those behind the words of the first `given` lines, and the time is that of the last of them
+-- the words that come next are those behind the words of the first `given` lines, and the time is
+-- that of the last of them
 pub record IsAt (seed given state last : ℕ) : Type 0 where
   pub words : (k : ℕ) → word state k ≡ word seed (5 * given + k)
   pub time : last ≡ time_after seed given

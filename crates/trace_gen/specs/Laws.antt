@@ -9,17 +9,20 @@ use Rattle.trace_gen.specs.Generated.{chosen, line, lines, targets_of, text_of, 
 
 -- each line that may be given is one whose text can be read again
 abbrev pub LinesAreWritable : Type 0
-LinesAreWritable = (config : Config) (seed n : ℕ) → IsValid config → n < 2 ^ 31 → IsWritable (line (targets_of config) seed n)
+LinesAreWritable = (config : Config) (seed n : ℕ) → IsValid config → n < 2 ^ 31
+    → IsWritable (line (targets_of config) seed n)
 
 -- what is written of a trace is read as the trace
 abbrev pub TextIsRead : Type 0
 TextIsRead = (config : Config) (seed count : ℕ) → IsValid config → count ≤ 2 ^ 31
-    → map read_of (lines_of (text_of (lines (targets_of config) seed count))) ≡ map (λ l. Ok (Some l)) (lines (targets_of config) seed count)
+    → map read_of (lines_of (text_of (lines (targets_of config) seed count)))
+    ≡ map (λ l. Ok (Some l)) (lines (targets_of config) seed count)
 
 -- no line is skipped: it belongs to the volume that its first word chose
 abbrev pub LinesHaveVolumes : Type 0
 LinesHaveVolumes = (config : Config) (seed n : ℕ) → IsValid config
-    → let targets = targets_of config in volume_of targets (line targets seed n) ≡ Some ((words_of seed n).volume % length targets)
+    → let targets = targets_of config in
+    volume_of targets (line targets seed n) ≡ Some ((words_of seed n).volume % length targets)
 
 -- a line asks for 1 to 16 whole blocks, the first of which is in its volume
 pub record AsksBlocks (home : ℕ) (l : TraceLine) : Type 0 where
@@ -31,12 +34,15 @@ pub record AsksBlocks (home : ℕ) (l : TraceLine) : Type 0 where
 
 abbrev pub LinesAskBlocks : Type 0
 LinesAskBlocks = (config : Config) (seed n : ℕ) → IsValid config
-    → let targets = targets_of config in AsksBlocks (chosen targets (words_of seed n).volume).home (line targets seed n)
+    → let targets = targets_of config in
+    AsksBlocks (chosen targets (words_of seed n).volume).home (line targets seed n)
 
 -- no line is earlier than the one before
 abbrev pub TimesRise : Type 0
-TimesRise = (targets : List Target) (seed n : ℕ) → (line targets seed n).time ≤ (line targets seed (suc n)).time
+TimesRise = (targets : List Target) (seed n : ℕ)
+    → (line targets seed n).time ≤ (line targets seed (suc n)).time
 
 -- so each line counts for its own time
 abbrev pub TimesAreKept : Type 0
-TimesAreKept = (targets : List Target) (seed count : ℕ) → All (λ (t : Timed). t.time ≡ t.line.time) (timed (map Some (lines targets seed count)))
+TimesAreKept = (targets : List Target) (seed count : ℕ)
+    → All (λ (t : Timed). t.time ≡ t.line.time) (timed (map Some (lines targets seed count)))

@@ -68,7 +68,8 @@ impl Gen {
     pub fn next(&mut self, alloc: Global, config: &Config) -> Result<Line, NoMemory>
         requires valid { IsValid config.now }
         requires few { self.old.given < 2 ^ 31 }
-        ensures line { IfOk result (λ l. trace_line l ≡ line (targets_of config.now) self.old.seed self.old.given) }
+        ensures line { IfOk result
+            (λ l. trace_line l ≡ line (targets_of config.now) self.old.seed self.old.given) }
         ensures ok { OnOk result (self.new ≡ record self.old { given = self.old.given + 1 }) }
         ensures err { OnErr result (self.new ≡ self.old) }
     {

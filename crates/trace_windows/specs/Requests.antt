@@ -13,11 +13,19 @@ asked r = record { line = r.line; volume = r.volume; kind = r.kind; first = r.lb
 -- requests of the model with numbers, which count up from `next`
 abbrev pub numbered : (next : ℕ) → List trace.Request → List Request
 numbered next [] = []
-numbered next (r ∷ rs) = record { number = next; line = r.line; volume = r.volume; kind = r.kind; lbn = r.first; count = r.count } ∷ numbered (next + 1) rs
+numbered next (r ∷ rs) = record {
+  number = next;
+  line = r.line;
+  volume = r.volume;
+  kind = r.kind;
+  lbn = r.first;
+  count = r.count;
+} ∷ numbered (next + 1) rs
 
 -- the requests of a window: those of its lines, in order
 abbrev pub requests_in : (most : ℕ) → List Target → Window → List trace.Request
-requests_in most targets w = flat_map (λ (l : Timed). requests_of most targets l.number l.line) w.lines
+requests_in most targets w =
+    flat_map (λ (l : Timed). requests_of most targets l.number l.line) w.lines
 
 -- the requests of windows, in order
 abbrev pub requests_in_all : (most : ℕ) → List Target → List Window → List trace.Request

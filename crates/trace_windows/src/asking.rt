@@ -22,7 +22,8 @@ pub(crate) fn volume_of(volumes: &[VolumeConf], line: &Line) -> Option<usize>
 
 // The place of the volume among the others.
 fn place_of(volumes: &[VolumeConf], line: &Line) -> Option<usize>
-    ensures value { result ≡ position (λ v. bytes_eq v.host line.now.host && v.disk == line.now.disk) volumes.now }
+    ensures value { result
+        ≡ position (λ v. bytes_eq v.host line.now.host && v.disk == line.now.disk) volumes.now }
     ensures within { IfSome result (λ v. v < length volumes.now) }
 {
     volumes.iter().position(|volume| owns(volume, line))
@@ -30,7 +31,8 @@ fn place_of(volumes: &[VolumeConf], line: &Line) -> Option<usize>
 
 // Whether the line is on the volume's disk.
 fn owns(volume: &VolumeConf, line: &Line) -> bool
-    ensures { result ≡ (bytes_eq volume.now.host line.now.host && volume.now.disk == line.now.disk) }
+    ensures { result
+        ≡ (bytes_eq volume.now.host line.now.host && volume.now.disk == line.now.disk) }
 {
     let own = volume.host.as_bytes();
     let asked = line.host.as_bytes();
@@ -59,7 +61,9 @@ pub(crate) fn count_requests(config: &Config, line: &Line, volume: Option<usize>
     requires valid { IsValid config.now }
     requires within { IfSome volume (λ v. v < length config.now.volumes.items) }
     requires fits { Fits (trace_line line.now) }
-    ensures value { (number : ℕ) → length (requests_on (most_of config.now) (targets_of config.now) number (trace_line line.now) volume) ≡ result }
+    ensures value { (number : ℕ) → length
+        (requests_on (most_of config.now) (targets_of config.now) number (trace_line line.now)
+        volume) ≡ result }
     ensures few { result ≤ 131073 }
 {
     let Some(volume) = volume else {
@@ -91,7 +95,10 @@ pub(crate) fn push_requests(
     requires within { IfSome volume (λ v. v < length config.now.volumes.items) }
     requires fits { Fits (trace_line line.now) }
     requires next { next ≤ 2 ^ 62 }
-    ensures ok { OnOk result (out.new.items ≡ out.old.items ++ numbered next (requests_on (most_of config.now) (targets_of config.now) number (trace_line line.now) volume)) }
+    ensures ok { OnOk result (out.new.items
+        ≡ out.old.items ++ numbered next
+        (requests_on (most_of config.now) (targets_of config.now) number (trace_line line.now)
+        volume)) }
     ensures err { OnErr result (out.new.items ≡ out.old.items) }
 {
     let Some(volume) = volume else {
@@ -120,7 +127,10 @@ fn push_pieces(
     requires within { volume < length config.now.volumes.items }
     requires fits { Fits (trace_line line.now) }
     requires next { next ≤ 2 ^ 62 }
-    ensures ok { OnOk result (out.new.items ≡ out.old.items ++ numbered next (requests_on (most_of config.now) (targets_of config.now) number (trace_line line.now) (Some volume))) }
+    ensures ok { OnOk result (out.new.items
+        ≡ out.old.items ++ numbered next
+        (requests_on (most_of config.now) (targets_of config.now) number (trace_line line.now)
+        (Some volume))) }
     ensures starts { take (length out.old.items) out.new.items ≡ out.old.items }
 {
     let home = home_of(config, volume);

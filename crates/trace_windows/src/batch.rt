@@ -126,8 +126,13 @@ impl Batch {
         requires fits { Fits (trace_line line.now) }
         requires next { entry.next ≤ 2 ^ 62 }
         requires few { self.old.lines < 4096 }
-        requires room { length self.old.requests + length (requests_on (most_of config.now) (targets_of config.now) entry.number (trace_line line.now) entry.volume) ≤ 131073 }
-        ensures ok { OnOk result (self.new ≡ with_line entry.time (numbered entry.next (requests_on (most_of config.now) (targets_of config.now) entry.number (trace_line line.now) entry.volume)) self.old) }
+        requires room { length self.old.requests
+            + length (requests_on (most_of config.now) (targets_of config.now) entry.number
+            (trace_line line.now) entry.volume) ≤ 131073 }
+        ensures ok { OnOk result (self.new
+            ≡ with_line entry.time (numbered entry.next
+            (requests_on (most_of config.now) (targets_of config.now) entry.number
+            (trace_line line.now) entry.volume)) self.old) }
         ensures err { OnErr result (self.new ≡ self.old) }
     {
         push_requests(
@@ -162,10 +167,14 @@ pub(crate) fn put_line(
     requires next { entry.next ≤ 2 ^ 62 }
     requires later { current.old.moment ≤ entry.time }
     requires few { count ≤ 131073 }
-    requires count { length (requests_on (most_of config.now) (targets_of config.now) entry.number (trace_line line.now) entry.volume) ≡ count }
+    requires count { length (requests_on (most_of config.now) (targets_of config.now) entry.number
+        (trace_line line.now) entry.volume) ≡ count }
     requires none { whole.old ≡ no_lines }
     ensures admits { IfOk result (λ closes. Admits current.old entry.time count (not closes)) }
-    ensures ok { IfOk result (λ closes. IsPut entry.time (numbered entry.next (requests_on (most_of config.now) (targets_of config.now) entry.number (trace_line line.now) entry.volume)) current.old current.new whole.new closes) }
+    ensures ok { IfOk result (λ closes.
+        IsPut entry.time (numbered entry.next
+        (requests_on (most_of config.now) (targets_of config.now) entry.number
+        (trace_line line.now) entry.volume)) current.old current.new whole.new closes) }
     ensures err { OnErr result ((current.new ≡ current.old) × (whole.new ≡ whole.old)) }
 {
     if current.admits(entry.time, count) {

@@ -56,7 +56,10 @@ impl Cutter {
         requires valid { IsValid config.now }
         requires few { self.old.tally.lines < 2 ^ 32 }
         requires fits { IfSome line (λ l. Fits (trace_line l.now)) }
-        ensures ok { IfOk result (λ closes. (ls : _) (given : _) → HasCut (most_of config.now) (targets_of config.now) ls given self.old → Takes (most_of config.now) (targets_of config.now) ls given (option_map (λ l. trace_line l.now) line.entry) closes self.new) }
+        ensures ok { IfOk result (λ closes. (ls : _) (given : _)
+            → HasCut (most_of config.now) (targets_of config.now) ls given self.old
+            → Takes (most_of config.now) (targets_of config.now) ls given
+            (option_map (λ l. trace_line l.now) line.entry) closes self.new) }
         ensures lines { OnOk result (self.new.tally.lines ≡ self.old.tally.lines + 1) }
         ensures err { OnErr result (self.new ≡ record self.old { whole = no_lines }) }
     {
@@ -76,7 +79,10 @@ impl Cutter {
         requires few { self.old.tally.lines < 2 ^ 32 }
         requires fits { Fits (trace_line line.now) }
         requires none { self.old.whole ≡ no_lines }
-        ensures ok { IfOk result (λ closes. (ls : _) (given : _) → HasCut (most_of config.now) (targets_of config.now) ls given self.old → Takes (most_of config.now) (targets_of config.now) ls given (Some (trace_line line.now)) closes self.new) }
+        ensures ok { IfOk result (λ closes. (ls : _) (given : _)
+            → HasCut (most_of config.now) (targets_of config.now) ls given self.old
+            → Takes (most_of config.now) (targets_of config.now) ls given
+            (Some (trace_line line.now)) closes self.new) }
         ensures lines { OnOk result (self.new.tally.lines ≡ self.old.tally.lines + 1) }
         ensures err { OnErr result (self.new ≡ self.old) }
     {

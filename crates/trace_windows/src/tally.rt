@@ -39,7 +39,8 @@ impl Tally {
     pub(crate) fn add_blank(&mut self)
         requires lines { self.old.lines < 2 ^ 32 }
         requires blank { self.old.blank < 2 ^ 32 }
-        ensures { self.new ≡ record self.old { lines = self.old.lines + 1; blank = self.old.blank + 1 } }
+        ensures { self.new
+            ≡ record self.old { lines = self.old.lines + 1; blank = self.old.blank + 1 } }
     {
         self.lines += 1;
         self.blank += 1;
@@ -55,7 +56,8 @@ impl Tally {
         ensures blank { self.new.blank ≡ self.old.blank }
         ensures skipped { self.new.skipped ≡ self.old.skipped + (if is_skipped then 1 else 0) }
         ensures requests { self.new.requests ≡ self.old.requests + requests }
-        ensures started { self.new.started ≡ (if self.old.lines == self.old.blank then time else self.old.started) }
+        ensures started { self.new.started
+            ≡ (if self.old.lines == self.old.blank then time else self.old.started) }
         ensures ended { self.new.ended ≡ time }
     {
         if self.lines == self.blank {

@@ -21,7 +21,8 @@ trouble_of_refusal (refusal.LoggerMissing id) = LoggerMissing id
 trouble_of_refusal (refusal.OutsideView logger segment) = OutsideView logger segment
 trouble_of_refusal (refusal.DiskFault p) = trouble_of_part p
 trouble_of_refusal refusal.NoMemory = Bay
-trouble_of_refusal (refusal.Twins first_volume first second_volume second) = Twins first_volume first second_volume second
+trouble_of_refusal (refusal.Twins first_volume first second_volume second) =
+    Twins first_volume first second_volume second
 
 -- why a volume has no station
 abbrev pub trouble_of : VolumeFault → Trouble

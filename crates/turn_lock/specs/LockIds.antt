@@ -9,4 +9,5 @@ pub record LockId (B : Type 0) : Type 0 where
 
 -- a lock's name can be kept where a base can
 abbrev pub lock_id_coded : {B : Type 0} → Coded B → Coded (LockId B)
-lock_id_coded {B} c = coded_via (coded× table_id_coded c) (λ (r : LockId B). (r.table, r.base)) (λ x y e i. record { table = (e i).0; base = (e i).1 })
+lock_id_coded {B} c = coded_via (coded× table_id_coded c) (λ (r : LockId B). (r.table, r.base))
+    (λ x y e i. record { table = (e i).0; base = (e i).1 })

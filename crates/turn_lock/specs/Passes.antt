@@ -72,7 +72,8 @@ module _ {T B : Type 0} where
 
   -- new passes, numbered in order from 0
   abbrev pub AreNewPasses : TurnLock T B → List (PassOf T B) → Type 0
-  AreNewPasses l ps = (k : ℕ) (d : PassOf T B) → k < length ps → IsNewPass l k (slice_index_or ps k d)
+  AreNewPasses l ps =
+      (k : ℕ) (d : PassOf T B) → k < length ps → IsNewPass l k (slice_index_or ps k d)
 
   -- the pass has seen a beginning of these entries, and those with its number are its own
   pub record IsPartOf (es : List Entry) (p : PassOf T B) : Type 0 where

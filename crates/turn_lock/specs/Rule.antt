@@ -1,5 +1,5 @@
--- The rule of a lock's table.
--- Word 0 counts the tickets that were drawn, and word 1 the turns that were made, both modulo 2 ^ 64. The one slot has the value.
+-- The rule of a lock's table. Word 0 counts the tickets that were drawn, and word 1 the turns that
+-- were made, both modulo 2 ^ 64. The one slot has the value.
 use Rattle.std.specs.Prelude.{◌≡◌, ℕ, suc, ◌+◌, ◌%◌, ◌<◌, ◌≤◌, List, [], ◌∷◌, length, Option, Some, ◌⊎◌}
 use mathlib.Core.Option as maybe
 use lib.ListN.{get_elem?}
@@ -11,7 +11,8 @@ use Rattle.turn_lock.specs.declared.view.Claim.{Claim}
 use Rattle.turn_lock.specs.declared.view.Stage.{Stage}
 use Rattle.turn_lock.specs.declared.view.Stage.TheVariants.{Spent, Issuer, Idle, Waiting, Holding}
 
--- a claim is true of the entries: it has seen a beginning of them, and its own are those with its number
+-- a claim is true of the entries: it has seen a beginning of them, and its own are those with its
+-- number
 abbrev pub Fits : List Entry → Claim → Type 0
 Fits es c = Begins c.seen es × (own c.number es ≡ c.mine) × (own c.number c.seen ≡ c.mine)
 
@@ -36,7 +37,8 @@ module _ {B : Type 0} (base : B) (es : List Entry) (v : View B) where
     pub alone : v.took ≡ []
     pub unmade : (n : ℕ) → m ≤ n → own n es ≡ []
 
-  -- What a seat at this stage knows: tickets out are those from the turns made to the tickets drawn, and the one that has the turn has seen all entries
+  -- What a seat at this stage knows: tickets out are those from the turns made to the tickets
+  -- drawn, and the one that has the turn has seen all entries
   abbrev pub Knows : ℕ → ℕ → Stage → Type 0
   Knows passes drawn Spent = (v.parts ≡ 0) × (v.took ≡ [])
   Knows passes drawn (Issuer m) = Issues passes m
@@ -47,7 +49,9 @@ module _ {B : Type 0} (base : B) (es : List Entry) (v : View B) where
 module _ {T B : Type 0} (stands : T → B → List Entry → Type 0) (base : B) where
   -- the value is at home and stands for the entries, or it is out with the seat that has the turn
   abbrev pub Placed : List Entry → List (maybe.Option (Option T)) → List (View B) → Type 0
-  Placed es homes views = ((y : T) × (homes ≡ maybe.some (Some y) ∷ []) × stands y base es) ⊎ ((i : ℕ) × (v : View B) × (t : ℕ) × (homes ≡ maybe.none ∷ []) × (get_elem? views i ≡ maybe.some v) × (v.stage ≡ Holding t))
+  Placed es homes views = ((y : T) × (homes ≡ maybe.some (Some y) ∷ []) × stands y base es)
+      ⊎ ((i : ℕ) × (v : View B) × (t : ℕ) × (homes ≡ maybe.none ∷ [])
+      × (get_elem? views i ≡ maybe.some v) × (v.stage ≡ Holding t))
 
   -- what holds between any two steps
   pub record Kept (passes : ℕ) (s : State (Option T) (View B)) : Type 0 where
@@ -61,9 +65,11 @@ module _ {T B : Type 0} (stands : T → B → List Entry → Type 0) (base : B) 
     pub below : AreNumberedBelow passes entries
     -- each number is claimed once
     pub numbers : (n : ℕ) → total (claims n) s.views ≡ 1
-    pub each : (i : ℕ) (v : View B) → get_elem? s.views i ≡ maybe.some v → Knows base entries v passes drawn v.stage
+    pub each : (i : ℕ) (v : View B) → get_elem? s.views i ≡ maybe.some v
+        → Knows base entries v passes drawn v.stage
     -- no two seats have one ticket
-    pub apart : (i j t : ℕ) (v w : View B) → get_elem? s.views i ≡ maybe.some v → get_elem? s.views j ≡ maybe.some w → HasTicket t v.stage → HasTicket t w.stage → i ≡ j
+    pub apart : (i j t : ℕ) (v w : View B) → get_elem? s.views i ≡ maybe.some v
+        → get_elem? s.views j ≡ maybe.some w → HasTicket t v.stage → HasTicket t w.stage → i ≡ j
     pub place : Placed entries s.homes s.views
 
   -- a seat that stands for all passes knows all of the history, which the value stands for

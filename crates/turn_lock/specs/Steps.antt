@@ -10,7 +10,8 @@ use Rattle.turn_lock.specs.declared.view.Stage.TheVariants.{Waiting}
 module _ {S B : Type 0} where
   -- a ticket was drawn: the seat waits with the one that was found
   abbrev pub DrewTicket : Step S → Me S (View B) → ℕ → Me S (View B) → Type 0
-  DrewTicket st m found m' = (t : ℕ) × (t % 18446744073709551616 ≡ found) × (m' ≡ (at_stage m.0 (Waiting t), m.1))
+  DrewTicket st m found m' =
+      (t : ℕ) × (t % 18446744073709551616 ≡ found) × (m' ≡ (at_stage m.0 (Waiting t), m.1))
 
   -- the turn ended with one entry, and the slot went home
   abbrev pub Raised : List ℕ → Step S → Me S (View B) → ℕ → Me S (View B) → Type 0
@@ -38,7 +39,9 @@ module _ {T B : Type 0} (stands : T → B → List Entry → Type 0) where
 
   -- the turn comes exactly where the number served is the seat's ticket
   abbrev pub Looked : Step (Option T) → Me (Option T) (View B) → ℕ → Me (Option T) (View B) → Type 0
-  Looked st m found m' = (t : ℕ) → m.0.stage ≡ Waiting t → (found ≡ t % 18446744073709551616 → Comes m t m') × (found ≢ t % 18446744073709551616 → m' ≡ m)
+  Looked st m found m' = (t : ℕ) → m.0.stage ≡ Waiting t
+      → (found ≡ t % 18446744073709551616 → Comes m t m')
+      × (found ≢ t % 18446744073709551616 → m' ≡ m)
 
   -- the seat, which waited, has the turn and the slot, whose value stands for all entries
   pub record TurnCame (p q : Seat (Option T) (View B)) : Type 0 where

@@ -1,4 +1,5 @@
--- What a seat of a lock's table knows: its stage, its ticket, its number, and what each step makes of it.
+-- What a seat of a lock's table knows: its stage, its ticket, its number, and what each step makes
+-- of it.
 use Rattle.std.specs.Prelude.{◌≡◌, ℕ, ◌+◌, ◌-◌, ◌==◌, nat_le, if◌then◌else◌, List, [], ◌∷◌, ◌++◌, Some, None}
 use Rattle.turn_lock.specs.Histories.{Entry}
 use Rattle.turn_lock.specs.declared.view.View.{View}
@@ -64,31 +65,87 @@ module _ {B : Type 0} where
 
   -- the same at another stage
   abbrev pub at_stage : View B → Stage → View B
-  at_stage v s = record { base = v.base; parts = v.parts; stage = s; number = v.number; seen = v.seen; mine = v.mine; took = v.took }
+  at_stage v s = record {
+    base = v.base;
+    parts = v.parts;
+    stage = s;
+    number = v.number;
+    seen = v.seen;
+    mine = v.mine;
+    took = v.took;
+  }
 
   -- it has the turn with the ticket t, and has seen all entries
   abbrev pub holding : View B → ℕ → List Entry → View B
-  holding v t es = record { base = v.base; parts = v.parts; stage = Holding t; number = v.number; seen = es; mine = v.mine; took = v.took }
+  holding v t es = record {
+    base = v.base;
+    parts = v.parts;
+    stage = Holding t;
+    number = v.number;
+    seen = es;
+    mine = v.mine;
+    took = v.took;
+  }
 
   -- after a turn with this operation
   abbrev pub turned : View B → List ℕ → View B
-  turned v op = record { base = v.base; parts = v.parts; stage = Idle; number = v.number; seen = v.seen ++ (v.number, op) ∷ []; mine = v.mine ++ (v.number, op) ∷ []; took = v.took }
+  turned v op = record {
+    base = v.base;
+    parts = v.parts;
+    stage = Idle;
+    number = v.number;
+    seen = v.seen ++ (v.number, op) ∷ [];
+    mine = v.mine ++ (v.number, op) ∷ [];
+    took = v.took;
+  }
 
   -- it has so many passes to issue, and the number m next
   abbrev pub issuer : B → ℕ → ℕ → View B
-  issuer b parts m = record { base = Some b; parts = parts; stage = Issuer m; number = 0; seen = []; mine = []; took = [] }
+  issuer b parts m = record {
+    base = Some b;
+    parts = parts;
+    stage = Issuer m;
+    number = 0;
+    seen = [];
+    mine = [];
+    took = [];
+  }
 
   -- what is left of an issuer that issued a pass
   abbrev pub issuer_after : View B → View B
-  issuer_after v = record { base = v.base; parts = v.parts - 1; stage = Issuer (next_of v.stage + 1); number = v.number; seen = v.seen; mine = v.mine; took = v.took }
+  issuer_after v = record {
+    base = v.base;
+    parts = v.parts - 1;
+    stage = Issuer (next_of v.stage + 1);
+    number = v.number;
+    seen = v.seen;
+    mine = v.mine;
+    took = v.took;
+  }
 
   -- the pass that an issuer issues
   abbrev pub issued : View B → View B
-  issued v = record { base = v.base; parts = 1; stage = Idle; number = next_of v.stage; seen = []; mine = []; took = [] }
+  issued v = record {
+    base = v.base;
+    parts = 1;
+    stage = Idle;
+    number = next_of v.stage;
+    seen = [];
+    mine = [];
+    took = [];
+  }
 
   -- a seat that was joined to another
   abbrev pub spent : View B
-  spent = record { base = None; parts = 0; stage = Spent; number = 0; seen = []; mine = []; took = [] }
+  spent = record {
+    base = None;
+    parts = 0;
+    stage = Spent;
+    number = 0;
+    seen = [];
+    mine = [];
+    took = [];
+  }
 
   -- what a pass claims of the history
   abbrev pub claim_of : View B → Claim
@@ -96,7 +153,15 @@ module _ {B : Type 0} where
 
   -- v, which took in w and all that w took in
   abbrev pub joined : View B → View B → View B
-  joined v w = record { base = v.base; parts = v.parts + w.parts; stage = v.stage; number = v.number; seen = v.seen; mine = v.mine; took = v.took ++ claim_of w ∷ w.took }
+  joined v w = record {
+    base = v.base;
+    parts = v.parts + w.parts;
+    stage = v.stage;
+    number = v.number;
+    seen = v.seen;
+    mine = v.mine;
+    took = v.took ++ claim_of w ∷ w.took;
+  }
 
 -- what a seat claims, and what it took in
 abbrev pub claims_of : {B : Type 0} → View B → List Claim

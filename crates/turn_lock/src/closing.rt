@@ -16,7 +16,8 @@ impl<T: Object> TurnLock<T> {
     pub fn close(self, mut passes: Vec<Pass<T>>) -> T
         requires count { vec_len passes ≡ lock_passes self }
         requires passes { All (λ p. IsPassOf self p × IsFree p) passes.items }
-        ensures { (entries : List Entry) × T.stands result (lock_id self).base entries × AreWhole entries passes.items }
+        ensures { (entries : List Entry) × T.stands result (lock_id self).base entries
+            × AreWhole entries passes.items }
     {
         let Some(first) = passes.pop() else {
             unreachable!()
@@ -43,7 +44,8 @@ impl<T: Object> TurnLock<T> {
         requires passes { All (λ p. IsPassOf self.now p × IsFree p) passes.items }
         ensures own { seat.new.table_id ≡ seat.old.table_id }
         ensures free { (seat.new.me.0.stage ≡ Idle) × (seat.new.me.0.parts ≡ suc (vec_len passes)) }
-        ensures claims { claims_of seat.new.me.0 ≡ claims_of seat.old.me.0 ++ claims_back passes.items }
+        ensures claims { claims_of seat.new.me.0
+            ≡ claims_of seat.old.me.0 ++ claims_back passes.items }
     {
         while let Some(pass) = passes.pop() {
             self.table

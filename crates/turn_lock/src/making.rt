@@ -26,7 +26,8 @@ impl<T: Object> TurnLock<T> {
         ghost base: { T.Base }
         requires count { (1 ≤ clients + helpers) × (clients + helpers ≤ 1024) }
         requires value { T.stands value base [] }
-        ensures lock { IfOk result (λ r. ((lock_id r.0).base ≡ base) × (lock_passes r.0 ≡ clients + helpers)) }
+        ensures lock { IfOk result
+            (λ r. ((lock_id r.0).base ≡ base) × (lock_passes r.0 ≡ clients + helpers)) }
         ensures count { IfOk result (λ r. vec_len r.1 ≡ clients + helpers) }
         ensures passes { IfOk result (λ r. AreNewPasses r.0 r.1.items) }
         ensures unchanged { IfErr result (λ r. r.0 ≡ value) }
@@ -80,7 +81,8 @@ fn lock_over<T: Object>(
     requires count { (1 ≤ count) × (count ≤ 1024) }
     requires value { T.stands value base [] }
     ensures lock { IfOk result (λ r. ((lock_id r.0).base ≡ base) × (lock_passes r.0 ≡ count)) }
-    ensures issuer { IfOk result (λ r. (r.1.table_id ≡ r.0.table.shared.table_id) × (r.1.me ≡ (issuer base count 0, []))) }
+    ensures issuer { IfOk result
+        (λ r. (r.1.table_id ≡ r.0.table.shared.table_id) × (r.1.me ≡ (issuer base count 0, []))) }
     ensures unchanged { IfErr result (λ r. r.0 ≡ value) }
 {
     let key = LockKey {

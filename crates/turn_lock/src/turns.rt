@@ -45,11 +45,14 @@ impl<T: Object> TurnLock<T> {
     pub fn leave<N: Named>(&self, turn: Turn<T>, pass: &mut Pass<T>)
         requires own { IsPassOf self.now pass.old }
         requires turn { IsInTurn pass.old }
-        requires value { T.stands turn.value (pass_lock pass.old).base (pass_seen pass.old ++ (pass_number pass.old, N.operation) ∷ []) }
+        requires value { T.stands turn.value (pass_lock pass.old).base
+            (pass_seen pass.old ++ (pass_number pass.old, N.operation) ∷ []) }
         ensures same { IsSamePass pass.old pass.new }
         ensures free { IsFree pass.new }
-        ensures seen { pass_seen pass.new ≡ pass_seen pass.old ++ (pass_number pass.old, N.operation) ∷ [] }
-        ensures mine { pass_mine pass.new ≡ pass_mine pass.old ++ (pass_number pass.old, N.operation) ∷ [] }
+        ensures seen { pass_seen pass.new
+            ≡ pass_seen pass.old ++ (pass_number pass.old, N.operation) ∷ [] }
+        ensures mine { pass_mine pass.new
+            ≡ pass_mine pass.old ++ (pass_number pass.old, N.operation) ∷ [] }
     {
         let Turn { value, seal: _ } = turn;
         self.put_value(&mut pass.seat, value);
@@ -60,11 +63,14 @@ impl<T: Object> TurnLock<T> {
     pub fn leave_as(&self, turn: Turn<T>, pass: &mut Pass<T>, operation: &[u64])
         requires own { IsPassOf self.now pass.old }
         requires turn { IsInTurn pass.old }
-        requires value { T.stands turn.value (pass_lock pass.old).base (pass_seen pass.old ++ (pass_number pass.old, operation.now) ∷ []) }
+        requires value { T.stands turn.value (pass_lock pass.old).base
+            (pass_seen pass.old ++ (pass_number pass.old, operation.now) ∷ []) }
         ensures same { IsSamePass pass.old pass.new }
         ensures free { IsFree pass.new }
-        ensures seen { pass_seen pass.new ≡ pass_seen pass.old ++ (pass_number pass.old, operation.entry.now) ∷ [] }
-        ensures mine { pass_mine pass.new ≡ pass_mine pass.old ++ (pass_number pass.old, operation.entry.now) ∷ [] }
+        ensures seen { pass_seen pass.new
+            ≡ pass_seen pass.old ++ (pass_number pass.old, operation.entry.now) ∷ [] }
+        ensures mine { pass_mine pass.new
+            ≡ pass_mine pass.old ++ (pass_number pass.old, operation.entry.now) ∷ [] }
     {
         self.leave_named::<Brand>(turn, pass, operation);
     }
@@ -74,11 +80,14 @@ impl<T: Object> TurnLock<T> {
         requires name { N.operation ≡ operation.now }
         requires own { IsPassOf self.now pass.old }
         requires turn { IsInTurn pass.old }
-        requires value { T.stands turn.value (pass_lock pass.old).base (pass_seen pass.old ++ (pass_number pass.old, operation.now) ∷ []) }
+        requires value { T.stands turn.value (pass_lock pass.old).base
+            (pass_seen pass.old ++ (pass_number pass.old, operation.now) ∷ []) }
         ensures same { IsSamePass pass.old pass.new }
         ensures free { IsFree pass.new }
-        ensures seen { pass_seen pass.new ≡ pass_seen pass.old ++ (pass_number pass.old, operation.entry.now) ∷ [] }
-        ensures mine { pass_mine pass.new ≡ pass_mine pass.old ++ (pass_number pass.old, operation.entry.now) ∷ [] }
+        ensures seen { pass_seen pass.new
+            ≡ pass_seen pass.old ++ (pass_number pass.old, operation.entry.now) ∷ [] }
+        ensures mine { pass_mine pass.new
+            ≡ pass_mine pass.old ++ (pass_number pass.old, operation.entry.now) ∷ [] }
     {
         let _ = operation;
         self.leave::<N>(turn, pass);
@@ -94,7 +103,8 @@ impl<T: Object> TurnLock<T> {
         ensures own { own (pass_number pass.new) (pass_seen pass.new) ≡ pass_mine pass.new }
         ensures number { pass_number pass.new < 1024 }
         ensures numbers { AreNumberedBelow 1024 (pass_seen pass.new) }
-        ensures value { (y : T) × IsInTurnWith y pass.new × T.stands y (pass_lock pass.new).base (pass_seen pass.new) }
+        ensures value { (y : T) × IsInTurnWith y pass.new
+            × T.stands y (pass_lock pass.new).base (pass_seen pass.new) }
     {
         self.await_turn(rt, &mut pass.seat);
     }
@@ -107,7 +117,8 @@ impl<T: Object> TurnLock<T> {
         ensures same { IsSamePass pass.old pass.new }
         ensures seen { pass_seen pass.new ≡ pass_seen pass.old }
         ensures mine { pass_mine pass.new ≡ pass_mine pass.old }
-        ensures worked { (y : T) → IsInTurnWith y pass.old → (z : T) × FnOnceReturnsAtMut F.FnOnce work y result z × IsInTurnWith z pass.new }
+        ensures worked { (y : T) → IsInTurnWith y pass.old
+            → (z : T) × FnOnceReturnsAtMut F.FnOnce work y result z × IsInTurnWith z pass.new }
     {
         match pass.seat.slot_mut(&self.table.shared, VALUE) {
             Some(value) => work(value),
@@ -118,11 +129,15 @@ impl<T: Object> TurnLock<T> {
     /// Ends a turn that `enter_in_place` began with one entry, as `leave` does.
     pub fn leave_in_place<N: Named>(&self, pass: &mut Pass<T>)
         requires own { IsPassOf self.now pass.old }
-        requires value { (y : T) × IsInTurnWith y pass.old × T.stands y (pass_lock pass.old).base (pass_seen pass.old ++ (pass_number pass.old, N.operation) ∷ []) }
+        requires value { (y : T) × IsInTurnWith y pass.old
+            × T.stands y (pass_lock pass.old).base
+            (pass_seen pass.old ++ (pass_number pass.old, N.operation) ∷ []) }
         ensures same { IsSamePass pass.old pass.new }
         ensures free { IsFree pass.new }
-        ensures seen { pass_seen pass.new ≡ pass_seen pass.old ++ (pass_number pass.old, N.operation) ∷ [] }
-        ensures mine { pass_mine pass.new ≡ pass_mine pass.old ++ (pass_number pass.old, N.operation) ∷ [] }
+        ensures seen { pass_seen pass.new
+            ≡ pass_seen pass.old ++ (pass_number pass.old, N.operation) ∷ [] }
+        ensures mine { pass_mine pass.new
+            ≡ pass_mine pass.old ++ (pass_number pass.old, N.operation) ∷ [] }
     {
         let ticket = self.raise::<N>(&mut pass.seat);
         self.wake(ticket.wrapping_add(1));
@@ -154,9 +169,11 @@ impl<T: Object> TurnLock<T> {
     // Whether the ticket is served: then the turn has come.
     fn has_come(&self, seat: &mut LockSeat<T>, ticket: u64) -> bool
         requires own { seat.old.table_id ≡ self.now.table.shared.table_id }
-        requires waits { (t : ℕ) × (t % 2 ^ 64 ≡ ticket) × (seat.old.me.0.stage ≡ Waiting t) × (seat.old.me.1 ≡ []) }
+        requires waits { (t : ℕ) × (t % 2 ^ 64 ≡ ticket) × (seat.old.me.0.stage ≡ Waiting t)
+            × (seat.old.me.1 ≡ []) }
         ensures came { result ≡ true → TurnCame T.stands seat.old seat.new }
-        ensures still { result ≡ false → (seat.new.table_id ≡ seat.old.table_id) × (seat.new.id ≡ seat.old.id) × (seat.new.me ≡ seat.old.me) }
+        ensures still { result ≡ false → (seat.new.table_id ≡ seat.old.table_id)
+            × (seat.new.id ≡ seat.old.id) × (seat.new.me ≡ seat.old.me) }
     {
         self.table.shared.load::<Look<T>>(seat, SERVING) == ticket
     }
@@ -166,7 +183,8 @@ impl<T: Object> TurnLock<T> {
     #[inline(never)]
     fn wait_for<R: Wait>(&self, rt: &R, seat: &mut LockSeat<T>, ticket: u64)
         requires own { seat.old.table_id ≡ self.now.table.shared.table_id }
-        requires waits { (t : ℕ) × (t % 2 ^ 64 ≡ ticket) × (seat.old.me.0.stage ≡ Waiting t) × (seat.old.me.1 ≡ []) }
+        requires waits { (t : ℕ) × (t % 2 ^ 64 ≡ ticket) × (seat.old.me.0.stage ≡ Waiting t)
+            × (seat.old.me.1 ≡ []) }
         ensures { TurnCame T.stands seat.old seat.new }
     {
         for _ in rt.forever() {
@@ -225,7 +243,9 @@ impl<T: Object> TurnLock<T> {
         requires turn { (t : ℕ) × (seat.old.me.0.stage ≡ Holding t) }
         requires based { seat.old.me.0.base ≡ Some self.now.base.value }
         requires slot { (y : T) × (seat.old.me.1 ≡ (0, Some y) ∷ []) }
-        requires value { (y : T) → seat.old.me.1 ≡ (0, Some y) ∷ [] → T.stands y self.now.base.value (seat.old.me.0.seen ++ (seat.old.me.0.number, N.operation) ∷ []) }
+        requires value { (y : T) → seat.old.me.1 ≡ (0, Some y) ∷ []
+            → T.stands y self.now.base.value
+            (seat.old.me.0.seen ++ (seat.old.me.0.number, N.operation) ∷ []) }
         ensures seat { (seat.new.table_id ≡ seat.old.table_id) × (seat.new.id ≡ seat.old.id) }
         ensures entry { seat.new.me ≡ (turned seat.old.me.0 N.operation, []) }
     {

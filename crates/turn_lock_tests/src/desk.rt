@@ -36,7 +36,8 @@ impl Desk {
     pub fn work<R: Wait>(&mut self, rt: &R, gauge: &TurnLock<Gauge>)
         requires own { IsPassOf gauge.now self.old.gauge }
         requires free { IsFree self.old.gauge }
-        ensures { (b : DeskBase) (es : List (ℕ × List ℕ)) (n : ℕ) → DeskStands self.old b es → DeskStands self.new b (es ++ (n, 7 ∷ []) ∷ []) }
+        ensures { (b : DeskBase) (es : List (ℕ × List ℕ)) (n : ℕ) → DeskStands self.old b es
+            → DeskStands self.new b (es ++ (n, 7 ∷ []) ∷ []) }
     {
         begin_use(rt, gauge, &mut self.gauge);
         end_use(rt, gauge, &mut self.gauge);

@@ -22,14 +22,18 @@ impl Object for Gauge {
 impl Gauge {
     /// Begins a use, which is written as 1.
     pub fn begin(&mut self)
-        ensures { (b : ℕ) (es : List (ℕ × List ℕ)) (n : ℕ) → self.old.uses ≡ (b + uses_of es) % 2 ^ 64 → self.new.uses ≡ (b + uses_of (es ++ (n, 1 ∷ []) ∷ [])) % 2 ^ 64 }
+        ensures { (b : ℕ) (es : List (ℕ × List ℕ)) (n : ℕ)
+            → self.old.uses ≡ (b + uses_of es) % 2 ^ 64
+            → self.new.uses ≡ (b + uses_of (es ++ (n, 1 ∷ []) ∷ [])) % 2 ^ 64 }
     {
         self.uses = self.uses.wrapping_add(1);
     }
 
     /// Ends a use, which is written as 2.
     pub fn end(&mut self)
-        ensures { (b : ℕ) (es : List (ℕ × List ℕ)) (n : ℕ) → self.old.uses ≡ (b + uses_of es) % 2 ^ 64 → self.new.uses ≡ (b + uses_of (es ++ (n, 2 ∷ []) ∷ [])) % 2 ^ 64 }
+        ensures { (b : ℕ) (es : List (ℕ × List ℕ)) (n : ℕ)
+            → self.old.uses ≡ (b + uses_of es) % 2 ^ 64
+            → self.new.uses ≡ (b + uses_of (es ++ (n, 2 ∷ []) ∷ [])) % 2 ^ 64 }
     {}
 }
 

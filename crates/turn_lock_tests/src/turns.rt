@@ -102,7 +102,8 @@ fn desk_turns<R: Threads + Wait + Sync>(
         passes.as_mut_slice(),
         2,
         &|_, pass: &mut Pass<Desk>|
-            requires { IsPassOf lock.now pass.now × IsFree pass.now × ((lock_id lock.now).base.gauge.id ≡ lock_id gauge.now) }
+            requires { IsPassOf lock.now pass.now × IsFree pass.now
+                × ((lock_id lock.now).base.gauge.id ≡ lock_id gauge.now) }
             ensures { IsPassOf lock.entry.now pass.exit.now × IsFree pass.exit.now }
         { ten_turns(rt, gauge, lock, pass) },
     );

@@ -45,7 +45,8 @@ fn below(versions: &[u64], version: u64) -> usize
     requires { AreRising versions.now }
     ensures within { result ≤ length versions.now }
     ensures low { (k : ℕ) → k < result → slice_index versions.now k < version }
-    ensures high { (k : ℕ) → result ≤ k → k < length versions.now → version ≤ slice_index versions.now k }
+    ensures high { (k : ℕ) → result ≤ k → k < length versions.now
+        → version ≤ slice_index versions.now k }
 {
     if version == 0 {
         return 0;
@@ -68,8 +69,10 @@ fn likely_place(versions: &[u64], version: u64) -> usize {
 // The place of a version, if it is in the list.
 fn place_of(versions: &[u64], version: u64) -> Option<usize>
     requires { AreRising versions.now }
-    ensures found { IfSome result (λ k. (k < length versions.now) × (slice_index versions.now k ≡ version)) }
-    ensures none { IfNone result ((k : ℕ) → k < length versions.now → slice_index versions.now k ≡ version → ⊥) }
+    ensures found { IfSome result
+        (λ k. (k < length versions.now) × (slice_index versions.now k ≡ version)) }
+    ensures none { IfNone result
+        ((k : ℕ) → k < length versions.now → slice_index versions.now k ≡ version → ⊥) }
 {
     let likely = likely_place(versions, version);
     if likely < versions.len() && versions[likely] == version {
@@ -195,8 +198,10 @@ impl VersionMarks {
 
     /// The least version from `from` on whose mask has a bit of `wanted`, and none where there is none.
     pub fn first(&self, from: u64, wanted: u128) -> Option<u64>
-        ensures found { IfSome result (λ v. (from ≤ v) × (bit_and (mask_of self.now v) wanted ≡ 0 → ⊥)) }
-        ensures least { IfSome result (λ v. (w : ℕ) → from ≤ w → w < v → AreApart (mask_of self.now w) wanted) }
+        ensures found { IfSome result
+            (λ v. (from ≤ v) × (bit_and (mask_of self.now v) wanted ≡ 0 → ⊥)) }
+        ensures least { IfSome result
+            (λ v. (w : ℕ) → from ≤ w → w < v → AreApart (mask_of self.now w) wanted) }
         ensures none { IfNone result ((w : ℕ) → from ≤ w → AreApart (mask_of self.now w) wanted) }
     {
         let size = self.nodes.len() / 2;

@@ -10,7 +10,8 @@ fn raise(nodes: &mut Vec<u128>, leaf: usize)
     requires summed { IsSummedBut leaf nodes.old.items }
     ensures summed { IsSummed nodes.new.items }
     ensures same { length nodes.new.items ≡ length nodes.old.items }
-    ensures leaves { drop (length nodes.old.items / 2) nodes.new.items ≡ drop (length nodes.old.items / 2) nodes.old.items }
+    ensures leaves { drop (length nodes.old.items / 2) nodes.new.items
+        ≡ drop (length nodes.old.items / 2) nodes.old.items }
 {
     let mut node = leaf;
     while node > 0 {
@@ -30,7 +31,8 @@ pub fn set_leaf(nodes: &mut Vec<u128>, place: usize, mask: u128)
     requires summed { IsSummed nodes.old.items }
     ensures summed { IsSummed nodes.new.items }
     ensures same { length nodes.new.items ≡ length nodes.old.items }
-    ensures leaves { drop (length nodes.old.items / 2) nodes.new.items ≡ slice_set (drop (length nodes.old.items / 2) nodes.old.items) place mask }
+    ensures leaves { drop (length nodes.old.items / 2) nodes.new.items
+        ≡ slice_set (drop (length nodes.old.items / 2) nodes.old.items) place mask }
 {
     let leaf = nodes.len() / 2 + place;
     nodes[leaf] = mask;
@@ -46,7 +48,8 @@ pub fn first_leaf(nodes: &[u128], from: usize, wanted: u128) -> usize
     requires { IsSummed nodes.now }
     ensures from { from ≤ length nodes.now → from ≤ result }
     ensures end { result ≤ length nodes.now }
-    ensures found { result < length nodes.now → bit_and (slice_index nodes.now result) wanted ≡ 0 → ⊥ }
+    ensures found { result < length nodes.now → bit_and (slice_index nodes.now result) wanted ≡ 0
+        → ⊥ }
     ensures apart { (n : ℕ) → from ≤ n → n < result → AreApart (slice_index nodes.now n) wanted }
 {
     let mut leaf = from;

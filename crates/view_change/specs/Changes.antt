@@ -1,4 +1,5 @@
--- A change of a view: what becomes of its ids, when it is refused, and what the part of label and view shows meanwhile.
+-- A change of a view: what becomes of its ids, when it is refused, and what the part of label and
+-- view shows meanwhile.
 use Rattle.std.specs.Prelude.{◌≡◌, ◌≢◌, ◌⊎◌, ◌<◌, ◌≤◌, ◌==◌, ◌++◌, ℕ, not, List, [], ◌∷◌, length, filter, Some, Contains, Result, Ok, Err}
 use Rattle.wol_disk.specs.Disk.{Block, Values, State, IsImageOf, reads}
 use Rattle.wol_model.specs.Heads.{Shape}
@@ -53,17 +54,24 @@ pub record IsLoaded (own : ℕ) (bs : List Block) (ids : List ℕ) : Type 0 wher
 
 -- the view that the blocks have can't be changed so, for this
 abbrev pub RefusesLoaded : (own volumes : ℕ) → Change → List Block → ChangeRefusal → Type 0
-RefusesLoaded own volumes change bs refusal = IsAsked own volumes change × (ids : List ℕ) × IsLoaded own bs ids × RefusesView ids change refusal
+RefusesLoaded own volumes change bs refusal =
+    IsAsked own volumes change × (ids : List ℕ) × IsLoaded own bs ids
+    × RefusesView ids change refusal
 
 -- what is answered where the part reads as these blocks
-abbrev pub Answers : (own volumes : ℕ) → Change → List Block → Result (List ℕ) ChangeRefusal → Type 0
-Answers own volumes change bs (Ok new) = IsAsked own volumes change × (ids : List ℕ) × IsLoaded own bs ids × Allows ids change × (new ≡ changed change ids)
+abbrev pub Answers : (own volumes : ℕ) → Change → List Block → Result (List ℕ) ChangeRefusal
+    → Type 0
+Answers own volumes change bs (Ok new) =
+    IsAsked own volumes change × (ids : List ℕ) × IsLoaded own bs ids × Allows ids change
+    × (new ≡ changed change ids)
 Answers own volumes change bs (Err (Unknown id)) = (id ≡ id_of change) × (volumes ≤ id_of change)
 Answers own volumes change bs (Err Itself) = (id_of change < volumes) × (id_of change ≡ own)
-Answers own volumes change bs (Err (Damaged block)) = IsAsked own volumes change × IsFirstFault own bs block
+Answers own volumes change bs (Err (Damaged block)) =
+    IsAsked own volumes change × IsFirstFault own bs block
 Answers own volumes change bs (Err Failed) = IsAsked own volumes change
 Answers own volumes change bs (Err (Already id)) = RefusesLoaded own volumes change bs (Already id)
-Answers own volumes change bs (Err (NotThere id)) = RefusesLoaded own volumes change bs (NotThere id)
+Answers own volumes change bs (Err (NotThere id)) =
+    RefusesLoaded own volumes change bs (NotThere id)
 Answers own volumes change bs (Err ViewFull) = RefusesLoaded own volumes change bs ViewFull
 
 -- ---- Moments

@@ -1,4 +1,5 @@
--- What one turn in which a volume is drained adds to its history, and what its steps do one after another.
+-- What one turn in which a volume is drained adds to its history, and what its steps do one after
+-- another.
 use Rattle.std.specs.Prelude.{◌≡◌, ◌∷◌, ◌++◌, ℕ, Bool, false, List, [], None, Result, Ok, Err, IsTrue, IfOk, IfErr, OnOk}
 use Rattle.wol_disk.specs.Disk.{State}
 use Rattle.turn_lock.specs.Histories.{Entry, own, Begins}
@@ -23,9 +24,10 @@ use Rattle.request_turns.specs.Turns.{ManagerPass, coded, notes_seen, WasDown, f
 
 -- ---- Steps
 
--- One step, by its answer. Stopped at any moment of it, every choice of images recovers to the array that the manager stood for: the
--- one of this beginning and these entries.
-pub record IsSafeStep {D : Type 0} (tells : Bool) (state : D → State) (b : ManagerBase) (notes : List Noted) (old new : Manager D) (answer : Result Drain StepFault) : Type 0 where
+-- One step, by its answer. Stopped at any moment of it, every choice of images recovers to the
+-- array that the manager stood for: the one of this beginning and these entries.
+pub record IsSafeStep {D : Type 0} (tells : Bool) (state : D → State) (b : ManagerBase)
+    (notes : List Noted) (old new : Manager D) (answer : Result Drain StepFault) : Type 0 where
   pub kept : Keeps tells state old b notes
   pub told : TellsStep state answer old new
   pub did : OnTried answer (HasDrained state old new answer)
@@ -34,17 +36,22 @@ pub record IsSafeStep {D : Type 0} (tells : Bool) (state : D → State) (b : Man
   pub any_moment : IsTrue tells → Stops state old new None b notes []
 
 -- steps one after another, each of which moved something
-pub data MovesTo {D : Type 0} (tells : Bool) (state : D → State) (b : ManagerBase) (notes : List Noted) (old : Manager D) : Manager D → Type 0 where
+pub data MovesTo {D : Type 0} (tells : Bool) (state : D → State) (b : ManagerBase)
+    (notes : List Noted) (old : Manager D) : Manager D → Type 0 where
   begun : MovesTo tells state b notes old old
-  moved : (mid new : Manager D) (blocks records : ℕ) → MovesTo tells state b notes old mid → IsSafeStep tells state b notes mid new (Ok (Moved blocks records)) → MovesTo tells state b notes old new
+  moved : (mid new : Manager D) (blocks records : ℕ) → MovesTo tells state b notes old mid
+      → IsSafeStep tells state b notes mid new (Ok (Moved blocks records))
+      → MovesTo tells state b notes old new
 
 -- what the last step answered, where the whole answers this
 abbrev pub last_step : {T : Type 0} → Result T StepFault → Result Drain StepFault
 last_step (Ok done) = Ok Bare
 last_step (Err fault) = Err fault
 
--- Steps until no record is left, or until one is refused. Each moment of the whole lies in one of them.
-pub record Drains {D T : Type 0} (tells : Bool) (state : D → State) (b : ManagerBase) (notes : List Noted) (old new : Manager D) (answer : Result T StepFault) : Type 0 where
+-- Steps until no record is left, or until one is refused. Each moment of the whole lies in one of
+-- them.
+pub record Drains {D T : Type 0} (tells : Bool) (state : D → State) (b : ManagerBase)
+    (notes : List Noted) (old new : Manager D) (answer : Result T StepFault) : Type 0 where
   pub mid : Manager D
   pub moves : MovesTo tells state b notes old mid
   pub last : IsSafeStep tells state b notes mid new (last_step answer)
@@ -59,14 +66,21 @@ drain_operation (Err (Down p)) = Kept
 
 -- with its look; it follows no rule of the policy, since it wakes disks that no request asked for
 abbrev pub drain_note : (pass : ℕ) → Operation → Look → Noted
-drain_note pass operation look = record { entry = record { pass = pass; operation = operation }; look = look; passed = []; after_drain = false; ruled = false }
+drain_note pass operation look = record {
+  entry = record { pass = pass; operation = operation };
+  look = look;
+  passed = [];
+  after_drain = false;
+  ruled = false;
+}
 
 -- so many blocks were put home and so many records are gone; a count stands still at its type's end
 abbrev pub TakesAll : (l m : Look) → ℕ × ℕ → Type 0
 TakesAll l m counts = IsTakenOff (record { blocks = counts.0; records = counts.1 }) l m
 
 -- One turn, in which the volume was drained.
-pub record HasDrainedAll {D : Type 0} (tells : Bool) (state : D → State) (p q : ManagerPass D) (answer : Result (ℕ × ℕ) StepFault) : Type 0 where
+pub record HasDrainedAll {D : Type 0} (tells : Bool) (state : D → State) (p q : ManagerPass D)
+    (answer : Result (ℕ × ℕ) StepFault) : Type 0 where
   pub same : IsSamePass p q
   pub free : IsFree q
   -- one entry more than those before, which the pass had seen or others had made
@@ -86,5 +100,6 @@ pub record HasDrainedAll {D : Type 0} (tells : Bool) (state : D → State) (p q 
   -- at Ok no record is left, and all disks that had one are awake
   pub bare : OnOk answer ((to.index.entries ≡ []) × (note.look ≡ drained (look_of_manager from)))
   pub counts : IfOk answer (TakesAll (look_of_manager from) note.look)
-  -- refused as a step is: as down where it was down, and else where a call of a disk failed; the part that it names is down behind the entry
+  -- refused as a step is: as down where it was down, and else where a call of a disk failed; the
+  -- part that it names is down behind the entry
   pub cause : IfErr answer (λ f. WasDown (faulty_part f) (notes_seen q))

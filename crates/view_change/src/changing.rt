@@ -16,7 +16,8 @@ use wol_disk::Disk;
 
 // The view with this logger behind the others.
 fn with_logger(view: &View, id: u32) -> Result<View, ChangeRefusal>
-    ensures ok { IfOk result (λ new. Allows view.now (asked.Add id) × (new ≡ changed (asked.Add id) view.now)) }
+    ensures ok { IfOk result
+        (λ new. Allows view.now (asked.Add id) × (new ≡ changed (asked.Add id) view.now)) }
     ensures err { IfErr result (RefusesView view.now (asked.Add id)) }
 {
     let ids = view.ids();
@@ -39,7 +40,8 @@ fn with_logger(view: &View, id: u32) -> Result<View, ChangeRefusal>
 
 // The view without this logger.
 fn without_logger(view: &View, id: u32) -> Result<View, ChangeRefusal>
-    ensures ok { IfOk result (λ new. Allows view.now (asked.Remove id) × (new ≡ changed (asked.Remove id) view.now)) }
+    ensures ok { IfOk result
+        (λ new. Allows view.now (asked.Remove id) × (new ≡ changed (asked.Remove id) view.now)) }
     ensures err { IfErr result (RefusesView view.now (asked.Remove id)) }
 {
     let ids = view.ids();
@@ -60,7 +62,8 @@ fn without_logger(view: &View, id: u32) -> Result<View, ChangeRefusal>
 
 // The view with the change.
 fn changed_view(view: &View, change: &Change) -> Result<View, ChangeRefusal>
-    ensures ok { IfOk result (λ new. Allows view.now change.now × (new ≡ changed change.now view.now)) }
+    ensures ok { IfOk result
+        (λ new. Allows view.now change.now × (new ≡ changed change.now view.now)) }
     ensures err { IfErr result (RefusesView view.now change.now) }
 {
     match change {
@@ -85,24 +88,37 @@ pub fn change<D: Disk>(
     requires volume { token_volume token.now ≡ volume_of label.old }
     requires size { (state_of D.state label.old).size ≡ 2 }
     // each answer has its cause
-    ensures unknown { IsErrOf result (ChangeRefusal.Unknown (id_of change.now)) ↔ (volumes ≤ id_of change.now) }
-    ensures known { id_of change.now < volumes → (n : ℕ) → IsErrOf result (ChangeRefusal.Unknown n) → ⊥ }
-    ensures itself { IsErrOf result ChangeRefusal.Itself ↔ ((id_of change.now < volumes) × (id_of change.now ≡ own)) }
-    ensures answer { (vs : List (Values Block)) → (state_of D.state label.old).values ≡ Some vs → Answers own volumes change.now (reads vs) result }
+    ensures unknown { IsErrOf result (ChangeRefusal.Unknown (id_of change.now))
+        ↔ (volumes ≤ id_of change.now) }
+    ensures known { id_of change.now < volumes → (n : ℕ) → IsErrOf result (ChangeRefusal.Unknown n)
+        → ⊥ }
+    ensures itself { IsErrOf result ChangeRefusal.Itself
+        ↔ ((id_of change.now < volumes) × (id_of change.now ≡ own)) }
+    ensures answer { (vs : List (Values Block)) → (state_of D.state label.old).values ≡ Some vs
+        → Answers own volumes change.now (reads vs) result }
     ensures view { IfOk result IsViewList }
-    ensures cause { IsErrOf result ChangeRefusal.Failed → Rose (state_of D.state label.old).faults (state_of D.state label.new).faults }
-    ensures calm { (IsErrOf result ChangeRefusal.Failed → ⊥) → (state_of D.state label.new).faults ≡ (state_of D.state label.old).faults }
+    ensures cause { IsErrOf result ChangeRefusal.Failed
+        → Rose (state_of D.state label.old).faults (state_of D.state label.new).faults }
+    ensures calm { (IsErrOf result ChangeRefusal.Failed → ⊥)
+        → (state_of D.state label.new).faults ≡ (state_of D.state label.old).faults }
 
     // at every moment within, an image is one at entry, or has the label as it reads and the new view
-    ensures any_moment { LeavesOnly (state_of D.state label.old) (state_of D.state label.new) (MayShow own change.now (state_of D.state label.old)) }
+    ensures any_moment { LeavesOnly (state_of D.state label.old) (state_of D.state label.new)
+        (MayShow own change.now (state_of D.state label.old)) }
 
     // once it is done, each image has both
-    ensures stored { IfOk result (λ new. (state_of D.state label.new).values ≡ option_map (λ vs. only (with_view new (reads vs))) (state_of D.state label.old).values) }
+    ensures stored { IfOk result (λ new.
+        (state_of D.state label.new).values
+        ≡ option_map (λ vs. only (with_view new (reads vs)))
+        (state_of D.state label.old).values) }
 
     // and where it is refused for what was asked or for what was read, nothing was written
     ensures unwritten { IfErr result (λ e. e ≢ ChangeRefusal.Failed
-        → ((state_of D.state label.new).values ≡ (state_of D.state label.old).values) ⊎ ((state_of D.state label.new).values ≡ option_map settled (state_of D.state label.old).values)) }
-    ensures told { IsSome (state_of D.state label.old).values → IsSome (state_of D.state label.new).values }
+        → ((state_of D.state label.new).values ≡ (state_of D.state label.old).values)
+        ⊎ ((state_of D.state label.new).values
+        ≡ option_map settled (state_of D.state label.old).values)) }
+    ensures told { IsSome (state_of D.state label.old).values
+        → IsSome (state_of D.state label.new).values }
     ensures size { (state_of D.state label.new).size ≡ (state_of D.state label.old).size }
     ensures volume { volume_of label.new ≡ volume_of label.old }
 {

@@ -33,9 +33,12 @@ fn drain<R: Wait, D: Disk>(
 ) -> Result<(), StepFault>
     requires ready { IsReady D.state m.old }
     requires at { IsHome shared.now m.old }
-    ensures drains { (b : ManagerBase) (notes : List Noted) → Keeps D.tells D.state m.old b notes → Drains D.tells D.state b notes m.old m.new result }
-    ensures bare { OnOk result ((m.new.index.entries ≡ []) × (look_of_manager m.new ≡ drained (look_of_manager m.old))) }
-    ensures taken { OnOk result (HasTaken tally.old tally.new (look_of_manager m.old) (look_of_manager m.new)) }
+    ensures drains { (b : ManagerBase) (notes : List Noted) → Keeps D.tells D.state m.old b notes
+        → Drains D.tells D.state b notes m.old m.new result }
+    ensures bare { OnOk result
+        ((m.new.index.entries ≡ []) × (look_of_manager m.new ≡ drained (look_of_manager m.old))) }
+    ensures taken { OnOk result
+        (HasTaken tally.old tally.new (look_of_manager m.old) (look_of_manager m.new)) }
     ensures down { IfErr result (λ f. m.new.down ≡ Some (faulty_part f)) }
     ensures keeps { OnKept result (KeepsOn D.tells D.state m.old m.new Always) }
     ensures broke { OnFailed result (BreaksOff D.tells D.state m.old m.new Always) }
@@ -58,9 +61,12 @@ fn leave_drained<D: Disk, N: Memo>(
 )
     requires own { IsPassOf lock.now pass.old }
     requires turn { IsInTurn pass.old }
-    requires note { N.note ≡ drain_note (pass_number pass.old) (drain_operation answer.now) (look_of_manager turn.value) }
-    requires value { Stands D.tells D.state turn.value (pass_lock pass.old).base (notes_seen pass.old ++ N.note ∷ []) }
-    ensures left { HasLeft D.tells (drain_note (pass_number pass.old) (drain_operation answer.now) (look_of_manager turn.value)) pass.old pass.new }
+    requires note { N.note ≡ drain_note (pass_number pass.old) (drain_operation answer.now)
+        (look_of_manager turn.value) }
+    requires value { Stands D.tells D.state turn.value (pass_lock pass.old).base
+        (notes_seen pass.old ++ N.note ∷ []) }
+    ensures left { HasLeft D.tells (drain_note (pass_number pass.old) (drain_operation answer.now)
+        (look_of_manager turn.value)) pass.old pass.new }
     ensures broken { (p : Part) → turn.value.down ≡ Some p → WasDown p (notes_seen pass.new) }
 {
     let _ = answer;

@@ -57,15 +57,20 @@ pub record IsWhole (config : Config) (v : VolumeConf) (t : Told) : Type 0 where
 
 -- what is answered where label and view read so
 abbrev pub AnswersFront : (own : ℕ) → Change → List Block → Result (List ℕ) Stop → Type 0
-AnswersFront own asked front (Ok view) = (ids : List ℕ) × IsLoaded own front ids × MayChange own asked ids × (view ≡ changed asked ids)
-AnswersFront own asked front (Err (stop.Refused refusal)) = ((refusal ≡ Itself) × (id_of asked ≡ own)) ⊎ ((ids : List ℕ) × IsLoaded own front ids × MayNotChange own asked ids refusal)
+AnswersFront own asked front (Ok view) =
+    (ids : List ℕ) × IsLoaded own front ids × MayChange own asked ids × (view ≡ changed asked ids)
+AnswersFront own asked front (Err (stop.Refused refusal)) =
+    ((refusal ≡ Itself) × (id_of asked ≡ own))
+    ⊎ ((ids : List ℕ) × IsLoaded own front ids × MayNotChange own asked ids refusal)
 AnswersFront own asked front (Err (stop.Fault fault)) = ⊤
 AnswersFront own asked front (Err stop.Sink) = ⊥
 
 -- ---- What is left
 
--- the blocks are those of an image that a crash might have left before, with the new view in the place of its view
-pub record ShowsNewView (name : Name) (own : ℕ) (asked : Change) (t : Told) (c : List Block) : Type 0 where
+-- the blocks are those of an image that a crash might have left before, with the new view in the
+-- place of its view
+pub record ShowsNewView (name : Name) (own : ℕ) (asked : Change) (t : Told) (c : List Block) :
+    Type 0 where
   pub before : List Block
   pub had : MayLeave (at_name name t.images) (Some before)
   pub ids : List ℕ
@@ -75,20 +80,27 @@ pub record ShowsNewView (name : Name) (own : ℕ) (asked : Change) (t : Told) (c
 
 -- a crash leaves an image that shows the new view
 abbrev pub LeavesNewView : Name → (own : ℕ) → Change → Told → Option (List Block) → Type 0
-LeavesNewView name own asked t c = (blocks : List Block) × (c ≡ Some blocks) × ShowsNewView name own asked t blocks
+LeavesNewView name own asked t c =
+    (blocks : List Block) × (c ≡ Some blocks) × ShowsNewView name own asked t blocks
 
 -- what a crash may leave of the image, by the answer
-abbrev pub LeavesBy : Result (List ℕ) Stop → Name → (own : ℕ) → Change → Told → Option (List Block) → Type 0
+abbrev pub LeavesBy : Result (List ℕ) Stop → Name → (own : ℕ) → Change → Told → Option (List Block)
+    → Type 0
 LeavesBy (Ok view) name own asked t c = LeavesNewView name own asked t c
 LeavesBy (Err (stop.Refused refusal)) name own asked t c = MayLeave (at_name name t.images) c
-LeavesBy (Err (stop.Fault fault)) name own asked t c = MayLeave (at_name name t.images) c ⊎ LeavesNewView name own asked t c
+LeavesBy (Err (stop.Fault fault)) name own asked t c =
+    MayLeave (at_name name t.images) c ⊎ LeavesNewView name own asked t c
 LeavesBy (Err stop.Sink) name own asked t c = ⊥
 
--- The view in the image of this name was changed, or it wasn't, by the answer; other images are as they were.
-pub record ChangesImage (name : Name) (own : ℕ) (asked : Change) (result : Result (List ℕ) Stop) (old new : Told) : Type 0 where
+-- The view in the image of this name was changed, or it wasn't, by the answer; other images are as
+-- they were.
+pub record ChangesImage (name : Name) (own : ℕ) (asked : Change) (result : Result (List ℕ) Stop)
+    (old new : Told) : Type 0 where
   pub others : (other : Name) → other ≢ name → at_name other new.images ≡ at_name other old.images
-  pub answer : (i : Image) → at_name name old.images ≡ Some i → AnswersFront own asked (front_of i) result
-  pub left : (c : Option (List Block)) → MayLeave (at_name name new.images) c → LeavesBy result name own asked old c
+  pub answer : (i : Image) → at_name name old.images ≡ Some i
+      → AnswersFront own asked (front_of i) result
+  pub left : (c : Option (List Block)) → MayLeave (at_name name new.images) c
+      → LeavesBy result name own asked old c
 
 -- ---- Faults
 
@@ -97,25 +109,35 @@ abbrev pub IsNotWhole : (tells : Bool) → Config → VolumeConf → BayState �
 IsNotWhole tells config v old = IsTrue tells → IfSome old.told (λ t. IsWhole config v t → ⊥)
 
 -- .. or this block of label and view is the first at fault
-abbrev pub IsDamagedAt : (tells : Bool) → (volume : ℕ) → VolumeConf → BayState → (block : ℕ) → Type 0
-IsDamagedAt tells volume v old block = IsTrue tells → IfSome old.told (λ t. (i : Image) → at_name v.name t.images ≡ Some i → IsFirstFault volume (front_of i) block)
+abbrev pub IsDamagedAt : (tells : Bool) → (volume : ℕ) → VolumeConf → BayState → (block : ℕ)
+    → Type 0
+IsDamagedAt tells volume v old block = IsTrue tells
+    → IfSome old.told
+    (λ t. (i : Image) → at_name v.name t.images ≡ Some i
+    → IsFirstFault volume (front_of i) block)
 
 -- why the image wasn't changed: a call failed, or the image isn't whole, or it is damaged
-abbrev pub FailsImage : (tells : Bool) → Config → (volume : ℕ) → VolumeConf → (old new : BayState) → Trouble → Type 0
+abbrev pub FailsImage : (tells : Bool) → Config → (volume : ℕ) → VolumeConf → (old new : BayState)
+    → Trouble → Type 0
 FailsImage tells config volume v old new trouble.Bay = Rose old.faults new.faults
 FailsImage tells config volume v old new trouble.Label = Rose old.faults new.faults
 FailsImage tells config volume v old new trouble.Absent = IsNotWhole tells config v old
 FailsImage tells config volume v old new (trouble.Length bytes) = IsNotWhole tells config v old
-FailsImage tells config volume v old new (trouble.Damaged number block) = (number ≡ volume) × IsDamagedAt tells volume v old block
+FailsImage tells config volume v old new (trouble.Damaged number block) =
+    (number ≡ volume) × IsDamagedAt tells volume v old block
 FailsImage tells config volume v old new other = ⊥
 
 -- .. or there was no memory
-abbrev pub FailsOnImage : (tells : Bool) → Config → (volume : ℕ) → VolumeConf → (old new : BayState) → Fault → Type 0
+abbrev pub FailsOnImage : (tells : Bool) → Config → (volume : ℕ) → VolumeConf → (old new : BayState)
+    → Fault → Type 0
 FailsOnImage tells config volume v old new Memory = ⊤
-FailsOnImage tells config volume v old new (Volume number t) = (number ≡ volume) × FailsImage tells config volume v old new t
+FailsOnImage tells config volume v old new (Volume number t) =
+    (number ≡ volume) × FailsImage tells config volume v old new t
 FailsOnImage tells config volume v old new other = ⊥
 
 -- The image of the volume was handed out, its view changed or not, and given back.
-pub record ChangesInBay (tells : Bool) (config : Config) (volume : ℕ) (v : VolumeConf) (asked : Change) (old new : BayState) (result : Result (List ℕ) Stop) : Type 0 where
+pub record ChangesInBay (tells : Bool) (config : Config) (volume : ℕ) (v : VolumeConf)
+    (asked : Change) (old new : BayState) (result : Result (List ℕ) Stop) : Type 0 where
   pub left : IsTrue tells → IsTold (ChangesImage v.name volume asked result) old.told new.told
-  pub fails : (f : Fault) → result ≡ Err (stop.Fault f) → FailsOnImage tells config volume v old new f
+  pub fails : (f : Fault) → result ≡ Err (stop.Fault f)
+      → FailsOnImage tells config volume v old new f

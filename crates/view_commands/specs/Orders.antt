@@ -28,7 +28,8 @@ unknown_of (Some volume) None = Some UnknownLogger
 unknown_of (Some volume) (Some logger) = None
 
 abbrev pub unknown_word : Config → Order → Option ViewRefusal
-unknown_word config order = unknown_of (number_in config order.volume.now) (number_in config order.logger.now)
+unknown_word config order =
+    unknown_of (number_in config order.volume.now) (number_in config order.logger.now)
 
 -- both words are the names of volumes: of these
 pub record AreNamed (config : Config) (order : Order) (volume logger : ℕ) : Type 0 where

@@ -19,32 +19,42 @@ use Rattle.view_commands.specs.declared.order.ViewRefusal.TheVariants.{Itself, A
 
 -- the image of the volume is there with this view
 abbrev pub HasViewIn : Images → (volume : ℕ) → (ids : List ℕ) → Type 0
-HasViewIn images volume ids = (image : List Block) × (image_of images volume ≡ Some image) × HasView image ids
+HasViewIn images volume ids =
+    (image : List Block) × (image_of images volume ≡ Some image) × HasView image ids
 
 -- the image of the volume is there, and this block of its label and view is the first at fault
 abbrev pub IsDamagedIn : Images → (volume : ℕ) → (block : ℕ) → Type 0
-IsDamagedIn images volume block = (image : List Block) × (image_of images volume ≡ Some image) × IsFirstFault volume image block
+IsDamagedIn images volume block =
+    (image : List Block) × (image_of images volume ≡ Some image) × IsFirstFault volume image block
 
 -- whatever images a crash leaves, the volume has this view in them
 abbrev pub LeavesView : Config → (volume : ℕ) → (ids : List ℕ) → Told → Type 0
-LeavesView config volume ids left = (images : Images) → AreLeft config left images → HasViewIn images volume ids
+LeavesView config volume ids left =
+    (images : Images) → AreLeft config left images → HasViewIn images volume ids
 
 -- .. one of these two
 abbrev pub LeavesEither : Config → (volume : ℕ) → (ids others : List ℕ) → Told → Type 0
-LeavesEither config volume ids others left = (images : Images) → AreLeft config left images → HasViewIn images volume ids ⊎ HasViewIn images volume others
+LeavesEither config volume ids others left =
+    (images : Images) → AreLeft config left images
+    → HasViewIn images volume ids ⊎ HasViewIn images volume others
 
 -- each volume but this one has the view in them that it had at entry
 abbrev pub KeepsOtherViews : Config → (volume : ℕ) → (entry left : Told) → Type 0
-KeepsOtherViews config volume entry left = (other : ℕ) (ids : List ℕ) → other ≢ volume → HasViewIn (images_read config entry) other ids → LeavesView config other ids left
+KeepsOtherViews config volume entry left =
+    (other : ℕ) (ids : List ℕ) → other ≢ volume → HasViewIn (images_read config entry) other ids
+    → LeavesView config other ids left
 
 -- the image of each volume is there with its length
 abbrev pub LeavesThere : Config → Told → Type 0
-LeavesThere config left = (images : Images) → AreLeft config left images → (v : ℕ) → v < length (shapes_of config) → IsThere (shapes_of config) images v
+LeavesThere config left = (images : Images) → AreLeft config left images → (v : ℕ)
+    → v < length (shapes_of config) → IsThere (shapes_of config) images v
 
 -- each volume recovers to what the images at entry recover to as they read
 abbrev pub KeepsArrays : Config → (entry left : Told) → Type 0
 KeepsArrays config entry left = (images : Images) → AreLeft config left images
-    → (v : ℕ) → v < length (shapes_of config) → recovered_from (shapes_of config) images v ≡ recovered_from (shapes_of config) (images_read config entry) v
+    → (v : ℕ) → v < length (shapes_of config)
+    → recovered_from (shapes_of config) images v
+    ≡ recovered_from (shapes_of config) (images_read config entry) v
 
 -- ---- Answers
 
@@ -57,19 +67,27 @@ pub record MayChange (volume : ℕ) (change : Change) (ids : List ℕ) : Type 0 
 abbrev pub MayNotChange : (volume : ℕ) → Change → (ids : List ℕ) → ViewRefusal → Type 0
 MayNotChange volume change ids Itself = id_of change ≡ volume
 MayNotChange volume (Add logger) ids Already = (logger ≢ volume) × Contains ids logger
-MayNotChange volume (Add logger) ids ViewFull = (logger ≢ volume) × (Contains ids logger → ⊥) × (length ids ≡ 16)
+MayNotChange volume (Add logger) ids ViewFull =
+    (logger ≢ volume) × (Contains ids logger → ⊥) × (length ids ≡ 16)
 MayNotChange volume (Remove logger) ids NotThere = (logger ≢ volume) × (Contains ids logger → ⊥)
 MayNotChange volume change ids refusal = ⊥
 
 -- what becomes of these loggers of the volume, by the answer: `view` is what is printed of them
-abbrev pub BecomesBy : {T : Type 0} → Result T Stop → Config → (volume : ℕ) → Change → (ids view : List ℕ) → (left : Told) → Type 0
-BecomesBy (Ok done) config volume change ids view left = MayChange volume change ids × (view ≡ changed change ids) × LeavesView config volume view left
-BecomesBy (Err stop.Sink) config volume change ids view left = MayChange volume change ids × (view ≡ changed change ids) × LeavesView config volume view left
-BecomesBy (Err (stop.Refused refusal)) config volume change ids view left = MayNotChange volume change ids refusal × LeavesView config volume ids left
-BecomesBy (Err (stop.Fault fault)) config volume change ids view left = LeavesEither config volume ids (changed change ids) left
+abbrev pub BecomesBy : {T : Type 0} → Result T Stop → Config → (volume : ℕ) → Change
+    → (ids view : List ℕ) → (left : Told) → Type 0
+BecomesBy (Ok done) config volume change ids view left =
+    MayChange volume change ids × (view ≡ changed change ids) × LeavesView config volume view left
+BecomesBy (Err stop.Sink) config volume change ids view left =
+    MayChange volume change ids × (view ≡ changed change ids) × LeavesView config volume view left
+BecomesBy (Err (stop.Refused refusal)) config volume change ids view left =
+    MayNotChange volume change ids refusal × LeavesView config volume ids left
+BecomesBy (Err (stop.Fault fault)) config volume change ids view left =
+    LeavesEither config volume ids (changed change ids) left
 
--- The view that the volume had at entry is changed in each image that a crash may leave, by the answer; other volumes keep theirs.
-pub record ChangesViewOf {T : Type 0} (config : Config) (volume : ℕ) (change : Change) (result : Result T Stop) (view : List ℕ) (entry left : Told) : Type 0 where
+-- The view that the volume had at entry is changed in each image that a crash may leave, by the
+-- answer; other volumes keep theirs.
+pub record ChangesViewOf {T : Type 0} (config : Config) (volume : ℕ) (change : Change)
+    (result : Result T Stop) (view : List ℕ) (entry left : Told) : Type 0 where
   pub ids : List ℕ
   pub at_entry : HasViewIn (images_read config entry) volume ids
   pub becomes : BecomesBy result config volume change ids view left

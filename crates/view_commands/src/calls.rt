@@ -64,9 +64,11 @@ fn change_volume<R: Wait, B: Bay>(
     ensures none_out { NoneOut config.now (B.state bay.new) }
     ensures home { outs (B.state bay.new) ≡ outs (B.state bay.old) }
     ensures counts { (B.state bay.old).faults ≤ (B.state bay.new).faults }
-    ensures content { ChangesVolume B.Part.tells B.Part.state config.now volume change (B.state bay.old) (B.state bay.new) result }
+    ensures content { ChangesVolume B.Part.tells B.Part.state config.now volume change
+        (B.state bay.old) (B.state bay.new) result }
     ensures left { IsTrue B.Part.tells
-        → IsTold (LeavesAll B.Part.tells B.Part.state config.now (B.state bay.old) (B.state bay.new)) (B.state bay.old).told (B.state bay.new).told }
+        → IsTold (LeavesAll B.Part.tells B.Part.state config.now (B.state bay.old)
+        (B.state bay.new)) (B.state bay.old).told (B.state bay.new).told }
     // images of names that aren't configured are as they were
     ensures others { IsTrue B.Part.tells
         → IsTold (KeepsOthers config.now) (B.state bay.old).told (B.state bay.new).told }
@@ -110,16 +112,19 @@ pub fn change_view<R: Wait, K: Sink, B: Bay>(
     ensures home { outs (B.state bay.new) ≡ outs (B.state bay.old) }
     ensures counts { (B.state bay.old).faults ≤ (B.state bay.new).faults }
     ensures later { K.faults out.old ≤ K.faults out.new }
-    ensures content { ChangesView B.Part.tells B.Part.state config.now order.now (B.state bay.old) (B.state bay.new)
+    ensures content { ChangesView B.Part.tells B.Part.state config.now order.now (B.state bay.old)
+        (B.state bay.new)
         (K.faults out.old) (K.faults out.new) (K.taken out.old) (K.taken out.new) result }
     ensures left { IsTrue B.Part.tells
-        → IsTold (LeavesAll B.Part.tells B.Part.state config.now (B.state bay.old) (B.state bay.new)) (B.state bay.old).told (B.state bay.new).told }
+        → IsTold (LeavesAll B.Part.tells B.Part.state config.now (B.state bay.old)
+        (B.state bay.new)) (B.state bay.old).told (B.state bay.new).told }
     // images of names that aren't configured are as they were
     ensures others { IsTrue B.Part.tells
         → IsTold (KeepsOthers config.now) (B.state bay.old).told (B.state bay.new).told }
     ensures sound { IsTrue B.Part.tells
         → IsTold (KeepsAllSound config.now) (B.state bay.old).told (B.state bay.new).told }
-    ensures complete { MayComplete B.Part.tells config.now (B.state bay.old) (B.state bay.new) (K.faults out.old) (K.faults out.new)
+    ensures complete { MayComplete B.Part.tells config.now (B.state bay.old) (B.state bay.new)
+        (K.faults out.old) (K.faults out.new)
         → Completes result }
 {
     let Some(volume) = number_named(&config.volumes, order.volume.as_bytes()) else {

@@ -83,11 +83,13 @@ pub(crate) fn change_image<B: Bay>(
     requires config { IsValid config.now }
     requires volume { volume < length config.now.volumes.items }
     requires logger { id_of asked.now < length config.now.volumes.items }
-    requires home { (v : VolumeConf) → slice_get config.now.volumes.items volume ≡ Some v → IsHome v.name (B.state bay.old) }
+    requires home { (v : VolumeConf) → slice_get config.now.volumes.items volume ≡ Some v
+        → IsHome v.name (B.state bay.old) }
     ensures home { outs (B.state bay.new) ≡ outs (B.state bay.old) }
     ensures counts { (B.state bay.old).faults ≤ (B.state bay.new).faults }
     ensures changes { (v : VolumeConf) → slice_get config.now.volumes.items volume ≡ Some v
-        → ChangesInBay B.Part.tells config.now volume v asked.now (B.state bay.old) (B.state bay.new) result }
+        → ChangesInBay B.Part.tells config.now volume v asked.now (B.state bay.old)
+        (B.state bay.new) result }
     ensures known { (r : ViewRefusal) → result ≡ Err (stop.Refused r) → IsOfWords r → ⊥ }
     ensures no_sink { result ≡ Err stop.Sink → ⊥ }
 {

@@ -52,7 +52,8 @@ pub(crate) fn print_view<K: Sink>(
     view: &View,
     out: &mut K,
 ) -> Result<(), Stop>
-    ensures prints { PrintsView config.now volume view.now result (K.faults out.old) (K.faults out.new) (K.taken out.old) (K.taken out.new) }
+    ensures prints { PrintsView config.now volume view.now result (K.faults out.old)
+        (K.faults out.new) (K.taken out.old) (K.taken out.new) }
     ensures later { K.faults out.old ≤ K.faults out.new }
     ensures refused { (r : ViewRefusal) → result ≡ Err (stop.Refused r) → ⊥ }
     ensures fault { (f : Fault) → result ≡ Err (stop.Fault f) → f ≡ Memory }

@@ -43,14 +43,18 @@ pub record HasOtherLabel (own : ℕ) (s : Shape) (image : List Block) : Type 0 w
   pub others : Contains ids own → ⊥
   pub differs : id ≡ own → shape ≡ s → ⊥
 
--- an image that is opened: its label is the configured one, this is its view, and its segments have these heads
-pub record IsAccepted (volumes own : ℕ) (s : Shape) (image : List Block) (ids : List ℕ) (heads : List SegmentHead) : Type 0 where
+-- an image that is opened: its label is the configured one, this is its view, and its segments have
+-- these heads
+pub record IsAccepted (volumes own : ℕ) (s : Shape) (image : List Block) (ids : List ℕ)
+    (heads : List SegmentHead) : Type 0 where
   pub named : HasOwnLabel own s image ids
   pub count : length heads ≡ s.segments
-  pub each : (i : ℕ) (h : SegmentHead) → slice_get heads i ≡ Some h → HasHead volumes (segment_of s image i) h
+  pub each : (i : ℕ) (h : SegmentHead) → slice_get heads i ≡ Some h
+      → HasHead volumes (segment_of s image i) h
 
 -- its label is the configured one, and this is the first segment without a head
-pub record IsFirstHeadless (volumes own : ℕ) (s : Shape) (image : List Block) (index : ℕ) : Type 0 where
+pub record IsFirstHeadless (volumes own : ℕ) (s : Shape) (image : List Block) (index : ℕ) :
+    Type 0 where
   pub ids : List ℕ
   pub named : HasOwnLabel own s image ids
   pub within : index < s.segments
@@ -58,18 +62,22 @@ pub record IsFirstHeadless (volumes own : ℕ) (s : Shape) (image : List Block) 
   pub headless : IsHeadless volumes (segment_of s image index)
 
 -- its label is the configured one, and the segments before this one have heads
-pub record IsInOrderBefore (volumes own : ℕ) (s : Shape) (image : List Block) (index : ℕ) : Type 0 where
+pub record IsInOrderBefore (volumes own : ℕ) (s : Shape) (image : List Block) (index : ℕ) :
+    Type 0 where
   pub ids : List ℕ
   pub named : HasOwnLabel own s image ids
   pub within : index < s.segments
   pub before : (i : ℕ) → i < index → (h : SegmentHead) × HasHead volumes (segment_of s image i) h
 
--- What the image of volume `own` is refused for by what it says, where it has the length for these sizes: label and view
--- come first, then whether the label is the configured one, then the segments in order. A call that failed is told in place of
--- what its step would have answered, so nothing before that step refuses the image.
+-- What the image of volume `own` is refused for by what it says, where it has the length for these
+-- sizes: label and view come first, then whether the label is the configured one, then the segments
+-- in order. A call that failed is told in place of what its step would have answered, so nothing
+-- before that step refuses the image.
 abbrev pub IsImageFault : (volumes own : ℕ) → Shape → List Block → ImageFault → Type 0
 IsImageFault volumes own s image (fault.Damaged block) =
-    IsFirstFault own image block ⊎ ((index : ℕ) × (block ≡ head_place s index) × IsFirstHeadless volumes own s image index)
+    IsFirstFault own image block
+    ⊎ ((index : ℕ) × (block ≡ head_place s index) × IsFirstHeadless volumes own s image index)
 IsImageFault volumes own s image fault.LabelDiffers = HasOtherLabel own s image
 IsImageFault volumes own s image fault.LabelFault = ⊤
-IsImageFault volumes own s image (fault.SegmentFault index) = IsInOrderBefore volumes own s image index
+IsImageFault volumes own s image (fault.SegmentFault index) =
+    IsInOrderBefore volumes own s image index

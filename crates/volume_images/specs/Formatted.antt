@@ -28,7 +28,8 @@ free_segment blocks = free_block ∷ zeros (blocks - 1)
 
 -- the parts of a whole formatted image: label and view, a home of zeros, and free segments
 abbrev pub formatted_parts : (id : ℕ) → Shape → (ids : List ℕ) → List (List Block)
-formatted_parts id s ids = (label_block id s ∷ view_block ids ∷ []) ∷ zeros s.home ∷ replicate s.segments (free_segment s.segment_blocks)
+formatted_parts id s ids = (label_block id s ∷ view_block ids ∷ []) ∷ zeros s.home
+    ∷ replicate s.segments (free_segment s.segment_blocks)
 
 -- a whole formatted image of volume `id`
 unfoldable pub formatted : (id : ℕ) → Shape → (ids : List ℕ) → List Block

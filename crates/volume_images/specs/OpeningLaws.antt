@@ -15,10 +15,12 @@ IsOfContent (fault.SegmentFault index) = ⊥
 
 -- an image that may be opened has no fault
 abbrev pub AcceptedOrFaulty : Type 0
-AcceptedOrFaulty = (volumes own : ℕ) (s : Shape) (image : List Block) (ids : List ℕ) (heads : List SegmentHead) (f : ImageFault) → IsOfContent f
+AcceptedOrFaulty = (volumes own : ℕ) (s : Shape) (image : List Block) (ids : List ℕ)
+    (heads : List SegmentHead) (f : ImageFault) → IsOfContent f
     → IsAccepted volumes own s image ids heads → IsImageFault volumes own s image f → ⊥
 
 -- and another has one at most
 abbrev pub OneImageFault : Type 0
-OneImageFault = (volumes own : ℕ) (s : Shape) (image : List Block) (f g : ImageFault) → IsOfContent f → IsOfContent g
+OneImageFault = (volumes own : ℕ) (s : Shape) (image : List Block) (f g : ImageFault)
+    → IsOfContent f → IsOfContent g
     → IsImageFault volumes own s image f → IsImageFault volumes own s image g → f ≡ g

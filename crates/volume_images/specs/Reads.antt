@@ -13,5 +13,8 @@ pub record IsOnlyRead (old new : State) : Type 0 where
 -- each part of a list
 pub record AreOnlyRead {D : Type 0} (state : D → State) (old new : List (Spun D)) : Type 0 where
   pub count : length new ≡ length old
-  pub volume : (k : ℕ) (d : Spun D) → k < length old → volume_of (slice_index_or new k d) ≡ volume_of (slice_index_or old k d)
-  pub each : (k : ℕ) (d : Spun D) → k < length old → IsOnlyRead (state_of state (slice_index_or old k d)) (state_of state (slice_index_or new k d))
+  pub volume : (k : ℕ) (d : Spun D) → k < length old
+      → volume_of (slice_index_or new k d) ≡ volume_of (slice_index_or old k d)
+  pub each : (k : ℕ) (d : Spun D) → k < length old
+      → IsOnlyRead (state_of state (slice_index_or old k d))
+      (state_of state (slice_index_or new k d))

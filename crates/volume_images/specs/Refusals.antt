@@ -22,18 +22,22 @@ use Rattle.volume_images.specs.Left.{CameBack}
 use Rattle.volume_images.specs.Sent.{IsOpenable}
 
 -- the image that is out was cut from these blocks, and may be opened
-pub record IsCutOpenable {D : Type 0} (state : D → State) (volumes own : ℕ) (s : Shape) (blocks : Option (List (Values Block))) (o : OutImage D) : Type 0 where
+pub record IsCutOpenable {D : Type 0} (state : D → State) (volumes own : ℕ) (s : Shape)
+    (blocks : Option (List (Values Block))) (o : OutImage D) : Type 0 where
   pub before : ImageParts D
   pub cut : AreCut state blocks (part_sizes s) (disks_of before)
   pub openable : IsOpenable state volumes own s before o
 
--- the image of this name was there with the blocks of its parts, is one that may be opened as it reads, and these are its view and its heads
-pub record SaysSo {D : Type 0} (volumes own : ℕ) (s : Shape) (name : Name) (o : OutImage D) (t : Told) : Type 0 where
+-- the image of this name was there with the blocks of its parts, is one that may be opened as it
+-- reads, and these are its view and its heads
+pub record SaysSo {D : Type 0} (volumes own : ℕ) (s : Shape) (name : Name) (o : OutImage D)
+    (t : Told) : Type 0 where
   pub image : Image
   pub there : at_name name t.images ≡ Some image
   pub rest : image.rest ≡ []
   pub size : length image.blocks ≡ image_size s
-  pub accepted : IsAccepted volumes own s (reads image.blocks) o.view (map segment_head o.heads.items)
+  pub accepted :
+      IsAccepted volumes own s (reads image.blocks) o.view (map segment_head o.heads.items)
 
 -- a part a call of which failed is among these places
 abbrev pub IsFaultAt : ImageFault → (places : List ℕ) → Type 0
@@ -49,9 +53,10 @@ IsCallFault fault.LabelDiffers = ⊥
 IsCallFault fault.LabelFault = ⊤
 IsCallFault (fault.SegmentFault index) = ⊤
 
--- The image was there with the blocks of its parts, was read, refused for what it says, and is in the bay again: whatever a
--- crash leaves of it, it might have left before.
-pub record GaveBack (volumes own : ℕ) (s : Shape) (name : Name) (f : ImageFault) (old new : Told) : Type 0 where
+-- The image was there with the blocks of its parts, was read, refused for what it says, and is in
+-- the bay again: whatever a crash leaves of it, it might have left before.
+pub record GaveBack (volumes own : ℕ) (s : Shape) (name : Name) (f : ImageFault) (old new : Told) :
+    Type 0 where
   pub before : Image
   pub there : at_name name old.images ≡ Some before
   pub complete : before.rest ≡ []
@@ -71,11 +76,14 @@ refusal_of_bay (bay.WrongLength bytes) = WrongLength bytes
 refusal_of_bay bay.Failed = BayFailed
 refusal_of_bay bay.NoMemory = NoMemory
 
--- what a refusal leaves, and when it comes: the image isn't there, or hasn't the length of its parts; the bay failed; or the
--- image itself is refused
+-- what a refusal leaves, and when it comes: the image isn't there, or hasn't the length of its
+-- parts; the bay failed; or the image itself is refused
 abbrev pub Refuses : (volumes own : ℕ) → Shape → Name → ImageRefusal → Told → Told → Type 0
-Refuses volumes own s name Absent old new = (refusal name (part_sizes s) old ≡ Some bay.Absent) × (new ≡ old)
-Refuses volumes own s name (WrongLength bytes) old new = (refusal name (part_sizes s) old ≡ Some (bay.WrongLength bytes)) × (new ≡ old)
-Refuses volumes own s name BayFailed old new = (refusal name (part_sizes s) old ≡ None) × (new ≡ old)
+Refuses volumes own s name Absent old new =
+    (refusal name (part_sizes s) old ≡ Some bay.Absent) × (new ≡ old)
+Refuses volumes own s name (WrongLength bytes) old new =
+    (refusal name (part_sizes s) old ≡ Some (bay.WrongLength bytes)) × (new ≡ old)
+Refuses volumes own s name BayFailed old new =
+    (refusal name (part_sizes s) old ≡ None) × (new ≡ old)
 Refuses volumes own s name (Fault f) old new = GaveBack volumes own s name f old new
 Refuses volumes own s name NoMemory old new = new ≡ old

@@ -14,14 +14,16 @@ abbrev pub AreSettled : {D : Type 0} → (D → State) → List (List Block) →
 AreSettled state [] [] = ⊤
 AreSettled state [] (part ∷ parts) = ⊥
 AreSettled state (bs ∷ bss) [] = ⊥
-AreSettled state (bs ∷ bss) (part ∷ parts) = IsSettledAs bs (state part) × AreSettled state bss parts
+AreSettled state (bs ∷ bss) (part ∷ parts) =
+    IsSettledAs bs (state part) × AreSettled state bss parts
 
 -- the blocks of all parts in order
 abbrev pub joined_blocks : List (List Block) → List Block
 joined_blocks bss = flat_map (λ bs. bs) bss
 
 -- the blocks of the parts, with those at this place changed
-abbrev pub changed_at : (place : ℕ) → (List Block → List Block) → List (List Block) → List (List Block)
+abbrev pub changed_at : (place : ℕ) → (List Block → List Block) → List (List Block)
+    → List (List Block)
 changed_at place change [] = []
 changed_at zero change (bs ∷ bss) = change bs ∷ bss
 changed_at (suc place) change (bs ∷ bss) = bs ∷ changed_at place change bss

@@ -9,7 +9,8 @@ use Rattle.wol_config.specs.declared.config.VolumeConf.{VolumeConf}
 
 -- the sizes of a volume
 abbrev pub shape_in : Config → VolumeConf → Shape
-shape_in config v = record { home = v.home; segments = v.segments; segment_blocks = config.segment_blocks }
+shape_in config v =
+    record { home = v.home; segments = v.segments; segment_blocks = config.segment_blocks }
 
 -- those of all volumes
 abbrev pub shapes_of : Config → List Shape
@@ -19,8 +20,8 @@ shapes_of config = map (shape_in config) config.volumes.items
 abbrev pub NoneOut : Config → BayState → Type 0
 NoneOut config b = All (λ v. IsHome v.name b) config.volumes.items
 
--- what a crash may leave of the image of a name: one value of each block. An image whose bytes are no whole blocks is
--- none to its volume.
+-- what a crash may leave of the image of a name: one value of each block. An image whose bytes are
+-- no whole blocks is none to its volume.
 abbrev pub MayLeave : Option Image → Option (List Block) → Type 0
 MayLeave None None = ⊤
 MayLeave None (Some c) = ⊥
@@ -31,7 +32,8 @@ MayLeave (Some i) (Some c) = (i.rest ≡ []) × IsImage i.blocks c
 pub record AreLeft (config : Config) (t : Told) (images : Images) : Type 0 where
   pub count : length images ≡ length config.volumes.items
   pub each : (k : ℕ) (d : VolumeConf) → k < length config.volumes.items
-      → MayLeave (at_name (slice_index_or config.volumes.items k d).name t.images) (image_of images k)
+      → MayLeave (at_name (slice_index_or config.volumes.items k d).name t.images)
+      (image_of images k)
 
 -- the image of a name as it reads, if it has whole blocks
 abbrev pub image_read : Option Image → Option (List Block)
@@ -40,4 +42,5 @@ image_read (Some i) = if length i.rest == 0 then Some (reads i.blocks) else None
 
 -- those of all volumes, as they read
 abbrev pub images_read : Config → Told → Images
-images_read config t = map (λ (v : VolumeConf). image_read (at_name v.name t.images)) config.volumes.items
+images_read config t =
+    map (λ (v : VolumeConf). image_read (at_name v.name t.images)) config.volumes.items

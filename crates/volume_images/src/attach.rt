@@ -42,13 +42,20 @@ pub(crate) fn send_out<B: Bay>(
 ) -> Result<OutParts<B::Part>, BayFault>
     requires shape { IsShape (shape_of want.now) }
     requires home { IsHome name.now (B.state bay.old) }
-    ensures out { IfOk result (IsSentOut B.Part.state want.now.id (shape_of want.now) (blocks_at name.now (B.state bay.old).told)) }
-    ensures ok { OnOk result ((B.state bay.new).told ≡ option_map (sent_out name.now (part_sizes (shape_of want.now))) (B.state bay.old).told) }
+    ensures out { IfOk result (IsSentOut B.Part.state want.now.id (shape_of want.now)
+        (blocks_at name.now (B.state bay.old).told)) }
+    ensures ok { OnOk result ((B.state bay.new).told
+        ≡ option_map (sent_out name.now (part_sizes (shape_of want.now)))
+        (B.state bay.old).told) }
     ensures err { OnErr result ((B.state bay.new).told ≡ (B.state bay.old).told) }
     // each cause but want of memory
-    ensures refused { (IsErrOf result BayFault.NoMemory → ⊥) → IfSome (B.state bay.old).told (λ t. IsAnswered (refusal name.now (part_sizes (shape_of want.now)) t) result) }
-    ensures cause { IsErrOf result BayFault.Failed → Rose (B.state bay.old).faults (B.state bay.new).faults }
-    ensures calm { (IsErrOf result BayFault.Failed → ⊥) → (B.state bay.new).faults ≡ (B.state bay.old).faults }
+    ensures refused { (IsErrOf result BayFault.NoMemory → ⊥)
+        → IfSome (B.state bay.old).told
+        (λ t. IsAnswered (refusal name.now (part_sizes (shape_of want.now)) t) result) }
+    ensures cause { IsErrOf result BayFault.Failed
+        → Rose (B.state bay.old).faults (B.state bay.new).faults }
+    ensures calm { (IsErrOf result BayFault.Failed → ⊥)
+        → (B.state bay.new).faults ≡ (B.state bay.old).faults }
     ensures counts { (B.state bay.old).faults ≤ (B.state bay.new).faults }
 {
     let Ok(sizes) = part_sizes(alloc, want) else {
@@ -81,13 +88,16 @@ pub(crate) fn read_out<B: Bay>(
 ) -> Result<OutImage<B::Part>, ImageFault>
     requires shape { IsShape (shape_of want.now) }
     requires token { token_volume token.now ≡ want.now.id }
-    requires out { (blocks : Option (List (Values Block))) × IsSentOut B.Part.state want.now.id (shape_of want.now) blocks out }
+    requires out { (blocks : Option (List (Values Block)))
+        × IsSentOut B.Part.state want.now.id (shape_of want.now) blocks out }
     requires name { IsOut name.now (part_sizes (shape_of want.now)) (B.state bay.old) }
     requires empty { heads.items ≡ [] }
     requires room { want.now.segments ≤ vec_capacity heads }
-    ensures ok { IfOk result (IsOpenable B.Part.state volumes want.now.id (shape_of want.now) out.image) }
+    ensures ok { IfOk result
+        (IsOpenable B.Part.state volumes want.now.id (shape_of want.now) out.image) }
     ensures unchanged { OnOk result (B.state bay.new ≡ B.state bay.old) }
-    ensures refused { IfErr result (IsGivenBack B.Part.state volumes want.now.id (shape_of want.now) name.now out.image (B.state bay.old) (B.state bay.new)) }
+    ensures refused { IfErr result (IsGivenBack B.Part.state volumes want.now.id (shape_of want.now)
+        name.now out.image (B.state bay.old) (B.state bay.new)) }
 {
     let OutParts { mut image, room } = out;
     let mut heads = heads;

@@ -32,12 +32,18 @@ pub(crate) fn store_content<D: Disk>(
 ) -> Result<(), Failed>
     requires volume { token_volume token.now ≡ volume_of part.old }
     requires fits { Fits content (state_of D.state part.old).size }
-    ensures ok { OnOk result ((state_of D.state part.new).values ≡ option_map (λ vs. only (changed content (reads vs))) (state_of D.state part.old).values) }
-    ensures images { (c : List Block) → IsImageOf (state_of D.state part.new).values c → IsWithOrWithout (changed content) (state_of D.state part.old) c }
-    ensures told { IsSome (state_of D.state part.old).values → IsSome (state_of D.state part.new).values }
+    ensures ok { OnOk result ((state_of D.state part.new).values
+        ≡ option_map (λ vs. only (changed content (reads vs)))
+        (state_of D.state part.old).values) }
+    ensures images { (c : List Block) → IsImageOf (state_of D.state part.new).values c
+        → IsWithOrWithout (changed content) (state_of D.state part.old) c }
+    ensures told { IsSome (state_of D.state part.old).values
+        → IsSome (state_of D.state part.new).values }
     ensures size { (state_of D.state part.new).size ≡ (state_of D.state part.old).size }
-    ensures cause { IsErr result → Rose (state_of D.state part.old).faults (state_of D.state part.new).faults }
-    ensures calm { OnOk result ((state_of D.state part.new).faults ≡ (state_of D.state part.old).faults) }
+    ensures cause { IsErr result
+        → Rose (state_of D.state part.old).faults (state_of D.state part.new).faults }
+    ensures calm { OnOk result
+        ((state_of D.state part.new).faults ≡ (state_of D.state part.old).faults) }
 {
     match content {
         Content::View(view) => store_view(token, part, &view),

@@ -24,14 +24,20 @@ pub fn format<B: Bay>(alloc: Global, bay: &mut B, config: &Config) -> Result<(),
     requires config { IsValid config.now }
     requires home { NoneOut config.now (B.state bay.old) }
     ensures home { outs (B.state bay.new) ≡ outs (B.state bay.old) }
-    ensures left { IsTold (LeavesImages config.now result) (B.state bay.old).told (B.state bay.new).told }
+    ensures left { IsTold (LeavesImages config.now result) (B.state bay.old).told
+        (B.state bay.new).told }
     // also after a stop within
     ensures any_exit { IsTold (LosesNone config.now) (B.state bay.old).told (B.state bay.new).told }
-    ensures sound { OnOk result (IsTold (LeavesSound config.now) (B.state bay.old).told (B.state bay.new).told) }
-    ensures zeros { OnOk result (IsTold (LeavesZeros config.now) (B.state bay.old).told (B.state bay.new).told) }
-    ensures volume { (n : ℕ) (part : PartName) → IsErrOf result (RackFault.Failed n part) → n < length config.now.volumes.items }
-    ensures cause { (n : ℕ) (part : PartName) → IsErrOf result (RackFault.Failed n part) → Rose (B.state bay.old).faults (B.state bay.new).faults }
-    ensures calm { ((n : ℕ) (part : PartName) → IsErrOf result (RackFault.Failed n part) → ⊥) → (B.state bay.new).faults ≡ (B.state bay.old).faults }
+    ensures sound { OnOk result
+        (IsTold (LeavesSound config.now) (B.state bay.old).told (B.state bay.new).told) }
+    ensures zeros { OnOk result
+        (IsTold (LeavesZeros config.now) (B.state bay.old).told (B.state bay.new).told) }
+    ensures volume { (n : ℕ) (part : PartName) → IsErrOf result (RackFault.Failed n part)
+        → n < length config.now.volumes.items }
+    ensures cause { (n : ℕ) (part : PartName) → IsErrOf result (RackFault.Failed n part)
+        → Rose (B.state bay.old).faults (B.state bay.new).faults }
+    ensures calm { ((n : ℕ) (part : PartName) → IsErrOf result (RackFault.Failed n part) → ⊥)
+        → (B.state bay.new).faults ≡ (B.state bay.old).faults }
     ensures counts { (B.state bay.old).faults ≤ (B.state bay.new).faults }
 {
     for (id, volume) in config.volumes.iter().enumerate() {

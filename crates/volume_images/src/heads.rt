@@ -49,15 +49,22 @@ pub(crate) fn read_head<D: Disk>(
 ) -> Result<SegHead, HeadFault>
     requires volume { token_volume token.now ≡ volume_of part.old }
     requires size { 1 ≤ (state_of D.state part.old).size }
-    ensures content { (vs : List (Values Block)) → (state_of D.state part.old).values ≡ Some vs → IfOk result (λ head. HasHead volumes (reads vs) (segment_head head)) }
-    ensures always { IfOk result (λ head. (c : List Block) → IsImageOf (state_of D.state part.new).values c → HasHead volumes c (segment_head head)) }
+    ensures content { (vs : List (Values Block)) → (state_of D.state part.old).values ≡ Some vs
+        → IfOk result (λ head. HasHead volumes (reads vs) (segment_head head)) }
+    ensures always { IfOk result (λ head. (c : List Block)
+        → IsImageOf (state_of D.state part.new).values c
+        → HasHead volumes c (segment_head head)) }
     ensures configured { IfOk result (λ head. IsConfigured volumes (segment_head head)) }
-    ensures damaged { (vs : List (Values Block)) → (state_of D.state part.old).values ≡ Some vs → IsErrOf result HeadFault.Damaged → IsHeadless volumes (reads vs) }
-    ensures settled { OnOk result ((state_of D.state part.new).values ≡ option_map settled (state_of D.state part.old).values) }
+    ensures damaged { (vs : List (Values Block)) → (state_of D.state part.old).values ≡ Some vs
+        → IsErrOf result HeadFault.Damaged → IsHeadless volumes (reads vs) }
+    ensures settled { OnOk result ((state_of D.state part.new).values
+        ≡ option_map settled (state_of D.state part.old).values) }
     ensures read { IsOnlyRead (state_of D.state part.old) (state_of D.state part.new) }
     ensures volume { volume_of part.new ≡ volume_of part.old }
-    ensures cause { IsErrOf result HeadFault.Failed → Rose (state_of D.state part.old).faults (state_of D.state part.new).faults }
-    ensures calm { (IsErrOf result HeadFault.Failed → ⊥) → (state_of D.state part.new).faults ≡ (state_of D.state part.old).faults }
+    ensures cause { IsErrOf result HeadFault.Failed
+        → Rose (state_of D.state part.old).faults (state_of D.state part.new).faults }
+    ensures calm { (IsErrOf result HeadFault.Failed → ⊥)
+        → (state_of D.state part.new).faults ≡ (state_of D.state part.old).faults }
 {
     part.sync(token)?;
     let mut head = [[0; 512]; 1];

@@ -35,7 +35,8 @@ pub fn label_of(config: &Config, id: u32) -> Label
     requires config { IsValid config.now }
     requires within { id < length config.now.volumes.items }
     ensures id { result.id ≡ id }
-    ensures shape { (d : VolumeConf) → shape_of result ≡ shape_in config.now (slice_index_or config.now.volumes.items id d) }
+    ensures shape { (d : VolumeConf)
+        → shape_of result ≡ shape_in config.now (slice_index_or config.now.volumes.items id d) }
     ensures in_range { IsShape (shape_of result) }
 {
     let volume = &config.volumes[id as usize];
@@ -63,11 +64,19 @@ fn free_segments<D: Disk>(token: &Awake, label: &Label, parts: &mut Vec<D>) -> R
     requires shape { IsShape (shape_of label.now) }
     requires sizes { sizes_of D.state parts.old.items ≡ part_sizes (shape_of label.now) }
     ensures sizes { sizes_of D.state parts.new.items ≡ sizes_of D.state parts.old.items }
-    ensures ok { (front home : List Block) → AreSettled D.state (front ∷ home ∷ replicate label.now.segments (zeros label.now.segment_blocks)) parts.old.items
-        → OnOk result (AreSettled D.state (front ∷ home ∷ replicate label.now.segments (free_segment label.now.segment_blocks)) parts.new.items) }
-    ensures images { (front home c : List Block) → AreSettled D.state (front ∷ home ∷ replicate label.now.segments (zeros label.now.segment_blocks)) parts.old.items
-        → IsImageOf (blocks_of D.state parts.new.items) c → (rest : List Block) × (c ≡ front ++ rest) }
-    ensures told { IsSome (blocks_of D.state parts.old.items) → IsSome (blocks_of D.state parts.new.items) }
+    ensures ok { (front home : List Block)
+        → AreSettled D.state (front ∷ home
+        ∷ replicate label.now.segments (zeros label.now.segment_blocks)) parts.old.items
+        → OnOk result (AreSettled D.state
+        (front ∷ home ∷ replicate label.now.segments (free_segment label.now.segment_blocks))
+        parts.new.items) }
+    ensures images { (front home c : List Block)
+        → AreSettled D.state (front ∷ home
+        ∷ replicate label.now.segments (zeros label.now.segment_blocks)) parts.old.items
+        → IsImageOf (blocks_of D.state parts.new.items) c
+        → (rest : List Block) × (c ≡ front ++ rest) }
+    ensures told { IsSome (blocks_of D.state parts.old.items)
+        → IsSome (blocks_of D.state parts.new.items) }
     ensures cause { IfErr result (HasFailed D.state parts.new.items) }
 {
     for index in 0..label.segments {
@@ -88,9 +97,12 @@ fn format_parts<D: Disk>(
     requires shape { IsShape (shape_of label.now) }
     requires blank { AreSettled D.state (blank_parts (shape_of label.now)) parts.old.items }
     ensures sizes { sizes_of D.state parts.new.items ≡ sizes_of D.state parts.old.items }
-    ensures ok { OnOk result (AreSettled D.state (formatted_parts label.now.id (shape_of label.now) view.now) parts.new.items) }
-    ensures images { (c : List Block) → IsImageOf (blocks_of D.state parts.new.items) c → IsUnlabelledOrFormatted label.now.id (shape_of label.now) view.now c }
-    ensures told { IsSome (blocks_of D.state parts.old.items) → IsSome (blocks_of D.state parts.new.items) }
+    ensures ok { OnOk result (AreSettled D.state
+        (formatted_parts label.now.id (shape_of label.now) view.now) parts.new.items) }
+    ensures images { (c : List Block) → IsImageOf (blocks_of D.state parts.new.items) c
+        → IsUnlabelledOrFormatted label.now.id (shape_of label.now) view.now c }
+    ensures told { IsSome (blocks_of D.state parts.old.items)
+        → IsSome (blocks_of D.state parts.new.items) }
     ensures cause { IfErr result (HasFailed D.state parts.new.items) }
 {
     if store(token, parts, LABEL, Content::View(*view)).is_err() {
@@ -117,10 +129,14 @@ pub(crate) fn format_image<B: Bay>(
     requires shape { IsShape (shape_of label.now) }
     requires home { IsHome volume.now.name (B.state bay.old) }
     ensures home { outs (B.state bay.new) ≡ outs (B.state bay.old) }
-    ensures left { IsTold (LeavesImage result volume.now.name label.now.id (shape_of label.now) volume.now.view) (B.state bay.old).told (B.state bay.new).told }
-    ensures volume { (n : ℕ) (part : PartName) → IsErrOf result (RackFault.Failed n part) → n ≡ label.now.id }
-    ensures cause { (n : ℕ) (part : PartName) → IsErrOf result (RackFault.Failed n part) → Rose (B.state bay.old).faults (B.state bay.new).faults }
-    ensures calm { ((n : ℕ) (part : PartName) → IsErrOf result (RackFault.Failed n part) → ⊥) → (B.state bay.new).faults ≡ (B.state bay.old).faults }
+    ensures left { IsTold (LeavesImage result volume.now.name label.now.id (shape_of label.now)
+        volume.now.view) (B.state bay.old).told (B.state bay.new).told }
+    ensures volume { (n : ℕ) (part : PartName) → IsErrOf result (RackFault.Failed n part)
+        → n ≡ label.now.id }
+    ensures cause { (n : ℕ) (part : PartName) → IsErrOf result (RackFault.Failed n part)
+        → Rose (B.state bay.old).faults (B.state bay.new).faults }
+    ensures calm { ((n : ℕ) (part : PartName) → IsErrOf result (RackFault.Failed n part) → ⊥)
+        → (B.state bay.new).faults ≡ (B.state bay.old).faults }
     ensures counts { (B.state bay.old).faults ≤ (B.state bay.new).faults }
 {
     let name = volume.name.as_str();

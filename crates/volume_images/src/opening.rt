@@ -55,18 +55,29 @@ pub fn open_image<R: Wait, B: Bay>(
     requires free { IsFree pass.old }
     requires settled { has_token (pass_mine pass.old) ≡ false }
     requires volume { (pass_lock pass.old).base.volume ≡ want.now.id }
-    ensures out { IfOk result (IsCutOpenable B.Part.state volumes want.now.id (shape_of want.now) (blocks_at name.now (B.state bay.old).told)) }
-    ensures ok { OnOk result ((B.state bay.new).told ≡ option_map (sent_out name.now (part_sizes (shape_of want.now))) (B.state bay.old).told) }
-    ensures says { IfOk result (λ o. IfSome (B.state bay.old).told (SaysSo volumes want.now.id (shape_of want.now) name.now o)) }
+    ensures out { IfOk result (IsCutOpenable B.Part.state volumes want.now.id (shape_of want.now)
+        (blocks_at name.now (B.state bay.old).told)) }
+    ensures ok { OnOk result ((B.state bay.new).told
+        ≡ option_map (sent_out name.now (part_sizes (shape_of want.now)))
+        (B.state bay.old).told) }
+    ensures says { IfOk result (λ o.
+        IfSome (B.state bay.old).told
+        (SaysSo volumes want.now.id (shape_of want.now) name.now o)) }
     ensures home { OnErr result (outs (B.state bay.new) ≡ outs (B.state bay.old)) }
-    ensures refused { IfErr result (λ r. IsTold (Refuses volumes want.now.id (shape_of want.now) name.now r) (B.state bay.old).told (B.state bay.new).told) }
-    ensures cause { IsErrOf result ImageRefusal.BayFailed → Rose (B.state bay.old).faults (B.state bay.new).faults }
-    ensures part_cause { (f : ImageFault) → IsErrOf result (ImageRefusal.Fault f) → IsCallFault f → Rose (B.state bay.old).faults (B.state bay.new).faults }
+    ensures refused { IfErr result (λ r.
+        IsTold (Refuses volumes want.now.id (shape_of want.now) name.now r)
+        (B.state bay.old).told (B.state bay.new).told) }
+    ensures cause { IsErrOf result ImageRefusal.BayFailed
+        → Rose (B.state bay.old).faults (B.state bay.new).faults }
+    ensures part_cause { (f : ImageFault) → IsErrOf result (ImageRefusal.Fault f) → IsCallFault f
+        → Rose (B.state bay.old).faults (B.state bay.new).faults }
     ensures counts { (B.state bay.old).faults ≤ (B.state bay.new).faults }
     ensures same { IsSamePass pass.old pass.new }
     // it made no turn, or two
     ensures uses { (pass_mine pass.new ≡ pass_mine pass.old)
-        ⊎ (pass_mine pass.new ≡ pass_mine pass.old ++ (pass_number pass.old, operation_of Needed) ∷ (pass_number pass.old, operation_of Done) ∷ []) }
+        ⊎ (pass_mine pass.new ≡ pass_mine pass.old
+        ++ (pass_number pass.old, operation_of Needed)
+        ∷ (pass_number pass.old, operation_of Done) ∷ []) }
     ensures free { IsFree pass.new }
     ensures settled { has_token (pass_mine pass.new) ≡ false }
 {

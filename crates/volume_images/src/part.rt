@@ -22,9 +22,11 @@ pub(crate) fn store<D: Disk>(
     ensures sizes { sizes_of D.state parts.new.items ≡ sizes_of D.state parts.old.items }
     ensures ok { (bss : List (List Block)) → AreSettled D.state bss parts.old.items
         → OnOk result (AreSettled D.state (changed_at place (changed content) bss) parts.new.items) }
-    ensures images { (bss : List (List Block)) (c : List Block) → AreSettled D.state bss parts.old.items → IsImageOf (blocks_of D.state parts.new.items) c
+    ensures images { (bss : List (List Block)) (c : List Block)
+        → AreSettled D.state bss parts.old.items → IsImageOf (blocks_of D.state parts.new.items) c
         → (c ≡ joined_blocks bss) ⊎ (c ≡ joined_blocks (changed_at place (changed content) bss)) }
-    ensures told { IsSome (blocks_of D.state parts.old.items) → IsSome (blocks_of D.state parts.new.items) }
+    ensures told { IsSome (blocks_of D.state parts.old.items)
+        → IsSome (blocks_of D.state parts.new.items) }
     ensures cause { OnErr result (HasFault D.state place parts.new.items) }
 {
     let mut part = Spun::new(token.volume(), parts.swap_remove(place));

@@ -51,14 +51,19 @@ fn read_heads<D: Disk>(
     requires few { length segments.old < 2 ^ 32 }
     requires empty { heads.old.items ≡ [] }
     requires room { length segments.old ≤ vec_capacity heads.old }
-    ensures ok { OnOk result (SayHeads D.state volumes segments.old (length segments.old) heads.new.items) }
+    ensures ok { OnOk result
+        (SayHeads D.state volumes segments.old (length segments.old) heads.new.items) }
     ensures always { OnOk result (AlwaysSay D.state volumes segments.new heads.new.items) }
-    ensures damaged { (block : ℕ) → IsErrOf result (ImageFault.Damaged block) → IsDamagedSegment D.state volumes (shape_of label.now) segments.old block }
+    ensures damaged { (block : ℕ) → IsErrOf result (ImageFault.Damaged block)
+        → IsDamagedSegment D.state volumes (shape_of label.now) segments.old block }
     ensures label { IsErrOf result ImageFault.LabelDiffers → ⊥ }
     ensures label_part { IsErrOf result ImageFault.LabelFault → ⊥ }
-    ensures cause { (index : ℕ) → IsErrOf result (ImageFault.SegmentFault index) → RoseAt D.state index segments.old segments.new }
-    ensures before { (index : ℕ) → IsErrOf result (ImageFault.SegmentFault index) → (before : List SegHead) × SayHeads D.state volumes segments.old index before }
-    ensures calm { ((index : ℕ) → IsErrOf result (ImageFault.SegmentFault index) → ⊥) → AreCalm D.state segments.old segments.new }
+    ensures cause { (index : ℕ) → IsErrOf result (ImageFault.SegmentFault index)
+        → RoseAt D.state index segments.old segments.new }
+    ensures before { (index : ℕ) → IsErrOf result (ImageFault.SegmentFault index)
+        → (before : List SegHead) × SayHeads D.state volumes segments.old index before }
+    ensures calm { ((index : ℕ) → IsErrOf result (ImageFault.SegmentFault index) → ⊥)
+        → AreCalm D.state segments.old segments.new }
     ensures read { AreOnlyRead D.state segments.old segments.new }
 {
     for (index, part) in segments.iter_mut().enumerate() {
@@ -87,10 +92,14 @@ pub(crate) fn read_image<D: Disk>(
     requires parts { ArePartsOf D.state (token_volume token.now) (shape_of want.now) parts.old }
     requires empty { heads.old.items ≡ [] }
     requires room { want.now.segments ≤ vec_capacity heads.old }
-    ensures ok { IfOk result (λ view. MayOpen D.state volumes want.now.id (shape_of want.now) parts.old view heads.new.items) }
-    ensures always { OnOk result (AlwaysSay D.state volumes parts.new.segments.items heads.new.items) }
-    ensures synced { OnOk result ((state_of D.state parts.new.label).values ≡ option_map settled (state_of D.state parts.old.label).values) }
-    ensures refused { IfErr result (MayNotOpen D.state volumes want.now.id (shape_of want.now) parts.old parts.new) }
+    ensures ok { IfOk result (λ view.
+        MayOpen D.state volumes want.now.id (shape_of want.now) parts.old view heads.new.items) }
+    ensures always { OnOk result
+        (AlwaysSay D.state volumes parts.new.segments.items heads.new.items) }
+    ensures synced { OnOk result ((state_of D.state parts.new.label).values
+        ≡ option_map settled (state_of D.state parts.old.label).values) }
+    ensures refused { IfErr result
+        (MayNotOpen D.state volumes want.now.id (shape_of want.now) parts.old parts.new) }
     ensures calm { OnOk result (IsCalmImage D.state parts.old parts.new) }
     ensures read { IsReadImage D.state parts.old parts.new }
 {

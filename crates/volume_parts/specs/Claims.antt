@@ -11,11 +11,14 @@ use Rattle.logger.specs.declared.lane.Lane.{Lane}
 
 -- each lane holds the segments that it held, by their indexes
 abbrev pub HoldNoMore : {D : Type 0} → (old new : List (Lane D)) → Type 0
-HoldNoMore {D} old new = (k : ℕ) (o n : Lane D) → slice_get old k ≡ Some o → slice_get new k ≡ Some n → map (λ (h : HeldSegment D). h.index) (held_in n) ≡ map (λ (h : HeldSegment D). h.index) (held_in o)
+HoldNoMore {D} old new = (k : ℕ) (o n : Lane D) → slice_get old k ≡ Some o
+    → slice_get new k ≡ Some n → map (λ (h : HeldSegment D). h.index) (held_in n)
+    ≡ map (λ (h : HeldSegment D). h.index) (held_in o)
 
--- One lane holds one segment more, and this is its part as it was before: free in each image, of the same volume, and no later. Where the call was
--- done its count of faults is what it was then.
-pub record WasClaimed {D : Type 0} (tells : Bool) (state : D → State) (done : Type 0) (old new : List (Lane D)) (part : Spun D) : Type 0 where
+-- One lane holds one segment more, and this is its part as it was before: free in each image, of
+-- the same volume, and no later. Where the call was done its count of faults is what it was then.
+pub record WasClaimed {D : Type 0} (tells : Bool) (state : D → State) (done : Type 0)
+    (old new : List (Lane D)) (part : Spun D) : Type 0 where
   pub place : ℕ
   pub before : Lane D
   pub after : Lane D
@@ -29,6 +32,7 @@ pub record WasClaimed {D : Type 0} (tells : Bool) (state : D → State) (done : 
   pub calm : done → (disk_of state segment.segment).faults ≡ (state_of state part).faults
 
 -- no segment was claimed, or the one whose part was this one
-abbrev pub TellsClaim : {D : Type 0} → (tells : Bool) → (D → State) → (done : Type 0) → (old new : List (Lane D)) → Option (Spun D) → Type 0
+abbrev pub TellsClaim : {D : Type 0} → (tells : Bool) → (D → State) → (done : Type 0)
+    → (old new : List (Lane D)) → Option (Spun D) → Type 0
 TellsClaim tells state done old new None = HoldNoMore old new
 TellsClaim tells state done old new (Some part) = WasClaimed tells state done old new part

@@ -23,16 +23,20 @@ pub record IsItemOf (most size : ℕ) (i : Item) : Type 0 where
 abbrev pub AreItemsOf : (most size : ℕ) → List Item → Type 0
 AreItemsOf most size items = AllByRecursion (IsItemOf most size) items
 
--- the writes of items that have these blocks in order: home, or to a log under versions from this one on
-abbrev pub home_writes : List Item → List Block → List Write
-home_writes [] from = []
-home_writes (i ∷ items) from = home_write i.lbn (take i.count from) ∷ home_writes items (drop i.count from)
+-- the writes of items that have these blocks in order: home, or to a log under versions from this
+-- one on
+abbrev pub writes_to_home : List Item → List Block → List Write
+writes_to_home [] from = []
+writes_to_home (i ∷ items) from =
+    home_write i.lbn (take i.count from) ∷ writes_to_home items (drop i.count from)
 
 abbrev pub log_writes : (version : ℕ) → List Item → List Block → List Write
 log_writes version [] from = []
-log_writes version (i ∷ items) from = log_write version i.lbn (take i.count from) ∷ log_writes (version + 1) items (drop i.count from)
+log_writes version (i ∷ items) from =
+    log_write version i.lbn (take i.count from) ∷ log_writes (version + 1) items (drop i.count from)
 
--- a write with fewer blocks than the first joins a group only where no logger was turned away for the first
+-- a write with fewer blocks than the first joins a group only where no logger was turned away for
+-- the first
 abbrev pub IsGroup : (passed : List ℕ) → List Write → Type 0
 IsGroup passed [] = ⊤
 IsGroup passed (w ∷ ws) = (passed ≡ []) ⊎ AllByRecursion (λ v. length w.blocks ≤ length v.blocks) ws

@@ -21,7 +21,8 @@ use Rattle.logger.specs.declared.lane.HeldSegment.{HeldSegment}
 use Rattle.logger.specs.declared.shared.Shared.{Shared}
 use Rattle.listed_records.specs.Entries.{entries_at}
 
--- a lane is this volume's, between calls, its pool's segments have room for any write, and its pass of the pool holds just its segments
+-- a lane is this volume's, between calls, its pool's segments have room for any write, and its pass
+-- of the pool holds just its segments
 pub record IsReadyLane {D : Type 0} (state : D → State) (id most : ℕ) (l : Lane D) : Type 0 where
   pub lane : IsLane state l
   pub owner : lane_owner l ≡ id
@@ -30,7 +31,9 @@ pub record IsReadyLane {D : Type 0} (state : D → State) (id most : ℕ) (l : L
   pub all : HoldsAll l
 
 -- its locks, lanes and flags
-pub record Ready {D : Type 0} (state : D → State) (id most : ℕ) (home : Spun D) (spindle : PassOf Spindle SpindleBase) (lanes : List (Lane D)) (ups : List Bool) (rooms : List Room) : Type 0 where
+pub record Ready {D : Type 0} (state : D → State) (id most : ℕ) (home : Spun D)
+    (spindle : PassOf Spindle SpindleBase) (lanes : List (Lane D)) (ups : List Bool)
+    (rooms : List Room) : Type 0 where
   pub home_volume : volume_of home ≡ id
   pub home_small : (1 ≤ (state_of state home).size) × ((state_of state home).size ≤ 2 ^ 32)
   pub spindle_volume : (pass_lock spindle).base.volume ≡ id
@@ -55,16 +58,21 @@ pub record IsPlacedIn {D : Type 0} (lanes : List (Lane D)) (e : Indexed) : Type 
 
 -- each held segment has as many records that keep a block as the index has entries in it
 abbrev pub AreCounted : {D : Type 0} → List (Lane D) → List Indexed → Type 0
-AreCounted {D} lanes es = (k : ℕ) (l : Lane D) → slice_get lanes k ≡ Some l → AllByRecursion (λ (h : HeldSegment D). valid_of h.segment ≡ entries_at k h.index es) (held_in l)
+AreCounted {D} lanes es = (k : ℕ) (l : Lane D) → slice_get lanes k ≡ Some l
+    → AllByRecursion (λ (h : HeldSegment D). valid_of h.segment ≡ entries_at k h.index es)
+    (held_in l)
 
--- while nothing failed: no segment is broken, each entry of the index has its place, and the segments have no other records
+-- while nothing failed: no segment is broken, each entry of the index has its place, and the
+-- segments have no other records
 pub record IsUp {D : Type 0} (lanes : List (Lane D)) (indexed : List Indexed) : Type 0 where
-  pub whole : AllByRecursion (λ (l : Lane D). AllByRecursion (λ (h : HeldSegment D). IsWhole h.segment) (held_in l)) lanes
+  pub whole : AllByRecursion
+      (λ (l : Lane D). AllByRecursion (λ (h : HeldSegment D). IsWhole h.segment) (held_in l)) lanes
   pub placed : AllByRecursion (IsPlacedIn lanes) indexed
   pub counted : AreCounted lanes indexed
 
 -- its passes are of the locks of these shared ones
-pub record At {D : Type 0} (shared : Shared D) (id : ℕ) (spindle : PassOf Spindle SpindleBase) (lanes : List (Lane D)) : Type 0 where
+pub record At {D : Type 0} (shared : Shared D) (id : ℕ) (spindle : PassOf Spindle SpindleBase)
+    (lanes : List (Lane D)) : Type 0 where
   pub spindle_in : id < vec_len shared.spindles
   pub spindle_is : (d : _) → pass_lock spindle ≡ lock_id (slice_index_or shared.spindles.items id d)
   pub lanes_ : AllByRecursion (IsAt shared) lanes

@@ -9,9 +9,19 @@ use Rattle.redirect_map.specs.declared.record.Rec.{Rec}
 abbrev pub recs_at : (version : ℕ) → List Item → (lane segment pos : ℕ) → List Rec
 recs_at version [] lane segment pos = []
 recs_at version (i ∷ items) lane segment pos =
-    record { version = version; lbn = i.lbn; count = i.count; keep = 2 ^ i.count - 1; lane = lane; segment = segment; pos = pos } ∷ recs_at (version + 1) items lane segment (pos + 1 + i.count)
+    record {
+      version = version;
+      lbn = i.lbn;
+      count = i.count;
+      keep = 2 ^ i.count - 1;
+      lane = lane;
+      segment = segment;
+      pos = pos;
+    }
+    ∷ recs_at (version + 1) items lane segment (pos + 1 + i.count)
 
 -- the entries once the index has them, each behind the ones before it
 abbrev pub entered_all : List Indexed → List Rec → List Indexed
 entered_all es [] = es
-entered_all es (q ∷ recs) = entered_all (map (unhomed (cover_at (entry_of q 0))) es ++ entry_of q 0 ∷ []) recs
+entered_all es (q ∷ recs) =
+    entered_all (map (unhomed (cover_at (entry_of q 0))) es ++ entry_of q 0 ∷ []) recs

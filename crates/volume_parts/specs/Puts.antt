@@ -10,9 +10,15 @@ use Rattle.logger.specs.declared.lane.HeldSegment.{HeldSegment}
 use Rattle.logger.specs.declared.lane.Lane.{Lane}
 use Rattle.logger.specs.declared.lane.Spot.{Spot}
 
--- It added the records to a held segment that had room for so many blocks, or to one that the pool gave, which it claimed.
-pub data PutIn {D : Type 0} (state : D → State) (old new : Lane D) (count : ℕ) (added : List Record) (res : Result Spot (ℕ × Failed)) : Type 0 where
-  to_held : (i : ℕ) (o n : HeldSegment D) → slice_get (held_in old) i ≡ Some o → count ≤ room_of o.segment → held_in new ≡ slice_set (held_in old) i n
-      → Grown state o n added res → IsSpot o.index (place_of o.segment) res → PutIn state old new count added res
-  to_new : (f : FreeSegment D) (n : HeldSegment D) → IsBlank state (logger_of old) (pool_blocks old) f → held_in new ≡ held_in old ++ n ∷ []
-      → Claimed state (lane_owner old) f n.segment added res → IsSpot n.index 1 res → PutIn state old new count added res
+-- It added the records to a held segment that had room for so many blocks, or to one that the pool
+-- gave, which it claimed.
+pub data PutIn {D : Type 0} (state : D → State) (old new : Lane D) (count : ℕ) (added : List Record)
+    (res : Result Spot (ℕ × Failed)) : Type 0 where
+  to_held : (i : ℕ) (o n : HeldSegment D) → slice_get (held_in old) i ≡ Some o
+      → count ≤ room_of o.segment → held_in new ≡ slice_set (held_in old) i n
+      → Grown state o n added res → IsSpot o.index (place_of o.segment) res
+      → PutIn state old new count added res
+  to_new : (f : FreeSegment D) (n : HeldSegment D)
+      → IsBlank state (logger_of old) (pool_blocks old) f → held_in new ≡ held_in old ++ n ∷ []
+      → Claimed state (lane_owner old) f n.segment added res → IsSpot n.index 1 res
+      → PutIn state old new count added res

@@ -39,7 +39,8 @@ pub record HomeRead {D : Type 0} (state : D → State) (old new : Spun D) : Type
   pub volume : volume_of new ≡ volume_of old
   pub size : (state_of state new).size ≡ (state_of state old).size
   pub values : (state_of state new).values ≡ (state_of state old).values
-  pub any_moment : LeavesOnly (state_of state old) (state_of state new) (IsImageOf (state_of state old).values)
+  pub any_moment :
+      LeavesOnly (state_of state old) (state_of state new) (IsImageOf (state_of state old).values)
   pub faults : Counted (state_of state old).faults (state_of state new).faults
 
 -- a held segment before and after reads
@@ -49,7 +50,9 @@ pub record SegmentRead {D : Type 0} (state : D → State) (old new : HeldSegment
   pub broken : new.segment.broken ≡ old.segment.broken
   pub size : (disk_of state new.segment).size ≡ (disk_of state old.segment).size
   pub keeps : (rs : List Record) → Holds state old.segment rs → Holds state new.segment rs
-  pub any_moment : (rs : List Record) → Holds state old.segment rs → LeavesOnly (disk_of state old.segment) (disk_of state new.segment) (λ c. IsLog c (owner_of old.segment) rs)
+  pub any_moment : (rs : List Record) → Holds state old.segment rs
+      → LeavesOnly (disk_of state old.segment) (disk_of state new.segment)
+      (λ c. IsLog c (owner_of old.segment) rs)
   pub faults : Counted (disk_of state old.segment).faults (disk_of state new.segment).faults
 
 -- a lane before and after reads
@@ -61,4 +64,5 @@ pub record LaneRead {D : Type 0} (state : D → State) (old new : Lane D) : Type
 
 -- each of these segments that is among the later ones has the count that it had
 abbrev pub AreCalm : {D : Type 0} → (D → State) → (old new : List (HeldSegment D)) → Type 0
-AreCalm {D} state old new = (s t : HeldSegment D) → Contains old s → Contains new t → t.index ≡ s.index → (disk_of state t.segment).faults ≡ (disk_of state s.segment).faults
+AreCalm {D} state old new = (s t : HeldSegment D) → Contains old s → Contains new t
+    → t.index ≡ s.index → (disk_of state t.segment).faults ≡ (disk_of state s.segment).faults

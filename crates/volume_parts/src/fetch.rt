@@ -33,10 +33,14 @@ pub fn fetch_at<R: Wait, D: Disk>(
     ensures volume { volume_of part.new ≡ volume_of part.old }
     ensures size { (state_of D.state part.new).size ≡ (state_of D.state part.old).size }
     ensures values { (state_of D.state part.new).values ≡ (state_of D.state part.old).values }
-    ensures content { OnOk result (IfSome (state_of D.state part.old).values (λ vs. out.new ≡ take (length out.old) (drop at (reads vs)))) }
-    ensures any_moment { LeavesOnly (state_of D.state part.old) (state_of D.state part.new) (IsImageOf (state_of D.state part.old).values) }
-    ensures cause { IsErr result → Rose (state_of D.state part.old).faults (state_of D.state part.new).faults }
-    ensures calm { OnOk result ((state_of D.state part.new).faults ≡ (state_of D.state part.old).faults) }
+    ensures content { OnOk result (IfSome (state_of D.state part.old).values
+        (λ vs. out.new ≡ take (length out.old) (drop at (reads vs)))) }
+    ensures any_moment { LeavesOnly (state_of D.state part.old) (state_of D.state part.new)
+        (IsImageOf (state_of D.state part.old).values) }
+    ensures cause { IsErr result
+        → Rose (state_of D.state part.old).faults (state_of D.state part.new).faults }
+    ensures calm { OnOk result
+        ((state_of D.state part.new).faults ≡ (state_of D.state part.old).faults) }
 {
     let token = take_token(rt, lock, spindle);
     let fetched = part.read(&token, at, out);

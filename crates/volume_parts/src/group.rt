@@ -40,7 +40,8 @@ fn any_meets(items: &[Item], other: &Item) -> bool
 // Whether the item at this place has a block that a record or an item before it covers.
 fn covered_behind(index: &Index, items: &[Item], place: usize) -> bool
     requires { place < length items.now }
-    ensures { (i : Item) → slice_get items.now place ≡ Some i → result ≡ is_covered_behind (listed_in index.now.entries) (take place items.now) i }
+    ensures { (i : Item) → slice_get items.now place ≡ Some i
+        → result ≡ is_covered_behind (listed_in index.now.entries) (take place items.now) i }
 {
     let item = items[place];
     index.covered(item.lbn, item.count) || any_meets(&items[..place], &item)
@@ -56,8 +57,10 @@ fn any_passed(rooms: &[Room]) -> bool
 // Whether the item at this place goes to the log to which those before it go.
 fn joins(index: &Index, home_up: bool, passed: bool, items: &[Item], place: usize) -> bool
     requires { place < length items.now }
-    ensures away { result ≡ true → home_up ≡ true → (i : Item) → slice_get items.now place ≡ Some i → is_covered_behind (listed_in index.now.entries) (take place items.now) i ≡ true }
-    ensures long { result ≡ true → passed ≡ true → (i : Item) → slice_get items.now place ≡ Some i → first_count items.now ≤ i.count }
+    ensures away { result ≡ true → home_up ≡ true → (i : Item) → slice_get items.now place ≡ Some i
+        → is_covered_behind (listed_in index.now.entries) (take place items.now) i ≡ true }
+    ensures long { result ≡ true → passed ≡ true → (i : Item) → slice_get items.now place ≡ Some i
+        → first_count items.now ≤ i.count }
 {
     if passed && items[place].count < items[0].count {
         return false;
@@ -70,7 +73,8 @@ pub fn together(index: &Index, home_up: bool, rooms: &[Room], items: &[Item]) ->
     requires some { 1 ≤ length items.now }
     ensures some { 1 ≤ result }
     ensures most { result ≤ length items.now }
-    ensures joins { GoTogether home_up (listed_in index.now.entries) (passed_in rooms.now) items.now result }
+    ensures joins { GoTogether home_up (listed_in index.now.entries) (passed_in rooms.now) items.now
+        result }
 {
     let passed = any_passed(rooms);
     for place in 1..items.len() {
@@ -137,10 +141,13 @@ pub fn put_group<R: Wait, D: Disk>(
     ensures at { IsAt shared.now lane.new }
     ensures none { taken_in lane.new ≡ None }
     ensures all { HoldsAll lane.old → HoldsAll lane.new }
-    ensures turn { MatchOption result (IsTurnedAway (first_count items.now) lane.old lane.new) (λ _. HasTakenWrite lane.old lane.new) }
+    ensures turn { MatchOption result (IsTurnedAway (first_count items.now) lane.old lane.new)
+        (λ _. HasTakenWrite lane.old lane.new) }
     ensures count { IfSome result (λ r. (1 ≤ r.0) × (r.0 ≤ length items.now)) }
     ensures fits { IfSome result (λ r. room_for (take r.0 items.now) + 2 ≤ pool_blocks lane.old) }
-    ensures put { IfSome result (λ r. PutIn D.state lane.old lane.new (room_for (take r.0 items.now)) (group_of (lane_owner lane.old) version (take r.0 items.now) from.now) r.1) }
+    ensures put { IfSome result (λ r. PutIn D.state lane.old lane.new
+        (room_for (take r.0 items.now))
+        (group_of (lane_owner lane.old) version (take r.0 items.now) from.now) r.1) }
 {
     let first = items[0].count;
     if !lane.secure(rt, shared, first) {
@@ -168,7 +175,8 @@ pub fn list_group(index: &mut Index, version: u64, lane: u32, spot: Spot, items:
     requires version { version + length items.now ≤ 2 ^ 63 }
     requires position { spot.pos + length items.now + count_of items.now ≤ 65536 }
     requires reserved { length items.now ≤ index.old.reserved }
-    ensures { index.new.entries ≡ entered_all index.old.entries (recs_at version items.now lane spot.segment spot.pos) }
+    ensures { index.new.entries
+        ≡ entered_all index.old.entries (recs_at version items.now lane spot.segment spot.pos) }
 {
     let mut next = version;
     let mut pos = spot.pos;

@@ -18,31 +18,37 @@ pub record HasOnePass {T B : Type 0} (lock : TurnLock T B) (pass : PassOf T B) :
   pub free : IsFree pass
 
 -- the lock of a volume's spindle, whose one pass has no token and made accesses alone
-pub record HasSpindle (volume : ℕ) (lock : TurnLock Spindle SpindleBase) (pass : PassOf Spindle SpindleBase) : Type 0 where
+pub record HasSpindle (volume : ℕ) (lock : TurnLock Spindle SpindleBase)
+    (pass : PassOf Spindle SpindleBase) : Type 0 where
   pub alone : HasOnePass lock pass
   pub volume_is : (pass_lock pass).base.volume ≡ volume
   pub settled : has_token (pass_mine pass) ≡ false
   pub accesses : AreAccesses (pass_mine pass)
 
 -- the lock has these two passes alone, which are in no turn
-pub record HasTwoPasses {T B : Type 0} (lock : TurnLock T B) (keeper pass : PassOf T B) : Type 0 where
+pub record HasTwoPasses {T B : Type 0} (lock : TurnLock T B) (keeper pass : PassOf T B) :
+    Type 0 where
   pub two : lock_passes lock ≡ 2
   pub own : IsPassOf lock pass
   pub free : IsFree pass
   pub keeper_own : IsPassOf lock keeper
   pub keeper_free : IsFree keeper
 
--- the lock of a volume's spindle: one of its two passes keeps the time, the other has no token and made accesses alone
-pub record HasKeptSpindle (volume : ℕ) (lock : TurnLock Spindle SpindleBase) (keeper pass : PassOf Spindle SpindleBase) : Type 0 where
+-- the lock of a volume's spindle: one of its two passes keeps the time, the other has no token and
+-- made accesses alone
+pub record HasKeptSpindle (volume : ℕ) (lock : TurnLock Spindle SpindleBase)
+    (keeper pass : PassOf Spindle SpindleBase) : Type 0 where
   pub both : HasTwoPasses lock keeper pass
   pub volume_is : (pass_lock pass).base.volume ≡ volume
   pub settled : has_token (pass_mine pass) ≡ false
   pub accesses : AreAccesses (pass_mine pass)
 
 -- the lock of a volume's pool of one segment, which its one pass doesn't hold
-pub record HasPool {T : Type 0} (volume blocks : ℕ) (lock : TurnLock (Pool T) PoolBase) (pass : PassOf (Pool T) PoolBase) : Type 0 where
+pub record HasPool {T : Type 0} (volume blocks : ℕ) (lock : TurnLock (Pool T) PoolBase)
+    (pass : PassOf (Pool T) PoolBase) : Type 0 where
   pub alone : HasOnePass lock pass
   pub volume_is : (pass_lock pass).base.volume ≡ volume
   pub blocks_are : (pass_lock pass).base.blocks ≡ blocks
   pub few : length (pass_lock pass).base.holders ≡ 1
-  pub unheld : (index : ℕ) → holds (pass_lock pass).base (pass_number pass) (pass_mine pass) index ≡ false
+  pub unheld : (index : ℕ)
+      → holds (pass_lock pass).base (pass_number pass) (pass_mine pass) index ≡ false

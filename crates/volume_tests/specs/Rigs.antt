@@ -19,7 +19,8 @@ use Rattle.reclaimer.specs.Fetches.{HasData}
 use Rattle.volume_tests.specs.declared.rig.Rig.{Rig}
 
 -- a lane of volume 0 on volume 1 that holds nothing yet, with these passes
-pub record IsNewLane (pool : PassOf (Pool (FreeSegment CountingDisk)) PoolBase) (spindle : PassOf Spindle SpindleBase) (l : Lane CountingDisk) : Type 0 where
+pub record IsNewLane (pool : PassOf (Pool (FreeSegment CountingDisk)) PoolBase)
+    (spindle : PassOf Spindle SpindleBase) (l : Lane CountingDisk) : Type 0 where
   pub lane : IsLane counting_state l
   pub logger_is : logger_of l ≡ 1
   pub owner : lane_owner l ≡ 0
@@ -49,7 +50,8 @@ pub record IsOfVolume (b : ManagerBase) : Type 0 where
   pub most : b.volume.began.most ≡ 4
   pub view : b.volume.began.view ≡ 1 ∷ []
 
--- The manager keeps up what it began with and what was done since, what was fetched are data of it, and all locks are there.
+-- The manager keeps up what it began with and what was done since, what was fetched are data of it,
+-- and all locks are there.
 pub record IsRig (r : Rig) : Type 0 where
   pub base : ManagerBase
   pub notes : List Noted

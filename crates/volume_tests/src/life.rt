@@ -25,8 +25,10 @@ pub fn live<D: Disk>(
     ensures volume { IfOk result (λ f. free_volume f ≡ free_volume free) }
     ensures blocks { IfOk result (λ f. free_blocks f ≡ free_blocks free) }
     ensures calm { IfOk result (λ f. (free_disk D.state f).faults ≡ (free_disk D.state free).faults) }
-    ensures cause { IfErr result (λ e. Rose (free_disk D.state free).faults (disk_of D.state e.1).faults) }
-    ensures content { (vs : List (Values Block)) → (free_disk D.state free).values ≡ Some vs → IfOk result (λ f. out.new ≡ from.now) }
+    ensures cause { IfErr result
+        (λ e. Rose (free_disk D.state free).faults (disk_of D.state e.1).faults) }
+    ensures content { (vs : List (Values Block)) → (free_disk D.state free).values ≡ Some vs
+        → IfOk result (λ f. out.new ≡ from.now) }
 {
     let mut segment = match free.claim(token, owner) {
         Ok(segment) => segment,

@@ -9,7 +9,8 @@ abbrev pub standby_of : Disk → (awake : Bool) → (to : ℕ) → ℕ
 standby_of d true to = d.standby
 standby_of d false to = d.standby + (to - d.since)
 
--- moments in order; the time in standby is over before; and of two turns down one is at least 10,000 units behind the other
+-- moments in order; the time in standby is over before; and of two turns down one is at least
+-- 10,000 units behind the other
 pub record IsKept (d : Disk) : Type 0 where
   pub order : d.since ≤ d.moment
   pub standby : d.from + d.standby ≤ d.since

@@ -18,10 +18,12 @@ name_of All = codes "all"
 
 -- the line of a policy: how often disks woke and slept, and the energy in mJ
 unfoldable pub policy_text : Policy → Compared → List ℕ
-policy_text p c = line_of (name_of p ∷ codes "wakes" ∷ decimal c.wakes ∷ codes "sleeps" ∷ decimal c.sleeps ∷ codes "energy" ∷ decimal (energy_of c.units) ∷ [])
+policy_text p c = line_of (name_of p ∷ codes "wakes" ∷ decimal c.wakes ∷ codes "sleeps"
+    ∷ decimal c.sleeps ∷ codes "energy" ∷ decimal (energy_of c.units) ∷ [])
 
 -- the four lines of windows
 unfoldable pub whatif_text : Config → (from : ℕ) → List Asked → (to : ℕ) → List ℕ
 whatif_text c from ws to =
-    policy_text Always (compared Always c from ws to) ++ policy_text SpinDown (compared SpinDown c from ws to)
+    policy_text Always (compared Always c from ws to)
+    ++ policy_text SpinDown (compared SpinDown c from ws to)
     ++ policy_text Host (compared Host c from ws to) ++ policy_text All (compared All c from ws to)

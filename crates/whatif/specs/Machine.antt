@@ -1,4 +1,5 @@
--- The machine of one thread: a look for each volume and a spindle for each disk, and what requests, reclaim and windows make of them.
+-- The machine of one thread: a look for each volume and a spindle for each disk, and what requests,
+-- reclaim and windows make of them.
 use Rattle.std.specs.Prelude.{ℕ, zero, suc, Bool, true, false, ◌&&◌, List, [], ◌∷◌, ◌++◌, map, length, Option, None, Some, option_map, slice_get, slice_set, slice_index_or, position, replicate, if◌then◌else◌, sum_by}
 use Rattle.std.specs.List.{range_with_len, filter}
 use Rattle.std.specs.Option.{option_map_or}
@@ -39,7 +40,10 @@ source_of r es b = option_map_or (λ (e : Listed). logger_at r e.lane) (newest c
 
 -- a read wakes and uses the disks that have its blocks
 abbrev pub reading : (first count : ℕ) → Reach → Look → Action
-reading first count r l = record { look = woken l first count; uses = map (source_of r l.listed) (range_with_len first count) }
+reading first count r l = record {
+  look = woken l first count;
+  uses = map (source_of r l.listed) (range_with_len first count);
+}
 
 -- the disk of a place
 abbrev pub disk_of : Reach → Place → List ℕ
@@ -53,7 +57,8 @@ write_of first count = record { first = first; blocks = replicate count []; vers
 
 -- a write goes where the rule of placing says, with room in every log, and uses that disk
 abbrev pub writing : (first count : ℕ) → Reach → Look → Action
-writing first count r l = let p = place_of [] l (write_of first count) in record { look = placed p l (write_of first count); uses = disk_of r p }
+writing first count r l = let p = place_of [] l (write_of first count) in
+    record { look = placed p l (write_of first count); uses = disk_of r p }
 
 -- what is asked of a volume
 abbrev pub answering : Kind → (first count : ℕ) → Reach → Look → Action
@@ -70,7 +75,8 @@ step_at step l (Some k) = option_map (step l k) (slice_get l.listed k)
 -- steps, one after another, while there is one, and at most so many
 abbrev pub followed : Look → Option Action → (Look → Action) → Action
 followed l None more = still l
-followed l (Some a) more = let rest = more a.look in record { look = rest.look; uses = a.uses ++ rest.uses }
+followed l (Some a) more =
+    let rest = more a.look in record { look = rest.look; uses = a.uses ++ rest.uses }
 
 abbrev pub repeated : (most : ℕ) → (Look → Option Action) → Look → Action
 repeated zero step l = still l
@@ -78,11 +84,16 @@ repeated (suc most) step l = followed l (step l) (repeated most step)
 
 -- while home is awake: the record of least version within reach with a due block
 abbrev pub next_due : Look → Option ℕ
-next_due l = if l.home_up then position (λ e. is_within_reach l e && has_due l.listed e) l.listed else None
+next_due l =
+    if l.home_up then position (λ e. is_within_reach l e && has_due l.listed e) l.listed else None
 
 -- its due blocks become homed, and its logger and home are used
 abbrev pub put_home : Reach → Look → (k : ℕ) → Listed → Action
-put_home r l k e = record { look = record l { listed = slice_set l.listed k (homing (is_due l.listed e) e) }; uses = logger_at r e.lane ∷ r.own ∷ [] }
+put_home r l k e = record {
+  look = record l
+      { listed = slice_set l.listed k (homing (is_due l.listed e) e) };
+  uses = logger_at r e.lane ∷ r.own ∷ [];
+}
 
 -- the record of least version within reach of which a block may go
 abbrev pub next_to_go : Look → Option ℕ
@@ -90,7 +101,11 @@ next_to_go l = position (λ e. is_within_reach l e && has_going l.listed e) l.li
 
 -- it gives up the blocks that may go, and is gone where it keeps none; its logger is used
 abbrev pub give_up : Reach → Look → (k : ℕ) → Listed → Action
-give_up r l k e = record { look = record l { listed = filter keeps_a_block (slice_set l.listed k (keeping l.listed e)) }; uses = logger_at r e.lane ∷ [] }
+give_up r l k e = record {
+  look = record l
+      { listed = filter keeps_a_block (slice_set l.listed k (keeping l.listed e)) };
+  uses = logger_at r e.lane ∷ [];
+}
 
 abbrev pub put_step : Reach → Look → Option Action
 put_step r l = step_at (put_home r) l (next_due l)
@@ -98,7 +113,8 @@ put_step r l = step_at (put_home r) l (next_due l)
 abbrev pub give_step : Reach → Look → Option Action
 give_step r l = step_at (give_up r) l (next_to_go l)
 
--- all that is due goes home, and then all that may go is given up; each step lowers what is left, so there are no more steps than that
+-- all that is due goes home, and then all that may go is given up; each step lowers what is left,
+-- so there are no more steps than that
 abbrev pub reclaiming : Reach → Look → Action
 reclaiming r l =
     let puts = repeated (left l.listed) (put_step r) l in
@@ -163,7 +179,8 @@ tidying v = record { volume = v; action = reclaiming }
 
 -- ---- Windows
 
--- what a machine is made of: the timeout, whether disks go down at all, and the disks that each volume may use
+-- what a machine is made of: the timeout, whether disks go down at all, and the disks that each
+-- volume may use
 pub record Setting : Type 0 where
   pub timeout : ℕ
   pub sleeps : Bool
@@ -175,12 +192,19 @@ is_up ss d = option_map_or (λ (s : SpindleState). s.awake) (slice_get ss d) fal
 
 -- the volume sees which of its disks are awake
 abbrev pub seeing : List SpindleState → Volume → Volume
-seeing ss v = record { reach = v.reach; look = record v.look { home_up = is_up ss v.reach.own; ups = map (is_up ss) v.reach.loggers } }
+seeing ss v = record {
+  reach = v.reach;
+  look = record v.look
+      { home_up = is_up ss v.reach.own; ups = map (is_up ss) v.reach.loggers };
+}
 
--- the window's moment comes at each disk, if disks go down at all, and each volume sees which are awake
+-- the window's moment comes at each disk, if disks go down at all, and each volume sees which are
+-- awake
 abbrev pub begun : Setting → (moment : ℕ) → Machine → Machine
 begun s moment m =
-    let ss = if s.sleeps then map (λ d. used s.timeout d 0 (Began moment)) m.spindles else m.spindles in
+    let ss = if s.sleeps
+    then map (λ d. used s.timeout d 0 (Began moment)) m.spindles
+    else m.spindles in
     record { volumes = map (seeing ss) m.volumes; spindles = ss }
 
 -- a window of requests
@@ -190,7 +214,8 @@ pub record Asked : Type 0 where
 
 -- it begins, its requests have their turns, and then each volume reclaims, in order
 abbrev pub after_window : Setting → Asked → Machine → Machine
-after_window s w m = after_turns s.timeout (map tidying (range_with_len 0 (length m.volumes))) (after_turns s.timeout (map asking w.asks) (begun s w.moment m))
+after_window s w m = after_turns s.timeout (map tidying (range_with_len 0 (length m.volumes)))
+    (after_turns s.timeout (map asking w.asks) (begun s w.moment m))
 
 abbrev pub after_windows : Setting → List Asked → Machine → Machine
 after_windows s [] m = m
@@ -198,7 +223,13 @@ after_windows s (w ∷ ws) m = after_windows s ws (after_window s w m)
 
 -- at first all count as awake, and nothing is logged
 abbrev pub first_look : Reach → Look
-first_look r = record { home_up = true; ups = replicate (length r.loggers) true; next = 1; listed = []; down = None }
+first_look r = record {
+  home_up = true;
+  ups = replicate (length r.loggers) true;
+  next = 1;
+  listed = [];
+  down = None;
+}
 
 abbrev pub first_volume : Reach → Volume
 first_volume r = record { reach = r; look = first_look r }

@@ -25,7 +25,8 @@ allows All vs volume logger = true
 
 -- its loggers, in the configuration's order
 abbrev pub loggers_of : Policy → List VolumeConf → (volume : ℕ) → List ℕ
-loggers_of p vs volume = filter (λ w. not (volume == w) && allows p vs volume w) (range_with_len 0 (length vs))
+loggers_of p vs volume =
+    filter (λ w. not (volume == w) && allows p vs volume w) (range_with_len 0 (length vs))
 
 abbrev pub reach_of : Policy → List VolumeConf → (volume : ℕ) → Reach
 reach_of p vs volume = record { own = volume; loggers = loggers_of p vs volume }
@@ -38,7 +39,11 @@ goes_down Host = true
 goes_down All = true
 
 abbrev pub setting_of : Policy → Config → Setting
-setting_of p c = record { timeout = c.timeout; sleeps = goes_down p; reaches = map (reach_of p c.volumes.items) (range_with_len 0 (length c.volumes.items)) }
+setting_of p c = record {
+  timeout = c.timeout;
+  sleeps = goes_down p;
+  reaches = map (reach_of p c.volumes.items) (range_with_len 0 (length c.volumes.items));
+}
 
 -- the machine of a policy after these windows; the account begins at `from`
 unfoldable pub machine_after : Policy → Config → (from : ℕ) → List Asked → Machine
@@ -46,4 +51,5 @@ machine_after p c from ws = after_windows (setting_of p c) ws (first_machine (se
 
 -- what its disks used when the account ends at `to`
 abbrev pub compared : Policy → Config → (from : ℕ) → List Asked → (to : ℕ) → Compared
-compared p c from ws to = let ss = (machine_after p c from ws).spindles in record { wakes = all_wakes ss; sleeps = all_sleeps ss; units = all_units c.powers ss to }
+compared p c from ws to = let ss = (machine_after p c from ws).spindles in
+    record { wakes = all_wakes ss; sleeps = all_sleeps ss; units = all_units c.powers ss to }

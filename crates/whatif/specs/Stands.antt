@@ -34,14 +34,17 @@ pub record AreReady (vs : List Volume) (ds : List Disk) (asked moment : ℕ) : T
   pub moments : AllByRecursion (λ t. t ≤ moment) (moments_of ds)
 
 -- volumes and disks had these turns
-abbrev pub HaveTurned : List Turn → (vs : List Volume) → (ds : List Disk) → (ws : List Volume) → (es : List Disk) → Type 0
-HaveTurned turns vs ds ws es = (timeout : ℕ) (m : machine.Machine) → Stands vs ds m → Stands ws es (after_turns timeout turns m)
+abbrev pub HaveTurned : List Turn → (vs : List Volume) → (ds : List Disk) → (ws : List Volume)
+    → (es : List Disk) → Type 0
+HaveTurned turns vs ds ws es = (timeout : ℕ) (m : machine.Machine) → Stands vs ds m
+    → Stands ws es (after_turns timeout turns m)
 
 -- all volumes, of which nothing is logged yet
 pub record AreNew (p : Policy) (confs : List VolumeConf) (vs : List Volume) : Type 0 where
   pub count : length vs ≡ length confs
   pub all : AllByRecursion (IsAmong (length confs) 0) vs
-  pub made : map volume_in vs ≡ map (λ n. first_volume (reach_of p confs n)) (range_with_len 0 (length vs))
+  pub made : map volume_in vs
+      ≡ map (λ n. first_volume (reach_of p confs n)) (range_with_len 0 (length vs))
 
 -- what is so of each machine
 pub record IsMachine (m : Machine) : Type 0 where
@@ -58,7 +61,8 @@ pub record IsAsk (volumes : ℕ) (a : Ask) : Type 0 where
   pub blocks : a.lbn + a.count ≤ 2 ^ 32
 
 -- it has run these windows by this policy, from this beginning of the account on
-pub record HasRun (p : Policy) (c : Config) (from : ℕ) (ws : List Asked) (m : Machine) : Type 0 where
+pub record HasRun (p : Policy) (c : Config) (from : ℕ) (ws : List Asked) (m : Machine) :
+    Type 0 where
   pub timeout : m.timeout ≡ c.timeout
   pub powers : m.powers ≡ c.powers
   pub sleeps : m.sleeps ≡ goes_down p

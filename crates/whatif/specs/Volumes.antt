@@ -15,7 +15,13 @@ abbrev pub reach_in : Volume → Reach
 reach_in v = record { own = v.own; loggers = v.loggers.items }
 
 abbrev pub look_in : Volume → Look
-look_in v = record { home_up = v.home_up; ups = v.ups.items; next = v.next; listed = listed_in v.index.entries; down = None }
+look_in v = record {
+  home_up = v.home_up;
+  ups = v.ups.items;
+  next = v.next;
+  listed = listed_in v.index.entries;
+  down = None;
+}
 
 abbrev pub volume_in : Volume → machine.Volume
 volume_in v = record { reach = reach_in v; look = look_in v }
@@ -44,10 +50,12 @@ pub record IsVolume (v : Volume) : Type 0 where
   pub settled : v.settled ≡ true → IsSettled (look_in v)
 
 -- a volume did this, and used disks for it
-pub record HasDone (action : Reach → Look → Action) (old new : Volume) (was is : List Disk) : Type 0 where
+pub record HasDone (action : Reach → Look → Action) (old new : Volume) (was is : List Disk) :
+    Type 0 where
   pub reach : reach_in new ≡ reach_in old
   pub look : look_in new ≡ (action (reach_in old) (look_in old)).look
-  pub disks : (timeout : ℕ) (ss : List SpindleState) → AreDisks was ss → AreDisks is (all_accessed timeout (action (reach_in old) (look_in old)).uses ss)
+  pub disks : (timeout : ℕ) (ss : List SpindleState) → AreDisks was ss
+      → AreDisks is (all_accessed timeout (action (reach_in old) (look_in old)).uses ss)
 
 -- a step of reclaim that was done, by the disk of the logger that it used
 abbrev pub put_answer : Reach → Look → Option ℕ → Option Action

@@ -53,7 +53,8 @@ impl Disk {
         requires timeout { 10000 ≤ timeout }
         ensures kept { IsKept self.new }
         ensures moment { self.new.moment ≡ max at self.old.moment }
-        ensures stands { (s : SpindleState) → IsDisk self.old s → IsDisk self.new (used timeout s 0 (Began at)) }
+        ensures stands { (s : SpindleState) → IsDisk self.old s
+            → IsDisk self.new (used timeout s 0 (Began at)) }
     {
         let moment = at.max(self.moment);
         if self.awake && moment - self.since >= timeout {
@@ -74,7 +75,8 @@ impl Disk {
         requires kept { IsKept self.old }
         ensures kept { IsKept self.new }
         ensures moment { self.new.moment ≡ self.old.moment }
-        ensures stands { (timeout : ℕ) (s : SpindleState) → IsDisk self.old s → IsDisk self.new (accessed timeout s) }
+        ensures stands { (timeout : ℕ) (s : SpindleState) → IsDisk self.old s
+            → IsDisk self.new (accessed timeout s) }
     {
         if self.awake {
             self.since = self.moment;
@@ -109,7 +111,11 @@ impl Disk {
         requires to { self.now.moment ≤ to }
         requires powers { ArePowers powers.now }
         ensures value { (s : SpindleState) → IsDisk self.now s
-            → result ≡ record { wakes = wakes s.journal; sleeps = sleeps s.journal; units = units powers.now s.journal s.from to } }
+            → result ≡ record {
+              wakes = wakes s.journal;
+              sleeps = sleeps s.journal;
+              units = units powers.now s.journal s.from to;
+            } }
         ensures few_wakes { 10000 * result.wakes < 2 ^ 64 }
         ensures few_sleeps { 10000 * result.sleeps < 2 ^ 64 }
         ensures few_units { result.units < 2 ^ 110 }
@@ -132,7 +138,8 @@ pub(crate) fn access_at(disks: &mut [Disk], disk: u32)
     requires kept { AllByRecursion IsKept disks.old }
     ensures kept { AllByRecursion IsKept disks.new }
     ensures moments { moments_of disks.new ≡ moments_of disks.old }
-    ensures stands { (timeout : ℕ) (ss : List SpindleState) → AreDisks disks.old ss → AreDisks disks.new (changed_at disk (accessed timeout) ss) }
+    ensures stands { (timeout : ℕ) (ss : List SpindleState) → AreDisks disks.old ss
+        → AreDisks disks.new (changed_at disk (accessed timeout) ss) }
 {
     disks[disk as usize].access();
 }

@@ -63,7 +63,8 @@ fn begin_disks(disks: &mut [Disk], at: u64, timeout: u64)
     requires moments { AllByRecursion (λ t. t ≤ at) (moments_of disks.old) }
     ensures kept { AllByRecursion IsKept disks.new }
     ensures moments { AllByRecursion (λ t. t ≤ at) (moments_of disks.new) }
-    ensures began { (ss : List SpindleState) → AreDisks disks.old ss → AreDisks disks.new (map (λ s. used timeout s 0 (Began at)) ss) }
+    ensures began { (ss : List SpindleState) → AreDisks disks.old ss
+        → AreDisks disks.new (map (λ s. used timeout s 0 (Began at)) ss) }
 {
     for place in 0..disks.len() {
         disks[place].begin(at, timeout);
@@ -87,7 +88,8 @@ fn begin_if(disks: &mut [Disk], sleeps: bool, at: u64, timeout: u64)
     requires moments { AllByRecursion (λ t. t ≤ at) (moments_of disks.old) }
     ensures kept { AllByRecursion IsKept disks.new }
     ensures moments { AllByRecursion (λ t. t ≤ at) (moments_of disks.new) }
-    ensures began { (ss : List SpindleState) → AreDisks disks.old ss → AreDisks disks.new (if sleeps then map (λ s. used timeout s 0 (Began at)) ss else ss) }
+    ensures began { (ss : List SpindleState) → AreDisks disks.old ss
+        → AreDisks disks.new (if sleeps then map (λ s. used timeout s 0 (Began at)) ss else ss) }
 {
     if sleeps {
         begin_disks(disks, at, timeout);
@@ -98,7 +100,8 @@ fn begin_if(disks: &mut [Disk], sleeps: bool, at: u64, timeout: u64)
 fn show_disks(volumes: &mut [Volume], disks: &[Disk], asked: u64)
     requires volumes { AllByRecursion (IsAmong (length disks.now) asked) volumes.old }
     ensures volumes { AllByRecursion (IsAmong (length disks.now) asked) volumes.new }
-    ensures seen { (ss : List SpindleState) → AreDisks disks.now ss → map volume_in volumes.new ≡ map (seeing ss) (map volume_in volumes.old) }
+    ensures seen { (ss : List SpindleState) → AreDisks disks.now ss
+        → map volume_in volumes.new ≡ map (seeing ss) (map volume_in volumes.old) }
 {
     for place in 0..volumes.len() {
         volumes[place].see(disks);
@@ -117,7 +120,8 @@ fn serve(
     requires ask { IsAsk (length volumes.old) ask.now }
     requires few { asked + 1 < 2 ^ 63 }
     ensures ready { OnOk result (AreReady volumes.new disks.new (asked + 1) moment) }
-    ensures turn { OnOk result (HaveTurned (asking ask.now ∷ []) volumes.old disks.old volumes.new disks.new) }
+    ensures turn { OnOk result
+        (HaveTurned (asking ask.now ∷ []) volumes.old disks.old volumes.new disks.new) }
 {
     volumes[ask.volume as usize].serve(disks, ask)
 }
@@ -134,7 +138,8 @@ fn serve_all(
     requires asks { AllByRecursion (IsAsk (length volumes.old)) asks.now }
     requires few { asked + length asks.now < 2 ^ 63 }
     ensures ready { OnOk result (AreReady volumes.new disks.new (asked + length asks.now) moment) }
-    ensures turns { OnOk result (HaveTurned (map asking asks.now) volumes.old disks.old volumes.new disks.new) }
+    ensures turns { OnOk result
+        (HaveTurned (map asking asks.now) volumes.old disks.old volumes.new disks.new) }
 {
     for place in 0..asks.len() {
         serve(volumes, disks, &asks[place], asked + place as u64, moment)?;
@@ -156,7 +161,8 @@ fn reclaim(volumes: &mut [Volume], disks: &mut [Disk], number: usize, asked: u64
 fn reclaim_all(volumes: &mut [Volume], disks: &mut [Disk], asked: u64, moment: u64)
     requires ready { AreReady volumes.old disks.old asked moment }
     ensures ready { AreReady volumes.new disks.new asked moment }
-    ensures turns { HaveTurned (map tidying (range_with_len 0 (length volumes.old))) volumes.old disks.old volumes.new disks.new }
+    ensures turns { HaveTurned (map tidying (range_with_len 0 (length volumes.old))) volumes.old
+        disks.old volumes.new disks.new }
 {
     for number in 0..volumes.len() {
         reclaim(volumes, disks, number, asked, moment);
@@ -178,8 +184,11 @@ fn run(
     requires asks { AllByRecursion (IsAsk (length volumes.old)) asks.now }
     requires few { asked + length asks.now < 2 ^ 63 }
     ensures ready { OnOk result (AreReady volumes.new disks.new (asked + length asks.now) at) }
-    ensures run { OnOk result ((p : Policy) (c : Config) (from : ℕ) (ws : List Asked) → timeout ≡ c.timeout → sleeps ≡ goes_down p → Stands volumes.old disks.old (machine_after p c from ws)
-        → Stands volumes.new disks.new (machine_after p c from (ws ++ record { moment = at; asks = asks.now } ∷ []))) }
+    ensures run { OnOk result ((p : Policy) (c : Config) (from : ℕ) (ws : List Asked)
+        → timeout ≡ c.timeout → sleeps ≡ goes_down p
+        → Stands volumes.old disks.old (machine_after p c from ws)
+        → Stands volumes.new disks.new
+        (machine_after p c from (ws ++ record { moment = at; asks = asks.now } ∷ []))) }
 {
     begin_if(disks, sleeps, at, timeout);
     show_disks(volumes, disks, asked);
@@ -194,7 +203,12 @@ fn sum_up(disks: &[Disk], to: u64, powers: &Powers) -> Compared
     requires kept { AllByRecursion IsKept disks.now }
     requires moments { AllByRecursion (λ t. t ≤ to) (moments_of disks.now) }
     requires powers { ArePowers powers.now }
-    ensures { (ss : List SpindleState) → AreDisks disks.now ss → result ≡ record { wakes = all_wakes ss; sleeps = all_sleeps ss; units = all_units powers.now ss to } }
+    ensures { (ss : List SpindleState) → AreDisks disks.now ss
+        → result ≡ record {
+          wakes = all_wakes ss;
+          sleeps = all_sleeps ss;
+          units = all_units powers.now ss to;
+        } }
 {
     let mut sums = Compared {
         wakes: 0,
@@ -249,9 +263,12 @@ impl Machine {
         ensures machine { OnOk result (IsMachine self.new) }
         ensures live { OnOk result (self.new.live ≡ true) }
         ensures dead { OnErr result (self.new.live ≡ false) }
-        ensures on { OnOk result ((self.new.moment ≡ at) × (self.new.asked ≡ self.old.asked + length asks.now)) }
+        ensures on { OnOk result
+            ((self.new.moment ≡ at) × (self.new.asked ≡ self.old.asked + length asks.now)) }
         ensures count { OnOk result (length self.new.volumes.items ≡ length self.old.volumes.items) }
-        ensures run { OnOk result ((p : Policy) (c : Config) (from : ℕ) (ws : List Asked) → HasRun p c from ws self.old → HasRun p c from (ws ++ record { moment = at; asks = asks.now } ∷ []) self.new) }
+        ensures run { OnOk result ((p : Policy) (c : Config) (from : ℕ) (ws : List Asked)
+            → HasRun p c from ws self.old
+            → HasRun p c from (ws ++ record { moment = at; asks = asks.now } ∷ []) self.new) }
     {
         self.live = false;
         run(
@@ -281,7 +298,8 @@ impl Machine {
         requires machine { IsMachine self }
         requires live { self.live ≡ true }
         requires later { self.moment ≤ to }
-        ensures { (p : Policy) (c : Config) (from : ℕ) (ws : List Asked) → HasRun p c from ws self → result ≡ compared p c from ws to }
+        ensures { (p : Policy) (c : Config) (from : ℕ) (ws : List Asked) → HasRun p c from ws self
+            → result ≡ compared p c from ws to }
     {
         sum_up(self.disks.as_slice(), to, &self.powers)
     }

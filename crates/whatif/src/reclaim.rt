@@ -20,9 +20,12 @@ impl Volume {
         ensures reach { reach_in self.new ≡ reach_in self.old }
         ensures next { self.new.next ≡ self.old.next }
         ensures none { IfNone result ((next_due (look_in self.old) ≡ None) × (self.new ≡ self.old)) }
-        ensures step { put_step (reach_in self.old) (look_in self.old) ≡ put_answer (reach_in self.old) (look_in self.new) result }
-        ensures within { IfSome result (λ d. (disks : ℕ) → IsWithin disks (reach_in self.old) → d < disks) }
-        ensures lowers { IfSome result (λ d. left (listed_in self.new.index.entries) < left (listed_in self.old.index.entries)) }
+        ensures step { put_step (reach_in self.old) (look_in self.old)
+            ≡ put_answer (reach_in self.old) (look_in self.new) result }
+        ensures within { IfSome result
+            (λ d. (disks : ℕ) → IsWithin disks (reach_in self.old) → d < disks) }
+        ensures lowers { IfSome result (λ d.
+            left (listed_in self.new.index.entries) < left (listed_in self.old.index.entries)) }
     {
         if !self.home_up {
             return None;
@@ -42,10 +45,14 @@ impl Volume {
         ensures settled { self.new.settled ≡ false }
         ensures reach { reach_in self.new ≡ reach_in self.old }
         ensures next { self.new.next ≡ self.old.next }
-        ensures none { IfNone result ((next_to_go (look_in self.old) ≡ None) × (self.new ≡ self.old)) }
-        ensures step { give_step (reach_in self.old) (look_in self.old) ≡ give_answer (look_in self.new) result }
-        ensures within { IfSome result (λ d. (disks : ℕ) → IsWithin disks (reach_in self.old) → d < disks) }
-        ensures lowers { IfSome result (λ d. left (listed_in self.new.index.entries) < left (listed_in self.old.index.entries)) }
+        ensures none { IfNone result
+            ((next_to_go (look_in self.old) ≡ None) × (self.new ≡ self.old)) }
+        ensures step { give_step (reach_in self.old) (look_in self.old)
+            ≡ give_answer (look_in self.new) result }
+        ensures within { IfSome result
+            (λ d. (disks : ℕ) → IsWithin disks (reach_in self.old) → d < disks) }
+        ensures lowers { IfSome result (λ d.
+            left (listed_in self.new.index.entries) < left (listed_in self.old.index.entries)) }
     {
         let version = next_to_go(&self.index, self.ups.as_slice())?;
         let record = self.index.find(version)?;
@@ -66,7 +73,8 @@ impl Volume {
         ensures moments { moments_of disks.new ≡ moments_of disks.old }
         ensures next { self.new.next ≡ self.old.next }
         ensures none { next_due (look_in self.new) ≡ None }
-        ensures done { HasDone (λ r l. repeated (left l.listed) (put_step r) l) self.old self.new disks.old disks.new }
+        ensures done { HasDone (λ r l. repeated (left l.listed) (put_step r) l) self.old self.new
+            disks.old disks.new }
     {
         'steps: loop {
             match self.put_home() {
@@ -91,7 +99,8 @@ impl Volume {
         ensures moments { moments_of disks.new ≡ moments_of disks.old }
         ensures next { self.new.next ≡ self.old.next }
         ensures none { next_to_go (look_in self.new) ≡ None }
-        ensures done { HasDone (λ r l. repeated (left l.listed) (give_step r) l) self.old self.new disks.old disks.new }
+        ensures done { HasDone (λ r l. repeated (left l.listed) (give_step r) l) self.old self.new
+            disks.old disks.new }
     {
         'steps: loop {
             match self.give_up() {

@@ -50,7 +50,8 @@ impl Volume {
     pub(crate) fn new(alloc: Global, own: u32, loggers: Vec<u32>) -> Result<Volume, NoMemory>
         requires few { length loggers.items ≤ 64 }
         ensures volume { IfOk result IsVolume }
-        ensures reach { IfOk result (λ v. reach_in v ≡ record { own = own; loggers = loggers.items }) }
+        ensures reach { IfOk result
+            (λ v. reach_in v ≡ record { own = own; loggers = loggers.items }) }
         ensures look { IfOk result (λ v. look_in v ≡ first_look (reach_in v)) }
     {
         let count = loggers.len();
@@ -71,7 +72,8 @@ impl Volume {
         requires volume { IsVolume self.old }
         ensures volume { IsVolume self.new }
         ensures flag { self.new.home_up ≡ awake }
-        ensures rest { self.new ≡ record self.old { home_up = self.new.home_up; settled = self.new.settled } }
+        ensures rest { self.new
+            ≡ record self.old { home_up = self.new.home_up; settled = self.new.settled } }
     {
         self.settled &= !awake | self.home_up;
         self.home_up = awake;
@@ -83,7 +85,8 @@ impl Volume {
         requires within { lane < length self.old.ups.items }
         ensures volume { IsVolume self.new }
         ensures flag { self.new.ups.items ≡ slice_set self.old.ups.items lane awake }
-        ensures rest { self.new ≡ record self.old { ups = self.new.ups; settled = self.new.settled } }
+        ensures rest { self.new
+            ≡ record self.old { ups = self.new.ups; settled = self.new.settled } }
     {
         self.settled &= !awake | self.ups[lane];
         self.ups[lane] = awake;
@@ -94,7 +97,8 @@ impl Volume {
         requires volume { IsVolume self.old }
         requires within { IsWithin (length disks.now) (reach_in self.old) }
         ensures volume { IsVolume self.new }
-        ensures seen { (ss : List SpindleState) → AreDisks disks.now ss → volume_in self.new ≡ seeing ss (volume_in self.old) }
+        ensures seen { (ss : List SpindleState) → AreDisks disks.now ss
+            → volume_in self.new ≡ seeing ss (volume_in self.old) }
         ensures reach { reach_in self.new ≡ reach_in self.old }
         ensures next { self.new.next ≡ self.old.next }
     {
@@ -109,7 +113,8 @@ impl Volume {
     fn wake_source(&mut self, lbn: u64) -> u32
         requires volume { IsVolume self.old }
         ensures volume { IsVolume self.new }
-        ensures source { result ≡ source_of (reach_in self.old) (listed_in self.old.index.entries) lbn }
+        ensures source { result
+            ≡ source_of (reach_in self.old) (listed_in self.old.index.entries) lbn }
         ensures look { look_in self.new ≡ woken (look_in self.old) lbn 1 }
         ensures reach { reach_in self.new ≡ reach_in self.old }
     {
@@ -152,7 +157,8 @@ impl Volume {
         requires few { count ≤ 128 }
         requires blocks { lbn + count ≤ 2 ^ 32 }
         ensures volume { OnOk result (IsVolume self.new) }
-        ensures look { OnOk result (look_in self.new ≡ placed (Log lane) (look_in self.old) (write_of lbn count)) }
+        ensures look { OnOk result
+            (look_in self.new ≡ placed (Log lane) (look_in self.old) (write_of lbn count)) }
         ensures reach { OnOk result (reach_in self.new ≡ reach_in self.old) }
     {
         self.index.reserve(1)?;
@@ -183,7 +189,8 @@ impl Volume {
         ensures volume { OnOk result (IsVolume self.new) }
         ensures kept { OnOk result (AllByRecursion IsKept disks.new) }
         ensures moments { OnOk result (moments_of disks.new ≡ moments_of disks.old) }
-        ensures done { OnOk result (HasDone (writing lbn count) self.old self.new disks.old disks.new) }
+        ensures done { OnOk result
+            (HasDone (writing lbn count) self.old self.new disks.old disks.new) }
     {
         let covered = self.index.covered(lbn, count);
         match place(
@@ -217,7 +224,8 @@ impl Volume {
         ensures volume { OnOk result (IsVolume self.new) }
         ensures kept { OnOk result (AllByRecursion IsKept disks.new) }
         ensures moments { OnOk result (moments_of disks.new ≡ moments_of disks.old) }
-        ensures done { OnOk result (HasDone (answering ask.now.kind ask.now.lbn ask.now.count) self.old self.new disks.old disks.new) }
+        ensures done { OnOk result (HasDone (answering ask.now.kind ask.now.lbn ask.now.count)
+            self.old self.new disks.old disks.new) }
     {
         match ask.kind {
             Kind::Read => {

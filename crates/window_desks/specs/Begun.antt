@@ -19,7 +19,8 @@ SpindlePass = PassOf Spindle SpindleBase
 -- one pass for each spindle, in order, in no turn
 pub record AreKeepers {D : Type 0} (shared : Shared D) (ps : List SpindlePass) : Type 0 where
   pub count : length ps ≡ length shared.spindles.items
-  pub own : (k : ℕ) (l : _) (d : SpindlePass) → k < length ps → IsPassOf (slice_index_or shared.spindles.items k l) (slice_index_or ps k d)
+  pub own : (k : ℕ) (l : _) (d : SpindlePass) → k < length ps
+      → IsPassOf (slice_index_or shared.spindles.items k l) (slice_index_or ps k d)
   pub free : (k : ℕ) (d : SpindlePass) → k < length ps → IsFree (slice_index_or ps k d)
 
 -- the spindle's keeper let the moment t come, and was told whether the disk is awake
@@ -28,29 +29,38 @@ pub record HasBegun (t : ℕ) (awake : Bool) (p q : SpindlePass) : Type 0 where
   pub free : IsFree q
   pub mine : pass_mine q ≡ pass_mine p ++ (pass_number p, operation_of (Began t)) ∷ []
   -- behind what it had seen, and what other passes did since
-  pub seen : (before : List Entry) × Begins (pass_seen p) before × (pass_seen q ≡ before ++ (pass_number p, operation_of (Began t)) ∷ [])
+  pub seen : (before : List Entry) × Begins (pass_seen p) before
+      × (pass_seen q ≡ before ++ (pass_number p, operation_of (Began t)) ∷ [])
   pub answer : awake ≡ (state_after (pass_lock q).base (pass_seen q)).awake
 
 -- whether each spindle is awake, in order
 abbrev pub HaveBegun : (t : ℕ) → (awake : List Bool) → List SpindlePass → List SpindlePass → Type 0
-HaveBegun t awake ps qs = (k : ℕ) (b : Bool) (d : SpindlePass) → k < length ps → HasBegun t (slice_index_or awake k b) (slice_index_or ps k d) (slice_index_or qs k d)
+HaveBegun t awake ps qs = (k : ℕ) (b : Bool) (d : SpindlePass) → k < length ps
+    → HasBegun t (slice_index_or awake k b) (slice_index_or ps k d) (slice_index_or qs k d)
 
 -- so did the keeper of each volume
-abbrev pub HaveBegunVolumes : {D : Type 0} → (tells : Bool) → (awake : List Bool) → List (ManagerPass D) → List (ManagerPass D) → Type 0
-HaveBegunVolumes {D} tells awake ps qs = (k : ℕ) (d : ManagerPass D) → k < length ps → HasBegunVolume tells awake (slice_index_or ps k d) (slice_index_or qs k d)
+abbrev pub HaveBegunVolumes : {D : Type 0} → (tells : Bool) → (awake : List Bool)
+    → List (ManagerPass D) → List (ManagerPass D) → Type 0
+HaveBegunVolumes {D} tells awake ps qs =
+    (k : ℕ) (d : ManagerPass D) → k < length ps
+    → HasBegunVolume tells awake (slice_index_or ps k d) (slice_index_or qs k d)
 
--- there was no memory for what the moment changes: the keeper's turn changed nothing, and its entry says so
+-- there was no memory for what the moment changes: the keeper's turn changed nothing, and its entry
+-- says so
 pub record HasStayed (p q : SpindlePass) : Type 0 where
   pub same : IsSamePass p q
   pub mine : pass_mine q ≡ pass_mine p ++ (pass_number p, operation_of Stayed) ∷ []
-  pub seen : (before : List Entry) × Begins (pass_seen p) before × (pass_seen q ≡ before ++ (pass_number p, operation_of Stayed) ∷ [])
+  pub seen : (before : List Entry) × Begins (pass_seen p) before
+      × (pass_seen q ≡ before ++ (pass_number p, operation_of Stayed) ∷ [])
 
--- Where memory ran out: some first spindles began, the next one stayed as it was, and the others had no turn.
+-- Where memory ran out: some first spindles began, the next one stayed as it was, and the others
+-- had no turn.
 pub record HaveBegunFirst (t : ℕ) (ps qs : List SpindlePass) : Type 0 where
   pub count : ℕ
   pub within : count < length ps
   pub awake : List Bool
-  pub begun : (k : ℕ) (b : Bool) (d : SpindlePass) → k < count → HasBegun t (slice_index_or awake k b) (slice_index_or ps k d) (slice_index_or qs k d)
+  pub begun : (k : ℕ) (b : Bool) (d : SpindlePass) → k < count
+      → HasBegun t (slice_index_or awake k b) (slice_index_or ps k d) (slice_index_or qs k d)
   pub stayed : (d : SpindlePass) → HasStayed (slice_index_or ps count d) (slice_index_or qs count d)
   pub others : (k : ℕ) (d : SpindlePass) → count < k → slice_index_or qs k d ≡ slice_index_or ps k d
 

@@ -17,12 +17,14 @@ abbrev pub HoldsOutcomes : {D : Type 0} → List Request → ℕ → Desk D → 
 HoldsOutcomes rs k d = length d.outcomes.items ≡ length (own_requests k rs)
 
 -- the outcomes of the first requests are left, and those of the others are taken
-pub record IsTaken {D : Type 0} (left done : List Request) (os : List Outcome) (k : ℕ) (d e : Desk D) : Type 0 where
+pub record IsTaken {D : Type 0} (left done : List Request) (os : List Outcome) (k : ℕ)
+    (d e : Desk D) : Type 0 where
   pub same : IsSameDesk d e
   pub outcomes : d.outcomes.items ≡ e.outcomes.items ++ outcomes_of k done os
   pub count : length e.outcomes.items ≡ length (own_requests k left)
 
-pub record IsCollected {D : Type 0} (rs : List Request) (os : List Outcome) (k : ℕ) (d e : Desk D) : Type 0 where
+pub record IsCollected {D : Type 0} (rs : List Request) (os : List Outcome) (k : ℕ) (d e : Desk D) :
+    Type 0 where
   pub same : IsSameDesk d e
   pub outcomes : outcomes_of k rs os ≡ d.outcomes.items
   pub empty : e.outcomes.items ≡ []

@@ -30,4 +30,5 @@ pub record HasOwn {D : Type 0} (rs : List Request) (k : ℕ) (d e : Desk D) : Ty
   pub room : length e.requests.items ≤ vec_capacity e.outcomes
 
 abbrev pub AreHandedOut : {D : Type 0} → List Request → List (Desk D) → List (Desk D) → Type 0
-AreHandedOut {D} rs ds es = (k : ℕ) (d : Desk D) → k < length ds → HasOwn rs k (slice_index_or ds k d) (slice_index_or es k d)
+AreHandedOut {D} rs ds es = (k : ℕ) (d : Desk D) → k < length ds
+    → HasOwn rs k (slice_index_or ds k d) (slice_index_or es k d)

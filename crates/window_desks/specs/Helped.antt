@@ -8,21 +8,30 @@ use Rattle.request_turns.specs.Helped.{AreKept, ManagerLock, IsPassAt, HasHelped
 use Rattle.request_turns.specs.Turns.{ManagerPass, notes_seen, WasDown, faulty_part}
 
 -- the passes of the locks, in order
-abbrev pub ArePassesAt : {D : Type 0} → List (ManagerLock D) → (number : ℕ) → List (ManagerPass D) → Type 0
-ArePassesAt {D} ls number ps = (k : ℕ) (l : ManagerLock D) (d : ManagerPass D) → k < length ps → IsPassAt (slice_index_or ls k l) number (slice_index_or ps k d)
+abbrev pub ArePassesAt : {D : Type 0} → List (ManagerLock D) → (number : ℕ) → List (ManagerPass D)
+    → Type 0
+ArePassesAt {D} ls number ps = (k : ℕ) (l : ManagerLock D) (d : ManagerPass D) → k < length ps
+    → IsPassAt (slice_index_or ls k l) number (slice_index_or ps k d)
 
 -- the managers use these shared locks
 abbrev pub AreSharing : {D : Type 0} → Shared D → List (ManagerPass D) → Type 0
-AreSharing {D} shared ps = (k : ℕ) (d : ManagerPass D) → k < length ps → IsShared shared (pass_lock (slice_index_or ps k d)).base
+AreSharing {D} shared ps = (k : ℕ) (d : ManagerPass D) → k < length ps
+    → IsShared shared (pass_lock (slice_index_or ps k d)).base
 
 -- the helper made turns with each of them
-abbrev pub AreHelped : {D : Type 0} → (tells : Bool) → List (ManagerPass D) → List (ManagerPass D) → Type 0
-AreHelped {D} tells ps qs = (k : ℕ) (d : ManagerPass D) → k < length ps → HasHelped tells (slice_index_or ps k d) (slice_index_or qs k d)
+abbrev pub AreHelped : {D : Type 0} → (tells : Bool) → List (ManagerPass D) → List (ManagerPass D)
+    → Type 0
+AreHelped {D} tells ps qs = (k : ℕ) (d : ManagerPass D) → k < length ps
+    → HasHelped tells (slice_index_or ps k d) (slice_index_or qs k d)
 
 -- a refused step is that of a volume, and names a part of it that was down
 abbrev pub IsCause : {D : Type 0} → List (ManagerPass D) → Option (ℕ × StepFault) → Type 0
-IsCause {D} qs fault = (v : ℕ) (f : StepFault) → fault ≡ Some (v, f) → (v < length qs) × ((d : ManagerPass D) → WasDown (faulty_part f) (notes_seen (slice_index_or qs v d)))
+IsCause {D} qs fault = (v : ℕ) (f : StepFault) → fault ≡ Some (v, f)
+    → (v < length qs)
+    × ((d : ManagerPass D) → WasDown (faulty_part f) (notes_seen (slice_index_or qs v d)))
 
 -- where no step was refused, no disk call failed in the turns that they made
-abbrev pub AreAllKept : {D : Type 0} → Option (ℕ × StepFault) → (ps qs : List (ManagerPass D)) → Type 0
-AreAllKept {D} fault ps qs = fault ≡ None → (k : ℕ) (d : ManagerPass D) → k < length ps → AreKept (slice_index_or ps k d) (slice_index_or qs k d)
+abbrev pub AreAllKept : {D : Type 0} → Option (ℕ × StepFault) → (ps qs : List (ManagerPass D))
+    → Type 0
+AreAllKept {D} fault ps qs = fault ≡ None → (k : ℕ) (d : ManagerPass D) → k < length ps
+    → AreKept (slice_index_or ps k d) (slice_index_or qs k d)

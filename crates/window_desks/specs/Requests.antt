@@ -18,7 +18,8 @@ own_requests v rs = filter (λ (r : Request). r.volume == v) rs
 
 -- each of them that names this volume lies in it
 abbrev pub AreWithin : ManagerBase → (volume : ℕ) → List Request → Type 0
-AreWithin b volume rs = (k : ℕ) (r : Request) → k < length rs → (slice_index_or rs k r).volume ≡ volume → IsWithin b (slice_index_or rs k r)
+AreWithin b volume rs = (k : ℕ) (r : Request) → k < length rs
+    → (slice_index_or rs k r).volume ≡ volume → IsWithin b (slice_index_or rs k r)
 
 -- each request names one of so many volumes
 abbrev pub AreOfVolumes : ℕ → List Request → Type 0
@@ -56,7 +57,8 @@ answers_to (r ∷ rs) (o ∷ os) = record { request = asked r; outcome = told o 
 abbrev pub outcomes_of : ℕ → List Request → List Outcome → List Outcome
 outcomes_of k [] os = []
 outcomes_of k (r ∷ rs) [] = []
-outcomes_of k (r ∷ rs) (o ∷ os) = cond (r.volume == k) (o ∷ outcomes_of k rs os) (outcomes_of k rs os)
+outcomes_of k (r ∷ rs) (o ∷ os) =
+    cond (r.volume == k) (o ∷ outcomes_of k rs os) (outcomes_of k rs os)
 
 -- both hold
 abbrev pub both : Bool → Bool → Bool
@@ -71,4 +73,5 @@ going_after going (o ∷ os) = going_after (both going (was_answered o)) os
 -- a request is run exactly until the first one that isn't answered
 abbrev pub StopsAtRefusal : Bool → List Outcome → Type 0
 StopsAtRefusal going [] = ⊤
-StopsAtRefusal going (o ∷ os) = (was_run o ≡ going) × StopsAtRefusal (both going (was_answered o)) os
+StopsAtRefusal going (o ∷ os) =
+    (was_run o ≡ going) × StopsAtRefusal (both going (was_answered o)) os

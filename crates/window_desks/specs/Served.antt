@@ -24,9 +24,10 @@ pub record HasServed {D : Type 0} (tells : Bool) (rs : List Request) (d e : Desk
   pub reclaim : e.fault ≡ d.fault
   pub counted : HasCounted tells d.tally e.tally d.worker e.worker
 
--- these were served next, of which each is run as long as `going` holds and those before it were answered; `next` says whether the
--- one behind them is to be run
-pub record HasServedNext {D : Type 0} (tells : Bool) (rs : List Request) (going : Bool) (d e : Desk D) (next : Bool) : Type 0 where
+-- these were served next, of which each is run as long as `going` holds and those before it were
+-- answered; `next` says whether the one behind them is to be run
+pub record HasServedNext {D : Type 0} (tells : Bool) (rs : List Request) (going : Bool)
+    (d e : Desk D) (next : Bool) : Type 0 where
   pub told : List Outcome
   pub outcomes : e.outcomes.items ≡ d.outcomes.items ++ told
   pub id : e.id ≡ d.id
@@ -43,7 +44,8 @@ pub record HasServedNext {D : Type 0} (tells : Bool) (rs : List Request) (going 
   pub reclaim : e.fault ≡ d.fault
   pub counted : HasCounted tells d.tally e.tally d.worker e.worker
 
--- the desk's requests from one place up to another were served, and the one behind them, if there is one, is to be run
+-- the desk's requests from one place up to another were served, and the one behind them, if there
+-- is one, is to be run
 pub record HasServedUpTo {D : Type 0} (tells : Bool) (start end : ℕ) (d e : Desk D) : Type 0 where
   pub order : start ≤ end
   pub within : end ≤ length d.requests.items

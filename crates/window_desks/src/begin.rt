@@ -31,13 +31,18 @@ fn begin_spindles<R: Wait>(
     awake: &mut Vec<bool>,
 ) -> Result<(), NoMemory>
     requires count { length keepers.old ≡ length spindles.now }
-    requires own { (k : ℕ) (l : _) (d : _) → k < length keepers.old → IsPassOf (slice_index_or spindles.now k l) (slice_index_or keepers.old k d) }
-    requires free { (k : ℕ) (d : _) → k < length keepers.old → IsFree (slice_index_or keepers.old k d) }
+    requires own { (k : ℕ) (l : _) (d : _) → k < length keepers.old
+        → IsPassOf (slice_index_or spindles.now k l) (slice_index_or keepers.old k d) }
+    requires free { (k : ℕ) (d : _) → k < length keepers.old
+        → IsFree (slice_index_or keepers.old k d) }
     requires empty { awake.old.items ≡ [] }
     requires room { length keepers.old ≤ vec_capacity awake.old }
-    ensures own { (k : ℕ) (l : _) (d : _) → k < length keepers.new → IsPassOf (slice_index_or spindles.now k l) (slice_index_or keepers.new k d) }
-    ensures free { (k : ℕ) (d : _) → k < length keepers.new → IsFree (slice_index_or keepers.new k d) }
-    ensures same { (k : ℕ) (d : _) → k < length keepers.old → IsSamePass (slice_index_or keepers.old k d) (slice_index_or keepers.new k d) }
+    ensures own { (k : ℕ) (l : _) (d : _) → k < length keepers.new
+        → IsPassOf (slice_index_or spindles.now k l) (slice_index_or keepers.new k d) }
+    ensures free { (k : ℕ) (d : _) → k < length keepers.new
+        → IsFree (slice_index_or keepers.new k d) }
+    ensures same { (k : ℕ) (d : _) → k < length keepers.old
+        → IsSamePass (slice_index_or keepers.old k d) (slice_index_or keepers.new k d) }
     ensures begun { OnOk result (HaveBegun t awake.new.items keepers.old keepers.new) }
     ensures stopped { OnErr result (HaveBegunFirst t keepers.old keepers.new) }
     ensures len { OnOk result (length awake.new.items ≡ length keepers.old) }
@@ -58,9 +63,12 @@ fn begin_volumes<R: Wait, D: Disk>(
 )
     requires count { length keepers.old ≡ length locks.now }
     requires passes { ArePassesAt locks.now keeper keepers.old }
-    requires owners { (k : ℕ) (d : _) → k < length keepers.old → (pass_lock (slice_index_or keepers.old k d)).base.volume.began.owner ≡ k }
+    requires owners { (k : ℕ) (d : _) → k < length keepers.old
+        → (pass_lock (slice_index_or keepers.old k d)).base.volume.began.owner ≡ k }
     requires volumes { length keepers.old ≤ length awake.now }
-    requires views { (k : ℕ) (d : _) → k < length keepers.old → AllByRecursion (λ (b : LaneBase). b.logger < length awake.now) (pass_lock (slice_index_or keepers.old k d)).base.lanes }
+    requires views { (k : ℕ) (d : _) → k < length keepers.old
+        → AllByRecursion (λ (b : LaneBase). b.logger < length awake.now)
+        (pass_lock (slice_index_or keepers.old k d)).base.lanes }
     ensures { HaveBegunVolumes D.tells awake.now keepers.old keepers.new }
 {
     for k in 0..keepers.len() {
@@ -84,8 +92,10 @@ pub fn begin_window<'l, D: Disk, R: Wait>(
     requires keepers { AreKeepers shared.now keepers.old }
     ensures floor { IsFloor floor.new }
     ensures keepers { AreKeepers shared.now keepers.new }
-    ensures same { (k : ℕ) (d : SpindlePass) → k < length keepers.old → IsSamePass (slice_index_or keepers.old k d) (slice_index_or keepers.new k d) }
-    ensures begun { OnOk result ((awake : List Bool) × HaveBegun t awake keepers.old keepers.new × HaveBegunVolumes D.tells awake floor.old.keepers.items floor.new.keepers.items) }
+    ensures same { (k : ℕ) (d : SpindlePass) → k < length keepers.old
+        → IsSamePass (slice_index_or keepers.old k d) (slice_index_or keepers.new k d) }
+    ensures begun { OnOk result ((awake : List Bool) × HaveBegun t awake keepers.old keepers.new
+        × HaveBegunVolumes D.tells awake floor.old.keepers.items floor.new.keepers.items) }
     ensures unchanged { floor.new ≡ record floor.old { keepers = floor.new.keepers } }
     ensures refused { OnErr result (floor.new ≡ floor.old) }
     ensures stopped { OnErr result (FailToBegin t keepers.old keepers.new) }

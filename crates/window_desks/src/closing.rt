@@ -67,7 +67,8 @@ pub fn close_all<D: Disk, R: Wait>(
     requires count { length desks.old ≡ length locks.now }
     requires passes { AreAt locks.now desks.old }
     requires shared { ShareDesks shared.now desks.old }
-    requires faultless { (k : ℕ) (d : Desk _) → k < length desks.old → (slice_index_or desks.old k d).fault ≡ None }
+    requires faultless { (k : ℕ) (d : Desk _) → k < length desks.old
+        → (slice_index_or desks.old k d).fault ≡ None }
     ensures { AreClosed D.tells reclaim desks.old desks.new }
 {
     match reclaim {

@@ -23,11 +23,14 @@ impl<D: Disk> Desk<D> {
 /// Moves the outcomes of all desks into `out`, in the order of the requests. It takes no memory.
 pub fn collect<D: Disk>(desks: &mut [Desk<D>], requests: &[Request], out: &mut Vec<Outcome>)
     requires volumes { AreOfVolumes (length desks.old) requests.now }
-    requires each { (k : ℕ) (d : Desk _) → k < length desks.old → HoldsOutcomes requests.now k (slice_index_or desks.old k d) }
+    requires each { (k : ℕ) (d : Desk _) → k < length desks.old
+        → HoldsOutcomes requests.now k (slice_index_or desks.old k d) }
     requires empty { out.old.items ≡ [] }
     requires room { length requests.now ≤ vec_capacity out.old }
     ensures len { length out.new.items ≡ length requests.now }
-    ensures each { (k : ℕ) (d : Desk _) → k < length desks.old → IsCollected requests.now out.new.items k (slice_index_or desks.old k d) (slice_index_or desks.new k d) }
+    ensures each { (k : ℕ) (d : Desk _) → k < length desks.old
+        → IsCollected requests.now out.new.items k (slice_index_or desks.old k d)
+        (slice_index_or desks.new k d) }
 {
     let mut left = requests.len();
     while 0 < left {

@@ -32,7 +32,8 @@ impl<D: Disk> Desk<D> {
 }
 
 fn begin_all<D: Disk>(desks: &mut [Desk<D>])
-    ensures { (k : ℕ) (d : Desk _) → k < length desks.old → IsHanded [] (slice_index_or desks.old k d) (slice_index_or desks.new k d) }
+    ensures { (k : ℕ) (d : Desk _) → k < length desks.old
+        → IsHanded [] (slice_index_or desks.old k d) (slice_index_or desks.new k d) }
 {
     for k in 0..desks.len() {
         desks[k].begin();

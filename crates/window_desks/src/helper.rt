@@ -32,7 +32,8 @@ impl HelperRoom {
     // Takes the answer of a step: whether it did something.
     fn took(&mut self, volume: u32, answer: Result<bool, StepFault>) -> bool
         ensures kept { (f : _) → self.old.fault ≡ Some f → self.new.fault ≡ Some f }
-        ensures fault { (f : _) → self.new.fault ≡ Some f → (self.old.fault ≡ Some f) ⊎ ((f.0 ≡ volume) × (answer ≡ Err f.1)) }
+        ensures fault { (f : _) → self.new.fault ≡ Some f
+            → (self.old.fault ≡ Some f) ⊎ ((f.0 ≡ volume) × (answer ≡ Err f.1)) }
         ensures fetch { self.new.fetch ≡ self.old.fetch }
         ensures tally { self.new.tally ≡ self.old.tally }
         ensures none { self.new.fault ≡ None → is_ok answer ≡ true }
@@ -64,7 +65,9 @@ fn help_one<D: Disk, R: Wait>(
     ensures counted { HasCounted D.tells help.old.tally help.new.tally pass.old pass.new }
     ensures all_kept { help.new.fault ≡ None → AreKept pass.old pass.new }
     ensures kept { (f : _) → help.old.fault ≡ Some f → help.new.fault ≡ Some f }
-    ensures fault { (f : _) → help.new.fault ≡ Some f → (help.old.fault ≡ Some f) ⊎ ((f.0 ≡ volume) × WasDown (faulty_part f.1) (notes_seen pass.new)) }
+    ensures fault { (f : _) → help.new.fault ≡ Some f
+        → (help.old.fault ≡ Some f)
+        ⊎ ((f.0 ≡ volume) × WasDown (faulty_part f.1) (notes_seen pass.new)) }
 {
     let fetched = fetch_turn(rt, lock, pass, shared, &mut help.fetch);
     let fetched = help.took(volume, fetched);

@@ -39,12 +39,14 @@ fn answer_first<D: Disk, R: Wait>(
     requires some { at < end }
     requires end { end ≤ length desk.old.requests.items }
     requires batch { IsBatch (slice_range desk.old.requests.items at end) }
-    ensures answered { HasAnsweredMany D.tells (slice_range desk.old.requests.items at end) result.0 result.1 desk.old.worker desk.new.worker }
+    ensures answered { HasAnsweredMany D.tells (slice_range desk.old.requests.items at end) result.0
+        result.1 desk.old.worker desk.new.worker }
     ensures id { desk.new.id ≡ desk.old.id }
     ensures requests { desk.new.requests ≡ desk.old.requests }
     ensures outcomes { desk.new.outcomes ≡ desk.old.outcomes }
     ensures fault { desk.new.fault ≡ desk.old.fault }
-    ensures counted { HasCounted D.tells desk.old.tally desk.new.tally desk.old.worker desk.new.worker }
+    ensures counted { HasCounted D.tells desk.old.tally desk.new.tally desk.old.worker
+        desk.new.worker }
 {
     let requests = &desk.requests.as_slice()[at..end];
     let first = &requests[0];

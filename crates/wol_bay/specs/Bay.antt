@@ -9,7 +9,8 @@ use Rattle.wol_disk.specs.Record.{chosen}
 abbrev pub Name : Type 0
 Name = List ℕ
 
--- An image that is in the bay: the values of its blocks since the last sync, and the bytes behind its last block.
+-- An image that is in the bay: the values of its blocks since the last sync, and the bytes behind
+-- its last block.
 pub record Image : Type 0 where
   pub blocks : List (Values Block)
   pub rest : List ℕ
@@ -18,8 +19,8 @@ pub record Image : Type 0 where
 abbrev pub bytes_of : Image → ℕ
 bytes_of i = 512 * length i.blocks + length i.rest
 
--- What a bay tells: its images, the names that are out with the sizes of their parts, and the parts that came back
--- with a fault, each by its name and place.
+-- What a bay tells: its images, the names that are out with the sizes of their parts, and the parts
+-- that came back with a fault, each by its name and place.
 pub record Told : Type 0 where
   pub images : List (Name × Image)
   pub out : List (Name × List ℕ)
@@ -72,11 +73,16 @@ removed name t = record t { images = without name t.images }
 abbrev pub with_image : Name → Image → Told → Told
 with_image name i t = record t { images = without name t.images ++ (name, i) ∷ [] }
 
--- the image that these bytes are: their whole blocks, the same in every image of the disk, and the bytes behind the last
+-- the image that these bytes are: their whole blocks, the same in every image of the disk, and the
+-- bytes behind the last
 abbrev pub image_of : List ℕ → Image
-image_of bytes = record { blocks = only (first_chunks 512 (length bytes / 512) bytes); rest = drop (length bytes / 512 * 512) bytes }
+image_of bytes = record {
+  blocks = only (first_chunks 512 (length bytes / 512) bytes);
+  rest = drop (length bytes / 512 * 512) bytes;
+}
 
--- one of the images that a crash may leave: of each block one value, by the number that is chosen for it
+-- one of the images that a crash may leave: of each block one value, by the number that is chosen
+-- for it
 abbrev pub crashed : List ℕ → Image → Image
 crashed choice i = record i { blocks = only (chosen choice i.blocks) }
 
@@ -90,7 +96,8 @@ restarted name choice t = restarted_as name choice (at_name name t.images) t
 
 -- an image went out
 abbrev pub sent_out : Name → List ℕ → Told → Told
-sent_out name sizes t = record { images = without name t.images; out = t.out ++ (name, sizes) ∷ []; faulty = t.faulty }
+sent_out name sizes t =
+    record { images = without name t.images; out = t.out ++ (name, sizes) ∷ []; faulty = t.faulty }
 
 -- the images with this one, where its blocks are told
 abbrev pub stored : Name → Option (List (Values Block)) → List (Name × Image) → List (Name × Image)

@@ -5,4 +5,5 @@ use Rattle.wol_bay.specs.Stored.{stored_blocks}
 use Rattle.wol_bay.specs.declared.held.Image as held
 
 abbrev pub named_image : held.Image → Name × Image
-named_image i = (string_bytes i.name, record { blocks = stored_blocks i.parts.items; rest = i.rest.items })
+named_image i =
+    (string_bytes i.name, record { blocks = stored_blocks i.parts.items; rest = i.rest.items })

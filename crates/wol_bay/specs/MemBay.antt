@@ -22,14 +22,16 @@ abbrev pub named_places : Faulty → List (Name × ℕ)
 named_places f = each_place (string_bytes f.name) f.places.items
 
 -- a part that has its plan, and the fuse of the bay
-pub record IsArmed (name : Name) (place : ℕ) (plans : List Planned) (fuse : Option Fuse) (part : StopDisk MemDisk) : Type 0 where
+pub record IsArmed (name : Name) (place : ℕ) (plans : List Planned) (fuse : Option Fuse)
+    (part : StopDisk MemDisk) : Type 0 where
   pub plan : plan_of (inner_of part) ≡ record no_plan { calls = calls_for name place plans }
   pub same_fuse : option_map arc_value (fuse_of part) ≡ fuse
 
 -- parts that have theirs, the first at place k
 abbrev pub AreArmed : Name → ℕ → List Planned → Option Fuse → List (StopDisk MemDisk) → Type 0
 AreArmed name k plans fuse [] = ⊤
-AreArmed name k plans fuse (part ∷ parts) = IsArmed name k plans fuse part × AreArmed name (k + 1) plans fuse parts
+AreArmed name k plans fuse (part ∷ parts) =
+    IsArmed name k plans fuse part × AreArmed name (k + 1) plans fuse parts
 
 abbrev pub plans_of : MemBay → List Planned
 plans_of b = map planned_of b.plans.items
@@ -40,7 +42,12 @@ bay_fuse b = option_map arc_value b.fuse
 
 -- what such a bay tells
 abbrev pub told_of : List held.Image → List Leave → List Faulty → Told
-told_of images out faulty = record { images = map named_image images; out = map named_sizes out; faulty = flat_map named_places faulty }
+told_of images out faulty = record {
+  images = map named_image images;
+  out = map named_sizes out;
+  faulty = flat_map named_places faulty;
+}
 
 abbrev pub mem_bay_state : MemBay → BayState
-mem_bay_state b = record { told = Some (told_of b.images.items b.out.items b.faulty.items); faults = b.faults }
+mem_bay_state b =
+    record { told = Some (told_of b.images.items b.out.items b.faulty.items); faults = b.faults }

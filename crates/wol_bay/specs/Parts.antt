@@ -10,8 +10,8 @@ pub record IsFresh (size : ℕ) (values : Option (List (Values Block))) (part : 
   pub quiet : part.faults ≡ 0
   pub content : IfSome values (λ vs. part.values ≡ Some vs)
 
--- a part of zeros as it goes out: of this size, without a fault, zero in every image where it tells them, and told
--- where the bay tells
+-- a part of zeros as it goes out: of this size, without a fault, zero in every image where it tells
+-- them, and told where the bay tells
 pub record IsBlank (size : ℕ) (told : Option Told) (part : State) : Type 0 where
   pub sized : part.size ≡ size
   pub quiet : part.faults ≡ 0
@@ -23,17 +23,22 @@ abbrev pub AreBlank : {D : Type 0} → (D → State) → Option Told → List �
 AreBlank state told [] [] = ⊤
 AreBlank state told [] (part ∷ parts) = ⊥
 AreBlank state told (n ∷ ns) [] = ⊥
-AreBlank state told (n ∷ ns) (part ∷ parts) = IsBlank n told (state part) × AreBlank state told ns parts
+AreBlank state told (n ∷ ns) (part ∷ parts) =
+    IsBlank n told (state part) × AreBlank state told ns parts
 
 -- parts of these sizes in order, cut from these blocks
-abbrev pub AreCut : {D : Type 0} → (D → State) → Option (List (Values Block)) → List ℕ → List D → Type 0
+abbrev pub AreCut : {D : Type 0} → (D → State) → Option (List (Values Block)) → List ℕ → List D
+    → Type 0
 AreCut state blocks [] [] = ⊤
 AreCut state blocks [] (part ∷ parts) = ⊥
 AreCut state blocks (n ∷ ns) [] = ⊥
-AreCut state blocks (n ∷ ns) (part ∷ parts) = IsFresh n (option_map (take n) blocks) (state part) × AreCut state (option_map (drop n) blocks) ns parts
+AreCut state blocks (n ∷ ns) (part ∷ parts) =
+    IsFresh n (option_map (take n) blocks) (state part)
+    × AreCut state (option_map (drop n) blocks) ns parts
 
 -- blocks and those behind them, where both are told
-abbrev pub joined : Option (List (Values Block)) → Option (List (Values Block)) → Option (List (Values Block))
+abbrev pub joined : Option (List (Values Block)) → Option (List (Values Block))
+    → Option (List (Values Block))
 joined None ws = None
 joined (Some vs) None = None
 joined (Some vs) (Some ws) = Some (vs ++ ws)
@@ -49,7 +54,8 @@ sizes_of state parts = map (λ part. (state part).size) parts
 -- the places of the parts with a fault, the first part at place k
 abbrev pub faulty_from : {D : Type 0} → ℕ → (D → State) → List D → List ℕ
 faulty_from k state [] = []
-faulty_from k state (part ∷ parts) = if nat_lt 0 (state part).faults then k ∷ faulty_from (k + 1) state parts else faulty_from (k + 1) state parts
+faulty_from k state (part ∷ parts) = if nat_lt 0 (state part).faults
+    then k ∷ faulty_from (k + 1) state parts else faulty_from (k + 1) state parts
 
 abbrev pub faulty_places : {D : Type 0} → (D → State) → List D → List ℕ
 faulty_places state parts = faulty_from 0 state parts

@@ -21,7 +21,8 @@ is_for name place p = bytes_eq p.name name && nat_eq p.part place
 -- the calls of one part that are to fail
 abbrev pub calls_for : Name → ℕ → List Planned → List ℕ
 calls_for name place [] = []
-calls_for name place (p ∷ ps) = if is_for name place p then p.call ∷ calls_for name place ps else calls_for name place ps
+calls_for name place (p ∷ ps) =
+    if is_for name place p then p.call ∷ calls_for name place ps else calls_for name place ps
 
 -- the plans for other images
 abbrev pub plans_without : Name → List Planned → List Planned

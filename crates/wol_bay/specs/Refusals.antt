@@ -8,7 +8,8 @@ use Rattle.wol_bay.specs.declared.fault.BayFault.TheVariants.{Absent, WrongLengt
 -- the image is there and has as many bytes as the parts together
 abbrev pub refusal_of : List ℕ → Option Image → Option BayFault
 refusal_of sizes None = Some Absent
-refusal_of sizes (Some i) = if nat_eq (bytes_of i) (512 * sum sizes) then None else Some (WrongLength (bytes_of i))
+refusal_of sizes (Some i) =
+    if nat_eq (bytes_of i) (512 * sum sizes) then None else Some (WrongLength (bytes_of i))
 
 abbrev pub refusal : Name → List ℕ → Told → Option BayFault
 refusal name sizes t = refusal_of sizes (at_name name t.images)

@@ -26,12 +26,16 @@ pub trait Bay {
     /// answers only `Failed` or `NoMemory`.
     fn create(&mut self, name: &str, sizes: &[u64]) -> Result<Vec<Self::Part>, BayFault>
         requires { IsHome name.now (state self.old) }
-        ensures parts { IfOk result (λ parts. AreBlank Self.Part.state (state self.old).told sizes.now parts.items) }
-        ensures ok { OnOk result ((state self.new).told ≡ option_map (sent_out name.now sizes.now) (state self.old).told) }
+        ensures parts { IfOk result
+            (λ parts. AreBlank Self.Part.state (state self.old).told sizes.now parts.items) }
+        ensures ok { OnOk result ((state self.new).told
+            ≡ option_map (sent_out name.now sizes.now) (state self.old).told) }
         ensures err { OnErr result ((state self.new).told ≡ (state self.old).told) }
         ensures faults { IfErr result (λ e. (e ≡ BayFault.Failed) ⊎ (e ≡ BayFault.NoMemory)) }
-        ensures cause { IsErrOf result BayFault.Failed → Rose (state self.old).faults (state self.new).faults }
-        ensures calm { (IsErrOf result BayFault.Failed → ⊥) → (state self.new).faults ≡ (state self.old).faults }
+        ensures cause { IsErrOf result BayFault.Failed
+            → Rose (state self.old).faults (state self.new).faults }
+        ensures calm { (IsErrOf result BayFault.Failed → ⊥)
+            → (state self.new).faults ≡ (state self.old).faults }
         ensures counts { (state self.old).faults ≤ (state self.new).faults };
 
     /// Hands the image out, cut into parts of so many blocks in this order, each with a count of 0. `Absent` comes
@@ -39,20 +43,30 @@ pub trait Bay {
     /// number of all their blocks. After a refusal the image is as it was.
     fn attach(&mut self, name: &str, sizes: &[u64]) -> Result<Vec<Self::Part>, BayFault>
         requires { IsHome name.now (state self.old) }
-        ensures parts { IfOk result (λ parts. AreCut Self.Part.state (blocks_at name.now (state self.old).told) sizes.now parts.items) }
-        ensures ok { OnOk result ((state self.new).told ≡ option_map (sent_out name.now sizes.now) (state self.old).told) }
+        ensures parts { IfOk result (λ parts.
+            AreCut Self.Part.state (blocks_at name.now (state self.old).told) sizes.now
+            parts.items) }
+        ensures ok { OnOk result ((state self.new).told
+            ≡ option_map (sent_out name.now sizes.now) (state self.old).told) }
         ensures err { OnErr result ((state self.new).told ≡ (state self.old).told) }
-        ensures refused { IfSome (state self.old).told (λ t. IsAnswered (refusal name.now sizes.now t) result) }
-        ensures cause { IsErrOf result BayFault.Failed → Rose (state self.old).faults (state self.new).faults }
-        ensures calm { (IsErrOf result BayFault.Failed → ⊥) → (state self.new).faults ≡ (state self.old).faults }
+        ensures refused { IfSome (state self.old).told
+            (λ t. IsAnswered (refusal name.now sizes.now t) result) }
+        ensures cause { IsErrOf result BayFault.Failed
+            → Rose (state self.old).faults (state self.new).faults }
+        ensures calm { (IsErrOf result BayFault.Failed → ⊥)
+            → (state self.new).faults ≡ (state self.old).faults }
         ensures counts { (state self.old).faults ≤ (state self.new).faults };
 
     /// Takes the parts back. It can't be refused, and takes no memory. The bay's count rises exactly where a part's
     /// count isn't 0.
     fn detach(&mut self, name: &str, parts: Vec<Self::Part>)
         requires { IsOut name.now (sizes_of Self.Part.state parts.items) (state self.old) }
-        ensures back { (state self.new).told ≡ option_map (came_back name.now (blocks_of Self.Part.state parts.items) (faulty_places Self.Part.state parts.items)) (state self.old).told }
-        ensures cause { faulty_places Self.Part.state parts.items ≢ [] → Rose (state self.old).faults (state self.new).faults }
-        ensures calm { faulty_places Self.Part.state parts.items ≡ [] → (state self.new).faults ≡ (state self.old).faults }
+        ensures back { (state self.new).told
+            ≡ option_map (came_back name.now (blocks_of Self.Part.state parts.items)
+            (faulty_places Self.Part.state parts.items)) (state self.old).told }
+        ensures cause { faulty_places Self.Part.state parts.items ≢ []
+            → Rose (state self.old).faults (state self.new).faults }
+        ensures calm { faulty_places Self.Part.state parts.items ≡ []
+            → (state self.new).faults ≡ (state self.old).faults }
         ensures counts { (state self.old).faults ≤ (state self.new).faults };
 }

@@ -22,7 +22,8 @@ pub fn mark_faulty(places: &mut Vec<usize>, parts: &[StopDisk<MemDisk>])
 // Keeps what there is to tell of faults, and answers whether there is any.
 pub fn keep_faulty(list: &mut Vec<Faulty>, faulty: Faulty) -> bool
     requires { vec_len list.old < vec_capacity list.old }
-    ensures list { flat_map named_places list.new.items ≡ flat_map named_places list.old.items ++ named_places faulty }
+    ensures list { flat_map named_places list.new.items
+        ≡ flat_map named_places list.old.items ++ named_places faulty }
     ensures result { MatchBool result (faulty.places.items ≢ []) (faulty.places.items ≡ []) }
     ensures room { vec_len list.new ≤ vec_len list.old + 1 }
     ensures capacity { vec_capacity list.old ≤ vec_capacity list.new }

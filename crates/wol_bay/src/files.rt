@@ -207,9 +207,14 @@ impl<'a, R: Files<File = File>> Bay for FileBay<'a, R> {
     }
 
     fn detach(&mut self, name: &str, parts: Vec<FilePart>)
-        ensures back { (file_bay_state self.new).told ≡ option_map (came_back name.now (blocks_of ⟦<FilePart as Disk>⟧.state parts.items) (faulty_places ⟦<FilePart as Disk>⟧.state parts.items)) (file_bay_state self.old).told }
-        ensures cause { faulty_places ⟦<FilePart as Disk>⟧.state parts.items ≢ [] → Rose (file_bay_state self.old).faults (file_bay_state self.new).faults }
-        ensures calm { faulty_places ⟦<FilePart as Disk>⟧.state parts.items ≡ [] → (file_bay_state self.new).faults ≡ (file_bay_state self.old).faults }
+        ensures back { (file_bay_state self.new).told
+            ≡ option_map (came_back name.now (blocks_of ⟦<FilePart as Disk>⟧.state parts.items)
+            (faulty_places ⟦<FilePart as Disk>⟧.state parts.items))
+            (file_bay_state self.old).told }
+        ensures cause { faulty_places ⟦<FilePart as Disk>⟧.state parts.items ≢ []
+            → Rose (file_bay_state self.old).faults (file_bay_state self.new).faults }
+        ensures calm { faulty_places ⟦<FilePart as Disk>⟧.state parts.items ≡ []
+            → (file_bay_state self.new).faults ≡ (file_bay_state self.old).faults }
         ensures counts { (file_bay_state self.old).faults ≤ (file_bay_state self.new).faults }
     {
         if has_fault(&parts) {
@@ -258,8 +263,10 @@ fn parts_of(
     sizes: &[u64],
     most_bytes: u64,
 ) -> Result<Vec<FilePart>, NoMemory>
-    ensures blank { IfOk result (λ parts. AreBlank ⟦<FilePart as Disk>⟧.state None sizes.now parts.items) }
-    ensures cut { IfOk result (λ parts. AreCut ⟦<FilePart as Disk>⟧.state None sizes.now parts.items) }
+    ensures blank { IfOk result
+        (λ parts. AreBlank ⟦<FilePart as Disk>⟧.state None sizes.now parts.items) }
+    ensures cut { IfOk result
+        (λ parts. AreCut ⟦<FilePart as Disk>⟧.state None sizes.now parts.items) }
 {
     let shared = Arc::new(alloc, ImageFile::new(file))?;
     let mut parts = Vec::new(alloc);
@@ -280,7 +287,8 @@ fn parts_of(
 }
 
 fn has_fault(parts: &[FilePart]) -> bool
-    ensures { MatchBool result (faulty_places ⟦<FilePart as Disk>⟧.state parts.now ≢ []) (faulty_places ⟦<FilePart as Disk>⟧.state parts.now ≡ []) }
+    ensures { MatchBool result (faulty_places ⟦<FilePart as Disk>⟧.state parts.now ≢ [])
+        (faulty_places ⟦<FilePart as Disk>⟧.state parts.now ≡ []) }
 {
     for part in parts {
         if part.faults > 0 {
@@ -317,7 +325,8 @@ impl FilePart {
 
     // Writes the blocks, unless they end behind the bound.
     fn write_blocks(&self, at: u64, from: &[Block]) -> Result<(), Failed>
-        ensures within { self.now.most_bytes < 512 * (self.now.first + at + length from.now) → IsErr result }
+        ensures within { self.now.most_bytes < 512 * (self.now.first + at + length from.now)
+            → IsErr result }
     {
         let offset = self.offset_of(at)?;
         let bytes = from.as_flattened();

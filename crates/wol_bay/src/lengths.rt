@@ -5,7 +5,8 @@ pub const BLOCK_BYTES: u64 = 512;
 
 // The length in bytes of an image of parts of so many blocks, where a number can have it.
 pub fn bytes_of_parts(sizes: &[u64]) -> Option<u64>
-    ensures { MatchOption result (2 ^ 64 ≤ 512 * sum sizes.now) (λ bytes. bytes ≡ 512 * sum sizes.now) }
+    ensures { MatchOption result (2 ^ 64 ≤ 512 * sum sizes.now)
+        (λ bytes. bytes ≡ 512 * sum sizes.now) }
 {
     let mut blocks: u64 = 0;
     for size in sizes {

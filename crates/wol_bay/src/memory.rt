@@ -57,7 +57,8 @@ impl MemBay {
 
     /// A bay with no image.
     pub fn new(alloc: Global) -> MemBay
-        ensures state { mem_bay_state result ≡ record { told = Some (record { images = []; out = []; faulty = [] }); faults = 0 } }
+        ensures state { mem_bay_state result
+            ≡ record { told = Some (record { images = []; out = []; faulty = [] }); faults = 0 } }
         ensures plans { plans_of result ≡ [] }
         ensures fuse { bay_fuse result ≡ None }
     {
@@ -76,7 +77,8 @@ impl MemBay {
     /// are counted from 0 when it goes out.
     pub fn plan(&mut self, name: &str, part: u32, call: u64) -> Result<(), NoMemory>
         requires { IsHome name.now (mem_bay_state self.old) }
-        ensures ok { OnOk result (plans_of self.new ≡ plans_of self.old ++ record { name = name.now; part = part; call = call } ∷ []) }
+        ensures ok { OnOk result (plans_of self.new
+            ≡ plans_of self.old ++ record { name = name.now; part = part; call = call } ∷ []) }
         ensures err { OnErr result (plans_of self.new ≡ plans_of self.old) }
         ensures state { mem_bay_state self.new ≡ mem_bay_state self.old }
         ensures fuse { bay_fuse self.new ≡ bay_fuse self.old }
@@ -99,7 +101,9 @@ impl MemBay {
     /// those behind the last whole block. After an error nothing has changed.
     pub fn put(&mut self, name: &str, image: &[u8]) -> Result<(), NoMemory>
         requires { IsHome name.now (mem_bay_state self.old) }
-        ensures ok { OnOk result ((mem_bay_state self.new).told ≡ option_map (with_image name.now (image_of image.now)) (mem_bay_state self.old).told) }
+        ensures ok { OnOk result ((mem_bay_state self.new).told
+            ≡ option_map (with_image name.now (image_of image.now))
+            (mem_bay_state self.old).told) }
         ensures err { OnErr result ((mem_bay_state self.new).told ≡ (mem_bay_state self.old).told) }
         ensures calm { (mem_bay_state self.new).faults ≡ (mem_bay_state self.old).faults }
         ensures plans { plans_of self.new ≡ plans_of self.old }
@@ -117,7 +121,8 @@ impl MemBay {
     pub fn remove(&mut self, name: &str)
         requires home { IsHome name.now (mem_bay_state self.old) }
         requires there { Holds name.now (mem_bay_state self.old) }
-        ensures gone { (mem_bay_state self.new).told ≡ option_map (removed name.now) (mem_bay_state self.old).told }
+        ensures gone { (mem_bay_state self.new).told
+            ≡ option_map (removed name.now) (mem_bay_state self.old).told }
         ensures calm { (mem_bay_state self.new).faults ≡ (mem_bay_state self.old).faults }
         ensures plans { plans_of self.new ≡ plans_of self.old }
         ensures fuse { bay_fuse self.new ≡ bay_fuse self.old }
@@ -131,7 +136,8 @@ impl MemBay {
     pub fn restart(&mut self, name: &str, choice: &[u32])
         requires home { IsHome name.now (mem_bay_state self.old) }
         requires there { Holds name.now (mem_bay_state self.old) }
-        ensures left { (mem_bay_state self.new).told ≡ option_map (restarted name.now choice.now) (mem_bay_state self.old).told }
+        ensures left { (mem_bay_state self.new).told
+            ≡ option_map (restarted name.now choice.now) (mem_bay_state self.old).told }
         ensures calm { (mem_bay_state self.new).faults ≡ (mem_bay_state self.old).faults }
         ensures plans { plans_of self.new ≡ plans_of self.old }
         ensures fuse { bay_fuse self.new ≡ bay_fuse self.old }
@@ -163,10 +169,13 @@ impl MemBay {
         place: usize,
     ) -> Result<StopDisk<MemDisk>, NoMemory>
         requires { plan_of disk ≡ no_plan }
-        ensures values { IfOk result (λ part. (⟦<StopDisk<MemDisk> as Disk>⟧.state part).values ≡ (mem_state disk).values) }
-        ensures size { IfOk result (λ part. (⟦<StopDisk<MemDisk> as Disk>⟧.state part).size ≡ (mem_state disk).size) }
+        ensures values { IfOk result
+            (λ part. (⟦<StopDisk<MemDisk> as Disk>⟧.state part).values ≡ (mem_state disk).values) }
+        ensures size { IfOk result
+            (λ part. (⟦<StopDisk<MemDisk> as Disk>⟧.state part).size ≡ (mem_state disk).size) }
         ensures faults { IfOk result (λ part. (⟦<StopDisk<MemDisk> as Disk>⟧.state part).faults ≡ 0) }
-        ensures armed { IfOk result (λ part. AreArmed name.now place (plans_of self.now) (bay_fuse self.now) (part ∷ [])) }
+        ensures armed { IfOk result
+            (λ part. AreArmed name.now place (plans_of self.now) (bay_fuse self.now) (part ∷ [])) }
     {
         for plan in &self.plans {
             if plan.is_for(name, place) {
@@ -182,8 +191,11 @@ impl MemBay {
 
     // A part of zeros.
     fn blank(&self, name: &str, place: usize, size: u64) -> Result<StopDisk<MemDisk>, NoMemory>
-        ensures blank { IfOk result (λ part. AreBlank ⟦<StopDisk<MemDisk> as Disk>⟧.state (mem_bay_state self.now).told (size ∷ []) (part ∷ [])) }
-        ensures armed { IfOk result (λ part. AreArmed name.now place (plans_of self.now) (bay_fuse self.now) (part ∷ [])) }
+        ensures blank { IfOk result (λ part.
+            AreBlank ⟦<StopDisk<MemDisk> as Disk>⟧.state (mem_bay_state self.now).told
+            (size ∷ []) (part ∷ [])) }
+        ensures armed { IfOk result
+            (λ part. AreArmed name.now place (plans_of self.now) (bay_fuse self.now) (part ∷ [])) }
     {
         let disk = MemDisk::new(self.alloc, size)?;
         self.armed(disk, name, place)
@@ -191,8 +203,11 @@ impl MemBay {
 
     // Parts of zeros.
     fn blank_parts(&self, name: &str, sizes: &[u64]) -> Result<Vec<StopDisk<MemDisk>>, NoMemory>
-        ensures blank { IfOk result (λ parts. AreBlank ⟦<StopDisk<MemDisk> as Disk>⟧.state (mem_bay_state self.now).told sizes.now parts.items) }
-        ensures armed { IfOk result (λ parts. AreArmed name.now 0 (plans_of self.now) (bay_fuse self.now) parts.items) }
+        ensures blank { IfOk result (λ parts.
+            AreBlank ⟦<StopDisk<MemDisk> as Disk>⟧.state (mem_bay_state self.now).told sizes.now
+            parts.items) }
+        ensures armed { IfOk result
+            (λ parts. AreArmed name.now 0 (plans_of self.now) (bay_fuse self.now) parts.items) }
     {
         let mut parts = Vec::with_capacity(self.alloc, sizes.len())?;
         for (place, size) in sizes.iter().enumerate() {
@@ -203,7 +218,8 @@ impl MemBay {
 
     // Why an image doesn't go out as parts of these sizes.
     fn refusal(&self, name: &str, sizes: &[u64]) -> Option<BayFault>
-        ensures fault { IfSome (mem_bay_state self.now).told (λ t. result ≡ refusal name.now sizes.now t) }
+        ensures fault { IfSome (mem_bay_state self.now).told
+            (λ t. result ≡ refusal name.now sizes.now t) }
     {
         let Some(at) = place_of(&self.images, name) else {
             return Some(BayFault::Absent);
@@ -218,7 +234,8 @@ impl MemBay {
 
     // The values of all blocks of an image, and none where no image has the name.
     fn list_blocks(&self, name: &str) -> Result<Vec<BlockValues>, NoMemory>
-        ensures { IfOk result (λ list. IfSome (blocks_at name.now (mem_bay_state self.now).told) (λ vs. all_values list.items ≡ vs)) }
+        ensures { IfOk result (λ list. IfSome (blocks_at name.now (mem_bay_state self.now).told)
+            (λ vs. all_values list.items ≡ vs)) }
     {
         match place_of(&self.images, name) {
             Some(at) => list_parts(self.alloc, &self.images[at].parts),
@@ -234,8 +251,11 @@ impl MemBay {
         values: &[BlockValues],
     ) -> Result<Vec<StopDisk<MemDisk>>, NoMemory>
         requires { sum sizes.now ≡ length values.now }
-        ensures cut { IfOk result (λ parts. AreCut ⟦<StopDisk<MemDisk> as Disk>⟧.state (Some (all_values values.now)) sizes.now parts.items) }
-        ensures armed { IfOk result (λ parts. AreArmed name.now 0 (plans_of self.now) (bay_fuse self.now) parts.items) }
+        ensures cut { IfOk result (λ parts.
+            AreCut ⟦<StopDisk<MemDisk> as Disk>⟧.state (Some (all_values values.now)) sizes.now
+            parts.items) }
+        ensures armed { IfOk result
+            (λ parts. AreArmed name.now 0 (plans_of self.now) (bay_fuse self.now) parts.items) }
     {
         let mut parts = Vec::with_capacity(self.alloc, sizes.len())?;
         let mut first: usize = 0;
@@ -251,7 +271,8 @@ impl MemBay {
     // Enters a name that goes out. After an error nothing has changed.
     fn send_out(&mut self, name: &str, sizes: &[u64], bytes: u64) -> Result<(), NoMemory>
         requires { bytes ≡ 512 * sum sizes.now }
-        ensures ok { OnOk result ((mem_bay_state self.new).told ≡ option_map (sent_out name.now sizes.now) (mem_bay_state self.old).told) }
+        ensures ok { OnOk result ((mem_bay_state self.new).told
+            ≡ option_map (sent_out name.now sizes.now) (mem_bay_state self.old).told) }
         ensures err { OnErr result ((mem_bay_state self.new).told ≡ (mem_bay_state self.old).told) }
         ensures calm { (mem_bay_state self.new).faults ≡ (mem_bay_state self.old).faults }
         ensures plans { OnOk result (plans_of self.new ≡ plans_without name.now (plans_of self.old)) }
@@ -283,17 +304,23 @@ impl Bay for MemBay {
 
     fn create(&mut self, name: &str, sizes: &[u64]) -> Result<Vec<StopDisk<MemDisk>>, BayFault>
         requires { IsHome name.now (mem_bay_state self.old) }
-        ensures parts { IfOk result (λ parts. AreBlank ⟦<StopDisk<MemDisk> as Disk>⟧.state (mem_bay_state self.old).told sizes.now parts.items) }
-        ensures ok { OnOk result ((mem_bay_state self.new).told ≡ option_map (sent_out name.now sizes.now) (mem_bay_state self.old).told) }
+        ensures parts { IfOk result (λ parts.
+            AreBlank ⟦<StopDisk<MemDisk> as Disk>⟧.state (mem_bay_state self.old).told sizes.now
+            parts.items) }
+        ensures ok { OnOk result ((mem_bay_state self.new).told
+            ≡ option_map (sent_out name.now sizes.now) (mem_bay_state self.old).told) }
         ensures err { OnErr result ((mem_bay_state self.new).told ≡ (mem_bay_state self.old).told) }
         ensures faults { IfErr result (λ e. (e ≡ BayFault.Failed) ⊎ (e ≡ BayFault.NoMemory)) }
-        ensures cause { IsErrOf result BayFault.Failed → Rose (mem_bay_state self.old).faults (mem_bay_state self.new).faults }
-        ensures calm { (IsErrOf result BayFault.Failed → ⊥) → (mem_bay_state self.new).faults ≡ (mem_bay_state self.old).faults }
+        ensures cause { IsErrOf result BayFault.Failed
+            → Rose (mem_bay_state self.old).faults (mem_bay_state self.new).faults }
+        ensures calm { (IsErrOf result BayFault.Failed → ⊥)
+            → (mem_bay_state self.new).faults ≡ (mem_bay_state self.old).faults }
         ensures counts { (mem_bay_state self.old).faults ≤ (mem_bay_state self.new).faults }
 
         // It never fails, and its parts have the plans for them and the fuse.
         ensures never_failed { IfErr result (λ e. e ≡ BayFault.NoMemory) }
-        ensures armed { IfOk result (λ parts. AreArmed name.now 0 (plans_of self.old) (bay_fuse self.old) parts.items) }
+        ensures armed { IfOk result
+            (λ parts. AreArmed name.now 0 (plans_of self.old) (bay_fuse self.old) parts.items) }
         ensures plans { OnOk result (plans_of self.new ≡ plans_without name.now (plans_of self.old)) }
         ensures plans_err { OnErr result (plans_of self.new ≡ plans_of self.old) }
         ensures fuse { bay_fuse self.new ≡ bay_fuse self.old }
@@ -313,17 +340,24 @@ impl Bay for MemBay {
 
     fn attach(&mut self, name: &str, sizes: &[u64]) -> Result<Vec<StopDisk<MemDisk>>, BayFault>
         requires { IsHome name.now (mem_bay_state self.old) }
-        ensures parts { IfOk result (λ parts. AreCut ⟦<StopDisk<MemDisk> as Disk>⟧.state (blocks_at name.now (mem_bay_state self.old).told) sizes.now parts.items) }
-        ensures ok { OnOk result ((mem_bay_state self.new).told ≡ option_map (sent_out name.now sizes.now) (mem_bay_state self.old).told) }
+        ensures parts { IfOk result (λ parts.
+            AreCut ⟦<StopDisk<MemDisk> as Disk>⟧.state
+            (blocks_at name.now (mem_bay_state self.old).told) sizes.now parts.items) }
+        ensures ok { OnOk result ((mem_bay_state self.new).told
+            ≡ option_map (sent_out name.now sizes.now) (mem_bay_state self.old).told) }
         ensures err { OnErr result ((mem_bay_state self.new).told ≡ (mem_bay_state self.old).told) }
-        ensures refused { IfSome (mem_bay_state self.old).told (λ t. IsAnswered (refusal name.now sizes.now t) result) }
-        ensures cause { IsErrOf result BayFault.Failed → Rose (mem_bay_state self.old).faults (mem_bay_state self.new).faults }
-        ensures calm { (IsErrOf result BayFault.Failed → ⊥) → (mem_bay_state self.new).faults ≡ (mem_bay_state self.old).faults }
+        ensures refused { IfSome (mem_bay_state self.old).told
+            (λ t. IsAnswered (refusal name.now sizes.now t) result) }
+        ensures cause { IsErrOf result BayFault.Failed
+            → Rose (mem_bay_state self.old).faults (mem_bay_state self.new).faults }
+        ensures calm { (IsErrOf result BayFault.Failed → ⊥)
+            → (mem_bay_state self.new).faults ≡ (mem_bay_state self.old).faults }
         ensures counts { (mem_bay_state self.old).faults ≤ (mem_bay_state self.new).faults }
 
         // It never fails, and its parts have the plans for them and the fuse.
         ensures never_failed { IfErr result (λ e. e ≢ BayFault.Failed) }
-        ensures armed { IfOk result (λ parts. AreArmed name.now 0 (plans_of self.old) (bay_fuse self.old) parts.items) }
+        ensures armed { IfOk result
+            (λ parts. AreArmed name.now 0 (plans_of self.old) (bay_fuse self.old) parts.items) }
         ensures plans { OnOk result (plans_of self.new ≡ plans_without name.now (plans_of self.old)) }
         ensures plans_err { OnErr result (plans_of self.new ≡ plans_of self.old) }
         ensures fuse { bay_fuse self.new ≡ bay_fuse self.old }
@@ -347,10 +381,17 @@ impl Bay for MemBay {
     }
 
     fn detach(&mut self, name: &str, parts: Vec<StopDisk<MemDisk>>)
-        requires { IsOut name.now (sizes_of ⟦<StopDisk<MemDisk> as Disk>⟧.state parts.items) (mem_bay_state self.old) }
-        ensures back { (mem_bay_state self.new).told ≡ option_map (came_back name.now (blocks_of ⟦<StopDisk<MemDisk> as Disk>⟧.state parts.items) (faulty_places ⟦<StopDisk<MemDisk> as Disk>⟧.state parts.items)) (mem_bay_state self.old).told }
-        ensures cause { faulty_places ⟦<StopDisk<MemDisk> as Disk>⟧.state parts.items ≢ [] → Rose (mem_bay_state self.old).faults (mem_bay_state self.new).faults }
-        ensures calm { faulty_places ⟦<StopDisk<MemDisk> as Disk>⟧.state parts.items ≡ [] → (mem_bay_state self.new).faults ≡ (mem_bay_state self.old).faults }
+        requires { IsOut name.now (sizes_of ⟦<StopDisk<MemDisk> as Disk>⟧.state parts.items)
+            (mem_bay_state self.old) }
+        ensures back { (mem_bay_state self.new).told
+            ≡ option_map (came_back name.now
+            (blocks_of ⟦<StopDisk<MemDisk> as Disk>⟧.state parts.items)
+            (faulty_places ⟦<StopDisk<MemDisk> as Disk>⟧.state parts.items))
+            (mem_bay_state self.old).told }
+        ensures cause { faulty_places ⟦<StopDisk<MemDisk> as Disk>⟧.state parts.items ≢ []
+            → Rose (mem_bay_state self.old).faults (mem_bay_state self.new).faults }
+        ensures calm { faulty_places ⟦<StopDisk<MemDisk> as Disk>⟧.state parts.items ≡ []
+            → (mem_bay_state self.new).faults ≡ (mem_bay_state self.old).faults }
         ensures counts { (mem_bay_state self.old).faults ≤ (mem_bay_state self.new).faults }
         ensures plans { plans_of self.new ≡ plans_of self.old }
         ensures fuse { bay_fuse self.new ≡ bay_fuse self.old }

@@ -15,8 +15,11 @@ pub trait Entry {
 // The place of the first entry of a name.
 pub fn place_of<T: Entry>(entries: &[T], name: &str) -> Option<usize>
     ensures within { IfSome result (λ i. i < length entries.now) }
-    ensures found { IfSome result (λ i. by_name T.name_of (remove entries.now i) ≡ without name.now (by_name T.name_of entries.now)) }
-    ensures value { IfSome result (λ i. (e : T) → e ≡ slice_index_or entries.now i e → at_name name.now (by_name T.name_of entries.now) ≡ Some e) }
+    ensures found { IfSome result (λ i.
+        by_name T.name_of (remove entries.now i)
+        ≡ without name.now (by_name T.name_of entries.now)) }
+    ensures value { IfSome result (λ i. (e : T) → e ≡ slice_index_or entries.now i e
+        → at_name name.now (by_name T.name_of entries.now) ≡ Some e) }
     ensures none { IfNone result (at_name name.now (by_name T.name_of entries.now) ≡ None) }
 {
     for (i, entry) in entries.iter().enumerate() {
@@ -29,7 +32,8 @@ pub fn place_of<T: Entry>(entries: &[T], name: &str) -> Option<usize>
 
 // Takes the first entry of a name out of the list.
 pub fn take_by_name<T: Entry>(entries: &mut Vec<T>, name: &str) -> Option<T>
-    ensures entries { by_name T.name_of entries.new.items ≡ without name.now (by_name T.name_of entries.old.items) }
+    ensures entries { by_name T.name_of entries.new.items
+        ≡ without name.now (by_name T.name_of entries.old.items) }
     ensures result { result ≡ at_name name.now (by_name T.name_of entries.old.items) }
     ensures room { vec_capacity entries.new ≡ vec_capacity entries.old }
     ensures fewer { IfSome result (λ e. vec_len entries.new + 1 ≡ vec_len entries.old) }

@@ -21,7 +21,8 @@ impl Plan {
 
 // Forgets the plans for an image.
 pub fn drop_plans(plans: &mut Vec<Plan>, name: &str)
-    ensures { map planned_of plans.new.items ≡ plans_without name.now (map planned_of plans.old.items) }
+    ensures { map planned_of plans.new.items
+        ≡ plans_without name.now (map planned_of plans.old.items) }
 {
     plans.retain(|plan| plan.name.as_str() != name);
 }

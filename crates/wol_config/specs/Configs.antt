@@ -21,7 +21,8 @@ volume_of names volume = record (volume_in volume) { view = numbers_named names 
 abbrev pub volumes_of : List Members → List VolumeConf
 volumes_of tables = map (volume_of (map (text_at Name) tables)) tables
 
--- the most blocks of a request on a configuration's volumes: what a record may have, and a segment of this size has room for
+-- the most blocks of a request on a configuration's volumes: what a record may have, and a segment
+-- of this size has room for
 abbrev pub most_of : Config → ℕ
 most_of config = min 128 (config.segment_blocks - 2)
 
@@ -52,8 +53,10 @@ IsAnswer fault e = (e ≡ NoMemory) ⊎ (fault ≡ Some e)
 abbrev pub IsRefusal : List ℕ → ConfigFault → Type 0
 IsRefusal bytes NoMemory = length bytes ≤ byte_limit
 IsRefusal bytes TooLong = byte_limit < length bytes
-IsRefusal bytes NotToml = (length bytes ≤ byte_limit) × ((document : Members) → ¬ IsDocument bytes document)
-IsRefusal bytes fault = (document : Members) × IsDocument bytes document × (document_fault document ≡ Some fault)
+IsRefusal bytes NotToml =
+    (length bytes ≤ byte_limit) × ((document : Members) → ¬ IsDocument bytes document)
+IsRefusal bytes fault =
+    (document : Members) × IsDocument bytes document × (document_fault document ≡ Some fault)
 
 abbrev pub IsName : List ℕ → Type 0
 IsName name = (1 ≤ length name) × (length name ≤ 32) × (list_all is_name_byte name ≡ true)

@@ -92,7 +92,8 @@ are_twins v w = bytes_eq v.name w.name || (bytes_eq v.host w.host && (v.disk == 
 abbrev pub twice_fault : (earlier volumes : List VolumeConf) → Option ConfigFault
 twice_fault earlier [] = None
 twice_fault earlier (v ∷ later) =
-    if list_any (are_twins v) earlier then Some (Twice (length earlier) v.name) else twice_fault (earlier ++ v ∷ []) later
+    if list_any (are_twins v) earlier then Some (Twice (length earlier) v.name)
+    else twice_fault (earlier ++ v ∷ []) later
 
 -- ---- Views
 
@@ -121,21 +122,25 @@ are_apart (n ∷ ns) = not (stands_in ns n) && are_apart ns
 -- the view of volume n names known volumes, not itself, and none twice
 abbrev pub is_good_view : (names : List (List ℕ)) → (n : ℕ) → (view : List (List ℕ)) → Bool
 is_good_view names n view =
-    list_all (is_known names) view && (not (stands_in (numbers_named names view) n) && are_apart (numbers_named names view))
+    list_all (is_known names) view
+    && (not (stands_in (numbers_named names view) n) && are_apart (numbers_named names view))
 
 -- the first volume, from number n on, whose view isn't good
 abbrev pub view_fault : (names : List (List ℕ)) → (n : ℕ) → List Members → Option ConfigFault
 view_fault names n [] = None
 view_fault names n (volume ∷ later) =
-    if is_good_view names n (view_in volume) then view_fault names (n + 1) later else Some (BadView n (text_at Name volume))
+    if is_good_view names n (view_in volume) then view_fault names (n + 1) later
+    else Some (BadView n (text_at Name volume))
 
 -- ---- The document
 
 -- the first fault of the volumes of these tables
 abbrev pub tables_fault : List Members → Option ConfigFault
 tables_fault tables =
-    option_or (volumes_fault tables) (option_or (twice_fault [] (map volume_in tables)) (view_fault (map (text_at Name) tables) 0 tables))
+    option_or (volumes_fault tables) (option_or (twice_fault [] (map volume_in tables))
+    (view_fault (map (text_at Name) tables) 0 tables))
 
 -- the first fault of a document
 abbrev pub document_fault : Members → Option ConfigFault
-document_fault document = option_or (first_fault document_keys document) (tables_fault (tables_in document))
+document_fault document =
+    option_or (first_fault document_keys document) (tables_fault (tables_in document))

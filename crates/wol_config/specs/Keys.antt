@@ -22,7 +22,8 @@ key_text HomeBlocks = codes "home_blocks"
 key_text Segments = codes "segments"
 key_text View = codes "view"
 
--- what a value has to be: an integer from least to most; a text of 1 to most such bytes; an array of least to most tables; an array of at most so many texts
+-- what a value has to be: an integer from least to most; a text of 1 to most such bytes; an array
+-- of least to most tables; an array of at most so many texts
 pub data Rule : Type 0 where
   number_from_to : (least most : ℕ) → Rule
   text_of : (most : ℕ) → (ℕ → Bool) → Rule
@@ -93,7 +94,8 @@ is_in_range rule d = false
 -- what a key with this value is refused for
 abbrev pub value_fault : Rule → Key → Data → Option ConfigFault
 value_fault rule key d =
-    if is_of_kind rule d then (if is_in_range rule d then None else Some (OutOfRange key)) else Some (WrongKind key)
+    if is_of_kind rule d then (if is_in_range rule d then None else Some (OutOfRange key))
+    else Some (WrongKind key)
 
 -- what a key is refused for by this rule, by the value at it
 abbrev pub judged : Rule → Key → Option Data → Option ConfigFault

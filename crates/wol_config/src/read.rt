@@ -22,7 +22,8 @@ pub const MOST_BYTES: usize = 1_048_576;
 /// then bytes that aren't TOML, then each key in the order of `Key`, those from the name on for each
 /// volume in turn, then a volume that stands twice, and then a view.
 pub fn read_config(alloc: Global, bytes: &[u8]) -> Result<Config, ConfigFault>
-    ensures ok { IfOk result (λ config. (document : Members) × IsDocument bytes.now document × IsConfigOf document config) }
+    ensures ok { IfOk result (λ config.
+        (document : Members) × IsDocument bytes.now document × IsConfigOf document config) }
     ensures valid { IfOk result IsValid }
     ensures err { IfErr result (IsRefusal bytes.now) }
     ensures too_long { MOST_BYTES < length bytes.now → IsErrOf result ConfigFault.TooLong }
@@ -56,8 +57,10 @@ fn config_of(alloc: Global, document: &Table) -> Result<Config, ConfigFault>
 
 // The timeout in units of 100 ns: a minute where the key is missing.
 fn timeout(document: &Table) -> Result<u64, ConfigFault>
-    ensures ok { IfOk result (λ units. units ≡ number_or 60000 Key.TimeoutMs (table_view document.now) * 10000) }
-    ensures faultless { IfOk result (λ units. key_fault Key.TimeoutMs (table_view document.now) ≡ None) }
+    ensures ok { IfOk result
+        (λ units. units ≡ number_or 60000 Key.TimeoutMs (table_view document.now) * 10000) }
+    ensures faultless { IfOk result
+        (λ units. key_fault Key.TimeoutMs (table_view document.now) ≡ None) }
     ensures err { IfErr result (λ e. key_fault Key.TimeoutMs (table_view document.now) ≡ Some e) }
 {
     Ok(timeout_ms(document)? * 10_000)
@@ -76,8 +79,10 @@ fn timeout_ms(document: &Table) -> Result<u64, ConfigFault>
 }
 
 fn powers(document: &Table) -> Result<Powers, ConfigFault>
-    ensures awake_mw { IfOk result (λ p. p.awake_mw ≡ number_at Key.AwakeMw (table_view document.now)) }
-    ensures standby_mw { IfOk result (λ p. p.standby_mw ≡ number_at Key.StandbyMw (table_view document.now)) }
+    ensures awake_mw { IfOk result
+        (λ p. p.awake_mw ≡ number_at Key.AwakeMw (table_view document.now)) }
+    ensures standby_mw { IfOk result
+        (λ p. p.standby_mw ≡ number_at Key.StandbyMw (table_view document.now)) }
     ensures wake_mj { IfOk result (λ p. p.wake_mj ≡ number_at Key.WakeMj (table_view document.now)) }
     ensures faultless { IfOk result (λ p. first_fault power_keys (table_view document.now) ≡ None) }
     ensures err { IfErr result (λ e. first_fault power_keys (table_view document.now) ≡ Some e) }

@@ -11,7 +11,8 @@ use toml::{Table, Value};
 
 // The value at a key.
 pub(crate) fn find<'a>(table: &'a Table, key: Key) -> Option<&'a Value>
-    ensures { option_map (λ v. view v.now) result ≡ get_member (key_text key) (table_view table.now) }
+    ensures { option_map (λ v. view v.now) result
+        ≡ get_member (key_text key) (table_view table.now) }
 {
     table.get(key.text())
 }
@@ -19,8 +20,11 @@ pub(crate) fn find<'a>(table: &'a Table, key: Key) -> Option<&'a Value>
 // The value at a key that has to be there.
 fn value<'a>(table: &'a Table, key: Key) -> Result<&'a Value, ConfigFault>
     requires { may_miss key ≡ false }
-    ensures ok { IfOk result (λ v. get_member (key_text key) (table_view table.now) ≡ Some (view v.now)) }
-    ensures err { IfErr result (λ e. (get_member (key_text key) (table_view table.now) ≡ None) × (e ≡ ConfigFault.Missing key)) }
+    ensures ok { IfOk result
+        (λ v. get_member (key_text key) (table_view table.now) ≡ Some (view v.now)) }
+    ensures err { IfErr result (λ e.
+        (get_member (key_text key) (table_view table.now) ≡ None)
+        × (e ≡ ConfigFault.Missing key)) }
 {
     match find(table, key) {
         Some(value) => Ok(value),
@@ -30,9 +34,11 @@ fn value<'a>(table: &'a Table, key: Key) -> Result<&'a Value, ConfigFault>
 
 // A value as an integer from `least` to `most`.
 pub(crate) fn as_number(value: &Value, key: Key, least: u64, most: u64) -> Result<u64, ConfigFault>
-    ensures ok { IfOk result (λ n. (value_fault (number_from_to least most) key (view value.now) ≡ None) × (number_of (view value.now) ≡ n)) }
+    ensures ok { IfOk result (λ n. (value_fault (number_from_to least most) key (view value.now)
+        ≡ None) × (number_of (view value.now) ≡ n)) }
     ensures range { IfOk result (λ n. (least ≤ n) × (n ≤ most)) }
-    ensures err { IfErr result (λ e. value_fault (number_from_to least most) key (view value.now) ≡ Some e) }
+    ensures err { IfErr result
+        (λ e. value_fault (number_from_to least most) key (view value.now) ≡ Some e) }
 {
     let Some(number) = value.as_integer() else {
         return Err(ConfigFault::WrongKind { key });
@@ -46,10 +52,12 @@ pub(crate) fn as_number(value: &Value, key: Key, least: u64, most: u64) -> Resul
 // The integer at a key, from `least` to `most`.
 pub(crate) fn number(table: &Table, key: Key, least: u64, most: u64) -> Result<u64, ConfigFault>
     requires { may_miss key ≡ false }
-    ensures ok { IfOk result (λ n. (judged (number_from_to least most) key (get_member (key_text key) (table_view table.now)) ≡ None)
+    ensures ok { IfOk result (λ n. (judged (number_from_to least most) key
+        (get_member (key_text key) (table_view table.now)) ≡ None)
         × (number_at key (table_view table.now) ≡ n)) }
     ensures range { IfOk result (λ n. (least ≤ n) × (n ≤ most)) }
-    ensures err { IfErr result (λ e. judged (number_from_to least most) key (get_member (key_text key) (table_view table.now)) ≡ Some e) }
+    ensures err { IfErr result (λ e. judged (number_from_to least most) key
+        (get_member (key_text key) (table_view table.now)) ≡ Some e) }
 {
     as_number(value(table, key)?, key, least, most)
 }
@@ -57,9 +65,11 @@ pub(crate) fn number(table: &Table, key: Key, least: u64, most: u64) -> Result<u
 // The text at a key.
 pub(crate) fn text<'a>(table: &'a Table, key: Key) -> Result<&'a str, ConfigFault>
     requires { may_miss key ≡ false }
-    ensures ok { IfOk result (λ s. get_member (key_text key) (table_view table.now) ≡ Some (string s.now)) }
+    ensures ok { IfOk result
+        (λ s. get_member (key_text key) (table_view table.now) ≡ Some (string s.now)) }
     ensures err { (most : ℕ) (good : ℕ → Bool)
-        → IfErr result (λ e. judged (text_of most good) key (get_member (key_text key) (table_view table.now)) ≡ Some e) }
+        → IfErr result (λ e. judged (text_of most good) key
+        (get_member (key_text key) (table_view table.now)) ≡ Some e) }
 {
     match value(table, key)?.as_str() {
         Some(text) => Ok(text),
@@ -70,11 +80,15 @@ pub(crate) fn text<'a>(table: &'a Table, key: Key) -> Result<&'a str, ConfigFaul
 // The array at a key.
 fn list<'a>(table: &'a Table, key: Key) -> Result<&'a [Value], ConfigFault>
     requires { may_miss key ≡ false }
-    ensures ok { IfOk result (λ a. get_member (key_text key) (table_view table.now) ≡ Some (array (items_view a.now))) }
+    ensures ok { IfOk result
+        (λ a. get_member (key_text key) (table_view table.now) ≡ Some (array (items_view a.now))) }
     ensures err_tables { (least most : ℕ)
-        → IfErr result (λ e. judged (tables_from_to least most) key (get_member (key_text key) (table_view table.now)) ≡ Some e) }
+        → IfErr result (λ e. judged (tables_from_to least most) key
+        (get_member (key_text key) (table_view table.now)) ≡ Some e) }
     ensures err_texts { (most : ℕ)
-        → IfErr result (λ e. judged (texts_up_to most) key (get_member (key_text key) (table_view table.now)) ≡ Some e) }
+        → IfErr result (λ e.
+        judged (texts_up_to most) key (get_member (key_text key) (table_view table.now))
+        ≡ Some e) }
 {
     match value(table, key)?.as_array() {
         Some(list) => Ok(list.as_slice()),
@@ -84,8 +98,10 @@ fn list<'a>(table: &'a Table, key: Key) -> Result<&'a [Value], ConfigFault>
 
 // The tables of the volumes.
 pub(crate) fn tables(document: &Table) -> Result<&[Value], ConfigFault>
-    ensures ok { IfOk result (λ a. get_member (key_text Key.Volume) (table_view document.now) ≡ Some (array (items_view a.now))) }
-    ensures members { IfOk result (λ a. (list_all (λ v. is_table (view v)) a.now ≡ true) × (length a.now ≤ 64)) }
+    ensures ok { IfOk result (λ a. get_member (key_text Key.Volume) (table_view document.now)
+        ≡ Some (array (items_view a.now))) }
+    ensures members { IfOk result
+        (λ a. (list_all (λ v. is_table (view v)) a.now ≡ true) × (length a.now ≤ 64)) }
     ensures faultless { IfOk result (λ a. key_fault Key.Volume (table_view document.now) ≡ None) }
     ensures err { IfErr result (λ e. key_fault Key.Volume (table_view document.now) ≡ Some e) }
 {
@@ -102,8 +118,10 @@ pub(crate) fn tables(document: &Table) -> Result<&[Value], ConfigFault>
 
 // The texts of a volume's view.
 pub(crate) fn texts(table: &Table) -> Result<&[Value], ConfigFault>
-    ensures ok { IfOk result (λ a. get_member (key_text Key.View) (table_view table.now) ≡ Some (array (items_view a.now))) }
-    ensures members { IfOk result (λ a. (list_all (λ v. is_text (view v)) a.now ≡ true) × (length a.now ≤ 16)) }
+    ensures ok { IfOk result (λ a.
+        get_member (key_text Key.View) (table_view table.now) ≡ Some (array (items_view a.now))) }
+    ensures members { IfOk result
+        (λ a. (list_all (λ v. is_text (view v)) a.now ≡ true) × (length a.now ≤ 16)) }
     ensures faultless { IfOk result (λ a. key_fault Key.View (table_view table.now) ≡ None) }
     ensures err { IfErr result (λ e. key_fault Key.View (table_view table.now) ≡ Some e) }
 {

@@ -27,7 +27,8 @@ pub(crate) fn set_views(
     requires bare { volumes.old ≡ map volume_in (members_in tables.now) }
     ensures set { OnOk result (volumes.new ≡ volumes_of (members_in tables.now)) }
     ensures ok { OnOk result (view_fault (names_in tables.now) 0 (members_in tables.now) ≡ None) }
-    ensures err { IfErr result (IsAnswer (view_fault (names_in tables.now) 0 (members_in tables.now))) }
+    ensures err { IfErr result
+        (IsAnswer (view_fault (names_in tables.now) 0 (members_in tables.now))) }
 {
     for (i, table) in tables.iter().enumerate() {
         let texts = texts(as_members(table))?;
@@ -50,7 +51,8 @@ fn view_of(texts: &[Value], own: usize, volumes: &[VolumeConf]) -> Option<View>
     requires texts { list_all (λ v. is_text (view v)) texts.now ≡ true }
     requires few { length texts.now ≤ 16 }
     requires volumes { length volumes.now ≤ 64 }
-    ensures { SomeIff result (is_good_view (names_of volumes.now) own (texts_in texts.now) ≡ true) (numbers_named (names_of volumes.now) (texts_in texts.now)) }
+    ensures { SomeIff result (is_good_view (names_of volumes.now) own (texts_in texts.now) ≡ true)
+        (numbers_named (names_of volumes.now) (texts_in texts.now)) }
 {
     let mut ids = [0; 16];
     for (i, text) in texts.iter().enumerate() {

@@ -2,8 +2,8 @@
 -- Everything is said of blocks of any type B: no proof has to look into the 512 bytes of one.
 use Rattle.std.specs.Prelude.{◌≡◌, ◌<◌, ◌≤◌, ◌⊎◌, ◌^◌, ◌-◌, min, ℕ, zero, suc, ◌+◌, List, [], ◌∷◌, length, map, Option, None, Some}
 
--- The values that a block had since the last sync that succeeded: the one that a read gives, and the earlier
--- ones, the latest first.
+-- The values that a block had since the last sync that succeeded: the one that a read gives, and
+-- the earlier ones, the latest first.
 pub record Values (B : Type 0) : Type 0 where
   pub now : B
   pub earlier : List B
@@ -77,8 +77,8 @@ IsBlend xs ys zs = ⊥
 abbrev pub Block : Type 0
 Block = List ℕ
 
--- A disk at one moment: the values of its blocks where it tells them, their number, the clock, the images since
--- each earlier moment, and the number of faults so far.
+-- A disk at one moment: the values of its blocks where it tells them, their number, the clock, the
+-- images since each earlier moment, and the number of faults so far.
 pub record State : Type 1 where
   pub values : Option (List (Values Block))
   pub size : ℕ
@@ -99,7 +99,8 @@ pub record Passes (old new : State) (failed : Type 0) : Type 0 where
   pub same_size : new.size ≡ old.size
   pub later : old.clock ≤ new.clock
   -- an image since t was one before the call, or is one now
-  pub nothing_else : (t : ℕ) (c : List Block) → t ≤ old.clock → new.since t c → old.since t c ⊎ IsImageOf new.values c
+  pub nothing_else : (t : ℕ) (c : List Block) → t ≤ old.clock → new.since t c
+      → old.since t c ⊎ IsImageOf new.values c
   pub keeps : (t : ℕ) (c : List Block) → t ≤ old.clock → old.since t c → new.since t c
   pub counts : old.faults ≤ new.faults
   pub caused : failed → Rose old.faults new.faults
@@ -124,7 +125,8 @@ pub record LeavesOnly (old new : State) (P : List Block → Type 0) : Type 0 whe
   pub before : (t : ℕ) (c : List Block) → t ≤ old.clock → new.since t c → old.since t c ⊎ P c
 
 -- a write that failed, where the content is told
-abbrev pub AddsSomeOf : {B : Type 0} → ℕ → List B → Option (List (Values B)) → Option (List (Values B)) → Type 0
+abbrev pub AddsSomeOf : {B : Type 0} → ℕ → List B → Option (List (Values B))
+    → Option (List (Values B)) → Type 0
 AddsSomeOf at xs None new = new ≡ None
 AddsSomeOf at xs (Some vs) None = ⊥
 AddsSomeOf at xs (Some vs) (Some ws) = AddsSome at xs vs ws

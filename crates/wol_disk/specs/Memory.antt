@@ -20,7 +20,8 @@ abbrev pub plan_of : MemDisk → Plan
 plan_of m = m.plan
 
 pub mem_sound : (m : MemDisk) → IsDisk (mem_state m)
-mem_sound m = record_sound (only m.first.items) m.calls.items (m.plan.planned + m.plan.short) (omega (arith, length-only m.first.items, m.first.ok, m.first.small))
+mem_sound m = record_sound (only m.first.items) m.calls.items (m.plan.planned + m.plan.short)
+    (omega (arith, length-only m.first.items, m.first.ok, m.first.small))
 
 pub mem_told : (m : MemDisk) → TellsContent (mem_state m)
 mem_told m = (mem_values m, refl)

@@ -28,7 +28,8 @@ IsNextToFail p = Contains p.calls p.made
 pub record GoesByPlan (old new : Plan) (failed : Type 0) : Type 0 where
   pub same_calls : new.calls ≡ old.calls
   pub one_more : new.made ≡ next_count old.made
-  pub as_planned : IsNextToFail old → failed × (new.planned ≡ next_count old.planned) × (new.short ≡ old.short)
+  pub as_planned : IsNextToFail old
+      → failed × (new.planned ≡ next_count old.planned) × (new.short ≡ old.short)
   pub not_planned : (IsNextToFail old → ⊥) → new.planned ≡ old.planned
   pub cause : failed → IsNextToFail old ⊎ Rose old.short new.short
   pub quiet : ¬ failed → new.short ≡ old.short

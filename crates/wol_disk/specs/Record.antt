@@ -18,13 +18,15 @@ record_state start calls faults = record {
   values = Some (values_after calls start);
   size = length start;
   clock = length calls;
-  since = λ t c. (k : ℕ) × (t ≤ k) × (k ≤ length calls) × IsImage (values_after (take k calls) start) c;
+  since = λ t c.
+      (k : ℕ) × (t ≤ k) × (k ≤ length calls) × IsImage (values_after (take k calls) start) c;
   faults = faults;
 }
 
 -- one block's values after a call
 abbrev pub block_step : ℕ → Call → Values Block → Values Block
-block_step i (Wrote at v) w = if nat_le at i && nat_lt (i - at) (length v.items) then renewed (get_or v.items (i - at) []) w else w
+block_step i (Wrote at v) w = if nat_le at i && nat_lt (i - at) (length v.items)
+    then renewed (get_or v.items (i - at) []) w else w
 block_step i Synced w = fresh w.now
 
 abbrev pub block_after : ℕ → List Call → Values Block → Values Block
@@ -35,7 +37,8 @@ block_after i (call ∷ calls) w = block_after i calls (block_step i call w)
 abbrev pub value_at : ℕ → Values Block → Block
 value_at k w = get_or (w.now ∷ w.earlier) (length w.earlier - k) w.now
 
--- one image: of each block the value at the place that is chosen for it, and the last one where none is
+-- one image: of each block the value at the place that is chosen for it, and the last one where
+-- none is
 abbrev pub chosen : List ℕ → List (Values Block) → List Block
 chosen choice [] = []
 chosen [] (w ∷ ws) = w.now ∷ chosen [] ws

@@ -25,4 +25,9 @@ abbrev pub stop_state : {D : Type 0} → (D → State) → StopDisk D → State
 stop_state state s = counted (state (inner_of s)) s.faults
 
 pub counted_sound : (d : State) (faults : ℕ) → IsDisk d → IsDisk (counted d faults)
-counted_sound d faults s = record { small = s.small; each_block = s.each_block; counts_now = s.counts_now; only_now = s.only_now }
+counted_sound d faults s = record {
+  small = s.small;
+  each_block = s.each_block;
+  counts_now = s.counts_now;
+  only_now = s.only_now;
+}

@@ -46,20 +46,24 @@ pub trait Disk {
     /// Reads the blocks from place `at` on. After `Failed` the bytes in `out` are open.
     fn read(&mut self, at: u64, out: &mut [Block]) -> Result<(), Failed>
         requires { at + length out.old ≤ (state self.old).size }
-        ensures content { OnOk result (IfSome (state self.old).values (λ vs. out.new ≡ take (length out.old) (drop at (reads vs)))) }
+        ensures content { OnOk result (IfSome (state self.old).values
+            (λ vs. out.new ≡ take (length out.old) (drop at (reads vs)))) }
         ensures values { (state self.new).values ≡ (state self.old).values }
         ensures passes { Passes (state self.old) (state self.new) (IsErr result) };
 
     /// Writes the blocks from place `at` on. After `Failed` each of them may have been written or not.
     fn write(&mut self, at: u64, from: &[Block]) -> Result<(), Failed>
         requires { at + length from.now ≤ (state self.old).size }
-        ensures ok { OnOk result ((state self.new).values ≡ option_map (added at from.now) (state self.old).values) }
-        ensures err { OnErr result (AddsSomeOf at from.now (state self.old).values (state self.new).values) }
+        ensures ok { OnOk result
+            ((state self.new).values ≡ option_map (added at from.now) (state self.old).values) }
+        ensures err { OnErr result
+            (AddsSomeOf at from.now (state self.old).values (state self.new).values) }
         ensures passes { Passes (state self.old) (state self.new) (IsErr result) };
 
     /// Makes what was written last. After it a crash leaves what a read gives; a sync that failed changes nothing.
     fn sync(&mut self) -> Result<(), Failed>
-        ensures ok { OnOk result ((state self.new).values ≡ option_map settled (state self.old).values) }
+        ensures ok { OnOk result
+            ((state self.new).values ≡ option_map settled (state self.old).values) }
         ensures err { OnErr result ((state self.new).values ≡ (state self.old).values) }
         ensures passes { Passes (state self.old) (state self.new) (IsErr result) };
 

@@ -58,7 +58,8 @@ fn overwrite(
 ) -> Result<(), AllocError>
     requires { at + length from.now ≤ length now.old.items }
     ensures ok { OnOk result (now.new.items ≡ put at from.now now.old.items) }
-    ensures calls { OnOk result ((v : _) × (v.items ≡ from.now) × (calls.new.items ≡ calls.old.items ++ Wrote at v ∷ [])) }
+    ensures calls { OnOk result
+        ((v : _) × (v.items ≡ from.now) × (calls.new.items ≡ calls.old.items ++ Wrote at v ∷ [])) }
     ensures err { OnErr result (now.new.items ≡ now.old.items) }
     ensures calls_err { OnErr result (calls.new.items ≡ calls.old.items) }
 {
@@ -72,7 +73,8 @@ fn overwrite(
 fn note_sync(calls: &mut Vec<Call>) -> Result<(), AllocError>
     ensures ok { OnOk result (calls.new.items ≡ calls.old.items ++ Synced ∷ []) }
     ensures err { OnErr result (calls.new.items ≡ calls.old.items) }
-    ensures keeps { (start : _) → reads (values_after calls.new.items start) ≡ reads (values_after calls.old.items start) }
+    ensures keeps { (start : _)
+        → reads (values_after calls.new.items start) ≡ reads (values_after calls.old.items start) }
 {
     calls.push(Call::Synced)?;
     Ok(())
@@ -132,7 +134,8 @@ impl MemDisk {
     // One more value of one block. It is no call of the disk.
     fn add_value(&mut self, at: usize, value: Block) -> Result<(), AllocError>
         requires { at < (mem_state self.old).size }
-        ensures values { OnOk result (mem_values self.new ≡ added at (value ∷ []) (mem_values self.old)) }
+        ensures values { OnOk result
+            (mem_values self.new ≡ added at (value ∷ []) (mem_values self.old)) }
         ensures size { (mem_state self.new).size ≡ (mem_state self.old).size }
         ensures faults { (mem_state self.new).faults ≡ (mem_state self.old).faults }
         ensures plan { plan_of self.new ≡ plan_of self.old }
@@ -143,7 +146,8 @@ impl MemDisk {
     // More values of one block, the latest last.
     fn add_values(&mut self, at: usize, later: &[Block]) -> Result<(), AllocError>
         requires { at < (mem_state self.old).size }
-        ensures values { OnOk result (mem_values self.new ≡ added_each at later.now (mem_values self.old)) }
+        ensures values { OnOk result
+            (mem_values self.new ≡ added_each at later.now (mem_values self.old)) }
         ensures size { (mem_state self.new).size ≡ (mem_state self.old).size }
         ensures faults { (mem_state self.new).faults ≡ (mem_state self.old).faults }
         ensures plan { plan_of self.new ≡ plan_of self.old }
@@ -171,7 +175,8 @@ impl MemDisk {
 
     /// Adds the values of its blocks to the list, in order.
     pub fn list_values(&self, list: &mut Vec<BlockValues>) -> Result<(), NoMemory>
-        ensures { OnOk result (all_values list.new.items ≡ all_values list.old.items ++ mem_values self.entry.now) }
+        ensures { OnOk result
+            (all_values list.new.items ≡ all_values list.old.items ++ mem_values self.entry.now) }
     {
         for (i, first) in self.first.iter().enumerate() {
             list.push(BlockValues::after(self.alloc, first, &self.calls, i)?)?;
@@ -185,7 +190,8 @@ impl MemDisk {
     /// It begins the record of images anew: the moments of the clock from before it mean nothing after it. It is no
     /// call of the disk, so the numbers of the calls go on.
     pub fn restart(&mut self, choice: &[u32])
-        ensures values { (vs : _) → (mem_state self.old).values ≡ Some vs → (mem_state self.new).values ≡ Some (only (chosen choice.now vs)) }
+        ensures values { (vs : _) → (mem_state self.old).values ≡ Some vs
+            → (mem_state self.new).values ≡ Some (only (chosen choice.now vs)) }
         ensures size { (mem_state self.new).size ≡ (mem_state self.old).size }
         ensures faults { (mem_state self.new).faults ≡ (mem_state self.old).faults }
         ensures plan { plan_of self.new ≡ plan_of self.old }
@@ -214,7 +220,8 @@ impl Disk for MemDisk {
 
     fn read(&mut self, at: u64, out: &mut [Block]) -> Result<(), Failed>
         requires { at + length out.old ≤ (mem_state self.old).size }
-        ensures content { OnOk result (IfSome (mem_state self.old).values (λ vs. out.new ≡ take (length out.old) (drop at (reads vs)))) }
+        ensures content { OnOk result (IfSome (mem_state self.old).values
+            (λ vs. out.new ≡ take (length out.old) (drop at (reads vs)))) }
         ensures values { (mem_state self.new).values ≡ (mem_state self.old).values }
         ensures passes { Passes (mem_state self.old) (mem_state self.new) (IsErr result) }
         ensures plan { GoesByPlan (plan_of self.old) (plan_of self.new) (IsErr result) }
@@ -228,8 +235,10 @@ impl Disk for MemDisk {
 
     fn write(&mut self, at: u64, from: &[Block]) -> Result<(), Failed>
         requires { at + length from.now ≤ (mem_state self.old).size }
-        ensures ok { OnOk result ((mem_state self.new).values ≡ option_map (added at from.now) (mem_state self.old).values) }
-        ensures err { OnErr result (AddsSomeOf at from.now (mem_state self.old).values (mem_state self.new).values) }
+        ensures ok { OnOk result ((mem_state self.new).values
+            ≡ option_map (added at from.now) (mem_state self.old).values) }
+        ensures err { OnErr result
+            (AddsSomeOf at from.now (mem_state self.old).values (mem_state self.new).values) }
         ensures passes { Passes (mem_state self.old) (mem_state self.new) (IsErr result) }
         ensures plan { GoesByPlan (plan_of self.old) (plan_of self.new) (IsErr result) }
     {
@@ -250,7 +259,8 @@ impl Disk for MemDisk {
     }
 
     fn sync(&mut self) -> Result<(), Failed>
-        ensures ok { OnOk result ((mem_state self.new).values ≡ option_map settled (mem_state self.old).values) }
+        ensures ok { OnOk result
+            ((mem_state self.new).values ≡ option_map settled (mem_state self.old).values) }
         ensures err { OnErr result ((mem_state self.new).values ≡ (mem_state self.old).values) }
         ensures passes { Passes (mem_state self.old) (mem_state self.new) (IsErr result) }
         ensures plan { GoesByPlan (plan_of self.old) (plan_of self.new) (IsErr result) }

@@ -133,7 +133,8 @@ impl StopDisk<MemDisk> {
 
     /// Leaves one image of the inner disk, as a crash does.
     pub fn restart(&mut self, choice: &[u32])
-        ensures values { mem_values (inner_of self.new) ≡ only (chosen choice.now (mem_values (inner_of self.old))) }
+        ensures values { mem_values (inner_of self.new)
+            ≡ only (chosen choice.now (mem_values (inner_of self.old))) }
         ensures size { (mem_state (inner_of self.new)).size ≡ (mem_state (inner_of self.old)).size }
         ensures plan { plan_of (inner_of self.new) ≡ plan_of (inner_of self.old) }
         ensures fuse { fuse_of self.new ≡ fuse_of self.old }
@@ -160,11 +161,15 @@ impl<D: Disk> Disk for StopDisk<D> {
 
     fn read(&mut self, at: u64, out: &mut [Block]) -> Result<(), Failed>
         requires { at + length out.old ≤ (stop_state D.state self.old).size }
-        ensures content { OnOk result (IfSome (stop_state D.state self.old).values (λ vs. out.new ≡ take (length out.old) (drop at (reads vs)))) }
-        ensures values { (stop_state D.state self.new).values ≡ (stop_state D.state self.old).values }
-        ensures passes { Passes (stop_state D.state self.old) (stop_state D.state self.new) (IsErr result) }
+        ensures content { OnOk result (IfSome (stop_state D.state self.old).values
+            (λ vs. out.new ≡ take (length out.old) (drop at (reads vs)))) }
+        ensures values { (stop_state D.state self.new).values
+            ≡ (stop_state D.state self.old).values }
+        ensures passes { Passes (stop_state D.state self.old) (stop_state D.state self.new)
+            (IsErr result) }
         ensures fuse { fuse_of self.new ≡ fuse_of self.old }
-        ensures without_fuse { IsNone (fuse_of self.old) → Passes (D.state (inner_of self.old)) (D.state (inner_of self.new)) (IsErr result) }
+        ensures without_fuse { IsNone (fuse_of self.old)
+            → Passes (D.state (inner_of self.old)) (D.state (inner_of self.new)) (IsErr result) }
     {
         let read = match self.step() {
             Step::Pass => self.inner.read(at, out),
@@ -178,11 +183,15 @@ impl<D: Disk> Disk for StopDisk<D> {
 
     fn write(&mut self, at: u64, from: &[Block]) -> Result<(), Failed>
         requires { at + length from.now ≤ (stop_state D.state self.old).size }
-        ensures ok { OnOk result ((stop_state D.state self.new).values ≡ option_map (added at from.now) (stop_state D.state self.old).values) }
-        ensures err { OnErr result (AddsSomeOf at from.now (stop_state D.state self.old).values (stop_state D.state self.new).values) }
-        ensures passes { Passes (stop_state D.state self.old) (stop_state D.state self.new) (IsErr result) }
+        ensures ok { OnOk result ((stop_state D.state self.new).values
+            ≡ option_map (added at from.now) (stop_state D.state self.old).values) }
+        ensures err { OnErr result (AddsSomeOf at from.now (stop_state D.state self.old).values
+            (stop_state D.state self.new).values) }
+        ensures passes { Passes (stop_state D.state self.old) (stop_state D.state self.new)
+            (IsErr result) }
         ensures fuse { fuse_of self.new ≡ fuse_of self.old }
-        ensures without_fuse { IsNone (fuse_of self.old) → Passes (D.state (inner_of self.old)) (D.state (inner_of self.new)) (IsErr result) }
+        ensures without_fuse { IsNone (fuse_of self.old)
+            → Passes (D.state (inner_of self.old)) (D.state (inner_of self.new)) (IsErr result) }
     {
         let written = match self.step() {
             Step::Pass => self.inner.write(at, from),
@@ -199,11 +208,15 @@ impl<D: Disk> Disk for StopDisk<D> {
     }
 
     fn sync(&mut self) -> Result<(), Failed>
-        ensures ok { OnOk result ((stop_state D.state self.new).values ≡ option_map settled (stop_state D.state self.old).values) }
-        ensures err { OnErr result ((stop_state D.state self.new).values ≡ (stop_state D.state self.old).values) }
-        ensures passes { Passes (stop_state D.state self.old) (stop_state D.state self.new) (IsErr result) }
+        ensures ok { OnOk result ((stop_state D.state self.new).values
+            ≡ option_map settled (stop_state D.state self.old).values) }
+        ensures err { OnErr result
+            ((stop_state D.state self.new).values ≡ (stop_state D.state self.old).values) }
+        ensures passes { Passes (stop_state D.state self.old) (stop_state D.state self.new)
+            (IsErr result) }
         ensures fuse { fuse_of self.new ≡ fuse_of self.old }
-        ensures without_fuse { IsNone (fuse_of self.old) → Passes (D.state (inner_of self.old)) (D.state (inner_of self.new)) (IsErr result) }
+        ensures without_fuse { IsNone (fuse_of self.old)
+            → Passes (D.state (inner_of self.old)) (D.state (inner_of self.new)) (IsErr result) }
     {
         let synced = match self.step() {
             Step::Pass => self.inner.sync(),

@@ -2,7 +2,8 @@
 use Rattle.std.specs.Prelude.{ℕ, ◌-◌, ◌^◌, List, [], ◌∷◌, min, max}
 use Rattle.wol_io.specs.Plan.{Plan}
 
--- a source: the bytes that are left, the most that each call to come hands out, and which call fails
+-- a source: the bytes that are left, the most that each call to come hands out, and which call
+-- fails
 pub record SourceValue : Type 0 where
   pub left : List ℕ
   pub cuts : List ℕ
@@ -13,7 +14,8 @@ pub record SinkValue : Type 0 where
   pub taken : List ℕ
   pub plan : Plan
 
--- the most that a call hands out: no more than its cut, but at least one byte, and any number once the cuts are used up
+-- the most that a call hands out: no more than its cut, but at least one byte, and any number once
+-- the cuts are used up
 abbrev pub most_of : List ℕ → ℕ
 most_of [] = 2 ^ 64 - 1
 most_of (cut ∷ cuts) = max cut 1

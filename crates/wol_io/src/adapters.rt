@@ -68,7 +68,8 @@ impl<W: Write> StdSink<W> {
 
     // Writes the whole piece, if there is room for it.
     fn write_within(&mut self, piece: &[u8]) -> Result<(), Failed>
-        ensures content { SinkTakes (W.contents self.old.inner) (W.contents self.new.inner) result piece.now }
+        ensures content { SinkTakes (W.contents self.old.inner) (W.contents self.new.inner) result
+            piece.now }
         ensures full { self.old.room < length piece.now → IsErr result × (self.new ≡ self.old) }
         ensures room { OnOk result (self.new.room + length piece.now ≡ self.old.room) }
         ensures same { self.new.faults ≡ self.old.faults }

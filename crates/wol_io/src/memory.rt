@@ -78,7 +78,8 @@ impl Source for MemSource {
         ensures cause { OnErr result (Rose (faults_of self.old.plan) (faults_of self.new.plan)) }
         ensures calm { OnOk result (faults_of self.new.plan ≡ faults_of self.old.plan) }
         ensures planned { IsErr result ↔ (self.old.plan.before ≡ Some 0) }
-        ensures handed { IfOk result (λ count. count ≡ handed self.old.cuts (length self.old.left) (length out.old)) }
+        ensures handed { IfOk result
+            (λ count. count ≡ handed self.old.cuts (length self.old.left) (length out.old)) }
         ensures rest { self.new.cuts ≡ drop 1 self.old.cuts }
         ensures plan { self.new.plan ≡ after_call self.old.plan }
     {
@@ -142,10 +143,13 @@ impl Sink for MemSink {
         ensures later { faults_of self.old.plan ≤ faults_of self.new.plan }
         ensures cause { OnErr result (Rose (faults_of self.old.plan) (faults_of self.new.plan)) }
         ensures calm { OnOk result (faults_of self.new.plan ≡ faults_of self.old.plan) }
-        ensures planned { self.old.plan.before ≡ Some 0 → IsErr result × (self.new.plan ≡ after_call self.old.plan) }
-        ensures ok { OnOk result (self.new ≡ record { taken = self.old.taken ++ piece.now; plan = after_call self.old.plan }) }
+        ensures planned { self.old.plan.before ≡ Some 0
+            → IsErr result × (self.new.plan ≡ after_call self.old.plan) }
+        ensures ok { OnOk result (self.new
+            ≡ record { taken = self.old.taken ++ piece.now; plan = after_call self.old.plan }) }
         ensures err { OnErr result (self.new.taken ≡ self.old.taken) }
-        ensures short { self.old.plan.before ≢ Some 0 → OnErr result (FallsShort (after_call self.old.plan) self.new.plan) }
+        ensures short { self.old.plan.before ≢ Some 0
+            → OnErr result (FallsShort (after_call self.old.plan) self.new.plan) }
     {
         self.plan.take_call()?;
         if self.bytes.extend_from_slice(piece).is_err() {

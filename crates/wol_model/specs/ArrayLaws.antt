@@ -21,8 +21,10 @@ AfterPut = (a : List Block) (w : Write) → after a (w ∷ []) ≡ put w.first w
 
 -- a write within an array, by slices
 abbrev pub AfterWithin : Type 0
-AfterWithin = (a : List Block) (first : ℕ) (blocks : List Block) (version : Option ℕ) → first + length blocks ≤ length a
-    → after a (record { first = first; blocks = blocks; version = version } ∷ []) ≡ take first a ++ (blocks ++ drop (first + length blocks) a)
+AfterWithin = (a : List Block) (first : ℕ) (blocks : List Block) (version : Option ℕ)
+    → first + length blocks ≤ length a
+    → after a (record { first = first; blocks = blocks; version = version } ∷ [])
+    ≡ take first a ++ (blocks ++ drop (first + length blocks) a)
 
 -- the same write, to home
 abbrev pub unversioned : Write → Write

@@ -28,7 +28,8 @@ overlaid_from b (x ∷ xs) over = unwrap_or (over b) x ∷ overlaid_from (b + 1)
 abbrev pub overlaid : List Block → (ℕ → Option Block) → List Block
 overlaid a over = overlaid_from 0 a over
 
--- the array a after these writes: each block is what the last write that covers it has for it, or a's own
+-- the array a after these writes: each block is what the last write that covers it has for it, or
+-- a's own
 unfoldable pub after : List Block → List Write → List Block
 after a ws = overlaid a (last_written ws)
 

@@ -33,13 +33,15 @@ newer_of cover x (Some y) = if nat_lt (cover x).version (cover y).version then S
 -- the one of greatest version that covers block b
 abbrev pub newest : {X : Type 0} → (X → Cover) → List X → ℕ → Option X
 newest cover [] b = None
-newest cover (x ∷ xs) b = if (cover x).covers b then newer_of cover x (newest cover xs b) else newest cover xs b
+newest cover (x ∷ xs) b =
+    if (cover x).covers b then newer_of cover x (newest cover xs b) else newest cover xs b
 
 -- what the newest extent of block b has for it
 unfoldable pub newest_block : List Extent → ℕ → Option Block
 newest_block rs b = option_and_then (λ r. block_of r.first r.blocks b) (newest (λ r. r.cover) rs b)
 
--- the array that home and these extents stand for: the newest extent's block, or home's where none covers it
+-- the array that home and these extents stand for: the newest extent's block, or home's where none
+-- covers it
 unfoldable pub with_extents : List Block → List Extent → List Block
 with_extents home rs = overlaid home (newest_block rs)
 
@@ -54,7 +56,8 @@ IsValid c = (b : ℕ) × (c.covers b ≡ true)
 -- no two valid extents have one version
 abbrev pub AreDistinct : List Cover → Type 0
 AreDistinct [] = ⊤
-AreDistinct (c ∷ cs) = AllByRecursion (λ d. IsValid c → IsValid d → c.version ≢ d.version) cs × AreDistinct cs
+AreDistinct (c ∷ cs) =
+    AllByRecursion (λ d. IsValid c → IsValid d → c.version ≢ d.version) cs × AreDistinct cs
 
 -- it covers no block
 abbrev pub CoversNothing : Extent → Type 0
@@ -80,7 +83,8 @@ has_older cs version b = list_any (λ c. c.covers b && nat_lt c.version version)
 
 -- a kept block may go where a newer one covers it, or where it is home and no older one covers it
 abbrev pub may_go : List Cover → (homed : ℕ → Bool) → Cover → ℕ → Bool
-may_go cs homed c b = c.covers b && (has_newer cs c.version b || (homed b && not (has_older cs c.version b)))
+may_go cs homed c b =
+    c.covers b && (has_newer cs c.version b || (homed b && not (has_older cs c.version b)))
 
 -- s is r without the blocks of this set
 pub record GivesUp (given : ℕ → Bool) (r s : Extent) : Type 0 where
@@ -91,7 +95,8 @@ pub record GivesUp (given : ℕ → Bool) (r s : Extent) : Type 0 where
 
 -- home's block is the newest extent's, for the blocks of this set
 abbrev pub HoldsHomed : List Block → List Extent → (homed : ℕ → Bool) → Type 0
-HoldsHomed home rs homed = (b : ℕ) (x y : Block) → homed b ≡ true → newest_block rs b ≡ Some x → slice_get home b ≡ Some y → y ≡ x
+HoldsHomed home rs homed = (b : ℕ) (x y : Block) → homed b ≡ true → newest_block rs b ≡ Some x
+    → slice_get home b ≡ Some y → y ≡ x
 
 -- no extent covers a block of the write
 abbrev pub IsUncovered : List Extent → Write → Type 0
@@ -99,4 +104,5 @@ IsUncovered rs w = (b : ℕ) → is_some (block_of w.first w.blocks b) ≡ true 
 
 -- an extent covers each block of the write
 abbrev pub IsCovered : List Extent → Write → Type 0
-IsCovered rs w = (b : ℕ) → is_some (block_of w.first w.blocks b) ≡ true → is_some (newest_block rs b) ≡ true
+IsCovered rs w =
+    (b : ℕ) → is_some (block_of w.first w.blocks b) ≡ true → is_some (newest_block rs b) ≡ true

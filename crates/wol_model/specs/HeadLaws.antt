@@ -1,4 +1,5 @@
--- Laws of spellings: a block spells at most one value of each kind, and a log is of one list of records.
+-- Laws of spellings: a block spells at most one value of each kind, and a log is of one list of
+-- records.
 use Rattle.std.specs.Prelude.{◌≡◌, ◌↔◌, ℕ, List, Some}
 use Rattle.wol_disk.specs.Disk.{Block}
 use Rattle.wol_model.specs.Heads.{Shape, SegmentHead, RecordHead, SpellsLabel, SpellsView, SpellsSegment, SpellsRecord, gate_block}
@@ -7,7 +8,8 @@ use Rattle.wol_model.specs.Recovered.{spelled_head, read_log}
 
 -- a block is the label of at most one volume, with one shape
 abbrev pub OneLabel : Type 0
-OneLabel = (b : Block) (id other : ℕ) (s t : Shape) → SpellsLabel b id s → SpellsLabel b other t → (id ≡ other) × (s ≡ t)
+OneLabel = (b : Block) (id other : ℕ) (s t : Shape) → SpellsLabel b id s → SpellsLabel b other t
+    → (id ≡ other) × (s ≡ t)
 
 -- a block is at most one view
 abbrev pub OneView : Type 0
@@ -31,11 +33,13 @@ ReadingHeads = (b : Block) (h : RecordHead) → SpellsRecord b h ↔ (spelled_he
 
 -- the reader gives the records of a log
 abbrev pub ReadingLogs : Type 0
-ReadingLogs = (bs : List Block) (owner : ℕ) (rs : List Record) → IsLog bs owner rs ↔ (read_log owner bs ≡ Some rs)
+ReadingLogs = (bs : List Block) (owner : ℕ) (rs : List Record) → IsLog bs owner rs
+    ↔ (read_log owner bs ≡ Some rs)
 
 -- so a segment is a log of one owner and of one list of records
 abbrev pub OneLog : Type 0
-OneLog = (bs : List Block) (owner other : ℕ) (rs ss : List Record) → IsLog bs owner rs → IsLog bs other ss → (owner ≡ other) × (rs ≡ ss)
+OneLog = (bs : List Block) (owner other : ℕ) (rs ss : List Record) → IsLog bs owner rs
+    → IsLog bs other ss → (owner ≡ other) × (rs ≡ ss)
 
 -- no log is idle
 abbrev pub NotBoth : Type 0

@@ -1,5 +1,6 @@
--- The spellings of labels, views, segment heads and record heads: the bytes of a value's fields, and zeros up to 512.
--- Numbers stand lowest byte first. Each value has one spelling, the form of a record head included.
+-- The spellings of labels, views, segment heads and record heads: the bytes of a value's fields,
+-- and zeros up to 512. Numbers stand lowest byte first. Each value has one spelling, the form of a
+-- record head included.
 use Rattle.std.specs.Prelude.{⊤, ◌≡◌, ◌⊎◌, ◌<◌, ◌≤◌, ℕ, ◌+◌, ◌-◌, ◌^◌, List, ◌++◌, length, replicate, if◌then◌else◌, ◌==◌, codes}
 use Rattle.std.specs.List.{flat_map, AllByRecursion}
 use Rattle.byteorder.specs.Endian.{little_bytes}
@@ -27,7 +28,9 @@ pub record IsShape (s : Shape) : Type 0 where
 -- the bytes of a label: name, id and sizes
 unfoldable pub label_block : ℕ → Shape → Block
 label_block id s =
-    padded (codes "WOLVOL01" ++ (little_bytes 4 id ++ (little_bytes 8 s.home ++ (little_bytes 4 s.segments ++ little_bytes 4 s.segment_blocks))))
+    padded (codes "WOLVOL01" ++ (little_bytes 4 id
+    ++ (little_bytes 8 s.home
+    ++ (little_bytes 4 s.segments ++ little_bytes 4 s.segment_blocks))))
 
 -- the block is the label of volume `id` with these sizes
 pub record SpellsLabel (b : Block) (id : ℕ) (s : Shape) : Type 0 where
@@ -45,7 +48,8 @@ pub record IsViewList (ids : List ℕ) : Type 0 where
 
 -- the bytes of a view: name, number of ids, ids
 unfoldable pub view_block : List ℕ → Block
-view_block ids = padded (codes "WOLVIEW1" ++ (little_bytes 4 (length ids) ++ flat_map (little_bytes 4) ids))
+view_block ids =
+    padded (codes "WOLVIEW1" ++ (little_bytes 4 (length ids) ++ flat_map (little_bytes 4) ids))
 
 -- the block is the view of these loggers
 pub record SpellsView (b : Block) (ids : List ℕ) : Type 0 where
@@ -84,7 +88,8 @@ pub record SpellsSegment (b : Block) (h : SegmentHead) : Type 0 where
 
 -- ---- Record head
 
--- The head of a record. Form 1 keeps all blocks of the record or none; form 2 says for each block whether it is kept.
+-- The head of a record. Form 1 keeps all blocks of the record or none; form 2 says for each block
+-- whether it is kept.
 pub record RecordHead : Type 0 where
   pub form : ℕ
   pub owner : ℕ
@@ -109,13 +114,15 @@ pub record IsRecordHead (h : RecordHead) : Type 0 where
 
 -- the fields that both forms have, from byte 12 on
 abbrev pub span_bytes : RecordHead → List ℕ
-span_bytes h = little_bytes 4 h.owner ++ (little_bytes 8 h.version ++ (little_bytes 8 h.first ++ little_bytes 4 h.count))
+span_bytes h = little_bytes 4 h.owner
+    ++ (little_bytes 8 h.version ++ (little_bytes 8 h.first ++ little_bytes 4 h.count))
 
 -- form 1 has a state: 1 valid, 2 invalid
 unfoldable pub head_block : RecordHead → Block
 head_block h =
     if h.form == 1
-    then padded (codes "WOLREC01" ++ (little_bytes 4 (if h.mask == 0 then 2 else 1) ++ span_bytes h))
+    then padded (codes "WOLREC01"
+    ++ (little_bytes 4 (if h.mask == 0 then 2 else 1) ++ span_bytes h))
     else padded (codes "WOLREC02" ++ (little_bytes 4 0 ++ (span_bytes h ++ little_bytes 16 h.mask)))
 
 -- the block is this head of a record

@@ -4,7 +4,8 @@ use Rattle.std.specs.List.{flat_map, AllByRecursion}
 use Rattle.wol_disk.specs.Disk.{Block, IsBlend}
 use Rattle.wol_model.specs.Blocks.{Write, after}
 
--- what a turn of a pass did: it wrote, it read, it left the content as it was, or a disk call failed
+-- what a turn of a pass did: it wrote, it read, it left the content as it was, or a disk call
+-- failed
 pub data Operation : Type 0 where
   Wrote : (writes : List Write) → Operation
   Read : (first : ℕ) (reply : List Block) → Operation
@@ -50,7 +51,8 @@ IsLegalNext a (Broke ws) = ⊤
 -- so is each one, of the array after the writes before it
 abbrev pub AreLegalNext : List Block → List Entry → Type 0
 AreLegalNext a [] = ⊤
-AreLegalNext a (e ∷ entries) = IsLegalNext a e.operation × AreLegalNext (after a (written_by e.operation)) entries
+AreLegalNext a (e ∷ entries) =
+    IsLegalNext a e.operation × AreLegalNext (after a (written_by e.operation)) entries
 
 -- an operation that leaves the content as it was
 abbrev pub IsKept : Operation → Type 0
@@ -84,7 +86,8 @@ pub record IsLegal (a : List Block) (entries : List Entry) : Type 0 where
 -- or some blocks of the one that was in flight, which goes home
 pub data IsCut (a : List Block) (ws flight : List Write) (x : List Block) : Type 0 where
   whole : (k : ℕ) → k ≤ length flight → x ≡ after a (ws ++ take k flight) → IsCut a ws flight x
-  torn : (w : Write) → flight ≡ w ∷ [] → w.version ≡ None → IsBlend (after a ws) (after a (ws ++ w ∷ [])) x → IsCut a ws flight x
+  torn : (w : Write) → flight ≡ w ∷ [] → w.version ≡ None
+      → IsBlend (after a ws) (after a (ws ++ w ∷ [])) x → IsCut a ws flight x
 
 -- the writes that were in flight when a disk call failed, if one did
 abbrev pub flight_from : Operation → Option (List Write) → Option (List Write)

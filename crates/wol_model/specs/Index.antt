@@ -3,7 +3,8 @@ use Rattle.std.specs.Prelude.{⊤, ◌≡◌, ◌<◌, ℕ, ◌+◌, Bool, true,
 use Rattle.std.specs.List.{list_any, range_with_len, count_by, AllByRecursion}
 use Rattle.wol_model.specs.Extents.{Cover, marked, remarked, may_go, has_newer, has_older}
 
--- a record in an index: for each block from `first` on whether it is kept and whether it is home too, and its lane
+-- a record in an index: for each block from `first` on whether it is kept and whether it is home
+-- too, and its lane
 pub record Listed : Type 0 where
   pub version : ℕ
   pub first : ℕ
@@ -64,7 +65,8 @@ pub record IsListed (es : List Listed) (e : Listed) : Type 0 where
   pub marks : length e.homed ≡ length e.keep
   pub homed_are_live : (b : ℕ) → is_homed e b ≡ true → is_live es e b ≡ true
 
--- a listed record with its place: the index of its segment on the lane's logger, and the position of its head there
+-- a listed record with its place: the index of its segment on the lane's logger, and the position
+-- of its head there
 pub record Indexed : Type 0 where
   pub listed : Listed
   pub index : ℕ
@@ -80,7 +82,10 @@ homing put e = record e { homed = remarked e.first e.homed (λ b m. m || put b) 
 
 -- a record gives up the blocks that go; what is given up is homed no more
 abbrev pub keeping : List Listed → Listed → Listed
-keeping es e = record e { keep = remarked e.first e.keep (λ b m. m && not (goes es e b)); homed = remarked e.first e.homed (λ b m. m && not (goes es e b)) }
+keeping es e = record e {
+  keep = remarked e.first e.keep (λ b m. m && not (goes es e b));
+  homed = remarked e.first e.homed (λ b m. m && not (goes es e b));
+}
 
 -- versions that rise
 abbrev pub AreRising : List ℕ → Type 0
@@ -89,7 +94,8 @@ AreRising (v ∷ vs) = AllByRecursion (λ w. v < w) vs × AreRising vs
 
 -- the kept blocks and the due blocks together: what a drain has left to do
 abbrev pub left_in : List Listed → Listed → ℕ
-left_in es e = count_by (cover_of e).covers (block_numbers e) + count_by (is_due es e) (block_numbers e)
+left_in es e =
+    count_by (cover_of e).covers (block_numbers e) + count_by (is_due es e) (block_numbers e)
 
 -- the same of all records
 abbrev pub left : List Listed → ℕ

@@ -1,4 +1,5 @@
--- When a disk was awake and in standby, and the energy that it used. Moments are in units of 100 ns.
+-- When a disk was awake and in standby, and the energy that it used. Moments are in units of 100
+-- ns.
 use Rattle.std.specs.Prelude.{⊤, ◌≡◌, ◌≤◌, ℕ, ◌+◌, ◌-◌, ◌*◌, ◌/◌, ◌^◌, max, Bool, true, false, not, ◌&&◌, List, [], ◌∷◌, ◌++◌, if◌then◌else◌, nat_le, ◌==◌, IsTrue}
 use Rattle.std.specs.List.{list_any, filter, count_by}
 use Rattle.wol_model.specs.declared.journal.Turned.{Turned}
@@ -10,7 +11,8 @@ use Rattle.wol_model.specs.declared.journal.Powers.{Powers}
 -- from `from`, awake or not, a disk turns down and up in turn, at times that don't fall, up to `to`
 abbrev pub Alternates : (awake : Bool) → (from : ℕ) → List Turned → (to : ℕ) → Type 0
 Alternates awake from [] to = from ≤ to
-Alternates awake from (Down at ∷ rest) to = (awake ≡ true) × (from ≤ at) × Alternates false at rest to
+Alternates awake from (Down at ∷ rest) to =
+    (awake ≡ true) × (from ≤ at) × Alternates false at rest to
 Alternates awake from (Up at ∷ rest) to = (awake ≡ false) × (from ≤ at) × Alternates true at rest to
 
 -- a journal begins awake
@@ -48,7 +50,8 @@ sleeps journal = count_by (λ t. not (turns_up t)) journal
 
 -- the energy used from one moment to another, in units of 100 pJ
 abbrev pub units : Powers → List Turned → (from to : ℕ) → ℕ
-units p journal from to = awake_time journal from to * p.awake_mw + standby journal to * p.standby_mw + wakes journal * p.wake_mj * 10 ^ 7
+units p journal from to = awake_time journal from to * p.awake_mw
+    + standby journal to * p.standby_mw + wakes journal * p.wake_mj * 10 ^ 7
 
 -- the same in mJ, rounded down
 abbrev pub millijoules : ℕ → ℕ
@@ -62,7 +65,8 @@ pub record ArePowers (p : Powers) : Type 0 where
 
 -- ---- Spindles
 
--- what passes do at a spindle: begin the account, begin a window, need the disk for an access and be done with it
+-- what passes do at a spindle: begin the account, begin a window, need the disk for an access and
+-- be done with it
 pub data Use : Type 0 where
   Started : (at : ℕ) → Use
   Began : (at : ℕ) → Use
@@ -90,7 +94,8 @@ abbrev pub is_empty : {X : Type 0} → List X → Bool
 is_empty [] = true
 is_empty (x ∷ xs) = false
 
--- a disk that nobody needs goes down at the end of the timeout, seen by the first window from then on
+-- a disk that nobody needs goes down at the end of the timeout, seen by the first window from then
+-- on
 abbrev pub rested : (timeout : ℕ) → SpindleState → SpindleState
 rested timeout s =
     if s.awake && (is_empty s.needing && nat_le (s.last_use + timeout) s.now)
@@ -99,7 +104,8 @@ rested timeout s =
 
 -- after a pass's use
 abbrev pub used : (timeout : ℕ) → SpindleState → (pass : ℕ) → Use → SpindleState
-used timeout s pass (Started t) = if is_empty s.journal then record s { from = t; now = t; last_use = t } else s
+used timeout s pass (Started t) =
+    if is_empty s.journal then record s { from = t; now = t; last_use = t } else s
 used timeout s pass (Began t) = rested timeout (record s { now = max t s.now })
 used timeout s pass Needed = record s {
   last_use = s.now;

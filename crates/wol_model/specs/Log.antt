@@ -73,7 +73,10 @@ marks_of count mask = map (has_bit mask) (range_with_len 0 count)
 -- the extent that a record stands for: it covers the blocks of its mask
 abbrev pub extent_of : Record → Extent
 extent_of r = record {
-  cover = record { version = r.head.version; covers = marked r.head.first (marks_of r.head.count r.head.mask) };
+  cover = record {
+    version = r.head.version;
+    covers = marked r.head.first (marks_of r.head.count r.head.mask);
+  };
   first = r.head.first;
   blocks = r.blocks;
 }

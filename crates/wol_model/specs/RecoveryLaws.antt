@@ -18,40 +18,51 @@ GivingUp = (home : List Block) (front back : List Extent) (r s : Extent) (homed 
 
 -- extents that cover nothing count for nothing
 abbrev pub Emptied : Type 0
-Emptied = (home : List Block) (front empty back : List Extent) → AllByRecursion CoversNothing empty → with_extents home (front ++ (empty ++ back)) ≡ with_extents home (front ++ back)
+Emptied = (home : List Block) (front empty back : List Extent) → AllByRecursion CoversNothing empty
+    → with_extents home (front ++ (empty ++ back)) ≡ with_extents home (front ++ back)
 
 -- an extent above all others is a write
 abbrev pub Logging : Type 0
-Logging = (home : List Block) (front back : List Extent) (r : Extent) → KeepsAll r → AllByRecursion (λ s. s.cover.version < r.cover.version) front → AllByRecursion (λ s. s.cover.version < r.cover.version) back
-    → with_extents home (front ++ r ∷ back) ≡ after (with_extents home (front ++ back)) (write_of r ∷ [])
+Logging = (home : List Block) (front back : List Extent) (r : Extent) → KeepsAll r
+    → AllByRecursion (λ s. s.cover.version < r.cover.version) front
+    → AllByRecursion (λ s. s.cover.version < r.cover.version) back
+    → with_extents home (front ++ r ∷ back)
+    ≡ after (with_extents home (front ++ back)) (write_of r ∷ [])
 
 -- a write home of blocks that nothing covers is a write
 abbrev pub WritingHome : Type 0
-WritingHome = (home : List Block) (rs : List Extent) (w : Write) → IsUncovered rs w → with_extents (after home (w ∷ [])) rs ≡ after (with_extents home rs) (w ∷ [])
+WritingHome = (home : List Block) (rs : List Extent) (w : Write) → IsUncovered rs w
+    → with_extents (after home (w ∷ [])) rs ≡ after (with_extents home rs) (w ∷ [])
 
 -- and where it is cut short, some of its blocks are written
 abbrev pub CutShort : Type 0
-CutShort = (home x : List Block) (rs : List Extent) (w : Write) → IsUncovered rs w → IsBlend home (after home (w ∷ [])) x
+CutShort = (home x : List Block) (rs : List Extent) (w : Write) → IsUncovered rs w
+    → IsBlend home (after home (w ∷ [])) x
     → IsBlend (with_extents home rs) (after (with_extents home rs) (w ∷ [])) (with_extents x rs)
 
 -- a write home of covered blocks changes nothing, also where it is cut short
 abbrev pub PuttingHome : Type 0
-PuttingHome = (home x : List Block) (rs : List Extent) (w : Write) → IsCovered rs w → IsBlend home (after home (w ∷ [])) x → with_extents x rs ≡ with_extents home rs
+PuttingHome = (home x : List Block) (rs : List Extent) (w : Write) → IsCovered rs w
+    → IsBlend home (after home (w ∷ [])) x → with_extents x rs ≡ with_extents home rs
 
 -- ---- The same of images. Of one segment's image, the others staying as they are:
 
 -- blocks that may go are given up
 abbrev pub Trimming : Type 0
-Trimming = (owner : ℕ) (home : List Block) (before later : List (List Block)) (old new : List Block) (front back : List Record) (r s : Record) (homed given : ℕ → Bool)
-    → IsLog old owner (front ++ r ∷ back) → IsLog new owner (front ++ s ∷ back) → GivesUp given (extent_of r) (extent_of s)
+Trimming = (owner : ℕ) (home : List Block) (before later : List (List Block)) (old new : List Block)
+    (front back : List Record) (r s : Record) (homed given : ℕ → Bool)
+    → IsLog old owner (front ++ r ∷ back) → IsLog new owner (front ++ s ∷ back)
+    → GivesUp given (extent_of r) (extent_of s)
     → AreDistinct (covers_of (extents_of owner (before ++ old ∷ later)))
     → HoldsHomed home (extents_of owner (before ++ old ∷ later)) homed
-    → ((b : ℕ) → given b ≡ true → may_go (covers_of (extents_of owner (before ++ old ∷ later))) homed (extent_of r).cover b ≡ true)
+    → ((b : ℕ) → given b ≡ true → may_go (covers_of (extents_of owner (before ++ old ∷ later)))
+    homed (extent_of r).cover b ≡ true)
     → recovered owner home (before ++ new ∷ later) ≡ recovered owner home (before ++ old ∷ later)
 
 -- a log without a valid record becomes idle
 abbrev pub Retiring : Type 0
-Retiring = (owner : ℕ) (home : List Block) (before later : List (List Block)) (old new : List Block) (rs : List Record)
+Retiring = (owner : ℕ) (home : List Block) (before later : List (List Block)) (old new : List Block)
+    (rs : List Record)
     → IsLog old owner rs → AllByRecursion (λ r. CoversNothing (extent_of r)) rs → IsIdle new
     → recovered owner home (before ++ new ∷ later) ≡ recovered owner home (before ++ old ∷ later)
 
@@ -63,7 +74,10 @@ Claiming = (owner : ℕ) (home : List Block) (before later : List (List Block)) 
 
 -- a record above all others is appended
 abbrev pub Appending : Type 0
-Appending = (owner : ℕ) (home : List Block) (before later : List (List Block)) (old new : List Block) (rs : List Record) (r : Record)
+Appending = (owner : ℕ) (home : List Block) (before later : List (List Block))
+    (old new : List Block) (rs : List Record) (r : Record)
     → IsLog old owner rs → IsLog new owner (rs ++ r ∷ []) → KeepsAll (extent_of r)
-    → AllByRecursion (λ s. s.cover.version < r.head.version) (extents_of owner (before ++ old ∷ later))
-    → recovered owner home (before ++ new ∷ later) ≡ after (recovered owner home (before ++ old ∷ later)) (write_of (extent_of r) ∷ [])
+    → AllByRecursion (λ s. s.cover.version < r.head.version)
+    (extents_of owner (before ++ old ∷ later))
+    → recovered owner home (before ++ new ∷ later)
+    ≡ after (recovered owner home (before ++ old ∷ later)) (write_of (extent_of r) ∷ [])

@@ -1,4 +1,5 @@
--- Traces: the requests that their lines ask for, what a plain array answers them, and the windows that lines are served in.
+-- Traces: the requests that their lines ask for, what a plain array answers them, and the windows
+-- that lines are served in.
 use Rattle.std.specs.Prelude.{ℕ, zero, suc, ◌+◌, ◌-◌, ◌/◌, ◌%◌, ◌^◌, min, max, Bool, ◌&&◌, List, [], ◌∷◌, ◌++◌, Option, None, Some, length, map, take, sum_by, slice_range, slice_get, nat_lt, nat_le, if◌then◌else◌, ◌==◌, position}
 use Rattle.std.specs.List.{range_with_len, flat_map, filter_map}
 use Rattle.std.specs.Option.{option_map_or}
@@ -23,7 +24,8 @@ pub record TraceLine : Type 0 where
 
 -- ---- Pieces
 
--- a run of blocks of a volume of `home` blocks, cut where the volume ends and after each `most` blocks
+-- a run of blocks of a volume of `home` blocks, cut where the volume ends and after each `most`
+-- blocks
 abbrev pub cut_run : (fuel home most first count : ℕ) → List Piece
 cut_run zero home most first count = []
 cut_run (suc fuel) home most first count =
@@ -37,13 +39,15 @@ blocks_touched l = (l.offset + l.size + 511) / 512 - l.offset / 512
 
 -- the pieces of a line on a volume of `home` blocks, each of at most `most`
 unfoldable pub pieces : (home most : ℕ) → TraceLine → List Piece
-pieces home most l = if l.size == 0 then [] else cut_run (blocks_touched l) home most (l.offset / 512 % home) (blocks_touched l)
+pieces home most l = if l.size == 0 then []
+    else cut_run (blocks_touched l) home most (l.offset / 512 % home) (blocks_touched l)
 
 -- ---- Payload and marks
 
 -- what line `line` writes to block b: both numbers, 32 times
 unfoldable pub payload_block : (line b : ℕ) → Block
-payload_block line b = flat_map (λ k. to_le_bytes w64 line ++ to_le_bytes w64 b) (range_with_len 0 32)
+payload_block line b =
+    flat_map (λ k. to_le_bytes w64 line ++ to_le_bytes w64 b) (range_with_len 0 32)
 
 -- the mark of a block: its first eight bytes as a number
 abbrev pub block_mark : Block → ℕ
@@ -78,10 +82,17 @@ abbrev pub home_of : List Target → ℕ → ℕ
 home_of targets v = option_map_or (λ (t : Target). t.home) (slice_get targets v) 0
 
 -- the requests of line `number`: one for each piece, none where the line is skipped
-abbrev pub requests_on : (most : ℕ) → List Target → (number : ℕ) → TraceLine → Option ℕ → List Request
+abbrev pub requests_on : (most : ℕ) → List Target → (number : ℕ) → TraceLine → Option ℕ
+    → List Request
 requests_on most targets number l None = []
 requests_on most targets number l (Some v) =
-    map (λ (p : Piece). record { line = number; volume = v; kind = l.kind; first = p.lbn; count = p.count }) (pieces (home_of targets v) most l)
+    map (λ (p : Piece). record {
+      line = number;
+      volume = v;
+      kind = l.kind;
+      first = p.lbn;
+      count = p.count;
+    }) (pieces (home_of targets v) most l)
 
 -- the requests of a line, by its host and disk
 abbrev pub requests_of : (most : ℕ) → List Target → (number : ℕ) → TraceLine → List Request
@@ -96,17 +107,23 @@ pub record Numbered : Type 0 where
 abbrev pub numbered_from : (next : ℕ) → List (Option TraceLine) → List Numbered
 numbered_from next [] = []
 numbered_from next (None ∷ lines) = numbered_from (next + 1) lines
-numbered_from next (Some l ∷ lines) = record { number = next; line = l } ∷ numbered_from (next + 1) lines
+numbered_from next (Some l ∷ lines) =
+    record { number = next; line = l } ∷ numbered_from (next + 1) lines
 
 -- the requests of a trace, in order
 unfoldable pub requests : (most : ℕ) → List Target → List (Option TraceLine) → List Request
-requests most targets lines = flat_map (λ (n : Numbered). requests_of most targets n.number n.line) (numbered_from 1 lines)
+requests most targets lines =
+    flat_map (λ (n : Numbered). requests_of most targets n.number n.line) (numbered_from 1 lines)
 
 -- ---- The plain answer
 
 -- what a write request writes to its volume
 abbrev pub payload : Request → blocks.Write
-payload r = record { first = r.first; blocks = map (payload_block r.line) (range_with_len r.first r.count); version = None }
+payload r = record {
+  first = r.first;
+  blocks = map (payload_block r.line) (range_with_len r.first r.count);
+  version = None;
+}
 
 -- the writes of volume v among requests
 abbrev pub write_to : (v : ℕ) → Request → Kind → Option blocks.Write
@@ -117,15 +134,20 @@ write_to v r Write = if r.volume == v then Some (payload r) else None
 abbrev pub payloads : (v : ℕ) → List Request → List blocks.Write
 payloads v rs = filter_map (λ (r : Request). write_to v r r.kind) rs
 
--- the mark that a read gives: that of its range in its volume's array after the writes of the earlier requests; a write gives none
+-- the mark that a read gives: that of its range in its volume's array after the writes of the
+-- earlier requests; a write gives none
 abbrev pub answer : (arrays : ℕ → List Block) → (earlier : List Request) → Request → Kind → Option ℕ
-answer arrays earlier r Read = Some (mark (slice_range (after (arrays r.volume) (payloads r.volume earlier)) r.first (r.first + r.count)))
+answer arrays earlier r Read = Some (mark
+    (slice_range (after (arrays r.volume) (payloads r.volume earlier)) r.first
+    (r.first + r.count)))
 answer arrays earlier r Write = None
 
 -- the answers to requests that come after earlier ones
-abbrev pub plain_after : (arrays : ℕ → List Block) → (earlier : List Request) → List Request → List (Option ℕ)
+abbrev pub plain_after : (arrays : ℕ → List Block) → (earlier : List Request) → List Request
+    → List (Option ℕ)
 plain_after arrays earlier [] = []
-plain_after arrays earlier (r ∷ rs) = answer arrays earlier r r.kind ∷ plain_after arrays (earlier ++ r ∷ []) rs
+plain_after arrays earlier (r ∷ rs) =
+    answer arrays earlier r r.kind ∷ plain_after arrays (earlier ++ r ∷ []) rs
 
 -- what plain arrays, one for each volume, answer to requests in order
 unfoldable pub plain : (arrays : ℕ → List Block) → List Request → List (Option ℕ)
@@ -142,7 +164,11 @@ pub record Timed : Type 0 where
 -- a line's time is no earlier than that of the line before
 abbrev pub timed_from : ℕ → List Numbered → List Timed
 timed_from time [] = []
-timed_from time (n ∷ lines) = record { time = max time n.line.time; number = n.number; line = n.line } ∷ timed_from (max time n.line.time) lines
+timed_from time (n ∷ lines) = record {
+  time = max time n.line.time;
+  number = n.number;
+  line = n.line;
+} ∷ timed_from (max time n.line.time) lines
 
 -- the lines of a trace that are not blank, with their times
 abbrev pub timed : List (Option TraceLine) → List Timed
@@ -154,9 +180,11 @@ pub record Window : Type 0 where
   pub pieces : ℕ
   pub lines : List Timed
 
--- less than a second after the first line, fewer than 4,096 lines before, and at most 65,536 pieces with the further line's
+-- less than a second after the first line, fewer than 4,096 lines before, and at most 65,536 pieces
+-- with the further line's
 abbrev pub joins : Window → Timed → (more : ℕ) → Bool
-joins w l more = nat_lt l.time (w.moment + 10000000) && (nat_lt (length w.lines) 4096 && nat_le (w.pieces + more) 65536)
+joins w l more = nat_lt l.time (w.moment + 10000000)
+    && (nat_lt (length w.lines) 4096 && nat_le (w.pieces + more) 65536)
 
 -- a window of one line
 abbrev pub opened : Timed → (cost : ℕ) → Window

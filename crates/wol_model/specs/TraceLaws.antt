@@ -12,14 +12,17 @@ pub record LiesIn (home most : ℕ) (p : Piece) : Type 0 where
 
 -- each piece of a line lies in its volume
 abbrev pub PiecesLie : Type 0
-PiecesLie = (home most : ℕ) (l : TraceLine) → 1 ≤ home → 1 ≤ most → AllByRecursion (LiesIn home most) (pieces home most l)
+PiecesLie = (home most : ℕ) (l : TraceLine) → 1 ≤ home → 1 ≤ most
+    → AllByRecursion (LiesIn home most) (pieces home most l)
 
 -- together they are the blocks that the line touches
 abbrev pub PiecesCover : Type 0
 PiecesCover = (home most : ℕ) (l : TraceLine) → 1 ≤ home → 1 ≤ most
-    → sum_by (λ (p : Piece). p.count) (pieces home most l) ≡ (if l.size == 0 then 0 else blocks_touched l)
+    → sum_by (λ (p : Piece). p.count) (pieces home most l)
+    ≡ (if l.size == 0 then 0 else blocks_touched l)
 
--- a window begins with its first line; the others come within a second and are fewer than 4,096, and with more than one line it has at most 65,536 pieces
+-- a window begins with its first line; the others come within a second and are fewer than 4,096,
+-- and with more than one line it has at most 65,536 pieces
 pub record IsWindow (cost : Timed → ℕ) (w : Window) : Type 0 where
   pub some : 0 < length w.lines
   pub begins : started w.lines ≡ w.moment
@@ -30,8 +33,10 @@ pub record IsWindow (cost : Timed → ℕ) (w : Window) : Type 0 where
 
 -- the windows have the lines of the trace, each once and in order
 abbrev pub WindowsHaveAll : Type 0
-WindowsHaveAll = (most : ℕ) (targets : List Target) (lines : List (Option TraceLine)) → flat_map (λ (w : Window). w.lines) (windows most targets lines) ≡ timed lines
+WindowsHaveAll = (most : ℕ) (targets : List Target) (lines : List (Option TraceLine))
+    → flat_map (λ (w : Window). w.lines) (windows most targets lines) ≡ timed lines
 
 -- each window of a trace is as the rules of windows say
 abbrev pub WindowsAre : Type 0
-WindowsAre = (most : ℕ) (targets : List Target) (lines : List (Option TraceLine)) → AllByRecursion (IsWindow (pieces_of most targets)) (windows most targets lines)
+WindowsAre = (most : ℕ) (targets : List Target) (lines : List (Option TraceLine))
+    → AllByRecursion (IsWindow (pieces_of most targets)) (windows most targets lines)

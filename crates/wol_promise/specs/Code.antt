@@ -46,7 +46,8 @@ operation_code (Broke ws) = 4 ∷ list_code write_code ws
 
 -- version, first block, lane, kept and homed blocks
 abbrev pub listed_code : Listed → List ℕ
-listed_code e = e.version ∷ e.first ∷ e.lane ∷ (list_code flag_code e.keep ++ list_code flag_code e.homed)
+listed_code e =
+    e.version ∷ e.first ∷ e.lane ∷ (list_code flag_code e.keep ++ list_code flag_code e.homed)
 
 -- 0, 1 for home, or 2, logger and index
 abbrev pub part_code : Option PartName → List ℕ
@@ -56,11 +57,14 @@ part_code (Some (SegmentPart logger index)) = 2 ∷ logger ∷ index ∷ []
 
 -- next version, flags, part, records
 abbrev pub look_code : Look → List ℕ
-look_code l = l.next ∷ (flag_code l.home_up ++ (list_code flag_code l.ups ++ (part_code l.down ++ list_code listed_code l.listed)))
+look_code l = l.next ∷ (flag_code l.home_up
+    ++ (list_code flag_code l.ups ++ (part_code l.down ++ list_code listed_code l.listed)))
 
 -- all of an entry but the pass
 unfoldable pub code_of : Noted → List ℕ
-code_of n = operation_code n.entry.operation ++ (look_code n.look ++ (list_code number_code n.passed ++ (flag_code n.after_drain ++ flag_code n.ruled)))
+code_of n = operation_code n.entry.operation
+    ++ (look_code n.look
+    ++ (list_code number_code n.passed ++ (flag_code n.after_drain ++ flag_code n.ruled)))
 
 -- ---- Reading: a value and what follows it
 
@@ -71,7 +75,8 @@ Reader X = List ℕ → Option (X × List ℕ)
 -- n values, one after the other
 abbrev pub read_many : {X : Type 0} → Reader X → (n : ℕ) → Reader (List X)
 read_many read zero code = Some ([], code)
-read_many read (suc n) code = option_and_then (λ x. option_map (λ xs. (x.0 ∷ xs.0, xs.1)) (read_many read n x.1)) (read code)
+read_many read (suc n) code =
+    option_and_then (λ x. option_map (λ xs. (x.0 ∷ xs.0, xs.1)) (read_many read n x.1)) (read code)
 
 -- a list with its length in front
 abbrev pub read_list : {X : Type 0} → Reader X → Reader (List X)
@@ -95,12 +100,15 @@ read_block code = read_list read_number code
 -- a version or none
 abbrev pub read_version : Reader (Option ℕ)
 read_version [] = None
-read_version (tag ∷ code) = if tag == 1 then option_map (λ v. (Some v.0, v.1)) (read_number code) else Some (None, code)
+read_version (tag ∷ code) =
+    if tag == 1 then option_map (λ v. (Some v.0, v.1)) (read_number code) else Some (None, code)
 
 -- a write
 abbrev pub read_write : Reader Write
 read_write code =
-    option_and_then (λ first. option_and_then (λ version. option_map (λ blocks. (record { first = first.0; blocks = blocks.0; version = version.0 }, blocks.1))
+    option_and_then (λ first. option_and_then
+    (λ version. option_map
+    (λ blocks. (record { first = first.0; blocks = blocks.0; version = version.0 }, blocks.1))
     (read_list read_block version.1)) (read_version first.1)) (read_number code)
 
 -- writes
@@ -109,7 +117,9 @@ read_writes code = read_list read_write code
 
 -- a read with its reply
 abbrev pub read_reply : Reader Operation
-read_reply code = option_and_then (λ first. option_map (λ reply. (Read first.0 reply.0, reply.1)) (read_list read_block first.1)) (read_number code)
+read_reply code = option_and_then (λ first.
+    option_map (λ reply. (Read first.0 reply.0, reply.1)) (read_list read_block first.1))
+    (read_number code)
 
 -- an operation, by its first number
 abbrev pub read_operation : Reader Operation
@@ -123,35 +133,68 @@ read_operation (tag ∷ code) =
 -- a listed record
 abbrev pub read_listed : Reader Listed
 read_listed code =
-    option_and_then (λ version. option_and_then (λ first. option_and_then (λ lane. option_and_then (λ keep. option_map (λ homed.
-    (record { version = version.0; first = first.0; keep = keep.0; lane = lane.0; homed = homed.0 }, homed.1))
-    (read_list read_flag keep.1)) (read_list read_flag lane.1)) (read_number first.1)) (read_number version.1)) (read_number code)
+    option_and_then (λ version.
+    option_and_then
+    (λ first. option_and_then (λ lane. option_and_then (λ keep. option_map (λ homed. (
+      record {
+        version = version.0;
+        first = first.0;
+        keep = keep.0;
+        lane = lane.0;
+        homed = homed.0;
+      },
+      homed.1,
+    ))
+    (read_list read_flag keep.1)) (read_list read_flag
+    lane.1)) (read_number first.1)) (read_number version.1)) (read_number code)
 
 -- a part or none
 abbrev pub read_part : Reader (Option PartName)
 read_part [] = None
 read_part (tag ∷ code) =
     if tag == 1 then Some (Some HomePart, code)
-    else (if tag == 2 then option_and_then (λ logger. option_map (λ index. (Some (SegmentPart logger.0 index.0), index.1)) (read_number logger.1)) (read_number code)
+    else (if tag == 2 then option_and_then
+    (λ logger. option_map (λ index. (Some (SegmentPart logger.0 index.0), index.1))
+    (read_number logger.1)) (read_number code)
     else Some (None, code))
 
 -- a look
 abbrev pub read_look : Reader Look
 read_look code =
-    option_and_then (λ next. option_and_then (λ home_up. option_and_then (λ ups. option_and_then (λ down. option_map (λ listed.
-    (record { home_up = home_up.0; ups = ups.0; next = next.0; listed = listed.0; down = down.0 }, listed.1))
-    (read_list read_listed down.1)) (read_part ups.1)) (read_list read_flag home_up.1)) (read_flag next.1)) (read_number code)
+    option_and_then (λ next. option_and_then
+    (λ home_up. option_and_then (λ ups. option_and_then (λ down. option_map (λ listed. (
+      record { home_up = home_up.0; ups = ups.0; next = next.0; listed = listed.0; down = down.0 },
+      listed.1,
+    ))
+    (read_list read_listed down.1)) (read_part
+    ups.1)) (read_list read_flag home_up.1)) (read_flag next.1)) (read_number code)
 
 -- an entry of this pass with its notes
 abbrev pub read_noted : (pass : ℕ) → Reader Noted
 read_noted pass code =
-    option_and_then (λ operation. option_and_then (λ look. option_and_then (λ passed. option_and_then (λ after_drain. option_map (λ ruled.
-    (record { entry = record { pass = pass; operation = operation.0 }; look = look.0; passed = passed.0; after_drain = after_drain.0; ruled = ruled.0 }, ruled.1))
-    (read_flag after_drain.1)) (read_flag passed.1)) (read_list read_number look.1)) (read_look operation.1)) (read_operation code)
+    option_and_then (λ operation. option_and_then
+    (λ look. option_and_then (λ passed. option_and_then (λ after_drain. option_map (λ ruled. (
+      record {
+        entry = record { pass = pass; operation = operation.0 };
+        look = look.0;
+        passed = passed.0;
+        after_drain = after_drain.0;
+        ruled = ruled.0;
+      },
+      ruled.1,
+    ))
+    (read_flag after_drain.1)) (read_flag
+    passed.1)) (read_list read_number look.1)) (read_look operation.1)) (read_operation code)
 
 -- what stands for nothing
 abbrev pub no_note : (pass : ℕ) → Noted
-no_note pass = record { entry = record { pass = pass; operation = Kept }; look = record { home_up = false; ups = []; next = 0; listed = []; down = None }; passed = []; after_drain = false; ruled = false }
+no_note pass = record {
+  entry = record { pass = pass; operation = Kept };
+  look = record { home_up = false; ups = []; next = 0; listed = []; down = None };
+  passed = [];
+  after_drain = false;
+  ruled = false;
+}
 
 -- the entry of a pass whose operation has this code
 unfoldable pub noted_of : (pass : ℕ) → (code : List ℕ) → Noted
@@ -161,7 +204,8 @@ noted_of pass code = unwrap_or (option_map (λ n. n.0) (read_noted pass code)) (
 
 -- what was coded is read back, whatever follows
 abbrev pub CodeReadsBack : Type 0
-CodeReadsBack = (n : Noted) (rest : List ℕ) → read_noted n.entry.pass (code_of n ++ rest) ≡ Some (n, rest)
+CodeReadsBack =
+    (n : Noted) (rest : List ℕ) → read_noted n.entry.pass (code_of n ++ rest) ≡ Some (n, rest)
 
 -- so an entry is known by its pass and its code
 abbrev pub NotedBack : Type 0

@@ -54,15 +54,23 @@ pub record Base : Type 0 where
   pub view : List ℕ
   pub look : Look
 
--- the look of a manager: its flags, next version and listed records, and the part at which a call failed
+-- the look of a manager: its flags, next version and listed records, and the part at which a call
+-- failed
 abbrev pub look_of : {P : Type 0} → ManagerSeen P → Look
-look_of m = record { home_up = m.home_up; ups = m.ups; next = m.next; listed = listed_in m.indexed; down = m.down }
+look_of m = record {
+  home_up = m.home_up;
+  ups = m.ups;
+  next = m.next;
+  listed = listed_in m.indexed;
+  down = m.down;
+}
 
 -- the part of this name
 abbrev pub IsPartOf : {P : Type 0} → (view : List ℕ) → ManagerSeen P → PartName → P → Type 0
 IsPartOf view m HomePart p = m.home ≡ p
 IsPartOf {P} view m (SegmentPart logger index) p =
-    (s : Held P) × Contains m.held s × (slice_get view s.lane ≡ Some logger) × (s.index ≡ index) × (s.part ≡ p)
+    (s : Held P) × Contains m.held s × (slice_get view s.lane ≡ Some logger) × (s.index ≡ index)
+    × (s.part ≡ p)
 
 -- the extents of the held segments, in order
 abbrev pub extents_held : {P : Type 0} → List (Held P) → List Extent
@@ -73,8 +81,12 @@ abbrev pub AllRecords : {P : Type 0} → (Record → Type 0) → List (Held P) �
 AllRecords Test held = AllByRecursion (λ s. AllByRecursion Test s.records) held
 
 -- whatever images these parts have, this holds of the array that they stand for
-abbrev pub Recovers : {P : Type 0} → (of_home : List Block → Type 0) → (of_held : Held P → List Block → Type 0) → (owner : ℕ) → List (Held P) → (List Block → Type 0) → Type 0
-Recovers of_home of_held owner held Test = (home : List Block) (segments : List (List Block)) → of_home home → AllZip of_held held segments → Test (recovered owner home segments)
+abbrev pub Recovers : {P : Type 0} → (of_home : List Block → Type 0)
+    → (of_held : Held P → List Block → Type 0) → (owner : ℕ) → List (Held P) → (List Block → Type 0)
+    → Type 0
+Recovers of_home of_held owner held Test =
+    (home : List Block) (segments : List (List Block)) → of_home home → AllZip of_held held segments
+    → Test (recovered owner home segments)
 
 -- ---- The index
 
@@ -88,7 +100,8 @@ pub record IsEntryOf {P : Type 0} (s : Held P) (k : ℕ) (r : Record) (e : Index
   pub pos : e.pos ≡ position_of s.records k
 
 -- a record of a held segment with its entry in the index
-pub record IsFound {P : Type 0} (indexed : List Indexed) (s : Held P) (k : ℕ) (r : Record) : Type 0 where
+pub record IsFound {P : Type 0} (indexed : List Indexed) (s : Held P) (k : ℕ) (r : Record) :
+    Type 0 where
   pub entry : Indexed
   pub listed : Contains indexed entry
   pub is_its : IsEntryOf s k r entry
@@ -105,7 +118,8 @@ pub record IsBacked {P : Type 0} (held : List (Held P)) (e : Indexed) : Type 0 w
 
 -- the index lists exactly the valid records of the held segments
 pub record IsIndexOf {P : Type 0} (indexed : List Indexed) (held : List (Held P)) : Type 0 where
-  pub each : AllByRecursion (λ s. (k : ℕ) (r : Record) → slice_get s.records k ≡ Some r → IsValid (extent_of r).cover → IsFound indexed s k r) held
+  pub each : AllByRecursion (λ s. (k : ℕ) (r : Record) → slice_get s.records k ≡ Some r
+      → IsValid (extent_of r).cover → IsFound indexed s k r) held
   pub only : AllByRecursion (IsBacked held) indexed
 
 -- by rising version, with marks of home for live blocks alone
@@ -113,9 +127,11 @@ pub record IsSorted (indexed : List Indexed) : Type 0 where
   pub rising : AreRising (map (λ e. e.listed.version) indexed)
   pub listed : AllByRecursion (λ e. IsListed (listed_in indexed) e.listed) indexed
 
--- each held segment has a valid record: so at the end of each turn, but not between a claim and the record that it was for
+-- each held segment has a valid record: so at the end of each turn, but not between a claim and the
+-- record that it was for
 abbrev pub AreInUse : {P : Type 0} → List (Held P) → Type 0
-AreInUse held = AllByRecursion (λ s. (r : Record) × Contains s.records r × IsValid (extent_of r).cover) held
+AreInUse held =
+    AllByRecursion (λ s. (r : Record) × Contains s.records r × IsValid (extent_of r).cover) held
 
 -- block b is homed by an entry of the index
 abbrev pub is_homed_in : List Indexed → ℕ → Bool

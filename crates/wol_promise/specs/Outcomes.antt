@@ -8,7 +8,8 @@ use Rattle.wol_model.specs.History.{Entry, Operation, Wrote, Read, Kept, Broke, 
 use Rattle.wol_model.specs.Trace.{Request, payload, payloads, mark, plain_after}
 use Rattle.wol_model.specs.declared.trace.Kind.TheVariants as kind
 
--- what became of a request: read, with the mark; written, home or to a log, perhaps after a drain; or not answered
+-- what became of a request: read, with the mark; written, home or to a log, perhaps after a drain;
+-- or not answered
 pub data Outcome : Type 0 where
   WasRead : (mark : ℕ) → Outcome
   WasWritten : (logged drained : Bool) → Outcome
@@ -55,9 +56,11 @@ abbrev pub AreOutcomes : List Answered → List Operation → Type 0
 AreOutcomes answers [] = answers ≡ []
 AreOutcomes answers (Kept ∷ operations) = AreOutcomes answers operations
 AreOutcomes answers (Broke ws ∷ operations) = AreOutcomes answers operations
-AreOutcomes answers (Wrote ws ∷ operations) = AreWritten (take (length ws) answers) ws × AreOutcomes (drop (length ws) answers) operations
+AreOutcomes answers (Wrote ws ∷ operations) =
+    AreWritten (take (length ws) answers) ws × AreOutcomes (drop (length ws) answers) operations
 AreOutcomes [] (Read first reply ∷ operations) = ⊥
-AreOutcomes (a ∷ answers) (Read first reply ∷ operations) = IsReadOf a first reply × AreOutcomes answers operations
+AreOutcomes (a ∷ answers) (Read first reply ∷ operations) =
+    IsReadOf a first reply × AreOutcomes answers operations
 
 -- those of a window's requests that were answered
 abbrev pub answered_in : List Answered → List Answered
@@ -77,11 +80,13 @@ of_volume v rs = filter (λ (r : Request). r.volume == v) rs
 
 -- the marks that a legal history answers are those of plain arrays
 abbrev pub MarksArePlain : Type 0
-MarksArePlain = (arrays : ℕ → List Block) (v : ℕ) (earlier : List Request) (answers : List Answered) (entries : List Entry)
+MarksArePlain = (arrays : ℕ → List Block) (v : ℕ) (earlier : List Request) (answers : List Answered)
+    (entries : List Entry)
     → AllByRecursion (λ (a : Answered). a.request.volume ≡ v) answers
     → AreOutcomes answers (map (λ e. e.operation) entries)
     → AreLegalNext (after (arrays v) (payloads v earlier)) entries
-    → plain_after arrays earlier (map (λ (a : Answered). a.request) answers) ≡ map (λ (a : Answered). mark_in a.outcome) answers
+    → plain_after arrays earlier (map (λ (a : Answered). a.request) answers)
+    ≡ map (λ (a : Answered). mark_in a.outcome) answers
 
 -- only the requests of a volume itself count for its writes
 abbrev pub PayloadsByVolume : Type 0

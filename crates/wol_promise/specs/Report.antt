@@ -61,7 +61,8 @@ put_home_by false l m = 0
 -- the blocks put home by the entries that follow a look
 abbrev pub blocks_put_home : Look → List Noted → ℕ
 blocks_put_home l [] = 0
-blocks_put_home l (n ∷ notes) = put_home_by (reclaims n.after_drain n.entry.operation) l n.look + blocks_put_home n.look notes
+blocks_put_home l (n ∷ notes) =
+    put_home_by (reclaims n.after_drain n.entry.operation) l n.look + blocks_put_home n.look notes
 
 -- the records that are gone: with those at exit they are those at opening and the writes to logs
 abbrev pub AreGone : (gone at_opening logged at_exit : ℕ) → Type 0

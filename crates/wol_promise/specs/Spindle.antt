@@ -15,6 +15,7 @@ is_need Stayed = false
 abbrev pub needs_in : (mine : List Use) → ℕ
 needs_in mine = count_by is_need mine
 
--- the keeper's entries since opening: one Started at the account's start, then one Began for each window's moment in order
+-- the keeper's entries since opening: one Started at the account's start, then one Began for each
+-- window's moment in order
 abbrev pub keeper_uses : (start : ℕ) → (moments : List ℕ) → List Use
 keeper_uses start moments = Started start ∷ map Began moments

@@ -98,8 +98,8 @@ pub record HasNoVersion (tells : Bool) (words : List (List ℕ))
   pub few : logged < writes_to base.owner (requests (most_of config) (targets_of config) lines)
   pub spent : 2 ^ 63 ≤ base.next + logged
 
--- A volume had no version left for a copy: the next one at opening, and the number of chunks of what
--- lies in its logs, come to more than 2^63.
+-- A volume had no version left for a copy: the next one at opening, and the number of chunks of
+-- what lies in its logs, come to more than 2^63.
 pub record HasNoVersionToCopy (tells : Bool) (before after : Outside) : Type 0 where
   pub config : Config
   pub has : HasConfig before.config.bytes config

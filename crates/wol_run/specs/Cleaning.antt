@@ -27,8 +27,8 @@ pub record IsCleaning {D : Type 0} (tells : Bool) (state : D → State) (left : 
   pub cleans : CleansBay tells state config old new sink sink_then printed printed_then result
   pub ends : EndsReplay config result status printed_then printed'
 
--- a run of `clean`, by the bytes of the configuration, its count of faults, the bay, the sink's count of faults at entry, the status,
--- and what the sink took
+-- a run of `clean`, by the bytes of the configuration, its count of faults, the bay, the sink's
+-- count of faults at entry, the status, and what the sink took
 abbrev pub RunsCleaning : {D : Type 0} → (tells : Bool) → (D → State) → (left : Option (List ℕ))
     → (faults faults' : ℕ) → (old new : BayState) → (sink status : ℕ)
     → (printed printed' : Option (List ℕ)) → Type 0

@@ -30,8 +30,8 @@ pub record IsUncompared (start : GivenLines) (left left_of_trace : Option (List 
   pub rest : HasLeft start left_of_trace
   pub ends : EndsWith text wanted status printed printed'
 
--- a run of `whatif`, by the bytes of the configuration, its count of faults, the bytes that are left of the trace, the sink's count of
--- faults at entry, the status, and what the sink took
+-- a run of `whatif`, by the bytes of the configuration, its count of faults, the bytes that are
+-- left of the trace, the sink's count of faults at entry, the status, and what the sink took
 abbrev pub RunsWhatIf : (start : GivenLines) → (left : Option (List ℕ)) → (faults faults' : ℕ)
     → (left_of_trace : Option (List ℕ)) → (sink status : ℕ) → (printed printed' : Option (List ℕ))
     → Type 0

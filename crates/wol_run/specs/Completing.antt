@@ -16,7 +16,8 @@ use Rattle.command_words.specs.declared.command.Generated.{Generated}
 use Rattle.wol_run.specs.Settings.{HasConfig}
 use Rattle.wol_config.specs.Configs.{most_of}
 
--- the bay tells its images, and as they read they are sound for the configuration, with all volumes there
+-- the bay tells its images, and as they read they are sound for the configuration, with all volumes
+-- there
 pub record HasSoundImages (tells : Bool) (left : Option (List ℕ)) (bay : BayState) : Type 0 where
   pub telling : IsTrue tells
   pub entry : Told

@@ -39,9 +39,9 @@ abbrev pub fault_of : RackFault → Fault
 fault_of (Failed volume part) = fault.Volume volume (trouble_of volume part)
 fault_of NoMemory = fault.Memory
 
--- What a format with this result leaves of a bay. Where all volumes are formatted, whatever images a crash leaves are
--- sound, and each volume recovers to zeros. At each exit an image is as it was, has no label or is whole. The count of
--- faults rises exactly where a part failed.
+-- What a format with this result leaves of a bay. Where all volumes are formatted, whatever images
+-- a crash leaves are sound, and each volume recovers to zeros. At each exit an image is as it was,
+-- has no label or is whole. The count of faults rises exactly where a part failed.
 pub record Formats (config : Config) (result : Result (Unit {0}) RackFault)
     (old new : BayState) : Type 0 where
   pub images : IsTold (LeavesImages config result) old.told new.told
@@ -62,7 +62,8 @@ pub record IsWhole (left : Option (List ℕ)) (old new : BayState) (text : List 
   pub lines_ : text ≡ format_lines config
   pub done : status ≡ 0
 
--- Status 4: the configuration was had, a part of a volume failed, and the text is the line that names it.
+-- Status 4: the configuration was had, a part of a volume failed, and the text is the line that
+-- names it.
 pub record IsPartFault (left : Option (List ℕ)) (old new : BayState) (text : List ℕ)
     (status : ℕ) : Type 0 where
   pub config : Config
@@ -75,7 +76,8 @@ pub record IsPartFault (left : Option (List ℕ)) (old new : BayState) (text : L
       (fault.Volume volume (trouble_of volume part))
   pub failed : status ≡ 4
 
--- Status 9: the configuration was had, and there was no memory to go on, or to say what the format came to.
+-- Status 9: the configuration was had, and there was no memory to go on, or to say what the format
+-- came to.
 pub record IsOutOfMemory (left : Option (List ℕ)) (old new : BayState) (text : List ℕ)
     (status : ℕ) : Type 0 where
   pub config : Config

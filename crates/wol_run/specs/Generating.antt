@@ -15,7 +15,8 @@ use Rattle.wol_run.specs.Tops.{EndsWith}
 abbrev pub first_lines : Config → (seed count : ℕ) → List ℕ
 first_lines config seed count = text_of (lines (targets_of config) seed count)
 
--- what printing lines makes of a sink: it took all of them; or it failed, and took a front of them; or there was no memory, and it took some first ones
+-- what printing lines makes of a sink: it took all of them; or it failed, and took a front of them;
+-- or there was no memory, and it took some first ones
 abbrev pub Prints : {T : Type 0} → Result T Stop → Config → (seed count : ℕ) → (faults faults' : ℕ)
     → (printed new : Option (List ℕ)) → Type 0
 Prints (Ok _) config seed count faults faults' printed new =

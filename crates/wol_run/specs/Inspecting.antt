@@ -24,9 +24,9 @@ abbrev pub status_of_first : Option Trouble → ℕ
 status_of_first None = 0
 status_of_first (Some trouble) = trouble_status trouble
 
--- These volumes, the first ones in order, were told so. Where any was told, an image that is out was
--- there and may be opened, and one that isn't was refused. Each image that is left recovers to what
--- an image at entry did, and sound images stay sound.
+-- These volumes, the first ones in order, were told so. Where any was told, an image that is out
+-- was there and may be opened, and one that isn't was refused. Each image that is left recovers to
+-- what an image at entry did, and sound images stay sound.
 pub record AreTold {D : Type 0} (tells : Bool) (state : D → State) (asked : Asked) (config : Config)
     (old new : BayState) (told : List Telling) : Type 0 where
   pub out : List (Option (ImageRest D))
@@ -54,7 +54,8 @@ pub record IsLook {D : Type 0} (tells : Bool) (state : D → State) (asked : Ask
   pub lines_ : text ≡ text_of told
   pub done : status ≡ status_of_first (first_trouble told)
 
--- Status 9: the configuration was had, and behind the lines of some first volumes there was no memory.
+-- Status 9: the configuration was had, and behind the lines of some first volumes there was no
+-- memory.
 pub record IsCutLook {D : Type 0} (tells : Bool) (state : D → State) (asked : Asked)
     (left : Option (List ℕ)) (old new : BayState) (text : List ℕ) (status : ℕ) : Type 0 where
   pub config : Config
@@ -64,7 +65,8 @@ pub record IsCutLook {D : Type 0} (tells : Bool) (state : D → State) (asked : 
   pub lines_ : text ≡ text_of told ++ codes "fault 9 memory\n"
   pub memory : status ≡ 9
 
--- a run of `check` or `dump`: one of these texts was printed whole, or a front of it to a sink that failed
+-- a run of `check` or `dump`: one of these texts was printed whole, or a front of it to a sink that
+-- failed
 pub record RunsLook {D : Type 0} (tells : Bool) (state : D → State) (asked : Asked)
     (left : Option (List ℕ)) (faults faults' : ℕ) (bay bay' : BayState) (status : ℕ)
     (printed new : Option (List ℕ)) : Type 0 where

@@ -1,4 +1,5 @@
--- What replaying a trace on the volumes of the configuration leaves and prints, and its exit status.
+-- What replaying a trace on the volumes of the configuration leaves and prints, and its exit
+-- status.
 use Rattle.std.specs.Prelude.{◌≡◌, ℕ, ◌⊎◌, ⊤, Bool, true, List, [], codes, Option, Result, Ok, Err}
 use Rattle.wol_disk.specs.Disk.{State}
 use Rattle.wol_bay.specs.Bay.{BayState}
@@ -67,8 +68,8 @@ options_as options = record {
   each = options.each;
 }
 
--- Behind what a replay printed nothing more is written at its end and where the sink failed; else the line of its fault, or, where there
--- was no memory for that, the line of want of memory.
+-- Behind what a replay printed nothing more is written at its end and where the sink failed; else
+-- the line of its fault, or, where there was no memory for that, the line of want of memory.
 abbrev pub EndsReplay : {T : Type 0} → Config → Result T Stop → (status : ℕ)
     → (printed new : Option (List ℕ)) → Type 0
 EndsReplay config (Ok done) status printed new = (status ≡ 0) × (new ≡ printed)
@@ -104,8 +105,9 @@ pub record IsUnreplayed (start : GivenLines) (left left_of_trace : Option (List 
   pub rest : HasLeft start left_of_trace
   pub ends : EndsWith text wanted status printed printed'
 
--- a run of `replay` or `soak`, by the bytes of the configuration, its count of faults, the bytes that are left of the trace, the bay,
--- the sink's count of faults at entry, the status, and what the sink took
+-- a run of `replay` or `soak`, by the bytes of the configuration, its count of faults, the bytes
+-- that are left of the trace, the bay, the sink's count of faults at entry, the status, and what
+-- the sink took
 abbrev pub RunsReplay : {D : Type 0} → (tells : Bool) → (D → State) → (options : Serving)
     → (start : GivenLines) → (left : Option (List ℕ)) → (faults faults' : ℕ)
     → (left_of_trace : Option (List ℕ)) → (old new : BayState) → (sink status : ℕ)

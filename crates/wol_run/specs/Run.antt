@@ -80,7 +80,8 @@ module _ {D : Type 0} (tells : Bool) (state : D → State) (before after : Outsi
   -- the volume of this name was served to a client, at once or behind a handshake
   abbrev pub IsServingOf : Beginning × List ℕ → Type 0
   IsServingOf (begins, name) =
-      RunsServing tells state begins name before.config.bytes before.config.faults after.config.faults
+      RunsServing tells state begins name before.config.bytes before.config.faults
+      after.config.faults
       before.bay after.bay
       (wire before.trace.bytes before.trace.faults before.sink.bytes before.sink.faults)
       (wire after.trace.bytes after.trace.faults after.sink.bytes after.sink.faults) status

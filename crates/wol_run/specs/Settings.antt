@@ -11,7 +11,8 @@ use Rattle.report.specs.declared.fault.Fault.TheVariants as fault
 use Rattle.report.specs.Faults.{fault_text, status_of}
 use Rattle.report.specs.Names.{printed_names}
 
--- bytes that were taken of a source that tells are all that was left; or they are its first ones, and too many
+-- bytes that were taken of a source that tells are all that was left; or they are its first ones,
+-- and too many
 abbrev pub IsTaken : (left : Option (List ℕ)) → (bytes : List ℕ) → Type 0
 IsTaken None bytes = ⊤
 IsTaken (Some all) bytes =
@@ -42,7 +43,8 @@ pub record HasNoConfig (left : Option (List ℕ)) : Type 0 where
   pub fault : why ≢ NoMemory
   pub refused : IsRefusedFor left why
 
--- why a configuration wasn't had of a source: its bytes are none, or its count of faults rose, or there was no memory
+-- why a configuration wasn't had of a source: its bytes are none, or its count of faults rose, or
+-- there was no memory
 abbrev pub IsUnread : Fault → (left : Option (List ℕ)) → (faults faults' : ℕ) → Type 0
 IsUnread (fault.Config why) left faults faults' = (why ≢ NoMemory) × IsRefusedFor left why
 IsUnread fault.ConfigSource left faults faults' = Rose faults faults'

@@ -19,7 +19,8 @@ abbrev pub EndsWith : (text : List ℕ) → (wanted status : ℕ) → (printed n
 EndsWith text wanted status printed new =
     ((status ≡ wanted) × Appends printed new text) ⊎ ((status ≡ 7) × AppendsFront printed new text)
 
--- the line of a fault was written; where there was no memory for that of a bad line, that of want of memory
+-- the line of a fault was written; where there was no memory for that of a bad line, that of want
+-- of memory
 abbrev pub TellsFault : Fault → (status : ℕ) → (printed new : Option (List ℕ)) → Type 0
 TellsFault (fault.BadLine line why) status printed new =
     EndsWith (bad_line_text line why) 3 status printed new

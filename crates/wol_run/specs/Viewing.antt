@@ -54,8 +54,9 @@ RefusesChange tells config order old new refusal =
     × (IsTrue tells → IsTold (λ entry left. RefusesView config volume (change_of order.verb logger)
     entry refusal) old.told new.told))
 
--- Behind what a change printed nothing more is written at its end and where the sink failed; else the line of its fault or refusal,
--- or, where there was no memory for that, the line of want of memory.
+-- Behind what a change printed nothing more is written at its end and where the sink failed; else
+-- the line of its fault or refusal, or, where there was no memory for that, the line of want of
+-- memory.
 abbrev pub EndsChange : {T : Type 0} → Config → Order → Result T Stop → (status : ℕ)
     → (printed new : Option (List ℕ)) → Type 0
 EndsChange config order (Ok done) status printed new = (status ≡ 0) × (new ≡ printed)
@@ -87,8 +88,8 @@ pub record IsViewChange {D : Type 0} (tells : Bool) (state : D → State) (verb 
       result
   pub ends : EndsChange config order result status printed_then printed'
 
--- a run of `view-add` or `view-remove`, by the bytes of the configuration, its count of faults, the bay, the sink's count of faults at
--- entry, the status, and what the sink took
+-- a run of `view-add` or `view-remove`, by the bytes of the configuration, its count of faults, the
+-- bay, the sink's count of faults at entry, the status, and what the sink took
 abbrev pub RunsViewChange : {D : Type 0} → (tells : Bool) → (D → State) → Verb → Named
     → (left : Option (List ℕ)) → (faults faults' : ℕ) → (old new : BayState) → (sink status : ℕ)
     → (printed printed' : Option (List ℕ)) → Type 0

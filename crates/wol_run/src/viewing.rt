@@ -66,7 +66,8 @@ pub fn change_view<R: Wait, C: Source, K: Sink, B: Bay>(
 
 // Writes the line of a refusal, and answers its status. Where there is no memory to make the line, it is that of want of memory.
 fn tell_refusal<K: Sink>(alloc: Global, out: &mut K, order: &Order<'_>, refusal: ViewRefusal) -> u8
-    ensures content { EndsWith (refusal_text order.now refusal) 15 result (K.taken out.old) (K.taken out.new)
+    ensures content { EndsWith (refusal_text order.now refusal) 15 result (K.taken out.old)
+        (K.taken out.new)
         ⊎ EndsWith (codes "fault 9 memory\n") 9 result (K.taken out.old) (K.taken out.new) }
     ensures cause { result ≡ 7 → Rose (K.faults out.old) (K.faults out.new) }
     ensures later { K.faults out.old ≤ K.faults out.new }

@@ -1,5 +1,5 @@
-use Rattle.std.proofs.Common.{take}
-use Rattle.replay.specs.Counts.{CountsOutcomes}
+use Rattle.replay.proofs.Basics.{take}
+use Rattle.replay.proofs.Terms.{CountsOutcomes}
 use Rattle.replay.proofs.counting.add_outcomes.Given as goal
 
 abbrev pub invariant-loop-outcome : goal.invariant-loop-outcome

@@ -1,5 +1,5 @@
-use Rattle.std.proofs.Common.{◌≡◌, drop}
-use Rattle.replay.specs.Endings.{first_refused}
+use Rattle.replay.proofs.Basics.{◌≡◌, drop}
+use Rattle.replay.proofs.Terms.{first_refused}
 use Rattle.replay.proofs.ending.first_refused.Given as goal
 
 abbrev pub invariant-loop-at : goal.invariant-loop-at

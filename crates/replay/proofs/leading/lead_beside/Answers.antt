@@ -1,8 +1,7 @@
-use Rattle.std.proofs.Common.{◌∙◌, List, ap, length, rules, slice_index_or, subst, sym}
+use Rattle.replay.proofs.Basics.{◌∙◌, List, ap, length, rules, slice_index_or, subst, sym}
+use Rattle.replay.proofs.Terms.{Errands, Job}
 use Rattle.std.specs.Borrow.{Bor}
 use Rattle.errands.specs.Ends.{IsWaiting}
-use Rattle.errands.specs.declared.ends.Errands.{Errands}
-use Rattle.request_workers.specs.declared.job.Job.{Job}
 use Rattle.replay.proofs.leading.lead_beside.Goals as goal
 
 pub join_mut-served-requires-after_bounds : goal.join_mut-served-requires-after_bounds

@@ -1,8 +1,6 @@
-use Rattle.std.proofs.Common.{◌∙◌, List, subst, sym}
-use Rattle.errands.specs.declared.ends.Errands.{Errands}
+use Rattle.replay.proofs.Basics.{◌∙◌, List, subst, sym}
+use Rattle.replay.proofs.Terms.{Errands, AreIdleSeats, AreWaiting, Job}
 use Rattle.errands.specs.declared.ends.Worker.{Worker}
-use Rattle.request_workers.specs.Crews.{AreIdleSeats, AreWaiting}
-use Rattle.request_workers.specs.declared.job.Job.{Job}
 use Rattle.replay.proofs.leading.serve_with_workers.Goals as goal
 
 pub new-crew-requires-clause-idle : goal.new-crew-requires-clause-idle

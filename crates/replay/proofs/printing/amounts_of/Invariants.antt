@@ -1,7 +1,5 @@
-use Rattle.std.proofs.Common.{◌≡◌, ◌≤◌, ◌*◌, take, length}
-use Rattle.std.specs.Prelude.{vec_capacity}
-use Rattle.report.specs.Summaries.{units_of}
-use Rattle.replay.specs.Prints.{all_amounts}
+use Rattle.replay.proofs.Basics.{◌≡◌, ◌≤◌, ◌*◌, take, length, vec_capacity}
+use Rattle.replay.proofs.Terms.{units_of, all_amounts}
 use Rattle.replay.proofs.printing.amounts_of.Given as goal
 
 abbrev pub invariant-loop-spindle : goal.invariant-loop-spindle

@@ -1,6 +1,5 @@
-use Rattle.std.proofs.Common.{◌∙◌, ◌+◌, refl}
-use Rattle.std.proofs.lemmas.Result.{err_from_is_err_and}
-use Rattle.report.specs.Names.{printed_names}
+use Rattle.replay.proofs.Basics.{◌∙◌, ◌+◌, refl, err_from_is_err_and}
+use Rattle.replay.proofs.Terms.{printed_names}
 use Rattle.replay.proofs.Waiting.{front_of_all, pending_handed, some_of_all, waits_more}
 use Rattle.replay.proofs.printing.print_reads.Goals as goal
 

@@ -1,6 +1,5 @@
-use Rattle.std.proofs.Common.{◌≡◌, take}
-use Rattle.report.specs.Names.{printed_names}
-use Rattle.replay.specs.Prints.{lines_of_outcomes}
+use Rattle.replay.proofs.Basics.{◌≡◌, take}
+use Rattle.replay.proofs.Terms.{printed_names, lines_of_outcomes}
 use Rattle.replay.proofs.Waiting.{IsPending}
 use Rattle.replay.proofs.printing.print_reads.Given as goal
 

@@ -1,4 +1,4 @@
-use Rattle.std.proofs.Common.{arith}
+use Rattle.replay.proofs.Basics.{arith}
 use Rattle.replay.proofs.printing.print_summary.Goals as goal
 
 pub summary-requires-clause-units : goal.summary-requires-clause-units

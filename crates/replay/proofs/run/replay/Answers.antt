@@ -1,19 +1,14 @@
-use Rattle.std.proofs.Common.{◌∙◌, Err, ap, inr, length, refl}
-use Rattle.wol_io.proofs.Appending.{keeps_same}
-use Rattle.std.proofs.lemmas.List.{length-map}
-use Rattle.volume_images.specs.Volumes.{shape_in}
+use Rattle.replay.proofs.Basics.{◌∙◌, Err, ap, inr, length, refl, length-map}
+use Rattle.replay.proofs.Terms.{keeps_same, shape_in, Completes, faults_of, Stop}
 use Rattle.rack.proofs.ImagesSent.{others_then}
 use Rattle.replay.proofs.Closed.{closable_now, home_outs, journals_now, outs_same, same_rest}
 use Rattle.replay.proofs.RacksServed.{can_serve}
-use Rattle.replay.specs.Completes.{Completes}
-use Rattle.replay.specs.Givens.{faults_of}
-use Rattle.replay.specs.Replays as replays
-use Rattle.replay.specs.declared.stop.Stop.{Stop}
 use Rattle.replay.proofs.AccountKept.{keeps_account}
 use Rattle.replay.proofs.HeadlineKept.{keeps_headline}
 use Rattle.replay.proofs.RunAnswered.{replayed_err, replayed_ok}
 use Rattle.replay.proofs.RunCompleted.{complete_err, complete_ok, not_source}
 use Rattle.replay.proofs.Stopped.{same_stop}
+use Rattle.replay.specs.Replays as replays
 use Rattle.replay.proofs.run.replay.Goals as goal
 
 pub returns-in_default-clause-home : goal.returns-in_default-clause-home

@@ -1,9 +1,5 @@
-use Rattle.std.proofs.Common.{ap, subst, sym, ◌∙◌}
-use Rattle.std.specs.declared.alloc.Global.{Global}
-use Rattle.std.specs.declared.vec.Vec.{Vec}
-use Rattle.manager.specs.declared.station.Station.{Station}
-use Rattle.request_workers.specs.Stations.{AreMoved}
-use Rattle.open_rack.specs.NotOpened.{first_closed}
+use Rattle.replay.proofs.Basics.{ap, subst, sym, ◌∙◌, Global, Vec}
+use Rattle.replay.proofs.Terms.{Station, AreMoved, first_closed}
 use Rattle.replay.proofs.Lent.{floor_lent, moved_lent}
 use Rattle.replay.proofs.ServingOn.{closed_otherwise, closed_runs, never_some, no_memory_runs, served_runs, session_ready}
 use Rattle.replay.proofs.run.replay_in.Goals as goal

@@ -1,8 +1,7 @@
-use Rattle.std.proofs.Common.{ap, sym, ◌∙◌}
-use Rattle.window_desks.specs.declared.floor.Floor.{Floor}
+use Rattle.replay.proofs.Basics.{ap, sym, ◌∙◌}
+use Rattle.replay.proofs.Terms.{Floor, Session}
 use Rattle.replay.proofs.Lent.{moved_lent, whole_back}
 use Rattle.replay.proofs.ServingOn.{serves_from}
-use Rattle.replay.specs.declared.session.Session.{Session}
 use Rattle.replay.proofs.run.replay_on.Goals as goal
 
 pub returns-clause-served : goal.returns-clause-served

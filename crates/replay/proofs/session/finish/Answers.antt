@@ -1,6 +1,5 @@
-use Rattle.std.proofs.Common.{◌≡◌, Some, sym, ap, ◌∙◌}
-use Rattle.report.specs.declared.fault.Fault.{Fault}
-use Rattle.report.specs.declared.fault.Fault.TheVariants.{TraceSource}
+use Rattle.replay.proofs.Basics.{◌≡◌, Some, sym, ap, ◌∙◌}
+use Rattle.replay.proofs.Terms.{Fault, TraceSource}
 use Rattle.replay.proofs.Refused.{window_refused}
 use Rattle.replay.proofs.session.finish.Goals as goal
 

@@ -1,10 +1,7 @@
-use Rattle.std.proofs.Common.{◌≡◌, ◌≢◌, ◌<◌, ℕ, length, slice_index_or, subst, ◌∙◌, arith}
-use Rattle.std.specs.Prelude.{slice_set}
-use Rattle.std.proofs.lemmas.List.{get_or_default, get_or-set_other, length-set}
-use Rattle.turn_lock.specs.Passes.{IsFree, IsPassOf, IsSamePass}
-use Rattle.request_workers.specs.Begun.{SpindlePass}
+use Rattle.replay.proofs.Basics.{◌≡◌, ◌≢◌, ◌<◌, ℕ, length, slice_index_or, subst, ◌∙◌, arith, slice_set, get_or_default, get_or-set_other}
+use Rattle.replay.proofs.Basics.{length-set}
+use Rattle.replay.proofs.Terms.{IsFree, IsPassOf, IsSamePass, SpindlePass, HasStarted}
 use Rattle.window_desks.proofs.OneMore.{each_set}
-use Rattle.replay.specs.Served.{HasStarted}
 use Rattle.replay.proofs.Serving.{each_then}
 use Rattle.replay.proofs.session.start_spindles.Goals as goal
 

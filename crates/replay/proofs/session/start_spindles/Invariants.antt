@@ -1,7 +1,5 @@
-use Rattle.std.proofs.Common.{◌≡◌, ◌<◌, ◌≤◌, ℕ}
-use Rattle.std.specs.Prelude.{slice_index_or}
-use Rattle.request_workers.specs.Begun.{SpindlePass, AreKeepers}
-use Rattle.replay.specs.Served.{AreSamePasses, HasStarted}
+use Rattle.replay.proofs.Basics.{◌≡◌, ◌<◌, ◌≤◌, ℕ, slice_index_or}
+use Rattle.replay.proofs.Terms.{SpindlePass, AreKeepers, AreSamePasses, HasStarted}
 use Rattle.replay.proofs.session.start_spindles.Given as goal
 
 abbrev pub invariant-loop-k : goal.invariant-loop-k

@@ -1,7 +1,5 @@
-use Rattle.std.proofs.Common.{◌≢◌, ap, ◌∙◌, arith, Err}
-use Rattle.msr_trace.specs.Lines.{trace_line}
-use Rattle.msr_trace.specs.Reading.{IsDone}
-use Rattle.trace_gen.specs.Generated.{targets_of}
+use Rattle.replay.proofs.Basics.{◌≢◌, ap, ◌∙◌, arith, Err}
+use Rattle.replay.proofs.Terms.{trace_line, IsDone, targets_of}
 use Rattle.trace_gen.proofs.Written.{lines_are_writable}
 use Rattle.replay.proofs.Giving.{made_more, read_all, read_kept, read_refused}
 use Rattle.replay.proofs.given.Given.next.Goals as goal

@@ -1,8 +1,6 @@
-use Rattle.std.proofs.Common.{◌≡◌, Bool, List, length, arith}
-use Rattle.std.specs.Prelude.{OnErr, OnOk}
+use Rattle.replay.proofs.Basics.{◌≡◌, Bool, List, length, arith, OnErr, OnOk, with_items_is}
+use Rattle.replay.proofs.Terms.{FailToBegin, HaveBegun, HaveBegunVolumes}
 use Rattle.std.specs.Vec.{with_items}
-use Rattle.std.proofs.lemmas.List.{with_items_is}
-use Rattle.request_workers.specs.Begun.{FailToBegin, HaveBegun, HaveBegunVolumes}
 use Rattle.replay.proofs.Serving.{on_err, on_ok, window_begun, window_failed}
 use Rattle.replay.proofs.session.Session.begin.Goals as goal
 

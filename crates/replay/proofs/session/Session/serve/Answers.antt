@@ -1,5 +1,4 @@
-use Rattle.std.proofs.Common.{refl}
-use Rattle.std.proofs.lemmas.Result.{err_from_is_err_and}
+use Rattle.replay.proofs.Basics.{refl, err_from_is_err_and}
 use Rattle.replay.proofs.LinesServed.{ends_unbegun, ends_unrun}
 use Rattle.replay.proofs.Serving.{ends_in, goes_on}
 use Rattle.replay.proofs.session.Session.serve.Goals as goal

@@ -1,13 +1,9 @@
-use Rattle.std.proofs.Common.{◌≡◌, ◌≢◌, ◌+◌, ◌*◌, ◌++◌, [], true, false, refl, ap, ◌∙◌, append-nil, arith}
-use Rattle.std.proofs.lemmas.Result.{err_from_is_err_and}
-use Rattle.wol_io.proofs.Appending.{keeps_same}
-use Rattle.msr_trace.specs.Reading.{is_no_memory}
-use Rattle.msr_trace.specs.declared.format.TraceFault.TheVariants as refusal
-use Rattle.replay.specs.Served.{none_further}
-use Rattle.replay.specs.Sessions.{at_end, at_refusal}
+use Rattle.replay.proofs.Basics.{◌≡◌, ◌≢◌, ◌+◌, ◌*◌, ◌++◌, [], true, false, refl, ap, ◌∙◌, append-nil, arith, err_from_is_err_and}
+use Rattle.replay.proofs.Terms.{keeps_same, is_no_memory, none_further, at_end, at_refusal}
 use Rattle.replay.proofs.LinesServed.{copied_line, current_lies, lacks_memory, last_ok, no_line, not_run_same, nothing_served, serves_whole, stops_at_line, stops_last, takes_on}
 use Rattle.replay.proofs.Outcomes.{few_more, few_none}
 use Rattle.replay.proofs.Serving.{same_both, same_passes}
+use Rattle.msr_trace.specs.declared.format.TraceFault.TheVariants as refusal
 use Rattle.replay.proofs.session.Session.serve_all.Goals as goal
 
 pub loop-init : goal.loop-init

@@ -1,8 +1,5 @@
-use Rattle.std.proofs.Common.{◌≡◌, ◌≤◌, ◌*◌}
-use Rattle.request_workers.specs.Crews.{IsCrew}
-use Rattle.replay.specs.Givens.{IsLive, borrow_of, faults_of, given_count}
-use Rattle.replay.specs.Served.{AreSamePasses}
-use Rattle.replay.specs.Sessions.{IsSession}
+use Rattle.replay.proofs.Basics.{◌≡◌, ◌≤◌, ◌*◌}
+use Rattle.replay.proofs.Terms.{IsCrew, IsLive, borrow_of, faults_of, given_count, AreSamePasses, IsSession}
 use Rattle.replay.proofs.LinesServed.{SoFar}
 use Rattle.replay.proofs.Outcomes.{HasFew}
 use Rattle.replay.proofs.session.Session.serve_all.Given as goal

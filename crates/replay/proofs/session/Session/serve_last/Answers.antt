@@ -1,4 +1,4 @@
-use Rattle.std.proofs.Common.{◌<◌, arith}
+use Rattle.replay.proofs.Basics.{◌<◌, arith}
 use Rattle.replay.proofs.Serving.{err_with}
 use Rattle.replay.proofs.session.Session.serve_last.Goals as goal
 

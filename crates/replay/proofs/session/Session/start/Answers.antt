@@ -1,7 +1,5 @@
-use Rattle.std.proofs.Common.{◌≡◌, List, length, sym, ap, subst, arith}
-use Rattle.std.proofs.lemmas.List.{with_items_is}
-use Rattle.request_workers.specs.Begun.{SpindlePass}
-use Rattle.replay.specs.Served.{StartsOnce}
+use Rattle.replay.proofs.Basics.{◌≡◌, List, length, sym, ap, subst, arith, with_items_is}
+use Rattle.replay.proofs.Terms.{SpindlePass, StartsOnce}
 use Rattle.replay.proofs.Serving.{starts_first}
 use Rattle.replay.proofs.session.Session.start.Goals as goal
 

@@ -1,6 +1,5 @@
-use Rattle.std.proofs.Common.{inl, inr, refl}
-use Rattle.std.proofs.lemmas.Result.{err_from_is_err_and}
-use Rattle.wol_io.proofs.Appending.{keeps_same}
+use Rattle.replay.proofs.Basics.{inl, inr, refl, err_from_is_err_and}
+use Rattle.replay.proofs.Terms.{keeps_same}
 use Rattle.replay.proofs.LinesServed.{batch_lies}
 use Rattle.replay.proofs.session.Session.take.Goals.{then-branch+in_ok-serve, else-branch}
 use Rattle.replay.proofs.session.Session.take.Goals as goal
