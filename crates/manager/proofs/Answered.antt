@@ -1,7 +1,7 @@
--- The lanes of a manager in a write: which were turned away, and which one took it.
+-- The lanes of a manager in a write: which were turned away, which one took it, and the loop that asks them.
 use Rattle.std.proofs.Common.{◌≡◌, ◌⊎◌, inl, inr, ⊎_elim, ◌<◌, ◌≤◌, ◌+◌, ◌-◌, ℕ, zero, suc, Bool, true, false, cond, not, List, [], ◌∷◌, ◌++◌, map, length, Some, refl, sym, ap, subst, ◌∙◌, arith}
 use Rattle.std.specs.Prelude.{slice_get, slice_set, replicate, ◌==◌}
-use Rattle.std.specs.List.{AllZip, list_any}
+use Rattle.std.specs.List.{AllZip, list_any, AllByRecursion}
 use Rattle.std.proofs.Math.ListN.{length-set}
 use Rattle.std.proofs.lemmas.Bool.Decides.{eqb_tells}
 use Rattle.std.proofs.lemmas.Option.{same_Some, none-some, slice_get_within}
@@ -13,13 +13,17 @@ use Rattle.wol_promise.specs.Ruled.{Noted, HasPassed, times_passed}
 use Rattle.logger.specs.Lanes.{logger_of, held_in, pool_of}
 use Rattle.logger.specs.declared.lane.Lane.{Lane}
 use Rattle.manager.specs.Offers.{IsTurnedAway, HasTakenWrite, ChangesLane}
-use Rattle.manager.specs.Stands.{AreNamed, IsNamed, nones_in, nones_at, passed_in}
+use Rattle.manager.specs.Stands.{AreNamed, IsNamed, nones_in, nones_at, passed_in, Keeps, IsReady, IsHome}
 use Rattle.manager.specs.Writing.{HasAnswered, HaveAnswered}
 use Rattle.manager.specs.declared.base.LaneBase.{LaneBase}
 use Rattle.manager.proofs.Frames.{times_more}
-use Rattle.listed_records.proofs.Elements.{get_set, get_other, get_copies, length_copies, get_inside, zip_of, same_maps}
+use Rattle.listed_records.proofs.Elements.{get_set, get_other, get_copies, length_copies, get_inside, zip_of, same_maps, all_set}
 use Rattle.volume_parts.proofs.Placing.{is_passed, none_passed_beyond}
 use Rattle.volume_parts.proofs.Lanes.{nones_none, nones_some}
+use Rattle.wol_disk.specs.Disk.{State}
+use Rattle.logger.specs.declared.shared.Shared.{Shared}
+use Rattle.manager.specs.declared.base.ManagerBase.{ManagerBase}
+use Rattle.manager.specs.declared.manager.Manager.{Manager}
 pub use Rattle.listed_records.proofs.Elements.{get_inside}
 
 -- ---- Pools
@@ -166,3 +170,43 @@ module _ {D : Type 0} (count : ℕ) where
   module _ (rooms : List Room) (old new : List (Lane D)) (all : HaveAnswered count (λ k. false) rooms old new) where
     pub held_same : AllZip (λ o n. held_in n ≡ held_in o) old new
     held_same = each_so (λ k. false) rooms old new all (λ o n. held_in n ≡ held_in o) (λ k r o n is_r is_o is_n is. same_held_in r o n is)
+
+-- some lanes were asked in vain, and nothing else changed
+pub record Asking {D : Type 0} (tells : Bool) (state : D → State) (shared : Shared D) (count : ℕ) (old now : Manager D) : Type 0 where
+  pub ready : IsReady state now
+  pub at : IsHome shared now
+  pub rest : now ≡ record old { lanes = now.lanes; rooms = now.rooms }
+  pub lanes : HaveAnswered count (λ k. false) now.rooms.items old.lanes.items now.lanes.items
+  pub unsure : AllByRecursion (λ (r : Room). r ≡ Yes → ⊥) now.rooms.items
+  pub keeps : (b : ManagerBase) (notes : List Noted) → Keeps tells state old b notes → Keeps tells state now b notes
+
+module _ {D : Type 0} (tells : Bool) (state : D → State) (shared : Shared D) (count : ℕ) where
+  -- before a lane is asked
+  pub asking_none : (m : Manager D) → IsReady state m → IsHome shared m → m.rooms.items ≡ replicate (length m.lanes.items) Unknown → Asking tells state shared count m m
+  asking_none m ready at is = record {
+    ready = ready;
+    at = at;
+    rest = refl;
+    lanes = none_asked count m.rooms.items m.lanes.items is;
+    unsure = subst (AllByRecursion (λ (r : Room). r ≡ Yes → ⊥)) (sym is) (copies (length m.lanes.items));
+    keeps = λ b notes k. k;
+  }
+    where
+      copies : (n : ℕ) → AllByRecursion (λ (r : Room). r ≡ Yes → ⊥) (replicate n Unknown)
+      copies zero = tt
+      copies (suc n) = ((λ e. cc), copies n)
+
+  -- one was asked in vain
+  pub asking_more : (old now new : Manager D) (lane : ℕ) → Asking tells state shared count old now → slice_get now.rooms.items lane ≡ Some Unknown
+      → new ≡ record now { lanes = new.lanes; rooms = record { items = slice_set now.rooms.items lane No } } → ChangesLane (IsTurnedAway count) lane now.lanes.items new.lanes.items
+      → IsReady state new → IsHome shared new → ((b : ManagerBase) (notes : List Noted) → Keeps tells state now b notes → Keeps tells state new b notes) → Asking tells state shared count old new
+  asking_more old now new lane a unknown is change ready at keeps =
+      let rooms : new.rooms.items ≡ slice_set now.rooms.items lane No = ap (λ (m : Manager D). m.rooms.items) is in record {
+        ready = ready;
+        at = at;
+        rest = is ∙ ((λ i. record (a.rest i) { lanes = new.lanes; rooms = record { items = slice_set now.rooms.items lane No } }) ∙ (λ i. record old { lanes = new.lanes; rooms = record { items = sym rooms i } }));
+        lanes = subst (λ (rs : List Room). HaveAnswered count (λ k. false) rs old.lanes.items new.lanes.items) (sym rooms)
+            (one_turned_away count now.rooms.items old.lanes.items now.lanes.items new.lanes.items a.lanes lane unknown change);
+        unsure = subst (AllByRecursion (λ (r : Room). r ≡ Yes → ⊥)) (sym rooms) (all_set (λ (r : Room). r ≡ Yes → ⊥) now.rooms.items lane No a.unsure (λ e. cc));
+        keeps = λ b notes k. keeps b notes (a.keeps b notes k);
+      }

@@ -1,4 +1,4 @@
--- Reads go on: what each of them leaves of a manager's parts, they leave together.
+-- Reads go on: what each of them leaves of a manager, they leave together; and the accesses that they begin.
 use Rattle.std.proofs.Common.{Option, refl, ◌∙◌}
 use Rattle.wol_disk.specs.Disk.{State, IsDisk}
 use Rattle.spin_model.specs.Spun.{state_of}

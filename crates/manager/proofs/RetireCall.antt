@@ -38,8 +38,7 @@ use Rattle.manager.proofs.Frames.{none_passed}
 use Rattle.manager.proofs.Putting.{Pieces}
 use Rattle.volume_parts.proofs.Lanes.{nones_more, takes_gave}
 use Rattle.manager.proofs.ReadyLanes.{down_counts}
-use Rattle.manager.proofs.RetireKeeps.{leaves}
-use Rattle.manager.proofs.RetireReady.{ready_less}
+use Rattle.manager.proofs.Retiring.{leaves, ready_less}
 use Rattle.manager.proofs.RetireStops.{failed_pieces, gone_stops, in_place_stops}
 use Rattle.manager.specs.declared.part.Part.TheVariants as part
 

@@ -13,14 +13,14 @@
 //! which locks it uses (`IsHome`, `HasLocks`); `Answers`, `Offers`, `Reading`, `Causes` and `Writing` say what the
 //! answers mean, `Stops` what a stop leaves; `Groups` says what a run leaves (`HasRun`). They pass on the words of
 //! `volume_parts` for home and lanes, and those of `listed_records` for the index. In `proofs/`: `Putting`, `WentHome`,
-//! `Placed` and `Moments`; `GroupHeld`, `GroupNew`, `GroupStops` and `GroupOffering` for a group of writes, `TurnedAway`
-//! for a lane that had no room, `OneWrite` for a run of one item. The steps on the model's side are lemmas of
+//! `Placed` and `Moments`; `GroupHeld`, `GroupNew`, `GroupStops` and `GroupOffering` for a group of writes, `Runs` for what
+//! a run leaves, also one of one item, `Answered` for the lanes that were asked. The steps on the model's side are lemmas of
 //! `wol_promise` and `listed_records`. To add a call: state it from `Keeps` to `Stands` with its entry (`Leaves`), or,
 //! where it leaves no entry, from `Keeps` to `Keeps`. The steps of reclaim do the latter: `reclaim.rt` has `fetch_rec`
 //! (over `record.rt`), `store_home` (by `put_at`, which writes the runs of a mask and syncs) and `drop_rec`, and
 //! `retire.rt` has `drop_segment`, by which a segment goes with all its records; `specs/Reclaim` says what each leaves. In
 //! `proofs/`: `StoreHome` for blocks that go home, `DropCall`, `DropKeeps`, `DropPiece` and `DropStops` for blocks that are
-//! given up, `Retiring`, `RetireCall`, `RetireKeeps`, `RetireReady` and `RetireStops` for whole segments.
+//! given up, `Retiring`, `RetireCall` and `RetireStops` for whole segments.
 #![tactic(auto)]
 
 mod base;

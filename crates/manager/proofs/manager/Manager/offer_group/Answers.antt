@@ -22,8 +22,8 @@ use Rattle.volume_parts.proofs.Calm.{calm_put}
 use Rattle.manager.proofs.Calm.{lane_at, none_lane}
 use Rattle.volume_parts.proofs.Claims.{no_more_set, claim_like, put_claimed, put_tells}
 use Rattle.listed_records.proofs.Elements.{refill_set, all_at}
-use Rattle.manager.proofs.GroupOffered.{all_taken_front, items_small, first_few, offered_unready, offered_position, offered_ready, offered_look, offered_stands, offered_failed, offered_stops, offered_cause}
-use Rattle.manager.proofs.TurnedAway.{away_more, away_takes, ready_away, keeps_away, quiet_stops}
+use Rattle.manager.proofs.GroupOffering.{all_taken_front, items_small, first_few, offered_unready, offered_position, offered_ready, offered_look, offered_stands, offered_failed, offered_stops, offered_cause}
+use Rattle.manager.proofs.Placed.{away_more, away_takes, ready_away, keeps_away, quiet_stops}
 use Rattle.manager.proofs.manager.Manager.offer_group.Goals as goal
 
 pub put_group-requires-clause-items : goal.put_group-requires-clause-items

@@ -17,10 +17,10 @@ use Rattle.manager.specs.Seen.{look_of_manager}
 use Rattle.manager.specs.Stands.{passed_in}
 use Rattle.manager.specs.Writing.{HaveAnswered, takes_at}
 use Rattle.manager.specs.declared.manager.Manager.{Manager}
-use Rattle.manager.proofs.Asking.{asking_none, asking_more}
+use Rattle.manager.proofs.Answered.{asking_none, asking_more}
 use Rattle.volume_parts.proofs.Claims.{no_more_same}
 use Rattle.manager.proofs.Frames.{stands_kept}
-use Rattle.manager.proofs.GroupPlaced.{first_blocks_long, run_logged, home_run, run_full}
+use Rattle.manager.proofs.Runs.{first_blocks_long, run_logged, home_run, run_full}
 use Rattle.manager.proofs.Placed.{home_only, log_only, place_led, stops_unplaced, passed_unplaced, fault_before, calm_before, claimed_before, placed_home, answered_home, waking_home, placed_log, answered_log, waking_log}
 use Rattle.volume_parts.proofs.Placing.{led_by, open_in, fewer_open, ask_unknown, home_is_bare, woken_home_is_bare, no_log, no_woken_log}
 use Rattle.manager.proofs.manager.Manager.place_run.Goals as goal

@@ -1,6 +1,6 @@
 use Rattle.std.proofs.Common.{length}
 use Rattle.manager.specs.Groups.{first_blocks}
-use Rattle.manager.proofs.Asking.{Asking}
+use Rattle.manager.proofs.Answered.{Asking}
 use Rattle.volume_parts.proofs.Placing.{open_in}
 use Rattle.manager.proofs.manager.Manager.place_run.Given as goal
 

@@ -12,7 +12,7 @@ use Rattle.volume_parts.proofs.Calm.{calm_read}
 use Rattle.manager.proofs.Calm.{none_lane}
 use Rattle.listed_records.proofs.Elements.{refill_set, all_at, get_set}
 use Rattle.manager.proofs.ReadContent.{log_content}
-use Rattle.manager.proofs.ReadLog.{spotted, spotted_in, ready_after, segment_after}
+use Rattle.manager.proofs.ReadRuns.{spotted, spotted_in, ready_after, segment_after}
 use Rattle.volume_parts.proofs.PartReads.{lane_read, whole_after, counted_after, stays_after, home_self, lanes_set, on_ok_like, err_like, needs_set, needs_none}
 use Rattle.listed_records.proofs.Contents.{lane_run_of}
 use Rattle.wol_promise.proofs.Woken.{woken_log, log_reads_home, log_reads_lane}

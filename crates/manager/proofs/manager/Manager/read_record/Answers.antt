@@ -12,7 +12,7 @@ use Rattle.listed_records.proofs.Elements.{refill_set, all_at, get_set}
 use Rattle.listed_records.proofs.Entries.{found_of}
 use Rattle.manager.proofs.FetchRec.{spot_of, spot_in, data_blocks}
 use Rattle.volume_parts.proofs.PartReads.{lane_read, whole_after, counted_after, stays_after, home_self, lanes_set, on_ok_like, err_like}
-use Rattle.manager.proofs.ReadLog.{ready_after}
+use Rattle.manager.proofs.ReadRuns.{ready_after}
 use Rattle.manager.proofs.manager.Manager.read_record.Goals as goal
 
 pub bounds-deref_mut-place : goal.bounds-deref_mut-place

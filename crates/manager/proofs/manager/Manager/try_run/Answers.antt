@@ -19,8 +19,8 @@ use Rattle.manager.specs.declared.manager.Manager.{Manager}
 use Rattle.manager.proofs.Bounds.{take_some, take_below, take_room, of_front, of_all, count_below, written_none, failed_none}
 use Rattle.volume_parts.proofs.Claims.{claim_like}
 use Rattle.listed_records.proofs.Elements.{refill_set}
-use Rattle.manager.proofs.GroupOffered.{all_taken_front}
-use Rattle.manager.proofs.GroupPlaced.{failed_run}
+use Rattle.manager.proofs.GroupOffering.{all_taken_front}
+use Rattle.manager.proofs.Runs.{failed_run}
 use Rattle.volume_parts.proofs.Records.{first_of_take, take_front, joins_fewer}
 use Rattle.volume_parts.proofs.Lanes.{logger_at}
 use Rattle.manager.proofs.manager.Manager.try_run.Goals as goal

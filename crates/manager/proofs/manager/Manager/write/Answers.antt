@@ -1,4 +1,4 @@
-use Rattle.manager.proofs.OneWrite.{one_stands, one_moments, one_placed, one_answered, one_home, one_logs, one_look}
+use Rattle.manager.proofs.Runs.{one_stands, one_moments, one_placed, one_answered, one_home, one_logs, one_look}
 use Rattle.manager.proofs.manager.Manager.write.Goals as goal
 
 pub returns-clause-stands : goal.returns-clause-stands

@@ -8,7 +8,7 @@ use Rattle.manager.specs.Writing.{HaveAnswered, NeedsHome, NeedsLogs, TellsFault
 use Rattle.manager.specs.declared.part.Place.{Place}
 use Rattle.manager.specs.declared.part.WriteRefusal.{WriteRefusal}
 use Rattle.manager.specs.declared.part.WriteRefusal.TheVariants.{Down, VersionsSpent}
-use Rattle.manager.proofs.GroupRun.{on_told, told_refusal}
+use Rattle.manager.proofs.Runs.{on_told, told_refusal}
 use Rattle.manager.proofs.manager.Manager.write_run.Goals as goal
 
 pub told-requires : goal.told-requires

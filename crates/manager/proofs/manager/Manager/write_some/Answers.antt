@@ -11,8 +11,8 @@ use Rattle.manager.specs.Writing.{IsPlacedAnswer}
 use Rattle.manager.specs.declared.part.WriteRefusal.TheVariants.{Down, VersionsSpent, NoMemory}
 use Rattle.manager.proofs.Answered.{none_asked}
 use Rattle.manager.proofs.Bounds.{take_some, take_within, take_after, of_front, count_below, at_most}
-use Rattle.manager.proofs.GroupOffered.{all_taken_front}
-use Rattle.manager.proofs.GroupRun.{run_front, run_then, run_kept, placed_then, answered_run, home_then, as_before, first_given}
+use Rattle.manager.proofs.GroupOffering.{all_taken_front}
+use Rattle.manager.proofs.Runs.{run_front, run_then, run_kept, placed_then, answered_run, home_then, as_before, first_given}
 use Rattle.manager.proofs.Refused.{needs_logs, untouched, fault_then, calm_then}
 use Rattle.manager.proofs.manager.Manager.write_some.Goals as goal
 
