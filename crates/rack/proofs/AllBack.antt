@@ -25,7 +25,7 @@ use Rattle.rack_parts.specs.Parts.{IsTogether}
 use Rattle.rack.specs.Opening.{AreCutOf, AreAsked, HasSentOut, HasAllBack, LeavesNoMore, StayedSo}
 use Rattle.rack.specs.declared.images.Images.{Images}
 use Rattle.rack_parts.specs.declared.rack.ImageRest.{ImageRest}
-use Rattle.rack_closing.proofs.Places.{some_at}
+use Rattle.rack_closing.proofs.Places.{some_at, both_slices}
 use Rattle.rack_closing.proofs.CutParts.{reads_range}
 use Rattle.rack_closing.proofs.Names.{cases_name}
 use Rattle.rack.proofs.SentNames.{none_named}

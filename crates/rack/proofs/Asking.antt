@@ -25,6 +25,7 @@ use Rattle.rack_parts.specs.declared.rack.ImageRest.{ImageRest}
 use Rattle.rack_parts.specs.declared.volume_fault.VolumeFault.{VolumeFault}
 use Rattle.rack_parts.specs.declared.volume_fault.VolumeFault.TheVariants.{Absent, WrongLength, Refused, LabelFault, BayFailed}
 use Rattle.rack_closing.proofs.NewFaults.{told_each, sent_faulty, fault_since, fault_later}
+use Rattle.rack_closing.proofs.Places.{at_less, at_new, push_cases}
 
 -- ---- Faults that rise
 

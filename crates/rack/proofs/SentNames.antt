@@ -22,6 +22,7 @@ use Rattle.rack_parts.specs.declared.rack.ImageRest.{ImageRest}
 use Rattle.rack.proofs.NextRefused.{no_more}
 use Rattle.rack_closing.proofs.Places.{still_there, at_less, at_new}
 use Rattle.rack.proofs.Asking.{SameAt}
+use Rattle.rack_closing.proofs.Names.{cases_name, names_differ}
 
 none_out : (D : Type 0) (config : Config) (vs : List VolumeConf) → out_names {D = D} config vs [] ≡ []
 none_out D config [] = refl
