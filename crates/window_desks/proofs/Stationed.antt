@@ -1,6 +1,6 @@
 -- Locks and passes made of stations are whole, and so are the stations of these.
-use Rattle.std.proofs.Common.{◌≡◌, ◌<◌, ℕ, List, [], ◌∷◌, ◌++◌, map, reverse, length, get_or, refl, ap, ◌∙◌, sym, subst, arith}
-use Rattle.std.proofs.lemmas.List.{get_or-map, length-map}
+use Rattle.std.proofs.Common.{◌≡◌, ◌<◌, ◌≤◌, ◌+◌, ℕ, List, [], ◌∷◌, ◌++◌, map, reverse, length, vec_capacity, get_or, refl, ap, ◌∙◌, sym, subst, arith}
+use Rattle.std.proofs.lemmas.List.{append_assoc, get_or-map, length-map, length_push, map-append, reverse-append}
 use Rattle.std.proofs.lemmas.List.Elements.{All-get_or}
 use Rattle.request_turns.specs.Helped.{ManagerLock}
 use Rattle.window_desks.specs.declared.desk.Desk.{Desk}
@@ -80,6 +80,65 @@ empty_of (x ∷ xs) e = absurd (omega (arith, e))
 
 front_gone : {A : Type 0} (xs front back : List A) → xs ≡ front ++ back → front ≡ [] → xs ≡ back
 front_gone {A} xs front back e none = e ∙ ap (λ (ys : List A). ys ++ back) none
+
+-- the last of some things goes to the end of others, which are read backwards
+moved_over : {A B : Type 0} (f : A → B) (all_ front : List B) (back : List A) (a : A)
+    → all_ ≡ (front ++ f a ∷ []) ++ map f (reverse back)
+    → all_ ≡ front ++ map f (reverse (back ++ a ∷ []))
+moved_over f all_ front back a e =
+    e ∙ (append_assoc front (f a ∷ []) (map f (reverse back))
+    ∙ ap (λ xs. front ++ map f xs) (sym (reverse-append back (a ∷ []))))
+
+-- how many are left where the last of as many went
+one_less : {A B : Type 0} (xs : List A) (a : A) (ys : List B) (b : B)
+    → length (xs ++ a ∷ []) ≡ length (ys ++ b ∷ []) → length xs ≡ length ys
+one_less xs a ys b e = let m = length_push xs a in let n = length_push ys b in omega (arith, e, m, n)
+
+-- one more station is made, of the last lock, desk and passes
+pub station_made : {D : Type 0} (ls : List (ManagerLock D)) (p : Passes D)
+    (ms : List (ManagerLock D)) (q r : Passes D) (lock : ManagerLock D) (d : Desk D) (s : Station D)
+    → AreLeaving ls p (ms ++ lock ∷ []) q
+    → q.desks.items ≡ r.desks.items ++ d ∷ [] → q.helpers.items ≡ r.helpers.items ++ s.helper ∷ []
+    → q.keepers.items ≡ r.keepers.items ++ s.keeper ∷ [] → r.room.items ≡ q.room.items ++ s ∷ []
+    → vec_capacity r.room ≡ vec_capacity q.room
+    → s.lock ≡ lock → s.id ≡ d.id → s.worker ≡ d.worker → AreLeaving ls p ms r
+station_made {D} ls p ms q r lock d s l desks helpers keepers room capacity lock_is id_is worker_is =
+    record {
+      locks = locks_;
+      ids = ids_;
+      workers = workers_;
+      helpers = helpers_;
+      keepers = keepers_;
+      desk_count = one_less r.desks.items d ms lock (sym (ap length desks) ∙ l.desk_count);
+      helper_count = one_less r.helpers.items s.helper ms lock (sym (ap length helpers) ∙ l.helper_count);
+      keeper_count = one_less r.keepers.items s.keeper ms lock (sym (ap length keepers) ∙ l.keeper_count);
+      room = room_;
+    }
+  where
+    back : {B : Type 0} (f : Station D → B) (xs : List B) (ys : List B) → xs ≡ ys ++ map f (reverse (q.room.items ++ s ∷ [])) → xs ≡ ys ++ map f (reverse r.room.items)
+    back f xs ys e = rw room e
+
+    locks_ : ls ≡ ms ++ map (λ (x : Station D). x.lock) (reverse r.room.items)
+    locks_ = back (λ (x : Station D). x.lock) ls ms (moved_over (λ (x : Station D). x.lock) ls ms q.room.items s (rw lock_is l.locks))
+
+    ids_ : map (λ (x : Desk D). x.id) p.desks.items ≡ map (λ (x : Desk D). x.id) r.desks.items ++ map (λ (x : Station D). x.id) (reverse r.room.items)
+    ids_ = back (λ (x : Station D). x.id) (map (λ (x : Desk D). x.id) p.desks.items) (map (λ (x : Desk D). x.id) r.desks.items)
+        (moved_over (λ (x : Station D). x.id) (map (λ (x : Desk D). x.id) p.desks.items) (map (λ (x : Desk D). x.id) r.desks.items) q.room.items s
+        (rw id_is (l.ids ∙ ap (λ ys. ys ++ map (λ (x : Station D). x.id) (reverse q.room.items)) (ap (map (λ (x : Desk D). x.id)) desks ∙ map-append (λ (x : Desk D). x.id) r.desks.items (d ∷ [])))))
+
+    workers_ : map (λ (x : Desk D). x.worker) p.desks.items ≡ map (λ (x : Desk D). x.worker) r.desks.items ++ map (λ (x : Station D). x.worker) (reverse r.room.items)
+    workers_ = back (λ (x : Station D). x.worker) (map (λ (x : Desk D). x.worker) p.desks.items) (map (λ (x : Desk D). x.worker) r.desks.items)
+        (moved_over (λ (x : Station D). x.worker) (map (λ (x : Desk D). x.worker) p.desks.items) (map (λ (x : Desk D). x.worker) r.desks.items) q.room.items s
+        (rw worker_is (l.workers ∙ ap (λ ys. ys ++ map (λ (x : Station D). x.worker) (reverse q.room.items)) (ap (map (λ (x : Desk D). x.worker)) desks ∙ map-append (λ (x : Desk D). x.worker) r.desks.items (d ∷ [])))))
+
+    helpers_ : p.helpers.items ≡ r.helpers.items ++ map (λ (x : Station D). x.helper) (reverse r.room.items)
+    helpers_ = back (λ (x : Station D). x.helper) p.helpers.items r.helpers.items (moved_over (λ (x : Station D). x.helper) p.helpers.items r.helpers.items q.room.items s (rw (← helpers) l.helpers))
+
+    keepers_ : p.keepers.items ≡ r.keepers.items ++ map (λ (x : Station D). x.keeper) (reverse r.room.items)
+    keepers_ = back (λ (x : Station D). x.keeper) p.keepers.items r.keepers.items (moved_over (λ (x : Station D). x.keeper) p.keepers.items r.keepers.items q.room.items s (rw (← keepers) l.keepers))
+
+    room_ : length ms + length r.room.items ≤ vec_capacity r.room
+    room_ = let m = length_push ms lock in let n = length_push q.room.items s in let k = ap length room in let h = l.room in omega (arith, m, n, k, h, capacity)
 
 -- all stations are made
 pub moved_of : {D : Type 0} (ls : List (ManagerLock D)) (f : Passes D) (ms : List (ManagerLock D)) (g : Passes D) → AreLeaving ls f ms g → length ms ≡ 0 → AreMoved (reverse g.room.items) ls f
