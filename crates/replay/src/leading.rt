@@ -152,6 +152,12 @@ pub(crate) fn serve_with_workers<
     } = Pool::new(alloc, threads_for(options.workers, options.reclaim), size);
     let mut crew = Crew::new(errands.as_slice(), seats, counts, gate);
     let workers = workers.as_mut_slice();
+    // Without a worker no thread is started: a program of one thread makes its calls of the system faster.
+    if workers.is_empty() {
+        return lead(
+            rt, alloc, config, options, shared, given, out, &mut crew, session,
+        );
+    }
     lead_beside(
         rt, alloc, config, options, shared, workers, given, out, &mut crew, session,
     )
