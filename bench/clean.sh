@@ -11,13 +11,10 @@
 # instructions of the program, where logging takes 19 million, since the old records leave the index; and the reads, one for each run of blocks
 # that an old record has, take about as long as the writes where both go to memory. One read for many neighbours takes no less: what lies between
 # their live blocks is copied too. So cleaning takes less time than logging wherever 392 syncs take longer than reading the old records and
-# taking them out of the index, which is some 25 ms. Opening and closing sync 493 times with nothing to write, which took from 80 to 900 ms on
-# a disk that others used too: there the difference of two runs tells little.
-# On 29 November 2026, on a machine that others used too, an unproved build of this source took 0.58 times as long as logging the copies while
-# the disk synced 64 KiB 5,800 times a second, and 0.33 times at 2,000; 0.75 times, the median of 11 runs, on a memory file system where each
-# sync was made to last 0.1 ms, so 10,000 a second; and 1.53 and 1.67 times in memory, where a sync costs nothing. A build of the source before,
-# when cleaning took 46 million instructions, took by turns with it 0.67 times at 5,100 syncs a second, 0.81 times at 10,000, and 1.76 and 2.24
-# times in memory; by the proved program 1.11 and 1.09 times had been measured at some 6,000 syncs a second, and 2.05 in memory.
+# taking them out of the index, which is some 25 ms. Opening syncs once for each image.
+# On 29 November 2026, on a machine with 4 processors on which nothing else was proved, cleaning by the proved program took 0.81 times as long as
+# logging the copies while the disk synced 64 KiB 9,200 times a second, and 2.22 times on a memory file system, where a sync costs nothing. An
+# unproved build took 0.58 times at 5,800 syncs a second and 0.33 times at 2,000, and 0.75 times where each sync in memory was made to last 0.1 ms.
 # usage: bench/clean.sh [RECORDS [FOLDER]..]    how many records (10000 if left out), and the folders in which to clean (/dev/shm, which is a
 # memory file system, and /tmp or TMPDIR, which lies on a disk or not: `df` tells); RUNS says how many runs of each (7 if it isn't set); the
 # program is build/wol, as `make build` leaves it
