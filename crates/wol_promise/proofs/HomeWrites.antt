@@ -54,22 +54,6 @@ pub places_with_home : {P : Type 0} (parts : Parts P) (base : Base) (home part :
 places_with_home parts base home part held ups size volume p = record { flags = p.flags; few = p.few; home_blocks = p.home_blocks; most = p.most; home_size = size ∙ p.home_size; home_volume = volume ∙ p.home_volume; each = p.each; apart = p.apart }
 
 module _ {P : Type 0} (parts : Parts P) (base : Base) (m : ManagerSeen P) (part : P) (size : parts.size part ≡ parts.size m.home) (volume : parts.volume part ≡ parts.volume m.home) where
-  -- home's part was read, say: its images are among those that it had
-  pub home_touched : (notes : List Noted) (ws : List Write) → Upholds parts base m notes ws None → m.down ≡ None → ((bs : List Block) → parts.may_be part bs → parts.may_be m.home bs) → Upholds parts base (record m { home = part }) notes ws None
-  home_touched notes ws u up same = record {
-    began = u.began;
-    history = u.history;
-    lie = u.lie;
-    versioned = u.versioned;
-    known = u.known;
-    places = places_with_home parts base m.home part m.held m.ups size volume u.places;
-    is_down = u.is_down;
-    failed = λ name is. absurd (let no : None ≡ Some name = sym up ∙ is in cc);
-    calm = λ none. let c = u.calm none in record { unbroken = c.unbroken; untaken = c.untaken; sorted = c.sorted; below = c.below; placed = c.placed; whole = λ told. let w = c.whole told in record { logs = w.logs; distinct = w.distinct; index = w.index; holds = λ bs is. w.holds bs (same bs is) } };
-    sound = λ told some. absurd (false≢true some);
-    cut = λ told fl is. absurd (let no : None ≡ Some fl = is in cc);
-  }
-
   module _ (notes : List Noted) (n : Noted) (w : Write) (u : Upholds parts base m notes (writes (entries_of notes)) None) (none : flight_of (entries_of notes) ≡ None) (client : n.entry.pass ≡ worker)
       (to_home : w.version ≡ None) (uncovered : parts.told → IsUncovered (extents_held m.held) w) (lies : LiesInVolume base.home_blocks w) where
     abbrev ws : List Write

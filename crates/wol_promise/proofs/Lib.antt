@@ -16,7 +16,6 @@ pub mod Retires
 pub mod Wholes
 pub mod SegmentBreaks
 pub mod ClaimBreaks
-pub mod ReadBreaks
 pub mod Choices
 pub mod Stops
 pub mod SoundSegments
@@ -28,7 +27,6 @@ pub mod LogOfOneSegment
 pub mod PlacingRules
 pub mod OpenedManager
 pub mod WhatIsRefused
-pub mod LookSteps
 pub mod DownStays
 pub mod Woken
 pub mod Lowering
