@@ -1,16 +1,14 @@
 -- The first record of a list that passes a test is the one of least version.
-use Rattle.std.proofs.Common.{◌≡◌, ⊎_elim, ◌<◌, ◌≤◌, ◌+◌, ◌^◌, ℕ, zero, suc, Bool, true, false, cond, not, ◌&&◌, List, [], ◌∷◌, map, length, Option, None, Some, refl, sym, ap, ◌∙◌, subst, arith, eqb}
+use Rattle.std.proofs.Common.{◌≡◌, ⊎_elim, ◌<◌, ◌≤◌, ◌+◌, ℕ, zero, suc, Bool, true, false, cond, ◌&&◌, List, [], ◌∷◌, map, length, Option, None, Some, refl, sym, ap, ◌∙◌, subst, arith, eqb}
 use Rattle.std.specs.Prelude.{slice_get, option_map, IfSome, IsSomeAnd, slice_index_or}
-use Rattle.std.specs.List.{AllByRecursion, find, list_any}
+use Rattle.std.specs.List.{AllByRecursion, find}
 use Rattle.std.proofs.lemmas.Bool.{false≢true, cases_lt, eqb-true}
-use Rattle.wol_model.specs.Index.{Listed, Indexed, AreRising, cover_of, block_numbers}
+use Rattle.wol_model.specs.Index.{Indexed, AreRising}
 use Rattle.redirect_map.specs.declared.record.Rec.{Rec}
-use Rattle.redirect_map.specs.Masks.{IsMask}
 use Rattle.redirect_map.specs.Index.{has_version, entry_at, HasVersion, IsRecordOf, IsAnswer, IsIndex}
 use Rattle.redirect_map.proofs.Seen.{all_more, all_before_map, all_at, all_from_places}
 use Rattle.redirect_map.proofs.Versions.{entry_at-own}
 use Rattle.garbage_list.specs.Least.{first_version, told_of, is_awake, HasLane}
-use Rattle.garbage_list.proofs.Going.{some_block}
 
 -- none before the first that passes does
 least_of : (test : Indexed → Bool) (es : List Indexed) (e : Indexed) → AreRising (map (λ (d : Indexed). d.listed.version) es) → find test es ≡ Some e → AllByRecursion (λ d. test d ≡ true → e.listed.version ≤ d.listed.version) es
@@ -156,15 +154,13 @@ told_asleep lanes q v o r is off =
     let hit = answered o r is in
     rw (hit.1, sym (ap (λ (n : ℕ). slice_index_or lanes n false) hit.2.lane) ∙ off) refl
 
--- the version where its logger is awake and the mask isn't empty
-pub told_is : (lanes : List Bool) (v : ℕ) (o : Option Indexed) (r : Rec) (p : Listed → ℕ → Bool) (mask : ℕ) (t : Bool) → IsAnswer o (Some r) → ((e : Listed) (b : ℕ) → p e b ≡ true → (cover_of e).covers b ≡ true)
-    → mask < 2 ^ 128 → IfSome o (λ e. IsMask e.listed.first (p e.listed) mask) → (slice_index_or lanes r.lane false && not (eqb mask 0)) ≡ t
-    → cond t (Some v) None ≡ told_of (λ e. is_awake lanes e && list_any (p e.listed) (block_numbers e.listed)) v o
-told_is lanes v o r p mask t is covered fits bits test =
+-- the version where its logger is awake and the record passes
+pub told_by : (lanes : List Bool) (v : ℕ) (o : Option Indexed) (r : Rec) (q : Indexed → Bool) (answer t : Bool) → IsAnswer o (Some r) → IfSome o (λ e. answer ≡ q e) → (slice_index_or lanes r.lane false && answer) ≡ t
+    → cond t (Some v) None ≡ told_of (λ e. is_awake lanes e && q e) v o
+told_by lanes v o r q answer t is says test =
     let hit = answered o r is in
-    let mine : IsMask hit.0.listed.first (p hit.0.listed) mask = subst (λ (x : Option Indexed). IfSome x (λ e. IsMask e.listed.first (p e.listed) mask)) hit.1 bits in
-    let same : (is_awake lanes hit.0 && list_any (p hit.0.listed) (block_numbers hit.0.listed)) ≡ t =
-    (λ i. slice_index_or lanes (sym hit.2.lane i) false && sym (some_block hit.0.listed (p hit.0.listed) mask fits mine (covered hit.0.listed)) i) ∙ test in
+    let mine : answer ≡ q hit.0 = subst (λ (x : Option Indexed). IfSome x (λ e. answer ≡ q e)) hit.1 says in
+    let same : (is_awake lanes hit.0 && q hit.0) ≡ t = (λ i. slice_index_or lanes (sym hit.2.lane i) false && sym mine i) ∙ test in
     rw (hit.1, same) refl
 
 -- ---- The last version

@@ -1,18 +1,18 @@
 -- The blocks that may go, and those that are due, by their bits.
-use Rattle.std.proofs.Common.{◌≡◌, ◌⊎◌, inl, inr, ⊎_elim, ◌<◌, ◌≤◌, ◌+◌, ◌-◌, ◌^◌, ℕ, Bool, true, false, cond, not, ◌&&◌, ◌||◌, List, [], ◌∷◌, length, get_or, Option, None, Some, refl, sym, ap, ◌∙◌, arith, eqb, leb, bit_and, bit_or}
+use Rattle.std.proofs.Common.{◌≡◌, ◌⊎◌, inl, inr, ⊎_elim, ◌<◌, ◌≤◌, ◌+◌, ◌-◌, ◌^◌, ℕ, Bool, true, false, cond, not, ◌&&◌, ◌||◌, List, [], ◌∷◌, length, get_or, Option, None, Some, refl, sym, ap, ◌∙◌, arith, eqb, leb, bit_and}
 use Rattle.std.specs.Prelude.{IfSome, ◌↔◌}
 use Rattle.std.specs.Int.{bit_not, w128}
 use Rattle.std.specs.List.{AllByRecursion, list_any, range_with_len}
-use Rattle.std.proofs.lemmas.Nat.{and_le_l, or_lt}
+use Rattle.std.proofs.lemmas.Nat.{and_le_l}
 use Rattle.std.proofs.lemmas.Bool.{cases_lt, le-ltb, false≢true, and_parts, eq-eqb, ne_eqb, eqb-true, cases_eq}
 use Rattle.std.proofs.lemmas.List.{get_or_past}
 use Rattle.wol_model.specs.Log.{has_bit}
 use Rattle.wol_model.specs.Extents.{marked, has_newer, has_older}
-use Rattle.wol_model.specs.Index.{listed_in, Listed, Indexed, cover_of, listed_covers, is_homed, is_live, is_older, is_due, goes, block_numbers}
+use Rattle.wol_model.specs.Index.{listed_in, Listed, Indexed, cover_of, listed_covers, is_homed, is_live, is_due, goes, block_numbers}
 use Rattle.redirect_map.specs.declared.record.Rec.{Rec}
 use Rattle.redirect_map.specs.Masks.{IsMask}
-use Rattle.redirect_map.specs.Index.{entry_at, IsRecordOf, IsAnswer}
-use Rattle.redirect_map.proofs.Bits.{has_bit-and, has_bit-or, has_bit-without, has_bit-zero, some_bit}
+use Rattle.redirect_map.specs.Index.{entry_at, IsRecordOf}
+use Rattle.redirect_map.proofs.Bits.{has_bit-without, has_bit-zero, some_bit}
 use Rattle.redirect_map.proofs.Meeting.{any_in_range, none_in_range}
 use Rattle.redirect_map.proofs.Seen.{marked-marks_of, in_mask-bit}
 
@@ -21,28 +21,6 @@ pub keep_is : (e : Indexed) (r : Rec) → IsRecordOf e r → IsMask e.listed.fir
 keep_is e r is i =
     sym (in_mask-bit e.listed.first r.keep i) ∙ sym (marked-marks_of e.listed.first r.count r.keep (e.listed.first + i) is.within)
     ∙ ap (λ (marks : List Bool). marked e.listed.first marks (e.listed.first + i)) is.keep
-
-pub kept_is : (o : Option Indexed) (r : Rec) → IsAnswer o (Some r) → IfSome o (λ e. IsMask e.listed.first (cover_of e.listed).covers r.keep)
-kept_is None r is = tt
-kept_is (Some e) r is = keep_is e r is
-
-going : (c n h o : Bool) → ((c && not (c && not n)) || (h && ((c && not n) && not (c && o)))) ≡ (c && (n || (h && not o)))
-going true true h o = refl
-going true false h o = refl
-going false n true o = refl
-going false n false o = refl
-
-pub may_go_is : (es : List Indexed) (o : Option Indexed) (keep live homed alone : ℕ) → keep < 2 ^ 128 → live < 2 ^ 128
-    → IfSome o (λ e. IsMask e.listed.first (cover_of e.listed).covers keep) → IfSome o (λ e. IsMask e.listed.first (is_live (listed_in es) e.listed) live)
-    → IfSome o (λ e. IsMask e.listed.first (is_homed e.listed) homed)
-    → IfSome o (λ e. IsMask e.listed.first (λ b. is_live (listed_in es) e.listed b && not (is_older (listed_in es) e.listed b)) alone)
-    → IfSome o (λ e. IsMask e.listed.first (goes (listed_in es) e.listed) (bit_or (bit_and keep (bit_not w128 live)) (bit_and homed alone)))
-may_go_is es None keep live homed alone k l keeps lives homes alones = tt
-may_go_is es (Some e) keep live homed alone k l keeps lives homes alones = λ i.
-    has_bit-or (bit_and keep (bit_not w128 live)) (bit_and homed alone) i
-    ∙ (λ j. (has_bit-without keep live i k l ∙ (λ m. keeps i m && not (lives i m))) j || (has_bit-and homed alone i ∙ (λ m. homes i m && alones i m)) j)
-    ∙ going ((cover_of e.listed).covers (e.listed.first + i)) (has_newer (listed_covers (listed_in es)) e.listed.version (e.listed.first + i)) (is_homed e.listed (e.listed.first + i))
-    (has_older (listed_covers (listed_in es)) e.listed.version (e.listed.first + i))
 
 pub due_is : (es : List Indexed) (o : Option Indexed) (live homed : ℕ) → live < 2 ^ 128 → homed < 2 ^ 128
     → IfSome o (λ e. IsMask e.listed.first (is_live (listed_in es) e.listed) live) → IfSome o (λ e. IsMask e.listed.first (is_homed e.listed) homed)
@@ -122,9 +100,6 @@ some_is (Some e) p mask fits covered bits =
     let same = some_block e.listed (p e.listed) mask fits bits (covered e.listed) in
     ((λ full. sym same ∙ ap not (ne_eqb mask 0 (λ empty. absurd (omega arith)))), (λ there. ⊎_elim (λ empty. absurd (false≢true (sym (ap not (eq-eqb mask 0 empty)) ∙ same ∙ there))) (λ full. omega arith) (cases_eq mask 0)))
 
--- both are masks of 128 bits
+-- it is a mask of 128 bits
 pub without_fits : (m n : ℕ) → m < 2 ^ 128 → bit_and m n < 2 ^ 128
 without_fits m n fits = let less = and_le_l m n in omega arith
-
-pub either_fits : (k l h o : ℕ) → k < 2 ^ 128 → h < 2 ^ 128 → bit_or (bit_and k l) (bit_and h o) < 2 ^ 128
-either_fits k l h o k_fits h_fits = or_lt 128 (bit_and k l) (bit_and h o) (without_fits k l k_fits) (without_fits h o h_fits)

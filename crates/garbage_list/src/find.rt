@@ -4,7 +4,6 @@ ghost use Rattle.std.specs.List.{AllByRecursion};
 ghost use Rattle.redirect_map.specs.Index.{entry_at, IsIndex};
 ghost use Rattle.garbage_list.specs.Least.{HasLane, can_go, can_go_home, first_version, IsTold};
 
-use crate::masks::{due, may_go};
 use redirect_map::Index;
 
 // This version, if a block of its record may go and its lane is true.
@@ -17,7 +16,7 @@ fn going(index: &Index, lanes: &[bool], version: u64) -> Option<u64>
     if !lanes[record.lane as usize] {
         return None;
     }
-    if may_go(index, version) == 0 {
+    if !index.has_going(version) {
         return None;
     }
     Some(version)
@@ -33,7 +32,7 @@ fn due_one(index: &Index, lanes: &[bool], version: u64) -> Option<u64>
     if !lanes[record.lane as usize] {
         return None;
     }
-    if due(index, version) == 0 {
+    if !index.has_due(version) {
         return None;
     }
     Some(version)

@@ -7,18 +7,6 @@ ghost use Rattle.redirect_map.specs.Index.{entry_at, HasVersion};
 
 use redirect_map::Index;
 
-// The blocks that this version's record keeps.
-fn kept(index: &Index, version: u64) -> u128
-    requires { HasVersion index.now.entries version }
-    ensures { IfSome (entry_at index.now.entries version)
-        (λ e. IsMask e.listed.first (cover_of e.listed).covers result) }
-{
-    match index.find(version) {
-        Some(record) => record.keep,
-        None => 0,
-    }
-}
-
 /// The blocks of this version's record that may be given up: those that it keeps and that a newer record
 /// keeps too, or that are home while no older record keeps them. Bit i is block i of the record.
 ///
@@ -39,9 +27,7 @@ pub fn may_go(index: &Index, version: u64) -> u128
         → (goes (listed_in index.now.entries) e.listed b ≡ true)
         ⊎ (is_due (listed_in index.now.entries) e.listed b ≡ true)) }
 {
-    let covered = kept(index, version) & !index.live(version);
-    let home = index.homed(version) & index.alone(version);
-    covered | home
+    index.going(version)
 }
 
 /// The blocks of this version's record that are due: live and not home yet. Bit i is block i of the record.

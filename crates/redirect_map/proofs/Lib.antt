@@ -14,5 +14,6 @@ pub mod Without
 pub mod Stepping
 pub mod Newest
 pub mod Tabling
+pub mod Dues
 pub mod Marked
 pub mod Listing

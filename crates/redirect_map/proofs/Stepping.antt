@@ -65,3 +65,24 @@ not_before first keep i b = ⊎_elim
     (λ here. let more : first + i ≤ b = omega arith in rw (le-ltb b (first + i) more, and_false (in_mask first keep b)) refl)
     (λ apart. rw (ne_eqb b (first + i) apart, and_false (has_bit keep i)) (and_false (in_mask first keep b && ltb b (first + i))))
     (cases_eq b (first + i))
+
+or_none : (a b : Bool) → (a || (b && false)) ≡ a
+or_none true b = refl
+or_none false true = refl
+or_none false false = refl
+
+-- one bit more of those that pass
+pub more_bits : (f : ℕ → Bool) (i j : ℕ) (on : Bool) → on ≡ f i → ((ltb j i && f j) || (on && eqb j i)) ≡ (ltb j (i + 1) && f j)
+more_bits f i j on is = ⊎_elim
+    (λ (less : j < i). rw (lt-ltb j i less, lt-ltb j (i + 1) (omega arith), ne_eqb j i (λ same. absurd (omega arith))) (or_none (f j) on))
+    (λ (from : i ≤ j). ⊎_elim
+    (λ (here : j ≡ i). rw (le-ltb j i from, lt-ltb j (i + 1) (omega arith), eq-eqb j i here) (and_true on ∙ is ∙ ap f (sym here)))
+    (λ (other : j ≡ i → ⊥). rw (le-ltb j i from, le-ltb j (i + 1) (omega arith), ne_eqb j i other) (and_false on))
+    (cases_eq j i))
+    (cases_lt j i)
+
+-- a further block is as it was
+pub not_yet : {X : Type 0} (first keep i : ℕ) (f : X → X) (old now : X) → now ≡ cond (in_mask first keep (first + i) && ltb (first + i) (first + i)) (f old) old → now ≡ old
+not_yet first keep i f old now is = is
+    ∙ ap (λ (t : Bool). cond (in_mask first keep (first + i) && t) (f old) old) (le-ltb (first + i) (first + i) (omega arith))
+    ∙ ap (λ (t : Bool). cond t (f old) old) (and_false (in_mask first keep (first + i)))

@@ -37,7 +37,7 @@ pub fn newest_of(blocks: &HashMap<u64, Cell>, lbn: u64) -> Option<Cell>
 }
 
 // Whether the newest record of a block is that of this version, and the only one if `alone`.
-fn holds(known: Option<Cell>, version: u64, alone: bool) -> bool
+pub fn holds(known: Option<Cell>, version: u64, alone: bool) -> bool
     ensures { result ≡ is_held version alone known }
 {
     match known {

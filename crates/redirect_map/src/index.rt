@@ -11,6 +11,7 @@ ghost use Rattle.redirect_map.specs.Index.{cover_at, entry_at, HasVersion, entry
 
 use crate::blocks::{Cell, any_covered, cover, held, held_both, newest_of, run_length, uncover};
 use crate::entry::{Entry, unhome, with_homes};
+use crate::going::{all_going, any_due, any_going};
 use crate::list::Entries;
 use crate::marking::{
     exact_mask, lanes_mask, mark_all_exactly, mark_blocks, mark_given_up, new_mask, newest_versions,
@@ -217,6 +218,36 @@ impl Index {
             → is_live (listed_in self.now.entries) e.listed (e.listed.first + i) ≡ true) }
     {
         self.entries.get(version).unwrap().homed
+    }
+
+    /// Whether a block of this version's record is due.
+    pub fn has_due(&self, version: u64) -> bool
+        requires { HasVersion self.now.entries version }
+        ensures { IfSome (entry_at self.now.entries version)
+            (λ e. result ≡ has_due (listed_in self.now.entries) e.listed) }
+    {
+        let entry = self.entries.get(version).unwrap();
+        any_due(&self.blocks, &entry)
+    }
+
+    /// Whether a block of this version's record may be given up.
+    pub fn has_going(&self, version: u64) -> bool
+        requires { HasVersion self.now.entries version }
+        ensures { IfSome (entry_at self.now.entries version)
+            (λ e. result ≡ has_going (listed_in self.now.entries) e.listed) }
+    {
+        let entry = self.entries.get(version).unwrap();
+        any_going(&self.blocks, &entry)
+    }
+
+    /// The blocks of this version's record that may be given up.
+    pub fn going(&self, version: u64) -> u128
+        requires { HasVersion self.now.entries version }
+        ensures { IfSome (entry_at self.now.entries version)
+            (λ e. IsMask e.listed.first (goes (listed_in self.now.entries) e.listed) result) }
+    {
+        let entry = self.entries.get(version).unwrap();
+        all_going(&self.blocks, &entry)
     }
 
     /// Notes which blocks of this version's record are home: those of the mask, which are live, and no

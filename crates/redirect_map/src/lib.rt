@@ -4,12 +4,13 @@
 //! the versions of which a block may be due or may go, so that the next of these is found without a walk.
 //!
 //! `record.rt` has a record and its place, `entry.rt` a record with its homed blocks, `list.rt` the list of these,
-//! `mask.rt` masks of 128 blocks, `blocks.rt` the table of kept blocks, `marking.rt` the marks, `index.rt` `Index`,
-//! where the contracts stand.
+//! `mask.rt` masks of 128 blocks, `blocks.rt` the table of kept blocks, `going.rt` what of an entry is due or may go,
+//! `marking.rt` the marks, `index.rt` `Index`, where the contracts stand.
 #![tactic(auto)]
 
 mod blocks;
 mod entry;
+mod going;
 mod index;
 mod list;
 mod marking;

@@ -5,11 +5,12 @@ ghost use Rattle.wol_model.specs.Log.{has_bit};
 ghost use Rattle.version_marks.specs.Marks.{mask_of};
 ghost use Rattle.redirect_map.specs.Masks.{in_mask};
 ghost use Rattle.redirect_map.specs.Kept.{IsInRange, AreEntries, NoneHomed};
-ghost use Rattle.redirect_map.specs.Cells.{AreTabled, version_in};
+ghost use Rattle.redirect_map.specs.Cells.{AreTabled, keepers_of, version_in};
 ghost use Rattle.redirect_map.specs.Marked.{there_bit, lane_bit, is_home, begins, IsMarked, AreMarked, AreThere, AreBegun, KeepsBits};
 
-use crate::blocks::{Cell, held_both, newest_of, with_bit};
+use crate::blocks::{Cell, newest_of, with_bit};
 use crate::entry::Entry;
+use crate::going::{any_due, any_going};
 use crate::list::Entries;
 use crate::mask::moved;
 use crate::record::Rec;
@@ -54,9 +55,8 @@ pub fn exact_mask(blocks: &HashMap<u64, Cell>, entry: &Entry) -> u128
     requires { IsInRange entry.now }
     ensures { IsMarked (get nat_eq blocks.now) result entry.now }
 {
-    let (live, alone) = held_both(blocks, &entry.record);
-    let due = live & !entry.homed != 0;
-    let going = (entry.record.keep & !live) | (entry.homed & alone) != 0;
+    let due = any_due(blocks, entry);
+    let going = any_going(blocks, entry);
     record_mask(entry.record.lane, due, going)
 }
 

@@ -1,12 +1,9 @@
-use Rattle.std.proofs.Common.{Option, not, ap, subst, true, false, arith}
-use Rattle.std.proofs.lemmas.Bool.{and_from, and_right, eq-eqb, ne_eqb}
-use Rattle.wol_model.specs.Index.{Indexed, listed_in, is_due}
+use Rattle.std.proofs.Common.{Option, subst, true, false}
+use Rattle.std.proofs.lemmas.Bool.{and_from, and_right}
+use Rattle.wol_model.specs.Index.{Indexed, listed_in, has_due}
 use Rattle.redirect_map.specs.declared.record.Rec.{Rec}
 use Rattle.redirect_map.specs.Index.{entry_at, IsAnswer}
-use Rattle.wol_model.specs.Index.{block_numbers}
-use Rattle.std.specs.List.{list_any}
-use Rattle.garbage_list.proofs.Going.{due_covers}
-use Rattle.garbage_list.proofs.Finding.{answer_there, lane_there, told_none, told_asleep, told_is}
+use Rattle.garbage_list.proofs.Finding.{answer_there, lane_there, told_none, told_asleep, told_by}
 use Rattle.garbage_list.proofs.find.due_one.Goals as goal
 
 pub returns-in_err-record-clause-told : goal.returns-in_err-record-clause-told
@@ -15,22 +12,22 @@ returns-in_err-record-clause-told c = rw c.from_residual.ensures (told_none _ c.
 pub bounds-lanes-record : goal.bounds-lanes-record
 bounds-lanes-record c = lane_there c.args.lanes.now c.args.index.now.entries c.args.version c.in_ok-record.record c.requires (subst (λ (o : Option Rec). IsAnswer (entry_at c.args.index.now.entries c.args.version) o) c.in_ok-record.was c.find.ensures.value)
 
-pub due-requires : goal.due-requires
-due-requires c = answer_there c.args.index.now.entries c.args.version c.in_ok-record.record (subst (λ (o : Option Rec). IsAnswer (entry_at c.args.index.now.entries c.args.version) o) c.in_ok-record.was c.find.ensures.value)
+pub has_due-requires : goal.has_due-requires
+has_due-requires c = answer_there c.args.index.now.entries c.args.version c.in_ok-record.record (subst (λ (o : Option Rec). IsAnswer (entry_at c.args.index.now.entries c.args.version) o) c.in_ok-record.was c.find.ensures.value)
 
 pub returns-then-not-lanes-record-clause-told : goal.returns-then-not-lanes-record-clause-told
-returns-then-not-lanes-record-clause-told c = told_asleep c.args.lanes.now (λ (e : Indexed). list_any (is_due (listed_in c.args.index.now.entries) e.listed) (block_numbers e.listed)) c.args.version (entry_at c.args.index.now.entries c.args.version) c.in_ok-record.record
+returns-then-not-lanes-record-clause-told c = told_asleep c.args.lanes.now (λ (e : Indexed). has_due (listed_in c.args.index.now.entries) e.listed) c.args.version (entry_at c.args.index.now.entries c.args.version) c.in_ok-record.record
     (subst (λ (o : Option Rec). IsAnswer (entry_at c.args.index.now.entries c.args.version) o) c.in_ok-record.was c.find.ensures.value) c.if-not-lanes-record.true
 
-pub returns-then-due-eq0-clause-told : goal.returns-then-due-eq0-clause-told
-returns-then-due-eq0-clause-told c = told_is c.args.lanes.now c.args.version (entry_at c.args.index.now.entries c.args.version) c.in_ok-record.record (is_due (listed_in c.args.index.now.entries)) c.due.result false
+pub returns-then-not-has_due-clause-told : goal.returns-then-not-has_due-clause-told
+returns-then-not-has_due-clause-told c = told_by c.args.lanes.now c.args.version (entry_at c.args.index.now.entries c.args.version) c.in_ok-record.record (λ (e : Indexed). has_due (listed_in c.args.index.now.entries) e.listed) c.has_due.result false
     (subst (λ (o : Option Rec). IsAnswer (entry_at c.args.index.now.entries c.args.version) o) c.in_ok-record.was c.find.ensures.value)
-    (due_covers (listed_in c.args.index.now.entries)) (omega arith) c.due.ensures.value (and_right _ _ (ap not (eq-eqb c.due.result 0 c.if-due-eq0.true)))
+    c.has_due.ensures (and_right _ _ c.if-not-has_due.true)
 
 pub returns-clause-told : goal.returns-clause-told
-returns-clause-told c = told_is c.args.lanes.now c.args.version (entry_at c.args.index.now.entries c.args.version) c.in_ok-record.record (is_due (listed_in c.args.index.now.entries)) c.due.result true
+returns-clause-told c = told_by c.args.lanes.now c.args.version (entry_at c.args.index.now.entries c.args.version) c.in_ok-record.record (λ (e : Indexed). has_due (listed_in c.args.index.now.entries) e.listed) c.has_due.result true
     (subst (λ (o : Option Rec). IsAnswer (entry_at c.args.index.now.entries c.args.version) o) c.in_ok-record.was c.find.ensures.value)
-    (due_covers (listed_in c.args.index.now.entries)) (omega arith) c.due.ensures.value (and_from _ _ c.if-not-lanes-record.false (ap not (ne_eqb c.due.result 0 c.if-due-eq0.false)))
+    c.has_due.ensures (and_from _ _ c.if-not-lanes-record.false c.if-not-has_due.false)
 
 pub returns-in_err-record-clause-index : goal.returns-in_err-record-clause-index
 returns-in_err-record-clause-index c = c.find.ensures.index
