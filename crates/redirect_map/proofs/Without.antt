@@ -76,6 +76,21 @@ unhomed_none r (x ∷ xs) none =
     no_bit : (i : ℕ) → has_bit x.homed i ≡ false
     no_bit i = ap (λ (m : ℕ). has_bit m i) none.0 ∙ has_bit-zero i
 
+-- and where no entry keeps a block of the record
+pub unhomed_apart : (r : Rec) (xs : List Entry) → AreLive xs → ((b : ℕ) → in_mask r.lbn r.keep b ≡ true → one_keeps xs b ≡ false) → AllZip (IsUnhomed r) xs xs
+unhomed_apart r [] live none = tt
+unhomed_apart r (x ∷ xs) live none = (
+  record { same = refl; homed = λ i. at i (has_bit x.homed i) refl (in_mask r.lbn r.keep (x.record.lbn + i)) refl },
+  unhomed_apart r xs live.1 (λ b on. (or_parts (keeps x b) (one_keeps xs b) (none b on)).1),
+)
+  where
+    at : (i : ℕ) (t : Bool) → has_bit x.homed i ≡ t → (s : Bool) → in_mask r.lbn r.keep (x.record.lbn + i) ≡ s → t ≡ (t && not s)
+    at i false off s is = refl
+    at i true on false is = refl
+    at i true on true is =
+        let off : keeps x (x.record.lbn + i) ≡ false = (or_parts (keeps x (x.record.lbn + i)) (one_keeps xs (x.record.lbn + i)) (none (x.record.lbn + i) is)).0 in
+        absurd (false≢true (sym off ∙ in_mask-bit x.record.lbn x.record.keep i ∙ (live.0 i on).0))
+
 -- a further entry without a homed block, another one at a place, and one less
 pub none_homed_added : (xs : List Entry) (x : Entry) → NoneHomed xs → x.homed ≡ 0 → NoneHomed (xs ++ x ∷ [])
 none_homed_added [] x none here = (here, tt)

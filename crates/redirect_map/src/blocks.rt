@@ -143,16 +143,17 @@ fn cover_again(blocks: &mut HashMap<u64, Cell>, lbn: u64, version: u64) -> bool
     true
 }
 
-// A record of this version, which is above all others, keeps the block too.
-fn cover_one(blocks: &mut HashMap<u64, Cell>, lbn: u64, version: u64)
+// A record of this version, which is above all others, keeps the block too: as the only one where it is `fresh`.
+fn cover_one(blocks: &mut HashMap<u64, Cell>, lbn: u64, version: u64, fresh: bool)
     requires spare { 0 < spare blocks.old }
     requires few { keepers_of (get nat_eq blocks.old lbn) + 1 < 2 ^ 64 }
+    requires fresh { fresh ≡ true → get nat_eq blocks.old lbn ≡ None }
     ensures cells { (b : ℕ) → get nat_eq blocks.new b
         ≡ (if b == lbn then one_covers version (get nat_eq blocks.old b)
         else get nat_eq blocks.old b) }
     ensures spare { spare blocks.old ≤ spare blocks.new + 1 }
 {
-    if cover_again(blocks, lbn, version) {
+    if !fresh && cover_again(blocks, lbn, version) {
         return;
     }
     let keepers = 1;
@@ -160,34 +161,38 @@ fn cover_one(blocks: &mut HashMap<u64, Cell>, lbn: u64, version: u64)
 }
 
 // Block i of a record, if the record keeps it.
-fn cover_bit(blocks: &mut HashMap<u64, Cell>, one: &Rec, i: u32)
+fn cover_bit(blocks: &mut HashMap<u64, Cell>, one: &Rec, i: u32, fresh: bool)
     requires spare { 0 < spare blocks.old }
     requires few { keepers_of (get nat_eq blocks.old (one.now.lbn + i)) + 1 < 2 ^ 64 }
     requires within { one.now.lbn + i < 2 ^ 32 }
     requires bit { i < 128 }
+    requires fresh { fresh ≡ true → has_bit one.now.keep i ≡ true
+        → get nat_eq blocks.old (one.now.lbn + i) ≡ None }
     ensures cells { (b : ℕ) → get nat_eq blocks.new b
         ≡ (if has_bit one.now.keep i && (b == one.now.lbn + i)
         then one_covers one.now.version (get nat_eq blocks.old b) else get nat_eq blocks.old b) }
     ensures spare { spare blocks.old ≤ spare blocks.new + 1 }
 {
     if one.keep >> i & 1 == 1 {
-        cover_one(blocks, one.lbn + u64::from(i), one.version);
+        cover_one(blocks, one.lbn + u64::from(i), one.version, fresh);
     }
 }
 
-// A record, which is newer than all others, keeps blocks.
-pub fn cover(blocks: &mut HashMap<u64, Cell>, one: &Rec)
+// A record, which is newer than all others, keeps blocks: those of a `fresh` one are kept by no other.
+pub fn cover(blocks: &mut HashMap<u64, Cell>, one: &Rec, fresh: bool)
     requires spare { one.now.count ≤ spare blocks.old }
     requires few { (b : ℕ) → keepers_of (get nat_eq blocks.old b) + 1 < 2 ^ 64 }
     requires count { one.now.count ≤ 128 }
     requires within { one.now.lbn + one.now.count ≤ 2 ^ 32 }
     requires keep_within { one.now.keep < 2 ^ one.now.count }
+    requires fresh { fresh ≡ true → (b : ℕ) → in_mask one.now.lbn one.now.keep b ≡ true
+        → get nat_eq blocks.old b ≡ None }
     ensures cells { (b : ℕ)
         → get nat_eq blocks.new b ≡ covering one.now b (get nat_eq blocks.old b) }
     ensures spare { spare blocks.old ≤ spare blocks.new + one.now.count }
 {
     for i in 0..one.count {
-        cover_bit(blocks, one, i);
+        cover_bit(blocks, one, i, fresh);
     }
 }
 

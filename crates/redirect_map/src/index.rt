@@ -100,6 +100,29 @@ impl Index {
         ensures room { self.old.reserved
             ≤ self.new.reserved + runs_of (marks_of entry.count entry.keep) }
     {
+        if self.covered(entry.lbn, entry.count) {
+            self.add_over(entry);
+        } else {
+            self.add_apart(entry);
+        }
+    }
+
+    // The same, where older records may keep blocks of it.
+    fn add_over(&mut self, entry: Rec)
+        requires newest { AllByRecursion (λ e. e.listed.version < entry.version) self.old.entries }
+        requires some { 1 ≤ entry.count }
+        requires count { entry.count ≤ 128 }
+        requires within { entry.lbn + entry.count ≤ 2 ^ 32 }
+        requires keeps { 0 < entry.keep }
+        requires keep_within { entry.keep < 2 ^ entry.count }
+        requires reserved { runs_of (marks_of entry.count entry.keep) ≤ self.old.reserved }
+
+        ensures entries { self.new.entries
+            ≡ map (unhomed (cover_at (entry_of entry 0))) self.old.entries
+            ++ entry_of entry 0 ∷ [] }
+        ensures room { self.old.reserved
+            ≤ self.new.reserved + runs_of (marks_of entry.count entry.keep) }
+    {
         let covered = newest_versions(&self.blocks, &entry);
         mark_blocks(
             &mut self.marks,
@@ -116,7 +139,7 @@ impl Index {
             record: entry,
             homed: 0,
         });
-        cover(&mut self.blocks, &entry);
+        cover(&mut self.blocks, &entry, false);
         mark_all_exactly(
             &mut self.marks,
             &self.entries,
@@ -124,6 +147,32 @@ impl Index {
             &entry,
             &covered[..entry.count as usize],
         );
+    }
+
+    // The same, where no other record keeps a block of its range: all marks stay, and nothing is homed no more.
+    fn add_apart(&mut self, entry: Rec)
+        requires newest { AllByRecursion (λ e. e.listed.version < entry.version) self.old.entries }
+        requires some { 1 ≤ entry.count }
+        requires count { entry.count ≤ 128 }
+        requires within { entry.lbn + entry.count ≤ 2 ^ 32 }
+        requires keeps { 0 < entry.keep }
+        requires keep_within { entry.keep < 2 ^ entry.count }
+        requires reserved { runs_of (marks_of entry.count entry.keep) ≤ self.old.reserved }
+        requires apart { list_any (is_covered (listed_in self.old.entries))
+            (range_with_len entry.lbn entry.count) ≡ false }
+
+        ensures entries { self.new.entries
+            ≡ map (unhomed (cover_at (entry_of entry 0))) self.old.entries
+            ++ entry_of entry 0 ∷ [] }
+        ensures room { self.old.reserved
+            ≤ self.new.reserved + runs_of (marks_of entry.count entry.keep) }
+    {
+        self.marks.push(entry.version, new_mask(entry.lane));
+        self.entries.push(Entry {
+            record: entry,
+            homed: 0,
+        });
+        cover(&mut self.blocks, &entry, true);
     }
 
     /// The newest record that covers the block, and none where no record covers it.

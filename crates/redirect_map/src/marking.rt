@@ -130,6 +130,9 @@ fn mark_newest(
     let Some(cell) = newest_of(blocks, lbn) else {
         return;
     };
+    if !covered && cell.keepers != 2 {
+        return;
+    }
     let Some(entry) = entries.get(cell.version) else {
         return;
     };

@@ -3,7 +3,8 @@ use Rattle.std.specs.HashMap.{get}
 use Rattle.wol_model.specs.Log.{has_bit}
 use Rattle.redirect_map.specs.Masks.{in_mask}
 use Rattle.redirect_map.specs.Cells.{one_covers}
-use Rattle.redirect_map.proofs.Stepping.{next_block, not_before, changed_once, all_blocks}
+use Rattle.redirect_map.proofs.Stepping.{next_block, not_before, changed_once, all_blocks, not_yet}
+use Rattle.redirect_map.proofs.Seen.{in_mask-bit}
 use Rattle.redirect_map.proofs.blocks.cover.Goals as goal
 
 pub loop-i-preserved : goal.loop-i-preserved
@@ -17,3 +18,7 @@ loop-i-preserved c = (
 pub returns-clause-cells : goal.returns-clause-cells
 returns-clause-cells c = λ b. c.loop-i.invariant.0 b ∙ ap (λ (t : Bool). cond t (one_covers c.args.one.now.version (get nat_eq c.args.blocks.now b)) (get nat_eq c.args.blocks.now b))
     (all_blocks c.args.one.now.lbn c.args.one.now.keep c.args.one.now.count c.loop-i.i b c.requires.keep_within (omega arith))
+
+pub cover_bit-requires-clause-fresh : goal.cover_bit-requires-clause-fresh
+cover_bit-requires-clause-fresh c = λ is on. not_yet c.args.one.now.lbn c.args.one.now.keep c.loop-i.i (one_covers c.args.one.now.version) (get nat_eq c.args.blocks.now (c.args.one.now.lbn + c.loop-i.i)) _ (c.loop-i.invariant.0 (c.args.one.now.lbn + c.loop-i.i))
+    ∙ c.requires.fresh is (c.args.one.now.lbn + c.loop-i.i) (in_mask-bit c.args.one.now.lbn c.args.one.now.keep c.loop-i.i ∙ on)

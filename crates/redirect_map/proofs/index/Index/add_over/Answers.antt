@@ -14,7 +14,7 @@ use Rattle.redirect_map.proofs.Without.{none_homed_added}
 use Rattle.redirect_map.proofs.Celled.{keepers_few}
 use Rattle.version_marks.specs.Marks.{mask_of}
 use Rattle.redirect_map.proofs.Marked.{marks_added}
-use Rattle.redirect_map.proofs.index.Index.add.Goals as goal
+use Rattle.redirect_map.proofs.index.Index.add_over.Goals as goal
 
 pub push-requires-2-clause-newest : goal.push-requires-2-clause-newest
 push-requires-2-clause-newest c = below_new c.args.entry c.self.inside.entries.items c.unhome.new.entries.items c.unhome.ensures.zip (subst (λ (v : Contents). AllByRecursion (λ (d : Indexed). d.listed.version < c.args.entry.version) v.entries) (sym c.self.view_is) c.requires.newest)
