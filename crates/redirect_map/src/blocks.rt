@@ -7,6 +7,7 @@ ghost use Rattle.wol_model.specs.Log.{has_bit};
 ghost use Rattle.redirect_map.specs.Masks.{in_mask};
 ghost use Rattle.redirect_map.specs.Cells.{is_held, keepers_of, version_in, one_covers, covering, take_one};
 
+use crate::mask::has;
 use crate::record::Rec;
 use std::collections::HashMap;
 
@@ -214,43 +215,48 @@ fn lower_one(blocks: &mut HashMap<u64, Cell>, lbn: u64) -> bool
     true
 }
 
-// A record keeps the block no more.
-fn uncover_one(blocks: &mut HashMap<u64, Cell>, lbn: u64)
+// A record keeps the block no more: the only one that did where it is `alone`.
+fn uncover_one(blocks: &mut HashMap<u64, Cell>, lbn: u64, alone: bool)
+    requires alone { alone ≡ true → keepers_of (get nat_eq blocks.old lbn) ≤ 1 }
     ensures cells { (b : ℕ) → get nat_eq blocks.new b
         ≡ (if b == lbn then take_one (get nat_eq blocks.old b) else get nat_eq blocks.old b) }
     ensures spare { spare blocks.old ≤ spare blocks.new }
 {
-    if lower_one(blocks, lbn) {
+    if !alone && lower_one(blocks, lbn) {
         return;
     }
     blocks.remove(&lbn);
 }
 
 // Bit i of a mask of blocks that a record keeps no more.
-fn uncover_bit(blocks: &mut HashMap<u64, Cell>, first: u64, mask: u128, i: u32)
+fn uncover_bit(blocks: &mut HashMap<u64, Cell>, first: u64, mask: u128, alone: u128, i: u32)
     requires within { first + i < 2 ^ 64 }
     requires bit { i < 128 }
+    requires alone { has_bit alone i ≡ true → has_bit mask i ≡ true
+        → keepers_of (get nat_eq blocks.old (first + i)) ≤ 1 }
     ensures cells { (b : ℕ) → get nat_eq blocks.new b
         ≡ (if has_bit mask i && (b == first + i) then take_one (get nat_eq blocks.old b)
         else get nat_eq blocks.old b) }
     ensures spare { spare blocks.old ≤ spare blocks.new }
 {
-    if mask >> i & 1 == 1 {
-        uncover_one(blocks, first + u64::from(i));
+    if has(mask, i) {
+        uncover_one(blocks, first + u64::from(i), has(alone, i));
     }
 }
 
-// A record keeps the blocks of the mask no more.
-pub fn uncover(blocks: &mut HashMap<u64, Cell>, first: u64, count: u32, mask: u128)
+// A record keeps the blocks of the mask no more. Those of them that are in `alone` no other record keeps.
+pub fn uncover(blocks: &mut HashMap<u64, Cell>, first: u64, count: u32, mask: u128, alone: u128)
     requires count { count ≤ 128 }
     requires within { first + count ≤ 2 ^ 32 }
     requires mask { mask < 2 ^ count }
+    requires alone { (i : ℕ) → has_bit alone i ≡ true → has_bit mask i ≡ true
+        → keepers_of (get nat_eq blocks.old (first + i)) ≤ 1 }
     ensures cells { (b : ℕ) → get nat_eq blocks.new b
         ≡ (if in_mask first mask b then take_one (get nat_eq blocks.old b)
         else get nat_eq blocks.old b) }
     ensures spare { spare blocks.old ≤ spare blocks.new }
 {
     for i in 0..count {
-        uncover_bit(blocks, first, mask, i);
+        uncover_bit(blocks, first, mask, alone, i);
     }
 }

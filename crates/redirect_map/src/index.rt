@@ -332,6 +332,9 @@ impl Index {
         ensures room { self.old.reserved ≤ self.new.reserved }
     {
         let mut entry = self.entries.get(version).unwrap();
+
+        // A homed block that goes is kept by no other record.
+        let alone = entry.homed;
         mark_given_up(
             self.homes,
             &mut self.marks,
@@ -339,8 +342,15 @@ impl Index {
             &self.blocks,
             &entry.record,
             mask,
+            alone,
         );
-        uncover(&mut self.blocks, entry.record.lbn, entry.record.count, mask);
+        uncover(
+            &mut self.blocks,
+            entry.record.lbn,
+            entry.record.count,
+            mask,
+            alone,
+        );
         entry.record.keep &= !mask;
         entry.homed &= !mask;
         if entry.record.keep == 0 {

@@ -191,7 +191,8 @@ pub fn mark_blocks(
     }
 }
 
-// The same of the blocks of a mask that a record gives up. Where no record has a homed block none begins to go.
+// The same of the blocks of a mask that a record gives up. Where no record has a homed block none begins to go, and none
+// of those in `alone` does, which no other record keeps.
 pub fn mark_given_up(
     homes: bool,
     marks: &mut VersionMarks,
@@ -199,6 +200,7 @@ pub fn mark_given_up(
     blocks: &HashMap<u64, Cell>,
     one: &Rec,
     mask: u128,
+    alone: u128,
 )
     requires homes { homes ≡ false → NoneHomed entries.now.items }
     requires entries { AreEntries entries.now.items }
@@ -206,6 +208,8 @@ pub fn mark_given_up(
     requires count { one.now.count ≤ 128 }
     requires within { one.now.lbn + one.now.count ≤ 2 ^ 32 }
     requires mask { mask < 2 ^ one.now.count }
+    requires alone { (i : ℕ) → has_bit alone i ≡ true → has_bit mask i ≡ true
+        → keepers_of (get nat_eq blocks.now (one.now.lbn + i)) ≤ 1 }
     ensures more { KeepsBits marks.old marks.new }
     ensures begun { (b : ℕ) → in_mask one.now.lbn mask b ≡ true
         → AreBegun false entries.now.items (get nat_eq blocks.now) (mask_of marks.new) b }
@@ -214,7 +218,15 @@ pub fn mark_given_up(
     if !homes {
         return;
     }
-    mark_blocks(marks, entries, blocks, one.lbn, one.count, mask, false);
+    mark_blocks(
+        marks,
+        entries,
+        blocks,
+        one.lbn,
+        one.count,
+        mask & !alone,
+        false,
+    );
 }
 
 // The versions of the newest records of the record's blocks, in order, and 0 where no record keeps one. No proof

@@ -17,6 +17,7 @@ use Rattle.redirect_map.proofs.Without.{none_homed_at, none_homed_removed, none_
 use Rattle.version_marks.specs.Marks.{mask_of}
 use Rattle.redirect_map.specs.Marked.{there_bit, AreMarked}
 use Rattle.redirect_map.proofs.Marked.{get_set_here, marks_set, marks_removed, others_less}
+use Rattle.redirect_map.proofs.Dues.{alone_few}
 use Rattle.redirect_map.specs.Listing.{place_in}
 use Rattle.redirect_map.proofs.Listing.{found_at}
 use Rattle.redirect_map.proofs.index.Index.trim.Goals as goal
@@ -109,3 +110,9 @@ exact_mask-requires c =
     range_at (set items place (trimmed c.unwrap-entry.result c.args.mask)) place (trimmed c.unwrap-entry.result c.args.mask)
     (entries_trimmed items place c.unwrap-entry.result c.args.mask c.self.invariant.0 at.at (omega arith) (omega arith))
     (get_set_here items place (trimmed c.unwrap-entry.result c.args.mask) c.unwrap-entry.result at.at)
+
+pub mark_given_up-requires-clause-alone : goal.mark_given_up-requires-clause-alone
+mark_given_up-requires-clause-alone c = alone_few c.self.inside.entries.items (get nat_eq c.self.inside.blocks) c.args.version (place_in c.args.version c.self.inside.entries.items) c.unwrap-entry.result c.args.mask c.self.invariant.0 c.self.invariant.1 (found_at c.self.inside.entries.items c.args.version c.unwrap-entry.result (sym c.get.ensures ∙ c.unwrap-entry.ensures)) (subst (λ (v : Contents). ForSome (entry_at v.entries c.args.version) (λ e. (i : ℕ) → has_bit c.args.mask i ≡ true → goes (listed_in v.entries) e.listed (e.listed.first + i) ≡ true)) (sym c.self.view_is) c.requires.goes)
+
+pub uncover-requires-clause-alone : goal.uncover-requires-clause-alone
+uncover-requires-clause-alone c = alone_few c.self.inside.entries.items (get nat_eq c.self.inside.blocks) c.args.version (place_in c.args.version c.self.inside.entries.items) c.unwrap-entry.result c.args.mask c.self.invariant.0 c.self.invariant.1 (found_at c.self.inside.entries.items c.args.version c.unwrap-entry.result (sym c.get.ensures ∙ c.unwrap-entry.ensures)) (subst (λ (v : Contents). ForSome (entry_at v.entries c.args.version) (λ e. (i : ℕ) → has_bit c.args.mask i ≡ true → goes (listed_in v.entries) e.listed (e.listed.first + i) ≡ true)) (sym c.self.view_is) c.requires.goes)
