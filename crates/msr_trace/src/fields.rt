@@ -1,6 +1,6 @@
 // The fields of a line, by `csv`.
-ghost use Rattle.std.specs.Prelude.{◌≡◌, ◌≢◌, ◌==◌, ◌<◌, ◌≤◌, [], true, false, length, slice_index, position, IfOk, OnOk, option_map};
-ghost use Rattle.std.specs.List.{list_any, position_or_len};
+ghost use Rattle.std.specs.Prelude.{◌≡◌, ◌≢◌, ◌<◌, [], true, false, length, slice_index, IfOk, OnOk, option_map};
+ghost use Rattle.std.specs.List.{list_any};
 ghost use Rattle.csv.specs.Machine.{next_record};
 ghost use Rattle.csv.specs.Reading.{default_config, strip_bom};
 ghost use Rattle.csv.specs.Records as records;
@@ -124,42 +124,30 @@ fn read_row(reader: &mut Option<Reader<Chunk>>, row: &mut ByteRecord) -> bool {
     }
 }
 
-// Whether a row has what a line splits into.
+// Whether a row has what a line splits into: no field has a comma, and the line is the fields with commas between them.
 fn is_split(row: &ByteRecord, line: &[u8]) -> bool
     ensures { result ≡ true → records.fields_of row.now ≡ fields_of line.now }
 {
-    let mut at = 0;
+    if row.as_slice().contains(&b',') {
+        return false;
+    }
+    let mut rest = line;
     for i in 0..row.len() {
-        let rest = &line[at..];
-        let end = first_comma(rest);
         let Some(field) = row.get(i) else {
             return false;
         };
-        if field != &rest[..end] {
+        let Some(behind) = rest.strip_prefix(field) else {
+            return false;
+        };
+        let Some((next, others)) = behind.split_first() else {
+            return i + 1 == row.len();
+        };
+        if *next != b',' {
             return false;
         }
-        if end == rest.len() {
-            return i + 1 == row.len();
-        }
-        at += end + 1;
+        rest = others;
     }
     false
-}
-
-fn first_comma(bytes: &[u8]) -> usize
-    ensures first { result ≡ position_or_len (λ b. b == 44) bytes.now }
-    ensures within { result ≤ length bytes.now }
-{
-    match comma_in(bytes) {
-        Some(at) => at,
-        None => bytes.len(),
-    }
-}
-
-fn comma_in(bytes: &[u8]) -> Option<usize>
-    ensures { result ≡ position (λ b. b == 44) bytes.now }
-{
-    bytes.iter().position(|byte| *byte == b',')
 }
 
 // The first record of a text that has no header row, if it has one.

@@ -1,32 +1,26 @@
-use Rattle.std.proofs.Common.{arith, ◌≡◌, ◌≢◌, ◌<◌, ◌≤◌, ◌==◌, ◌+◌, ◌-◌, sym, length, take, drop, ◌∙◌, length-drop}
-use Rattle.std.specs.List.{position_or_len}
-use Rattle.std.proofs.lemmas.List.{take_rest}
-use Rattle.std.proofs.lemmas.Bool.{eqb-true, not-false}
-use Rattle.std.proofs.lemmas.Slice.Eq.{bytes_eq-Decides}
+use Rattle.std.proofs.Common.{◌≡◌, ◌+◌, ◌==◌, ◌++◌, ◌∷◌, false, sym, ◌∙◌}
+use Rattle.std.specs.List.{list_any}
+use Rattle.std.proofs.lemmas.Bool.{eqb-true}
 use Rattle.csv.specs.Records as records
-use Rattle.msr_trace.proofs.Compared.{agrees_last, agrees_more}
+use Rattle.msr_trace.proofs.Compared.{agrees_last, agrees_more, behind_field, none_in_field}
 use Rattle.msr_trace.proofs.fields.is_split.Goals as goal
 
-pub returns-then-end-rest : goal.returns-then-end-rest
-returns-then-end-rest c = λ is.
-    let line = c.args.line.now in
-    let rest : take (length line - c.loop-i.at) (drop c.loop-i.at line) ≡ drop c.loop-i.at line = take_rest line c.loop-i.at in
-    let first : c.first_comma-end.result ≡ position_or_len (λ b. b == 44) (drop c.loop-i.at line) = rw rest at c.first_comma-end.ensures.first in
-    let over : c.first_comma-end.result ≡ length (drop c.loop-i.at line) = rw rest at c.if-end-rest.true in
-    let same : c.in-Some.field.now ≡ take c.first_comma-end.result (drop c.loop-i.at line) = rw rest at ((bytes_eq-Decides c.in-Some.field.now (take c.first_comma-end.result (take (length line - c.loop-i.at) (drop c.loop-i.at line)))).0 (not-false _ (sym c.if-ne.ensures))) in
-    agrees_last (records.fields_of c.args.row.now) line c.loop-i.i c.loop-i.at c.first_comma-end.result c.in-Some.field.now c.loop-i.invariant.agrees c.in-Some.ensures.value first over same
+pub returns-in_default-split_first : goal.returns-in_default-split_first
+returns-in_default-split_first c = λ is.
+    let row = c.args.row.now in
+    let field = c.in-Some.field.now in
+    let commas : list_any (λ b. b == 44) (records.text_of row) ≡ false = rw c.as_slice.ensures at (sym c.contains.ensures.value ∙ c.if-contains.false) in
+    let none : list_any (λ b. b == 44) field ≡ false = none_in_field (λ b. b == 44) row.bytes 0 row.ends c.loop-i.i field commas c.in-Some.ensures.value in
+    let text : c.loop-i.rest.now ≡ field ++ c.in-Some-strip_prefix.behind.now = behind_field c.loop-i.rest.now field c.in-Some-strip_prefix.behind.now c.in-Some-strip_prefix.ensures.cases.0 c.in-Some-strip_prefix.ensures.cases.1 in
+    agrees_last (records.fields_of row) c.args.line.now c.loop-i.i c.loop-i.rest.now field c.in-Some-strip_prefix.behind.now c.loop-i.invariant c.in-Some.ensures.value none text c.in_default-split_first.ensures.cases
     (eqb-true (c.loop-i.i + 1) c.len.result is ∙ c.len.ensures)
 
 pub loop-i-preserved : goal.loop-i-preserved
 loop-i-preserved c =
-    let line = c.args.line.now in
-    let rest : take (length line - c.loop-i.at) (drop c.loop-i.at line) ≡ drop c.loop-i.at line = take_rest line c.loop-i.at in
-    let first : c.first_comma-end.result ≡ position_or_len (λ b. b == 44) (drop c.loop-i.at line) = rw rest at c.first_comma-end.ensures.first in
-    let within : c.first_comma-end.result ≤ length (drop c.loop-i.at line) = rw rest at c.first_comma-end.ensures.within in
-    let other : c.first_comma-end.result ≢ length (drop c.loop-i.at line) = rw rest at c.if-end-rest.false in
-    let found : c.first_comma-end.result < length (drop c.loop-i.at line) = omega (arith, within, other) in
-    let same : c.in-Some.field.now ≡ take c.first_comma-end.result (drop c.loop-i.at line) = rw rest at ((bytes_eq-Decides c.in-Some.field.now (take c.first_comma-end.result (take (length line - c.loop-i.at) (drop c.loop-i.at line)))).0 (not-false _ (sym c.if-ne.ensures))) in
-    record {
-      within = omega (arith, found, length-drop c.loop-i.at line, c.loop-i.invariant.within);
-      agrees = agrees_more (records.fields_of c.args.row.now) line c.loop-i.i c.loop-i.at c.first_comma-end.result c.in-Some.field.now c.loop-i.invariant.agrees c.in-Some.ensures.value first found same;
-    }
+    let row = c.args.row.now in
+    let field = c.in-Some.field.now in
+    let commas : list_any (λ b. b == 44) (records.text_of row) ≡ false = rw c.as_slice.ensures at (sym c.contains.ensures.value ∙ c.if-contains.false) in
+    let none : list_any (λ b. b == 44) field ≡ false = none_in_field (λ b. b == 44) row.bytes 0 row.ends c.loop-i.i field commas c.in-Some.ensures.value in
+    let text : c.loop-i.rest.now ≡ field ++ c.in-Some-strip_prefix.behind.now = behind_field c.loop-i.rest.now field c.in-Some-strip_prefix.behind.now c.in-Some-strip_prefix.ensures.cases.0 c.in-Some-strip_prefix.ensures.cases.1 in
+    let behind : c.in-Some-strip_prefix.behind.now ≡ 44 ∷ c.in-Some-split_first.others.now = rw c.if-next-ne44.false at c.in-Some-split_first.ensures.cases.0 in
+    agrees_more (records.fields_of row) c.args.line.now c.loop-i.i c.loop-i.rest.now field c.in-Some-split_first.others.now c.loop-i.invariant c.in-Some.ensures.value none (rw behind at text)
