@@ -1,7 +1,9 @@
 -- A number read digit by digit.
-use Rattle.std.proofs.Common.{◌≡◌, ℕ, ◌+◌, ◌*◌, ◌^◌, ◌≤◌, ◌<◌, ◌&&◌, Bool, true, false, nat_lt, List, [], ◌∷◌, length, get_or, drop, None, Some, inl, inr, refl, ◌∙◌, arith}
+use Rattle.std.proofs.Common.{◌≡◌, ℕ, ◌+◌, ◌*◌, ◌^◌, ◌≤◌, ◌<◌, ◌&&◌, Bool, true, false, nat_lt, List, [], ◌∷◌, length, get_or, drop, None, Some, inl, inr, refl, lit<, ◌∙◌, arith}
 use Rattle.std.proofs.lemmas.Bool.{cases_Bool, ltb-false, lt-ltb, le-ltb}
 use Rattle.std.proofs.lemmas.List.{at_drop_more}
+use Rattle.std.proofs.Math.Nat.{pow-le-pow_right}
+use Rattle.std.proofs.lemmas.Grind.{pow_more}
 use Rattle.std.specs.List.{list_all}
 use Rattle.std.specs.Char.{is_digit, digit_value}
 use Rattle.std.specs.Str.Parse.{digits_value_after}
@@ -48,3 +50,19 @@ value_goes_on n m b bytes h = elim (cases_Bool (is_digit b 10)) [
 -- no more digits
 pub value_ends : (n : ℕ) → n < 2 ^ 64 → value_after n [] ≡ Some n
 value_ends n h = rw (lt-ltb n (2 ^ 64) h) refl
+
+-- few digits write a number that stays below 2^64 with any digit more
+pub small_enough : (n i count : ℕ) → n < 10 ^ i → i < count → count < 20 → n ≤ 1844674407370955160
+small_enough n i count small within short =
+    let few : 10 ^ i ≤ 10 ^ 18 = pow-le-pow_right {n = 10} (lit< tt) {j = 18} (omega (arith, within, short)) in
+    omega (arith, few, small)
+
+-- fewer than 20 digits write a number below 2^64
+pub small_end : (n i : ℕ) → n < 10 ^ i → i < 20 → n < 2 ^ 64
+small_end n i small short =
+    let few : 10 ^ i ≤ 10 ^ 19 = pow-le-pow_right {n = 10} (lit< tt) {j = 19} (omega (arith, short)) in
+    omega (arith, few, small)
+
+-- with a digit more
+pub small_more : (n next i : ℕ) → n < 10 ^ i → next < n * 10 + 10 → next < 10 ^ (i + 1)
+small_more n next i small less = rw (pow_more 10 i) (omega (arith, small, less))
