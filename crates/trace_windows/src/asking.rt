@@ -26,17 +26,18 @@ fn place_of(volumes: &[VolumeConf], line: &Line) -> Option<usize>
         ≡ position (λ v. bytes_eq v.host line.now.host && v.disk == line.now.disk) volumes.now }
     ensures within { IfSome result (λ v. v < length volumes.now) }
 {
-    volumes.iter().position(|volume| owns(volume, line))
+    let asked = line.host.as_bytes();
+    volumes
+        .iter()
+        .position(|volume| owns(volume, asked, line.disk))
 }
 
-// Whether the line is on the volume's disk.
-fn owns(volume: &VolumeConf, line: &Line) -> bool
-    ensures { result
-        ≡ (bytes_eq volume.now.host line.now.host && volume.now.disk == line.now.disk) }
+// Whether the volume has the disk of a host.
+fn owns(volume: &VolumeConf, asked: &[u8], disk: u32) -> bool
+    ensures { result ≡ (bytes_eq volume.now.host asked.now && volume.now.disk == disk) }
 {
     let own = volume.host.as_bytes();
-    let asked = line.host.as_bytes();
-    may_be_same(own, asked) && own == asked && volume.disk == line.disk
+    may_be_same(own, asked) && own == asked && volume.disk == disk
 }
 
 // Whether the names are of one length and end alike. Names of hosts differ at their ends more often than in front.
