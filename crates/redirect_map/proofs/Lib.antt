@@ -15,5 +15,6 @@ pub mod Stepping
 pub mod Newest
 pub mod Tabling
 pub mod Dues
+mod Lanes
 pub mod Marked
 pub mod Listing

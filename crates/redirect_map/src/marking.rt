@@ -309,14 +309,23 @@ pub fn mark_all_exactly(
     }
 }
 
-// The bits of the lanes that are true in the list.
+// The mask, with bit i where `on`.
+fn with_rest(mask: u64, i: u32, on: bool) -> u64
+    requires { i < 64 }
+    ensures { (j : ℕ) → has_bit result j ≡ (has_bit mask j || (on && j == i)) }
+{
+    if on { mask | 1 << i } else { mask }
+}
+
+// The bits of the lanes that are true in the list. Those of due records are the low ones.
 pub fn lanes_mask(lanes: &[bool], going: bool) -> u128
     ensures { (lane : ℕ) → slice_index_or lanes.now lane false ≡ true
         → has_bit result (lane_bit going lane) ≡ true }
 {
     let mut mask = 0;
     for (lane, on) in lanes.iter().enumerate() {
-        mask = with_bit(mask, lane_bit(going, lane), *on);
+        mask = with_rest(mask, (lane % LANES) as u32, *on);
     }
-    mask
+    let low = u128::from(mask);
+    if going { low << 63 } else { low }
 }

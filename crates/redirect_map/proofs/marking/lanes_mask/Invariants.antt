@@ -5,4 +5,4 @@ use Rattle.redirect_map.proofs.marking.lanes_mask.Given as goal
 
 -- the lanes so far
 abbrev pub invariant-loop-lane : goal.invariant-loop-lane
-invariant-loop-lane l = (k : ℕ) → k < l.lane → slice_index_or l.lanes k false ≡ true → has_bit l.mask (lane_bit l.going k) ≡ true
+invariant-loop-lane l = (k : ℕ) → k < l.lane → slice_index_or l.lanes k false ≡ true → has_bit l.mask (lane_bit false k) ≡ true
