@@ -18,3 +18,4 @@ pub mod Dues
 pub mod Counted
 pub mod CountedDrain
 pub mod CountedGone
+mod Empty

@@ -13,6 +13,9 @@ pub(crate) fn going(index: &Index, lanes: &[bool]) -> Option<Rec>
     ensures answer { IsAnswer (find (can_go lanes.now index.now.entries) index.now.entries) result }
     ensures index { IfSome result (λ r. IsIndex index.now.entries) }
 {
+    if index.is_empty() {
+        return None;
+    }
     let version = next_to_go(index, lanes)?;
     index.find(version)
 }
@@ -24,6 +27,9 @@ pub(crate) fn due_next(index: &Index, lanes: &[bool]) -> Option<Rec>
         result }
     ensures index { IfSome result (λ r. IsIndex index.now.entries) }
 {
+    if index.is_empty() {
+        return None;
+    }
     let version = next_due(index, lanes)?;
     index.find(version)
 }
