@@ -15,6 +15,7 @@ pub mod Stepping
 pub mod Newest
 pub mod Tabling
 pub mod Dues
+mod Alone
 mod Lanes
 pub mod Marked
 pub mod Listing

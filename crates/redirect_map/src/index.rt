@@ -228,6 +228,11 @@ impl Index {
             (λ e. IsMask e.listed.first (is_live (listed_in self.now.entries) e.listed) result) }
     {
         let record = self.entries.get(version).unwrap().record;
+
+        // All blocks of the only record are live.
+        if self.entries.len() == 1 {
+            return record.keep;
+        }
         held(&self.blocks, &record, false)
     }
 
@@ -296,6 +301,11 @@ impl Index {
             (λ e. IsMask e.listed.first (goes (listed_in self.now.entries) e.listed) result) }
     {
         let entry = self.entries.get(version).unwrap();
+
+        // Of the only record those may go that are home.
+        if self.entries.len() == 1 {
+            return entry.homed;
+        }
         all_going(&self.blocks, &entry)
     }
 

@@ -6,6 +6,7 @@ use Rattle.redirect_map.specs.Listing.{place_in}
 use Rattle.redirect_map.proofs.Answering.{is_there, range_at}
 use Rattle.redirect_map.proofs.Dues.{going_mask}
 use Rattle.redirect_map.proofs.Listing.{found_at}
+use Rattle.redirect_map.proofs.Alone.{going_only}
 use Rattle.redirect_map.proofs.index.Index.going.Goals as goal
 
 pub unwrap-entry-requires : goal.unwrap-entry-requires
@@ -19,3 +20,7 @@ all_going-requires c =
 pub returns : goal.returns
 returns c = rw (← c.self.view_is) (going_mask c.self.inside.entries.items c.args.version (place_in c.args.version c.self.inside.entries.items) c.unwrap-entry.result (get nat_eq c.self.inside.blocks) c.all_going.result
     c.self.invariant.0 c.self.invariant.1 (found_at c.self.inside.entries.items c.args.version c.unwrap-entry.result (sym c.get.ensures ∙ c.unwrap-entry.ensures)) c.all_going.ensures)
+
+pub returns-then-len-eq1 : goal.returns-then-len-eq1
+returns-then-len-eq1 c = rw (← c.self.view_is) (going_only c.self.inside.entries.items c.args.version (place_in c.args.version c.self.inside.entries.items) c.unwrap-entry.result c.self.invariant.0
+    (found_at c.self.inside.entries.items c.args.version c.unwrap-entry.result (sym c.get.ensures ∙ c.unwrap-entry.ensures)) (sym c.len.ensures ∙ c.if-len-eq1.true))

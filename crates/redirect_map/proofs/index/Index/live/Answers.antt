@@ -6,6 +6,7 @@ use Rattle.redirect_map.proofs.Answering.{is_there, range_at}
 use Rattle.redirect_map.proofs.Newest.{live_held}
 use Rattle.redirect_map.specs.Listing.{place_in}
 use Rattle.redirect_map.proofs.Listing.{found_at}
+use Rattle.redirect_map.proofs.Alone.{live_only}
 use Rattle.redirect_map.proofs.index.Index.live.Goals as goal
 
 pub unwrap-requires : goal.unwrap-requires
@@ -23,3 +24,7 @@ pub held-requires-clause-within : goal.held-requires-clause-within
 held-requires-clause-within c =
     let at = found_at c.self.inside.entries.items c.args.version c.unwrap.result (sym c.get.ensures ∙ c.unwrap.ensures) in
     (range_at c.self.inside.entries.items (place_in c.args.version c.self.inside.entries.items) c.unwrap.result c.self.invariant.0 at.at).within
+
+pub returns-then-len-eq1 : goal.returns-then-len-eq1
+returns-then-len-eq1 c = rw (← c.self.view_is) (live_only c.self.inside.entries.items c.args.version (place_in c.args.version c.self.inside.entries.items) c.unwrap.result c.self.invariant.0
+    (found_at c.self.inside.entries.items c.args.version c.unwrap.result (sym c.get.ensures ∙ c.unwrap.ensures)) (sym c.len.ensures ∙ c.if-len-eq1.true))
