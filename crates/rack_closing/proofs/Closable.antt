@@ -1,9 +1,8 @@
 -- What the steps of closing a rack need, from what the rack promises.
-use Rattle.rack_closing.proofs.Basics.{◌≡◌, ◌<◌, ◌≤◌, ◌+◌, ◌⊎◌, inl, inr, ℕ, List, [], length, Option, Some, None, refl, sym, ap, ◌∙◌}
-use Rattle.rack_closing.proofs.Basics.{subst, arith, Contains, All, IsSome, slice_get, none-some, slice_get_within}
-use Rattle.rack_closing.proofs.Terms.{State, Shape, BayState, Config, lock_id, TurnLock, PoolBase, Pool, FreeSegment, shapes_of, image_here}
-use Rattle.rack_closing.proofs.Terms.{segment_here, pool_pass, spindle_pass, held_here, IsPart, IsImageRest, AreImageRests, IsPassAt}
-use Rattle.rack_closing.proofs.Terms.{AreLocks, OnlyAccess, IsRest, IsClosable, AreKeepers, CanCloseStations, CanClosePool, CanClosePools}
+use Rattle.rack_closing.proofs.Basics.{◌≡◌, ◌<◌, ◌≤◌, ◌+◌, ◌⊎◌, inl, inr, ℕ, List, [], length, Option, Some, None, refl, sym, ap, ◌∙◌, subst, arith, Contains, All, IsSome, slice_get, none-some}
+use Rattle.rack_closing.proofs.Basics.{slice_get_within}
+use Rattle.rack_closing.proofs.Terms.{State, Shape, BayState, Config, lock_id, TurnLock, PoolBase, Pool, FreeSegment, shapes_of, image_here, segment_here, pool_pass, spindle_pass, held_here}
+use Rattle.rack_closing.proofs.Terms.{IsPart, IsImageRest, AreImageRests, IsPassAt, AreLocks, OnlyAccess, IsRest, IsClosable, AreKeepers, CanCloseStations, CanClosePool, CanClosePools}
 use Rattle.rack_closing.proofs.Terms.{CanCloseSpindles, KeepsSpindles, RefillsAll, AreComplete, ImageRest, Rack, Rest}
 use Rattle.turn_lock.specs.declared.pass.PassOf.{PassOf}
 use Rattle.spin_model.specs.declared.spindle.Spindle.{Spindle}
@@ -11,11 +10,11 @@ use Rattle.spin_model.specs.declared.spindle.SpindleBase.{SpindleBase}
 use Rattle.logger.specs.declared.shared.Shared.{Shared}
 use Rattle.rack_parts.proofs.Members.{a_value, none_in}
 
-module _ {D : Type 0} (state : D → State) (config : Config) where
-  pub stations_may : (b : BayState) (r : Rack D) → IsClosable state config b r → CanCloseStations state config r.shared r.stations.items r.rest
-  stations_may b r can = record { each = can.stations; rising = can.rising; bases = can.bases; locks = can.locks; rest = can.rest; accesses = can.accesses }
+module _ {D : Type 0} {state : D → State} {config : Config} where
+  pub stations_may : {b : BayState} {r : Rack D} → IsClosable state config b r → CanCloseStations state config r.shared r.stations.items r.rest
+  stations_may {b} {r} can = record { each = can.stations; rising = can.rising; bases = can.bases; locks = can.locks; rest = can.rest; accesses = can.accesses }
 
-  module _ (shared : Shared D) (rest : Rest D) (locks : AreLocks config shared) (is : IsRest state config shared [] rest) where
+  module _ {shared : Shared D} {rest : Rest D} (locks : AreLocks config shared) (is : IsRest state config shared [] rest) where
     abbrev volumes : ℕ
     volumes = length (shapes_of config)
 

@@ -1,9 +1,7 @@
 -- Parts that were cut from an image and read.
-use Rattle.rack_closing.proofs.Basics.{◌≡◌, ⊎_elim, ℕ, zero, suc, ◌+◌, ◌-◌, ◌*◌, ◌<◌, List, [], ◌∷◌, map, take, drop, replicate, get_or}
-use Rattle.rack_closing.proofs.Basics.{Option, Some, option_map, refl, sym, ap, ◌∙◌, subst, arith, slice_range, unwrap_or, take-map}
-use Rattle.rack_closing.proofs.Basics.{drop-map, drop-drop}
-use Rattle.rack_closing.proofs.Terms.{Block, Values, State, IsImageOf, only, reads, settled, Shape, AreCut, state_of, disk_of, Spun}
-use Rattle.rack_closing.proofs.Terms.{head_place, part_sizes}
+use Rattle.rack_closing.proofs.Basics.{◌≡◌, ⊎_elim, ℕ, zero, suc, ◌+◌, ◌-◌, ◌*◌, ◌<◌, List, [], ◌∷◌, map, take, drop, replicate, get_or, Option, Some, option_map, refl, sym, ap, ◌∙◌, subst, arith}
+use Rattle.rack_closing.proofs.Basics.{slice_range, unwrap_or, take-map, drop-map, drop-drop}
+use Rattle.rack_closing.proofs.Terms.{Block, Values, State, IsImageOf, only, reads, settled, Shape, AreCut, state_of, disk_of, Spun, head_place, part_sizes}
 use Rattle.std.proofs.Math.Nat.{suc-mul, add-mul}
 use Rattle.wol_disk.proofs.Images.{settled_image, only_image}
 use Rattle.manager_recovery.specs.Owned.{read_of}

@@ -1,25 +1,25 @@
 -- Images that are left of those at entry, but for segments that keep the same records: they recover to what one at entry does.
-use Rattle.rack_closing.proofs.Basics.{◌≡◌, ℕ, zero, suc, ◌+◌, ◌-◌, ◌*◌, ◌<◌, ◌≤◌, List, [], ◌++◌, length, take, drop, sym, ap, ◌∙◌, subst, arith, ◌⊎◌, ⊎_elim, Bool, true, false}
-use Rattle.rack_closing.proofs.Basics.{Option, Some, refl, slice_range, slice_get, slice_index_or, drop-append-add, take-append_seam, take_all, length-append, length-drop}
-use Rattle.rack_closing.proofs.Basics.{length-take-le, drop-take, cases_lt, slice_get-get_or}
-use Rattle.rack_closing.proofs.Terms.{Block, Values, IsImage, Image, Told, at_name, Shape, image_size, segment_of, Images, image_of, home_in, home_of, recovered_from, Config}
-use Rattle.rack_closing.proofs.Terms.{VolumeConf, shape_in, shapes_of, MayLeave, AreLeft, recovered_but}
+use Rattle.rack_closing.proofs.Basics.{◌≡◌, ℕ, zero, suc, ◌+◌, ◌-◌, ◌*◌, ◌<◌, ◌≤◌, List, [], ◌++◌, length, take, drop, sym, ap, ◌∙◌, subst, arith, ⊎_elim, Bool, true, false, Option, Some, refl}
+use Rattle.rack_closing.proofs.Basics.{slice_range, slice_get, slice_index_or, drop-append-add, take-append_seam, take_all, length-append, length-drop, length-take-le, drop-take, cases_lt}
+use Rattle.rack_closing.proofs.Basics.{slice_get-get_or, not, ◌⊎◌, inl, inr, None}
+use Rattle.rack_closing.proofs.Terms.{Block, Values, IsImage, Image, Told, at_name, Shape, image_size, segment_of, Images, image_of, home_in, home_of, recovered_from, Config, VolumeConf, shape_in}
+use Rattle.rack_closing.proofs.Terms.{shapes_of, MayLeave, AreLeft, recovered_but, Keeps}
 use Rattle.std.proofs.Math.Nat.{suc-mul, mul-le-mul_right}
 use Rattle.rack_parts.proofs.GivenBack.{image_length}
 use Rattle.rack_closing.proofs.Places.{both_slices}
-use Rattle.rack_closing.proofs.SameRecovered.{SegmentsKeep, ImagesKeep, picked, but_same, all_same}
+use Rattle.rack_closing.proofs.LeftImage.{volume_at}
+use Rattle.rack_closing.proofs.SameRecovered.{SegmentsKeep, ImagesGo, ImagesKeep, picked, recovered_same, recovered_all}
 
 -- An image that is put together of a front and of segments.
 
 module _ (f : ℕ → List Block) where
   -- segments from this one on
-  pub row : (from n : ℕ) → List Block
+  abbrev pub row : (from n : ℕ) → List Block
   row from zero = []
   row from (suc n) = f from ++ row (from + 1) n
 
   module _ (size : ℕ) (total : ℕ) (sized : (i : ℕ) → i < total → length (f i) ≡ size) where
     row_length : (from n : ℕ) → from + n ≤ total → length (row from n) ≡ n * size
-    unfolding row
     row_length from zero le = omega arith
     row_length from (suc n) le =
         let one = sized from (omega (arith, le)) in
@@ -29,7 +29,6 @@ module _ (f : ℕ → List Block) where
         omega (arith, one, rest, both, s)
 
     row_at : (from n i : ℕ) → from + n ≤ total → i < n → take size (drop (i * size) (row from n)) ≡ f (from + i)
-    unfolding row
     row_at from zero i le lt = absurd (omega (arith, lt))
     row_at from (suc n) zero le lt =
         let none : 0 * size ≡ 0 = omega arith in
@@ -48,25 +47,22 @@ module _ (f : ℕ → List Block) where
         ∙ row_at (from + 1) n i (omega (arith, le)) (omega (arith, lt)) ∙ ap f next
 
 -- front, and the segments of this shape
-pub assembled : (s : Shape) → (front : List Block) → (ℕ → List Block) → List Block
+abbrev pub assembled : (s : Shape) → (front : List Block) → (ℕ → List Block) → List Block
 assembled s front f = front ++ row f 0 s.segments
 
 module _ (s : Shape) (front : List Block) (f : ℕ → List Block) (long : length front ≡ 2 + s.home) (sized : (i : ℕ) → i < s.segments → length (f i) ≡ s.segment_blocks) where
   pub assembled_size : length (assembled s front f) ≡ image_size s
-  unfolding assembled
   assembled_size =
       let rest = row_length f s.segment_blocks s.segments sized 0 s.segments (omega arith) in
       let both = length-append front (row f 0 s.segments) in
       omega (arith, both, rest, long)
 
   pub assembled_front : slice_range (assembled s front f) 0 (2 + s.home) ≡ front
-  unfolding assembled
   assembled_front =
       let all : 2 + s.home - 0 ≡ length front = omega (arith, long) in
       ap (λ (n : ℕ). take n (front ++ row f 0 s.segments)) all ∙ take-append_seam front (row f 0 s.segments)
 
   pub assembled_segment : (i : ℕ) → i < s.segments → segment_of s (assembled s front f) i ≡ f i
-  unfolding assembled
   assembled_segment i lt =
       let next = suc-mul i s.segment_blocks in
       let e : i + 1 ≡ suc i = omega arith in
@@ -84,7 +80,6 @@ module _ (s : Shape) (front : List Block) (f : ℕ → List Block) (long : lengt
   module _ (bs : List (Values Block)) (in_front : IsImage (slice_range bs 0 (2 + s.home)) front)
       (each : (i : ℕ) → i < s.segments → IsImage (slice_range bs (2 + s.home + i * s.segment_blocks) (2 + s.home + (i + 1) * s.segment_blocks)) (f i)) where
     row_image : (from n : ℕ) → from + n ≤ s.segments → IsImage (slice_range bs (2 + s.home + from * s.segment_blocks) (2 + s.home + (from + n) * s.segment_blocks)) (row f from n)
-    unfolding row
     row_image from zero le =
         let e : from + 0 ≡ from = omega arith in
         let m = ap (λ (k : ℕ). k * s.segment_blocks) e in
@@ -102,7 +97,6 @@ module _ (s : Shape) (front : List Block) (f : ℕ → List Block) (long : lengt
         (omega (arith, one, more_)) (omega (arith, last)) (each from (omega (arith, le))) rest
 
     pub assembled_image : length bs ≡ image_size s → IsImage bs (assembled s front f)
-    unfolding assembled
     assembled_image size =
         let none : 2 + s.home + 0 * s.segment_blocks ≡ 2 + s.home = omega arith in
         let z : 0 + s.segments ≡ s.segments = omega arith in
@@ -172,9 +166,9 @@ module _ (Fronts : (now was : List Block) → Type 0) (Keeps : (i : ℕ) → (no
       ∙ same (slice_range t.now 0 (2 + s.home)) (slice_range t.was 0 (2 + s.home)) t.front
       ∙ front_home s t.now t.now_sized ∙ ap (home_in (Some s)) (sym t.now_is)
 
-  -- they keep the same of a volume where their segments do
-  pub two_keep : (v : ℕ) (image before : Option (List Block)) → ((i : ℕ) (c d : List Block) → Keeps i c d → SegmentsKeep v c d) → AreTwo Fronts Keeps s image before → ImagesKeep v s image before
-  two_keep v image before keeps t = record {
+  -- they go together where their segments do
+  pub two_go : (Together : (now was : List Block) → Type 0) (image before : Option (List Block)) → ((i : ℕ) (c d : List Block) → Keeps i c d → Together c d) → AreTwo Fronts Keeps s image before → ImagesGo Together s image before
+  two_go Together image before keeps t = record {
     now = t.now;
     was = t.was;
     now_is = t.now_is;
@@ -262,23 +256,33 @@ module _ (Fronts : (k : ℕ) → (now was : List Block) → Type 0) (Keeps : (k 
         },
       )
 
+  -- a refused image is the same, and each other goes with one that was
+  pub two_or_same : (before : Images) → IsBefore before → (k : ℕ) (z : Shape) → slice_get (shapes_of config) k ≡ Some z → ((refused k ≡ true) × (image_of before k ≡ image_of images k)) ⊎ ((refused k ≡ false) × AreTwo (Fronts k) (Keeps k) z (image_of images k) (image_of before k))
+  two_or_same before is k z at = go (refused k) refl
+    where
+      v : (v : VolumeConf) × (slice_get config.volumes.items k ≡ Some v) × (shape_in config v ≡ z)
+      v = volume_at config k z at
+
+      go : (t : Bool) → refused k ≡ t → ((refused k ≡ true) × (image_of before k ≡ image_of images k)) ⊎ ((refused k ≡ false) × AreTwo (Fronts k) (Keeps k) z (image_of images k) (image_of before k))
+      go true e = inl (e, is.same k v.0 v.1 e)
+      go false e = inr (e, subst (λ (s : Shape). AreTwo (Fronts k) (Keeps k) s (image_of images k) (image_of before k)) v.2 (is.two k v.0 v.1 e))
+
   module _ (before : Images) (is : IsBefore before) (v : ℕ) (fronts : (now was : List Block) → Fronts v now was → was ≡ now)
       (count : length images ≡ length config.volumes.items) (keeps : (k i : ℕ) (c d : List Block) → Keeps k i c d → SegmentsKeep v c d) where
-    images_keep : (k : ℕ) (conf : VolumeConf) → slice_get config.volumes.items k ≡ Some conf → refused k ≡ false → ImagesKeep v (shape_in config conf) (image_of images k) (image_of before k)
-    images_keep k conf at not = two_keep (Fronts k) (Keeps k) (shape_in config conf) v (image_of images k) (image_of before k) (keeps k) (is.two k conf at not)
+    each_keeps : (k : ℕ) (s : Shape) → slice_get (shapes_of config) k ≡ Some s → (image_of images k ≡ image_of before k) ⊎ ImagesKeep v s (image_of images k) (image_of before k)
+    each_keeps k s at = ⊎_elim (λ same. inl (sym same.1)) (λ two. inr (two_go (Fronts k) (Keeps k) s (SegmentsKeep v) (image_of images k) (image_of before k) (keeps k) two.1)) (two_or_same before is k s at)
 
-    own_home : (conf : VolumeConf) → slice_get config.volumes.items v ≡ Some conf → home_in (Some (shape_in config conf)) (image_of images v) ≡ home_in (Some (shape_in config conf)) (image_of before v)
-    own_home conf at = by_test (refused v) refl
-      where
-        by_test : (t : Bool) → refused v ≡ t → home_in (Some (shape_in config conf)) (image_of images v) ≡ home_in (Some (shape_in config conf)) (image_of before v)
-        by_test true e = ap (home_in (Some (shape_in config conf))) (sym (is.same v conf at e))
-        by_test false e = sym (two_home (Fronts v) (Keeps v) (shape_in config conf) (image_of images v) (image_of before v)
-            (λ now was front. ap (λ (l : List Block). slice_range l 2 (2 + (shape_in config conf).home)) (fronts now was front)) (is.two v conf at e))
+    own_home : (o : Option Shape) → slice_get (shapes_of config) v ≡ o → home_in o (image_of images v) ≡ home_in o (image_of before v)
+    own_home None e = refl
+    own_home (Some s) e = ⊎_elim
+        (λ same. ap (home_in (Some s)) (sym same.1))
+        (λ two. sym (two_home (Fronts v) (Keeps v) s (image_of images v) (image_of before v) (λ now was front. ap (λ (l : List Block). slice_range l 2 (2 + s.home)) (fronts now was front)) two.1))
+        (two_or_same before is v s e)
 
     -- where its segments keep the same of this volume, it recovers to the same
     pub before_same : recovered_but (shapes_of config) refused images v ≡ recovered_but (shapes_of config) refused before v
-    before_same = but_same config refused v images before (count ∙ sym is.left.count) images_keep own_home
+    before_same = recovered_same v refused (shapes_of config) images before (count ∙ sym is.left.count) (own_home (slice_get (shapes_of config) v) refl) (λ k s at taken. each_keeps k s at)
 
     -- and where all images give their segments
     pub before_all : recovered_from (shapes_of config) images v ≡ recovered_from (shapes_of config) before v
-    before_all = all_same config refused v images before (count ∙ sym is.left.count) images_keep own_home (λ k conf at. is.same k conf at)
+    before_all = recovered_all v (shapes_of config) images before (count ∙ sym is.left.count) (own_home (slice_get (shapes_of config) v) refl) each_keeps

@@ -1,12 +1,63 @@
--- An image that a crash leaves of parts that went back.
-use Rattle.rack_closing.proofs.Basics.{◌≡◌, ◌+◌, ℕ, List, [], length, Option, Some, None, option_map, refl, sym, ap, ◌∙◌, subst, arith}
-use Rattle.rack_closing.proofs.Basics.{slice_get, slice_index_or, slice_range, length-map, same_Some, slice_get_within, slice_get-map}
-use Rattle.rack_closing.proofs.Basics.{get_or_from_slice_get}
-use Rattle.rack_closing.proofs.Terms.{Block, State, Values, IsDisk, TellsContent, IsImageOf, Shape, Images, image_of, image_size}
-use Rattle.rack_closing.proofs.Terms.{segment_of, Name, Told, at_name, blocks_of, Config, VolumeConf, state_of, Spun, shape_in, shapes_of}
-use Rattle.rack_closing.proofs.Terms.{MayLeave, AreLeft, segment_here, IsImageRest, IsStoredAs, ImageRest}
+-- Images without those that were refused, and an image that a crash leaves of parts that went back.
+use Rattle.rack_closing.proofs.Basics.{◌≡◌, ◌+◌, ℕ, List, [], length, Option, Some, None, option_map, refl, sym, ap, ◌∙◌, subst, arith, slice_get, slice_range, length-map, same_Some}
+use Rattle.rack_closing.proofs.Basics.{slice_get_within, slice_get-map, get_or_from_slice_get, zero, suc, Bool, true, false, cond, ◌∷◌, is_some, not, unwrap_or}
+use Rattle.rack_closing.proofs.Terms.{Block, State, Values, IsDisk, TellsContent, IsImageOf, Shape, Images, image_of, image_size, segment_of, Name, Told, at_name, blocks_of, Config, VolumeConf}
+use Rattle.rack_closing.proofs.Terms.{state_of, Spun, shape_in, shapes_of, MayLeave, AreLeft, segment_here, IsImageRest, IsStoredAs, ImageRest, accepted_from, accepted, is_kept_home, image_here}
+use Rattle.rack_closing.proofs.Terms.{IsImageOut, images_read, image_read}
 use Rattle.rack_parts.proofs.Members.{element_at}
 use Rattle.rack_parts.proofs.GivenBack.{all_told, left_size, left_label, left_home, left_segment}
+
+-- ---- Images without those that were refused
+
+no_image : (t : Bool) → ◌≡◌ {A = Option (List Block)} None (cond t None None)
+no_image true = refl
+no_image false = refl
+
+pub accepted_at : (n : ℕ) (refused : ℕ → Bool) (images : Images) (k : ℕ) → image_of (accepted_from n refused images) k ≡ cond (refused (n + k)) None (image_of images k)
+accepted_at n refused [] k = no_image (refused (n + k))
+accepted_at n refused (x ∷ images) zero = ap (λ (m : ℕ). cond (refused m) None x) (omega arith)
+accepted_at n refused (x ∷ images) (suc k) = accepted_at (n + 1) refused images k ∙ ap (λ (m : ℕ). cond (refused m) None (image_of images k)) (omega arith)
+
+pub accepted_here : (refused : ℕ → Bool) (images : Images) (k : ℕ) → image_of (accepted refused images) k ≡ cond (refused k) None (image_of images k)
+accepted_here refused images k = accepted_at 0 refused images k ∙ ap (λ (m : ℕ). cond (refused m) None (image_of images k)) (omega arith)
+
+pub accepted_count : (from : ℕ) (refused : ℕ → Bool) (images : Images) → length (accepted_from from refused images) ≡ length images
+accepted_count from refused [] = refl
+accepted_count from refused (c ∷ images) = ap suc (accepted_count (from + 1) refused images)
+
+-- what holds of images, and of none, holds of those that are taken
+pub accepted_both : (P : (o p : Option (List Block)) → Type 0) (refused : ℕ → Bool) (images before : Images) (k : ℕ) → P None None → (refused k ≡ false → P (image_of images k) (image_of before k)) → P (image_of (accepted refused images) k) (image_of (accepted refused before) k)
+accepted_both P refused images before k none some =
+    subst (λ (q : Option (List Block) × Option (List Block)). P q.0 q.1) (λ i. (sym (accepted_here refused images k) i, sym (accepted_here refused before k) i)) (go (refused k) refl)
+  where
+    go : (t : Bool) → refused k ≡ t → P (cond t None (image_of images k)) (cond t None (image_of before k))
+    go true e = none
+    go false e = some e
+
+-- an image that is refused isn't taken
+pub accepted_gone : (refused : ℕ → Bool) (images : Images) (k : ℕ) → refused k ≡ true → image_of (accepted refused images) k ≡ None
+accepted_gone refused images k is = accepted_here refused images k ∙ ap (λ (t : Bool). cond t None (image_of images k)) is
+
+-- and one that isn't is taken as it is
+pub accepted_same : (refused : ℕ → Bool) (images : Images) (k : ℕ) → refused k ≡ false → image_of (accepted refused images) k ≡ image_of images k
+accepted_same refused images k is = accepted_here refused images k ∙ ap (λ (t : Bool). cond t None (image_of images k)) is
+
+-- and one that is taken isn't refused
+taken_image : (t : Bool) (o : Option (List Block)) (c : List Block) → cond t None o ≡ Some c → (t ≡ false) × (o ≡ Some c)
+taken_image true o c is = absurd (cc is)
+taken_image false o c is = (refl, is)
+
+pub accepted_is : (refused : ℕ → Bool) (images : Images) (k : ℕ) (c : List Block) → image_of (accepted refused images) k ≡ Some c → (refused k ≡ false) × (image_of images k ≡ Some c)
+accepted_is refused images k c is = taken_image (refused k) (image_of images k) c (sym (accepted_here refused images k) ∙ is)
+
+pub out_taken : {D : Type 0} (out : List (Option (ImageRest D))) (k : ℕ) → is_kept_home out k ≡ false → IsImageOut out k
+out_taken out k is = go (is_some (image_here out k)) refl
+  where
+    go : (t : Bool) → is_some (image_here out k) ≡ t → is_some (image_here out k) ≡ true
+    go true e = e
+    go false e = absurd (cc (sym is ∙ ap not e))
+
+-- ---- Images that are left
 
 -- the image of a shape, by its volume
 pub volume_at : (config : Config) (k : ℕ) (z : Shape) → slice_get (shapes_of config) k ≡ Some z → (v : VolumeConf) × (slice_get config.volumes.items k ≡ Some v) × (shape_in config v ≡ z)
@@ -14,6 +65,16 @@ volume_at config k z at =
     let n = length-map config.volumes.items (shape_in config) in
     let v = element_at config.volumes.items k (let w = slice_get_within (shapes_of config) k z at in omega (arith, n, w)) in
     (v.0, v.1, same_Some (shape_in config v.0) z (sym (slice_get-map (shape_in config) config.volumes.items k ∙ ap (option_map (shape_in config)) v.1) ∙ at))
+
+-- an image that is left may be left of what stands under its name
+pub may_at : (config : Config) (t : Told) (images : Images) → AreLeft config t images → (k : ℕ) (v : VolumeConf) → slice_get config.volumes.items k ≡ Some v → MayLeave (at_name v.name t.images) (image_of images k)
+may_at config t images left k v at = subst (λ (w : VolumeConf). MayLeave (at_name w.name t.images) (image_of images k)) (get_or_from_slice_get config.volumes.items k v v at) (left.each k v (slice_get_within config.volumes.items k v at))
+
+-- an image as it reads is that of what stands under its name
+pub read_here : (config : Config) (t : Told) (k : ℕ) (v : VolumeConf) → slice_get config.volumes.items k ≡ Some v → image_of (images_read config t) k ≡ image_read (at_name v.name t.images)
+read_here config t k v at =
+    let f : VolumeConf → Option (List Block) = λ w. image_read (at_name w.name t.images) in
+    ap (λ (x : Option (Option (List Block))). unwrap_or x None) (slice_get-map f config.volumes.items k ∙ ap (option_map f) at)
 
 -- what is left of an image's parts
 pub record IsLeftNow {D : Type 0} (state : D → State) (z : Shape) (q : ImageRest D) (c : List Block) : Type 0 where
@@ -38,10 +99,7 @@ left_image {D} state tell_all sound config new images left k z q at rest more st
     vs = all_told state tell_all back.disks
 
     may : MayLeave (Some (record { blocks = vs.0; rest = [] })) (image_of images k)
-    may =
-        let one = left.each k v.0 (slice_get_within config.volumes.items k v.0 v.1) in
-        let name : (slice_index_or config.volumes.items k v.0).name ≡ v.0.name = ap (λ (w : VolumeConf). w.name) (get_or_from_slice_get config.volumes.items k v.0 v.0 v.1) in
-        subst (λ o. MayLeave o (image_of images k)) (ap (λ n. at_name n new.images) name ∙ back.stored vs.0 vs.1) one
+    may = subst (λ o. MayLeave o (image_of images k)) (back.stored vs.0 vs.1) (may_at config new images left k v.0 v.1)
 
     go : (o : Option (List Block)) → image_of images k ≡ o → MayLeave (Some (record { blocks = vs.0; rest = [] })) (image_of images k) → (c : List Block) × (image_of images k ≡ Some c) × IsLeftNow state z q c
     go None e m = absurd ((subst (λ o. MayLeave (Some (record { blocks = vs.0; rest = [] })) o) e m) refl)

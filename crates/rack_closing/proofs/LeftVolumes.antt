@@ -1,49 +1,43 @@
 -- What closing a rack leaves: what each part comes from, and what every volume recovers to.
-use Rattle.rack_closing.proofs.Basics.{◌≡◌, ◌<◌, ◌≤◌, ◌+◌, ◌⊎◌, inl, inr, ℕ, Bool, List, [], length, map, Option, Some, None, refl, sym, ap, ◌∙◌, subst, arith, ⊎_elim, ◌∷◌, ◌≢◌}
-use Rattle.rack_closing.proofs.Basics.{◌-◌, ◌^◌, true, false, not, cond, eqb, ◌||◌, ◌++◌, take, drop, option_map, is_some, option_and_then, Contains, slice_get, slice_index_or}
-use Rattle.rack_closing.proofs.Basics.{IsTrue, slice_range, All, cases_lt, cases_eq, eqb-true, eq-eqb, none-some, slice_get_past, slice_get-get_or, same_Some, slice_get_within}
-use Rattle.rack_closing.proofs.Basics.{slice_get-map, get_or_from_slice_get, AllByRecursion, list_any, drop-append-add, length-map, length-drop, length-take-le, take_all}
-use Rattle.rack_closing.proofs.Terms.{State, Block, IsDisk, TellsContent, IsImageOf, Values, IsImage, reads, image_reads, BayState, Told, Image, at_name, faulty_places, Shape}
-use Rattle.rack_closing.proofs.Terms.{Images, image_of, segment_of, image_size, home_in, home_of, recovered_from, segments_of, Record, IsNamed, IsIdle, IsLog, LiesInHome}
-use Rattle.rack_closing.proofs.Terms.{IsSoundOf, Config, VolumeConf, lock_id, TurnLock, state_of, Spun, PoolBase, Pool, FreeSegment, part_of, logger_of, held_in, HeldSegment, Lane}
-use Rattle.rack_closing.proofs.Terms.{ManagerBase, Part, Station, may_be, shapes_of, AreLeft, shape_in, image_read, images_read, MayLeave, head_place, image_here, segment_here}
-use Rattle.rack_closing.proofs.Terms.{held_here, pool_pass, away_with, IsSegmentHere, IsRest, IsImageOut, IsClosable, base_of_station, ClosesStations, GivesBack, KeepsButHome}
-use Rattle.rack_closing.proofs.Terms.{RefillsAll, KeepsSpindles, HasFaultHere, home_here, Closing, IsClosing, HasFaultAt, HasFaultIn, IsFaultyPart, IsNamedHere, IsPartHere}
-use Rattle.rack_closing.proofs.Terms.{ComesFrom, from_here, from_pool, from_manager, IsLogOfStation, IsUnbroken, IsLeftOfParts, IsQuiet, has_station, is_kept_home, recovered_out}
-use Rattle.rack_closing.proofs.Terms.{IsTogether, ImageRest, Rack, Rest, VolumePasses, HadSegmentBefore, BeganWith, WereThere, HadRefused, IsBegun, RecoversSame, WasOpened}
-use Rattle.rack_closing.proofs.Terms.{images_taken}
+use Rattle.rack_closing.proofs.Basics.{◌≡◌, ◌<◌, ◌≤◌, ◌+◌, ◌⊎◌, inl, inr, ℕ, Bool, List, [], length, map, Option, Some, None, refl, sym, ap, ◌∙◌, subst, arith, ⊎_elim, ◌∷◌, ◌≢◌, ◌^◌, true, false}
+use Rattle.rack_closing.proofs.Basics.{not, cond, eqb, option_map, is_some, option_and_then, Contains, slice_get, slice_index_or, IsTrue, slice_range, All, cases_lt, cases_eq, eqb-true, eq-eqb}
+use Rattle.rack_closing.proofs.Basics.{none-some, slice_get_past, slice_get-get_or, same_Some, slice_get-map, AllByRecursion, length-map, ne_eqb, All-contains}
+use Rattle.rack_closing.proofs.Terms.{State, Block, IsImageOf, Values, IsImage, reads, image_reads, BayState, Told, Image, at_name, Shape, Images, image_of, segment_of, image_size, home_in}
+use Rattle.rack_closing.proofs.Terms.{recovered_from, segments_of, Record, IsNamed, IsIdle, IsLog, LiesInHome, IsSoundOf, Config, VolumeConf, state_of, Spun, part_of, logger_of, held_in}
+use Rattle.rack_closing.proofs.Terms.{HeldSegment, Lane, ManagerBase, Part, Station, may_be, shapes_of, AreLeft, shape_in, image_read, images_read, MayLeave, image_here, segment_here, held_here}
+use Rattle.rack_closing.proofs.Terms.{pool_pass, away_with, IsSegmentHere, IsImageOut, IsClosable, base_of_station, GivesBack, KeepsButHome, HasFaultHere, home_here, HasFaultAt, HasFaultIn}
+use Rattle.rack_closing.proofs.Terms.{IsFaultyPart, IsNamedHere, ComesFrom, from_here, from_pool, from_manager, IsLogOfStation, IsUnbroken, IsLeftOfParts, IsQuiet, has_station, is_kept_home}
+use Rattle.rack_closing.proofs.Terms.{ImageRest, Rack, Rest, VolumePasses, BeganWith, WereThere, HadRefused, IsBegun, RecoversSame, WasOpened, images_taken, AreLeftOfParts, IsStation}
+use Rattle.rack_closing.proofs.Terms.{ReadsAreLeft, recovered_but}
+use Rattle.std.proofs.lemmas.List.Folds.{Any-from_list_any, list_any_at}
 use Rattle.wol_promise.specs.Stands.{idle, log}
-use Rattle.wol_config.specs.Configs.{IsValid}
-use Rattle.rack_parts.proofs.Members.{is_there, in_map, of_map, none_in, here_within, a_value, first_in, later_in, of_recursion}
-use Rattle.rack_parts.proofs.GivenBack.{image_length}
-use Rattle.rack_closing.proofs.Closable.{image_was, images_rest, images_whole}
-use Rattle.rack_closing.proofs.VolumesClosed.{label_fault, home_fault, segment_fault, fault_here, says_owner}
-use Rattle.rack_closing.proofs.FinalImages.{volume_at, Origin, was_here, was_pooled, of_station, IsLeftNow, left_now, origin, sound_left, here_or_not, owner_small, left_quiet}
-use Rattle.rack_closing.proofs.StationParts.{image_end, is_station, shape_of_image, among}
-use Rattle.rack_closing.proofs.HeldSegments.{of_held, not_idle}
+use Rattle.rack_parts.proofs.Members.{is_there, in_map, of_map, none_in, here_within, a_value, is_member}
+use Rattle.rack_closing.proofs.StationParts.{IsEnding, few_volumes, is_station, id_of, is_base, image_end, same_out, was_there, manager_of, entries_of_station, is_closing, in_view, of_seen}
+use Rattle.rack_closing.proofs.FinalImages.{IsCrash, left_now, left_origin, was_here, was_pooled, of_station, Origin, sound_left, here_or_not, left_quiet, IsLeftNow}
+use Rattle.rack_closing.proofs.VolumesClosed.{part_at, segment_at_place, fault_here, fault_listed}
+use Rattle.rack_closing.proofs.SoundBefore.{IsClosed, Came, has_come, keeps_came, reads_among, at_front}
+use Rattle.rack_closing.proofs.KeptImages.{IsKeptImage, AreTwo, IsBefore, kept_before, before_same, before_all}
+use Rattle.rack_closing.proofs.SameRecovered.{picked, ArePicked, recovered_same, recovered_none}
+use Rattle.rack_closing.proofs.LeftImage.{volume_at, read_here, may_at, out_taken}
+use Rattle.rack_closing.proofs.Places.{both_slices, slice_join}
+use Rattle.rack_closing.proofs.Cases.{none_or, some_or}
+use Rattle.rack_closing.proofs.HeldSegments.{not_idle}
 use Rattle.rack_closing.proofs.Unbroken.{unbroken}
-use Rattle.rack_closing.proofs.Places.{both_slices}
-use Rattle.rack_closing.proofs.SameRecovered.{IsChoice, IsChosen, chosen, KeepsNothing, nothing_same, idle_keeps, other_keeps, left_keeps, gone_keeps, SegmentsKeep, recovered_none}
-use Rattle.rack_closing.proofs.CutParts.{reads_range}
-use Rattle.rack_closing.proofs.RackClosed.{same_out}
 use Rattle.rack_closing.proofs.Names.{names_differ}
-use Rattle.rack_closing.proofs.Cases.{by_option}
-use Rattle.manager.specs.declared.part.Part.TheVariants as part
 use Rattle.rack_closing.proofs.KeptImages as pieces
+use Rattle.manager.specs.declared.part.Part.TheVariants as part
 
 -- The parts that were here when a rack was closed, among the images that go back.
 
-module _ {D : Type 0} (state : D → State) (tells : Bool) (config : Config) (b : BayState) (r : Rack D) (can : IsClosable state config b r) (first second : Rest D) (is : IsRest state config r.shared [] first)
-    (closed : ClosesStations tells state r.stations.items r.rest first)
-    (filled : (k : ℕ) (f : TurnLock (Pool (FreeSegment D)) PoolBase) → slice_get r.shared.pools.items k ≡ Some f → RefillsAll state (lock_id f).base.blocks first k (image_here first.images.items k) (image_here second.images.items k))
-    (kept : KeepsSpindles first second) where
+module _ {D : Type 0} {state : D → State} {tells : Bool} {config : Config} {b : BayState} {r : Rack D} {first second : Rest D} (ending : IsEnding state tells config b r first second) where
+  open ending use {valid, can, is, closed, filled, kept}
+
   -- an image that was out: what it is at the end
   pub record IsThrough (k : ℕ) (m q : ImageRest D) : Type 0 where
     pub here : image_here second.images.items k ≡ Some q
     pub label : q.label ≡ m.label
     pub home : (p : Spun D) → m.home ≡ Some p → q.home ≡ Some p
-    pub places : (i : ℕ) (p : Spun D) → segment_here m i ≡ Some p → segment_here q i ≡ Some p
-    pub held : (v i : ℕ) (p : Spun D) → Contains (held_here r.rest v k) (i, p) → segment_here q i ≡ Some p
+    pub segments : (i : ℕ) (p : Spun D) → IsSegmentHere r.rest k i p → segment_here q i ≡ Some p
 
   homes_kept : (k : ℕ) (m : ImageRest D) (p : Spun D) → image_here r.rest.images.items k ≡ Some m → m.home ≡ Some p → home_here first k ≡ Some p
   homes_kept k m p here home = closed.homes k away ∙ ap (λ (o : Option (ImageRest D)). option_and_then (λ j. j.home) o) here ∙ home
@@ -51,12 +45,9 @@ module _ {D : Type 0} (state : D → State) (tells : Bool) (config : Config) (b 
       away : Contains (map (λ (t : Station D). t.id) r.stations.items) k → ⊥
       away has =
           let t = of_map (λ (t : Station D). t.id) r.stations.items k has in
-          let at : slice_get r.stations.items t.1.0 ≡ Some t.0 = slice_get-get_or r.stations.items t.1.0 t.0 t.1.1 ∙ ap (λ (u : Station D). Some u) t.1.2 in
-          let owner = (is_station state tells config b r can first second is closed filled kept t.1.0 t.0 at).id in
-          let base : Contains (map (λ (u : Station D). base_of_station u) r.stations.items) (base_of_station t.0) = in_map (λ (u : Station D). base_of_station u) r.stations.items t.0 t.1 in
-          let gone : Contains (away_with (map (λ (u : Station D). base_of_station u) r.stations.items)).homes k =
-          subst (λ (j : ℕ). Contains (away_with (map (λ (u : Station D). base_of_station u) r.stations.items)).homes j) (owner ∙ t.2) (in_map (λ (d : ManagerBase). d.volume.began.owner) (map (λ (u : Station D). base_of_station u) r.stations.items) (base_of_station t.0) base) in
-          (can.rest.parts.homes k m here).0 (is_there m.home p home) gone
+          let bases = map (λ (u : Station D). base_of_station u) r.stations.items in
+          let gone = in_map (λ (d : ManagerBase). d.volume.began.owner) bases (base_of_station t.0) (in_map (λ (u : Station D). base_of_station u) r.stations.items t.0 t.1) in
+          (can.rest.parts.homes k m here).0 (is_there m.home p home) (subst (λ (j : ℕ). Contains (away_with bases).homes j) (id_of ending t.0 t.1 ∙ t.2) gone)
 
   lists_kept : (k v i : ℕ) (m : ImageRest D) (p : Spun D) → image_here r.rest.images.items k ≡ Some m → Contains (held_here r.rest v k) (i, p) → Contains (held_here first v k) (i, p)
   lists_kept k v i m p here has = subst (λ (xs : List (ℕ × Spun D)). Contains xs (i, p)) (sym (closed.held v k away)) has
@@ -64,89 +55,74 @@ module _ {D : Type 0} (state : D → State) (tells : Bool) (config : Config) (b 
       holding : Rattle.rack_parts.specs.Rests.IsHolding r.rest v k i
       holding = can.rest.parts.returned.held v k i (in_map (λ (h : ℕ × Spun D). h.0) (held_here r.rest v k) (i, p) has)
 
-      row : (v < length r.rest.passes.items) ⊎ (length r.rest.passes.items ≤ v) → v < length r.rest.passes.items
-      row (inl less) = less
-      row (inr past) =
-          let none : slice_get r.rest.passes.items v ≡ None = slice_get_past r.rest.passes.items v past in
-          absurd (none-some holding.0 (sym (ap (λ (o : Option (VolumePasses D)). option_and_then (λ q. slice_index_or q.pools.items k None) o) none) ∙ holding.1))
+      row : v < length r.rest.passes.items
+      row = ⊎_elim
+          (λ (less : v < length r.rest.passes.items). less)
+          (λ (past : length r.rest.passes.items ≤ v).
+          absurd (none-some holding.0 (sym (ap (λ (o : Option (VolumePasses D)). option_and_then (λ q. slice_index_or q.pools.items k None) o) (slice_get_past r.rest.passes.items v past)) ∙ holding.1)))
+          (cases_lt v (length r.rest.passes.items))
 
       away : Contains (away_with (map (λ (u : Station D). base_of_station u) r.stations.items)).lanes (v, k) → ⊥
-      away =
-          let within = here_within r.rest.images.items k m here in
-          (can.rest.parts.pools.here v k (row (cases_lt v (length r.rest.passes.items))) (omega (arith, within, can.rest.parts.images.0, can.locks.pool_count))).0 (is_there (pool_pass r.rest v k) holding.0 holding.1)
+      away = let within = here_within r.rest.images.items k m here in
+          (can.rest.parts.pools.here v k row (omega (arith, within, can.rest.parts.images.0, can.locks.pool_count))).0 (is_there (pool_pass r.rest v k) holding.0 holding.1)
 
-  pub image_through : (k : ℕ) (m : ImageRest D) → image_here r.rest.images.items k ≡ Some m → (q : ImageRest D) × IsThrough k m q
+  image_through : (k : ℕ) (m : ImageRest D) → image_here r.rest.images.items k ≡ Some m → (q : ImageRest D) × IsThrough k m q
   image_through k m here =
-      let q = image_end state tells config b r can first second is closed filled kept k (is_there (image_here r.rest.images.items k) m here) in
-      let was = image_was state config r.shared first can.locks is second kept.image_count filled k q.0 q.1 in
+      let q = image_end ending k (is_there (image_here r.rest.images.items k) m here) in
+      let was = was_there ending k q.0 q.1 in
       let same : was.0 ≡ record m { home = was.0.home } = subst (λ (o : Option (ImageRest D)). KeepsButHome (Some m) o) was.1 (subst (λ (o : Option (ImageRest D)). KeepsButHome o (image_here first.images.items k)) here (closed.images k)) in (
         q.0,
         record {
           here = q.1;
           label = was.2.same.label ∙ ap (λ (n : ImageRest D). n.label) same;
           home = λ p home. was.2.same.home ∙ sym (ap (λ (o : Option (ImageRest D)). option_and_then (λ j. j.home) o) was.1) ∙ homes_kept k m p here home;
-          places = λ i p at. was.2.kept i p (ap (λ (n : ImageRest D). segment_here n i) same ∙ at);
-          held = λ v i p has. was.2.back v i p (lists_kept k v i m p here has);
+          segments = λ i p place. ⊎_elim
+              (λ x. was.2.kept i p (ap (λ (n : ImageRest D). segment_here n i) same ∙ ap (λ (n : ImageRest D). segment_here n i) (same_Some m x.0 (sym here ∙ x.1)) ∙ x.2))
+              (λ x. was.2.back x.0 i p (lists_kept k x.0 i m p here x.1))
+              place;
         },
       )
 
+  segment_through : (k i : ℕ) (p : Spun D) → IsSegmentHere r.rest k i p → (q : ImageRest D) × (image_here second.images.items k ≡ Some q) × (part_at q (2 + i) ≡ Some p)
+  segment_through k i p place =
+      let m = ⊎_elim
+      (λ x. (x.0, x.1))
+      (λ x. some_or (image_here r.rest.images.items k) (λ e. none_in (i, p) (subst (λ (xs : List (ℕ × Spun D)). Contains xs (i, p)) (can.rest.parts.returned.out x.0 k e) x.1)))
+      place in
+      let q = image_through k m.0 m.1 in
+      (q.0, q.1.here, segment_at_place q.0 i ∙ q.1.segments i p place)
+
   -- a part with a fault is among those that go back
   pub fault_through : HasFaultIn state r.rest → HasFaultHere state second.images.items 0
-  fault_through f = go f.here
-    where
-      in_image : (k : ℕ) (m : ImageRest D) → image_here r.rest.images.items k ≡ Some m → (m.label ≡ f.part) ⊎ (m.home ≡ Some f.part) → HasFaultHere state second.images.items 0
-      in_image k m here (inl label) =
-          let q = image_through k m here in
-          fault_here state tells config b r can first second is closed filled kept k 0 q.0 q.1.here (λ disks together. label_fault state q.0 disks together (subst (λ (p : Spun D). 0 < (state_of state p).faults) (sym (q.1.label ∙ label)) f.fault))
-      in_image k m here (inr home) =
-          let q = image_through k m here in
-          fault_here state tells config b r can first second is closed filled kept k 1 q.0 q.1.here (λ disks together. home_fault state q.0 disks together f.part (q.1.home f.part home) f.fault)
-
-      in_segment : (k i : ℕ) → IsSegmentHere r.rest k i f.part → HasFaultHere state second.images.items 0
-      in_segment k i (inl place) =
-          let q = image_through k place.0 place.1 in
-          fault_here state tells config b r can first second is closed filled kept k (2 + i) q.0 q.1.here (λ disks together. segment_fault state q.0 disks together i f.part (q.1.places i f.part place.2) f.fault)
-      in_segment k i (inr list) = out (image_here r.rest.images.items k) refl
-        where
-          out : (o : Option (ImageRest D)) → image_here r.rest.images.items k ≡ o → HasFaultHere state second.images.items 0
-          out None e = absurd (none_in (i, f.part) (subst (λ (xs : List (ℕ × Spun D)). Contains xs (i, f.part)) (can.rest.parts.returned.out list.0 k e) list.1))
-          out (Some m) e =
-              let q = image_through k m e in
-              fault_here state tells config b r can first second is closed filled kept k (2 + i) q.0 q.1.here (λ disks together. segment_fault state q.0 disks together i f.part (q.1.held list.0 i f.part list.1) f.fault)
-
-      go : IsPartHere r.rest f.part → HasFaultHere state second.images.items 0
-      go (inl x) = in_image x.0 x.1 x.2 x.3
-      go (inr x) = in_segment x.0 x.1 x.2
+  fault_through f = ⊎_elim
+      (λ x.
+      let q = image_through x.0 x.1 x.2 in
+      ⊎_elim
+      (λ label. fault_here ending x.0 0 q.0 f.part q.1.here (ap (λ (p : Spun D). Some p) (q.1.label ∙ label)) f.fault)
+      (λ home. fault_here ending x.0 1 q.0 f.part q.1.here (q.1.home f.part home) f.fault)
+      x.3)
+      (λ x. let q = segment_through x.0 x.1 f.part x.2 in fault_here ending x.0 (2 + x.1) q.0 f.part q.1 q.2 f.fault)
+      f.here
 
   -- and the bay's list has its name
   pub listed_through : (old new : Told) (given : GivesBack state config second.images.items 0 old new) (name : Part) → HasFaultAt state r.rest name → IsFaultyPart config name given.more
   listed_through old new given name f = go name f.here
     where
-      in_image : (k place : ℕ) (q : ImageRest D) → image_here second.images.items k ≡ Some q → ((disks : List D) → IsTogether q disks → Contains (faulty_places state disks) place)
-          → (v : VolumeConf) × (slice_get config.volumes.items k ≡ Some v) × Contains given.more (v.name, place)
-      in_image k place q here among =
-          let z = shape_of_image state tells config b r can first second is closed filled kept k q here in
-          let v = volume_at config k z.0 z.1 in
-          let back = given.back k v.0 q (omega arith) v.1 here in
-          (v.0, v.1, back.faulty place (among back.disks back.together))
-
-      in_segment : (k i : ℕ) → IsSegmentHere r.rest k i f.part → (v : VolumeConf) × (slice_get config.volumes.items k ≡ Some v) × Contains given.more (v.name, 2 + i)
-      in_segment k i (inl place) =
-          let q = image_through k place.0 place.1 in
-          in_image k (2 + i) q.0 q.1.here (λ disks together. segment_fault state q.0 disks together i f.part (q.1.places i f.part place.2) f.fault)
-      in_segment k i (inr list) = out (image_here r.rest.images.items k) refl
-        where
-          out : (o : Option (ImageRest D)) → image_here r.rest.images.items k ≡ o → (v : VolumeConf) × (slice_get config.volumes.items k ≡ Some v) × Contains given.more (v.name, 2 + i)
-          out None e = absurd (none_in (i, f.part) (subst (λ (xs : List (ℕ × Spun D)). Contains xs (i, f.part)) (can.rest.parts.returned.out list.0 k e) list.1))
-          out (Some m) e =
-              let q = image_through k m e in
-              in_image k (2 + i) q.0 q.1.here (λ disks together. segment_fault state q.0 disks together i f.part (q.1.held list.0 i f.part list.1) f.fault)
-
       go : (n : Part) → IsNamedHere r.rest n f.part → IsFaultyPart config n given.more
-      go (part.Home volume) x =
-          let q = image_through volume x.0 x.1 in
-          in_image volume 1 q.0 q.1.here (λ disks together. home_fault state q.0 disks together f.part (q.1.home f.part x.2) f.fault)
-      go (part.Segment volume index) x = in_segment volume index x
+      go (part.Home volume) x = let q = image_through volume x.0 x.1 in fault_listed ending old new given volume 1 q.0 f.part q.1.here (q.1.home f.part x.2) f.fault
+      go (part.Segment volume index) x = let q = segment_through volume index f.part x in fault_listed ending old new given volume (2 + index) q.0 f.part q.1 q.2 f.fault
+
+  -- what stands under the name of an image that isn't out stays
+  pub left_kept : (old new : Told) → GivesBack state config second.images.items 0 old new → HadRefused config r.rest.images.items old new
+  left_kept old new given k v at none c = subst (λ o. MayLeave o c → MayLeave (at_name v.name old.images) c) (sym (given.others v.name others)) (λ may. may)
+    where
+      others : (j : ℕ) (w : VolumeConf) → 0 ≤ j → slice_get config.volumes.items j ≡ Some w → IsImageOut second.images.items j → v.name ≢ w.name
+      others j w le at_j there_j = ⊎_elim
+          (λ (e : k ≡ j).
+          let no : is_some (image_here second.images.items j) ≡ false = same_out ending j ∙ ap (λ (n : ℕ). is_some (image_here r.rest.images.items n)) (sym e) ∙ ap is_some none in
+          absurd (cc (no, there_j)))
+          (λ (differs : k ≡ j → ⊥). names_differ config valid k j v w at at_j differs)
+          (cases_eq k j)
 
 -- The images that a crash leaves of a rack that was closed: what each of their parts comes from.
 
@@ -155,37 +131,32 @@ heads_within : (home_blocks owner : ℕ) (rs : List Record) → AllByRecursion (
 heads_within home_blocks owner [] named lie = tt
 heads_within home_blocks owner (q ∷ rs) named lie = ((let counted = named.0.counted in let lies = lie.0 in omega (arith, counted, lies)), heads_within home_blocks owner rs named.1 lie.1)
 
-module _ {D : Type 0} (state : D → State) (tells : Bool) (told : IsTrue tells) (tell_all : (d : D) → TellsContent (state d)) (sound : (d : D) → IsDisk (state d)) (config : Config) (few_volumes : length (shapes_of config) ≤ 64)
-    (b : BayState) (r : Rack D) (can : IsClosable state config b r) (first second : Rest D) (is : IsRest state config r.shared [] first)
-    (closed : ClosesStations tells state r.stations.items r.rest first)
-    (filled : (k : ℕ) (f : TurnLock (Pool (FreeSegment D)) PoolBase) → slice_get r.shared.pools.items k ≡ Some f → RefillsAll state (lock_id f).base.blocks first k (image_here first.images.items k) (image_here second.images.items k))
-    (kept : KeepsSpindles first second) (old new : Told) (given : GivesBack state config second.images.items 0 old new) (images : Images) (left : AreLeft config new images) where
-  -- a segment of a manager is sound
-  sound_of : (k i : ℕ) (z : Shape) (c : List Block) → slice_get (shapes_of config) k ≡ Some z → image_of images k ≡ Some c → (j : ℕ) (t : Station D) (d : Closing D) → slice_get r.stations.items j ≡ Some t → slice_get closed.closings j ≡ Some d → IsClosing tells state first t d
-      → (l : Lane D) (h : HeldSegment D) → Contains d.manager.lanes.items l → logger_of l ≡ k → Contains (held_in l) h → h.index ≡ i → IsSoundOf (base_of_station t).volume.began.owner (base_of_station t).volume.began.home_blocks (segment_of z c i)
-  sound_of k i z c at image j t d t_at d_at id l h in_lanes logger in_held index =
-      subst (λ (m : ℕ). IsSoundOf (base_of_station t).volume.began.owner (base_of_station t).volume.began.home_blocks (segment_of z c m)) index
-      (sound_left state tells told tell_all sound config few_volumes b r can first second is closed filled kept old new given images left j t d t_at d_at id l h in_lanes in_held z c
-      (ap (slice_get (shapes_of config)) logger ∙ at) (ap (image_of images) logger ∙ image))
+module _ {D : Type 0} {state : D → State} {tells : Bool} {config : Config} {b : BayState} {r : Rack D} {first second : Rest D} {old new : Told} {images : Images} (crash : IsCrash state tells config b r first second old new images) where
+  open crash use {ending, told, given, left, ending.{valid, can, is, closed, kept}}
 
-  -- it is idle, or a log of its volume
-  idle_or_log : (k : ℕ) (j : ℕ) (t : Station D) → slice_get r.stations.items j ≡ Some t → (bs : List Block) → IsSoundOf (base_of_station t).volume.began.owner (base_of_station t).volume.began.home_blocks bs → IsIdle bs ⊎ IsLogOfStation t k bs
-  idle_or_log k j t t_at bs (idle is_idle) = inl is_idle
-  idle_or_log k j t t_at bs (log rs is_log lie) = inr (record {
-    records = rs;
-    log = subst (λ (v : ℕ). IsLog bs v rs) (is_station state tells config b r can first second is closed filled kept j t t_at).id is_log;
-    within = heads_within (base_of_station t).volume.began.home_blocks (base_of_station t).volume.began.owner rs is_log.named lie;
-  })
+  -- a segment of a station's manager is sound: it is idle, or a log of its volume
+  idle_or_log : (k i : ℕ) (z : Shape) (c : List Block) → slice_get (shapes_of config) k ≡ Some z → image_of images k ≡ Some c → (t : Station D) (x : Contains r.stations.items t) (l : Lane D) (h : HeldSegment D)
+      → Contains (manager_of ending t x).lanes.items l → logger_of l ≡ k → Contains (held_in l) h → h.index ≡ i → IsIdle (segment_of z c i) ⊎ IsLogOfStation t k (segment_of z c i)
+  idle_or_log k i z c at image t x l h in_lanes logger in_held index =
+      go (subst (λ (m : ℕ). IsSoundOf (base_of_station t).volume.began.owner (base_of_station t).volume.began.home_blocks (segment_of z c m)) index
+      (sound_left crash t x l h in_lanes in_held z c (ap (slice_get (shapes_of config)) logger ∙ at) (ap (image_of images) logger ∙ image)))
+    where
+      go : IsSoundOf (base_of_station t).volume.began.owner (base_of_station t).volume.began.home_blocks (segment_of z c i) → IsIdle (segment_of z c i) ⊎ IsLogOfStation t k (segment_of z c i)
+      go (idle is_idle) = inl is_idle
+      go (log rs is_log lie) = inr (record {
+        records = rs;
+        log = subst (λ (v : ℕ). IsLog (segment_of z c i) v rs) (id_of ending t x) is_log;
+        within = heads_within (base_of_station t).volume.began.home_blocks (base_of_station t).volume.began.owner rs is_log.named lie;
+      })
 
   -- of a manager that never broke it isn't idle
-  log_of : (k : ℕ) (j : ℕ) (t : Station D) (d : Closing D) → slice_get r.stations.items j ≡ Some t → IsClosing tells state first t d → (l : Lane D) (h : HeldSegment D) → Contains d.manager.lanes.items l → Contains (held_in l) h
-      → (bs : List Block) → IsImageOf (state_of state (part_of h.segment)).values bs → IsIdle bs ⊎ IsLogOfStation t k bs → IsUnbroken t → IsLogOfStation t k bs
-  log_of k j t d t_at id l h in_lanes in_held bs is_image (inr it) quiet = it
-  log_of k j t d t_at id l h in_lanes in_held bs is_image (inl free) quiet =
-      let up = unbroken t d.entries (is_station state tells config b r can first second is closed filled kept j t t_at) id.whole quiet in
-      absurd (of_held (λ g. (c : List Block) → IsTrue tells × may_be state g.part c → IsLog c (base_of_station t).volume.began.owner g.records) ⊥ 0 d.manager.lanes.items id.stands.keeps.logs
-      (λ g rs. IsTrue tells → d.manager.down ≡ None → Rattle.log_segment.specs.Segment.Holds state g.segment rs) id.stands.keeps.held ((id.stands.keeps.upholds.calm up).whole told).logs l h in_lanes in_held
-      (λ i rs broken x. not_idle (base_of_station t).volume.began.owner bs rs free (x bs (told, is_image))))
+  not_left_idle : (t : Station D) (x : Contains r.stations.items t) (l : Lane D) (h : HeldSegment D) → Contains (manager_of ending t x).lanes.items l → Contains (held_in l) h
+      → (bs : List Block) → IsImageOf (state_of state (part_of h.segment)).values bs → IsUnbroken t → IsIdle bs → ⊥
+  not_left_idle t x l h in_lanes in_held bs is_image quiet free =
+      let ic = is_closing ending t x in
+      let up = unbroken t (entries_of_station ending t x) (is_station ending t x) ic.whole quiet in
+      of_seen ending t x (λ g. (c : List Block) → IsTrue tells × may_be state g.part c → IsLog c (base_of_station t).volume.began.owner g.records) ⊥ ((ic.stands.keeps.upholds.calm up).whole told).logs l h in_lanes in_held
+      (λ i rs broken log. not_idle (base_of_station t).volume.began.owner bs rs free (log bs (told, is_image)))
 
   pub left_parts : (k : ℕ) (z : Shape) (m : ImageRest D) → slice_get (shapes_of config) k ≡ Some z → image_here r.rest.images.items k ≡ Some m → (c : List Block) × (image_of images k ≡ Some c) × IsLeftOfParts state z r k m c
   left_parts k z m at here = (
@@ -195,339 +166,272 @@ module _ {D : Type 0} (state : D → State) (tells : Bool) (told : IsTrue tells)
       sized = x.2.size;
       label = subst (λ (p : Spun D). IsImageOf (state_of state p).values (slice_range x.0 0 2)) q.1.label x.2.label;
       home = λ p home. x.2.home p (q.1.home p home);
-      segments = segment;
+      segments = λ i within. ⊎_elim
+          (λ place. from_here place.0 place.1 (x.2.segments i place.0 (q.1.segments i place.0 place.1)))
+          (λ never. of_origin i never (left_origin crash k i z q.0 x.0 at q.1.here x.2 within))
+          (here_or_not r.rest k i m here);
     },
   )
     where
-      q : (q : ImageRest D) × Rattle.rack_closing.proofs.LeftVolumes.IsThrough state tells config b r can first second is closed filled kept k m q
-      q = image_through state tells config b r can first second is closed filled kept k m here
+      q : (q : ImageRest D) × IsThrough ending k m q
+      q = image_through ending k m here
 
       x : (c : List Block) × (image_of images k ≡ Some c) × IsLeftNow state z q.0 c
-      x = left_now state tells told tell_all sound config few_volumes b r can first second is closed filled kept old new given images left k z q.0 at q.1.here
+      x = left_now crash k z q.0 at q.1.here
 
-      segment : (i : ℕ) → i < z.segments → ComesFrom state r k i (segment_of z x.0 i)
-      segment i within = by_place (here_or_not r.rest k i m here)
-        where
-          p : (p : Spun D) × (segment_here q.0 i ≡ Some p)
-          p =
-              let whole = images_whole state config r.shared first can.locks is second kept.image_count filled k q.0 q.1.here in
-              let rest = (images_rest state config r.shared first can.locks is second kept.image_count filled).1 k z q.0 at q.1.here in
-              a_value (segment_here q.0 i) (whole.segments i (omega (arith, within, rest.count)))
+      of_origin : (i : ℕ) → ((n : Spun D) → IsSegmentHere r.rest k i n → ⊥) → Origin ending k i (segment_of z x.0 i) → ComesFrom state r k i (segment_of z x.0 i)
+      of_origin i never (was_here p there foreign im) = absurd (never p there)
+      of_origin i never (was_pooled free) = from_pool never free
+      of_origin i never (of_station t y l h in_lanes logger in_held index im) =
+          let it = idle_or_log k i z x.0 at x.1 t y l h in_lanes logger in_held index in
+          from_manager never t y (subst (λ (n : ℕ). Contains (base_of_station t).volume.began.view n) logger (in_view ending t y l in_lanes)) it
+          (λ quiet. ⊎_elim (λ free. absurd (not_left_idle t y l h in_lanes in_held (segment_of z x.0 i) im quiet free)) (λ its. its) it)
 
-          is_image : IsImageOf (state_of state p.0).values (segment_of z x.0 i)
-          is_image = x.2.segments i p.0 p.1
+-- What is left of a rack, against images that might have been left when it was opened.
 
-          -- one that was here stays in its place
-          end_of : (n : Spun D) → IsSegmentHere r.rest k i n → segment_here q.0 i ≡ Some n
-          end_of n place =
-              ⊎_elim
-              (λ y. q.1.places i n (ap (λ (w : ImageRest D). segment_here w i) (same_Some m y.0 (sym here ∙ y.1)) ∙ y.2))
-              (λ y. q.1.held y.0 i n y.1)
-              place
+-- an image as it reads is one that may be left of it
+read_may : (o : Option Image) → MayLeave o (image_read o)
+read_may None = tt
+read_may (Some i) = go i.rest refl
+  where
+    go : (l : List ℕ) → i.rest ≡ l → MayLeave (Some i) (cond (eqb (length i.rest) 0) (Some (reads i.blocks)) None)
+    go [] e = subst (λ (n : Bool). MayLeave (Some i) (cond n (Some (reads i.blocks)) None)) (sym (ap (λ (l : List ℕ). eqb (length l) 0) e)) (e, image_reads i.blocks)
+    go (x ∷ l) e =
+        let some : length i.rest ≡ length (x ∷ l) = ap (λ (y : List ℕ). length y) e in
+        let other : eqb (length i.rest) 0 ≡ false = ne_eqb (length i.rest) 0 (λ none. omega (arith, none, some)) in
+        subst (λ (n : Bool). MayLeave (Some i) (cond n (Some (reads i.blocks)) None)) (sym other) (λ none. let both : [] ≡ x ∷ l = sym none ∙ e in cc both)
 
-          go : ((n : Spun D) → IsSegmentHere r.rest k i n → ⊥) → Origin state tells told tell_all sound config few_volumes b r can first second is closed filled kept old new given images left k i p.0 → ComesFrom state r k i (segment_of z x.0 i)
-          go never (was_here there foreign) = absurd (never p.0 there)
-          go never (was_pooled free) = from_pool never (free (segment_of z x.0 i) is_image)
-          go never (of_station j t d t_at d_at id l h in_lanes logger in_held index part) =
-              let image : IsImageOf (state_of state (part_of h.segment)).values (segment_of z x.0 i) = subst (λ (n : Spun D). IsImageOf (state_of state n).values (segment_of z x.0 i)) (sym part) is_image in
-              let in_view : Contains (base_of_station t).volume.began.view k = subst (λ xs. Contains xs k) id.stands.keeps.locks.view (subst (λ (n : ℕ). Contains (map logger_of d.manager.lanes.items) n) logger (in_map logger_of d.manager.lanes.items l in_lanes)) in
-              let it = idle_or_log k j t t_at (segment_of z x.0 i) (sound_of k i z x.0 at x.1 j t d t_at d_at id l h in_lanes logger in_held index) in
-              from_manager never t (among state tells config b r can first second is closed filled kept j t t_at) in_view it (log_of k j t d t_at id l h in_lanes in_held (segment_of z x.0 i) image it)
+-- the images as they read are some that may be left
+pub reads_are_left : ReadsAreLeft
+reads_are_left config t = record {
+  count = length-map config.volumes.items (λ (v : VolumeConf). image_read (at_name v.name t.images));
+  each = λ k d lt. subst (λ (o : Option (List Block)). MayLeave (at_name (slice_index_or config.volumes.items k d).name t.images) o)
+      (sym (read_here config t k (slice_index_or config.volumes.items k d) (slice_get-get_or config.volumes.items k d lt))) (read_may (at_name (slice_index_or config.volumes.items k d).name t.images));
+}
 
-          by_place : ((n : Spun D) × IsSegmentHere r.rest k i n) ⊎ ((n : Spun D) → IsSegmentHere r.rest k i n → ⊥) → ComesFrom state r k i (segment_of z x.0 i)
-          by_place (inl place) = from_here place.0 place.1 (x.2.segments i place.0 (end_of place.0 place.1))
-          by_place (inr never) = go never (origin state tells told tell_all sound config few_volumes b r can first second is closed filled kept old new given images left k i q.0 p.0 q.1.here p.1)
+-- What is left of a rack comes of what it began with.
+pub record IsOver {D : Type 0} (state : D → State) (config : Config) (b : BayState) (r : Rack D) (entry new : Told) (images : Images) : Type 0 where
+  pub can : IsClosable state config b r
+  pub few : length (shapes_of config) ≤ 2 ^ 32
+  pub began : BeganWith state config entry r
+  pub there : WereThere config r.rest.images.items entry
+  pub still : HadRefused config r.rest.images.items entry new
+  pub parts : AreLeftOfParts state config r new
+  pub left : AreLeft config new images
 
--- What every volume recovers to once the rack is closed, where nothing was written since it was opened.
+module _ {D : Type 0} {state : D → State} {config : Config} {b : BayState} {r : Rack D} {entry new : Told} {images : Images} (over : IsOver state config b r entry new images) where
+  open over use {can, few, began, there, still, parts, left}
+
+  abbrev pub shapes : List Shape
+  shapes = shapes_of config
+
+  abbrev pub refused : ℕ → Bool
+  refused = is_kept_home r.rest.images.items
+
+  pub shape_at : (k : ℕ) (v : VolumeConf) → slice_get config.volumes.items k ≡ Some v → slice_get shapes k ≡ Some (shape_in config v)
+  shape_at k v at = slice_get-map (shape_in config) config.volumes.items k ∙ ap (option_map (shape_in config)) at
+
+  -- the image of a volume that isn't refused: what is left of it, and what it was
+  pub record IsOut (k : ℕ) (v : VolumeConf) : Type 0 where
+    pub rest : ImageRest D
+    pub here : image_here r.rest.images.items k ≡ Some rest
+    pub entered : Image
+    pub is : at_name v.name entry.images ≡ Some entered
+    pub whole : entered.rest ≡ []
+    pub size : length entered.blocks ≡ image_size (shape_in config v)
+    pub now : List Block
+    pub now_is : image_of images k ≡ Some now
+    pub of_parts : IsLeftOfParts state (shape_in config v) r k rest now
+    -- label and view are as they read
+    pub label : slice_range now 0 2 ≡ slice_range (reads entered.blocks) 0 2
+
+  pub is_out : (k : ℕ) (v : VolumeConf) → slice_get config.volumes.items k ≡ Some v → refused k ≡ false → IsOut k v
+  is_out k v at taken =
+      let m = a_value (image_here r.rest.images.items k) (out_taken r.rest.images.items k taken) in
+      let i = there k v at (is_there (image_here r.rest.images.items k) m.0 m.1) in
+      let image = parts images left k (shape_in config v) m.0 (shape_at k v at) m.1 in
+      record {
+        rest = m.0;
+        here = m.1;
+        entered = i.0;
+        is = i.1;
+        whole = i.2;
+        size = i.3;
+        now = image.0;
+        now_is = image.1;
+        of_parts = image.2;
+        label = (began.left k v i.0 m.0 at i.1 m.1).label (slice_range image.0 0 2) image.2.label;
+      }
+
+  pub has_station_or : (k : ℕ) → ((s : Station D) × Contains r.stations.items s × (s.id ≡ k)) ⊎ IsClosed r k
+  has_station_or k = ⊎_elim
+      (λ has. inl (of_map (λ (s : Station D). s.id) r.stations.items k has))
+      (λ never. inr (λ s has e. never (subst (λ (n : ℕ). Contains (map (λ (t : Station D). t.id) r.stations.items) n) (sym e) (in_map (λ (t : Station D). t.id) r.stations.items s has))))
+      (is_member (map (λ (s : Station D). s.id) r.stations.items) k)
+
+  -- label and view are as they were, and so is the home of a volume without a station
+  abbrev pub Fronts : (k : ℕ) → (now was : List Block) → Type 0
+  Fronts k now was = ((i : ℕ) → i < 2 → slice_get was i ≡ slice_get now i) × (IsClosed r k → was ≡ now)
+
+  abbrev pub Segments : (k i : ℕ) → (now was : List Block) → Type 0
+  Segments k i now was = Came r k now was
+
+  -- the home of a volume without a station is here
+  home_of_closed : (k : ℕ) → IsClosed r k → Contains (away_with (map (λ (s : Station D). base_of_station s) r.stations.items)).homes k → ⊥
+  home_of_closed k closed has =
+      let m = of_map (λ (x : ManagerBase). x.volume.began.owner) (map (λ (s : Station D). base_of_station s) r.stations.items) k has in
+      let s = of_map (λ (t : Station D). base_of_station t) r.stations.items m.0 m.1 in
+      closed s.0 s.1 (sym m.2 ∙ ap (λ (x : ManagerBase). x.volume.began.owner) (sym s.2) ∙ (All-contains (λ u. IsStation u) r.stations.items s.0 can.stations s.1).id)
+
+  front_was : (k : ℕ) (v : VolumeConf) → slice_get config.volumes.items k ≡ Some v → (o : IsOut k v)
+      → (was : List Block) × IsImage (slice_range o.entered.blocks 0 (2 + v.home)) was × Fronts k (slice_range o.now 0 (2 + v.home)) was
+  front_was k v at o = ⊎_elim
+      (λ s. (slice_range (reads bs) 0 n, reads_among bs 0 n, (λ i lt. at_front n i (reads bs) (omega (arith, lt)) ∙ sym (at_front 2 i (reads bs) lt) ∙ ap (λ (l : List Block). slice_get l i) (sym o.label) ∙ at_front 2 i o.now lt ∙ sym (at_front n i o.now (omega (arith, lt))), λ closed. absurd (closed s.0 s.1 (sym s.2)))))
+      (λ closed.
+      let p = a_value o.rest.home ((can.rest.parts.homes k o.rest o.here).1 (home_of_closed k closed)) in
+      let label = subst (λ (c : List Block). IsImage (slice_range bs 0 2) c) (sym o.label) (reads_among bs 0 2) in
+      let home = (began.left k v o.entered o.rest at o.is o.here).home p.0 p.1 (slice_range o.now 2 n) (o.of_parts.home p.0 p.1) in
+      let both = both_slices bs 0 2 n (slice_range o.now 0 2) (slice_range o.now 2 n) (omega arith) (omega arith) label home in
+      (slice_range o.now 0 n, subst (λ (c : List Block). IsImage (slice_range bs 0 n) c) (slice_join o.now 0 2 n (omega arith) (omega arith)) both, (λ i lt. refl, λ c. refl)))
+      (has_station_or k)
+    where
+      bs : List (Values Block)
+      bs = o.entered.blocks
+
+      n : ℕ
+      n = 2 + v.home
+
+  pub kept_image : (k : ℕ) (v : VolumeConf) → slice_get config.volumes.items k ≡ Some v → refused k ≡ false → IsKeptImage (Fronts k) (Segments k) (shape_in config v) (at_name v.name entry.images) (image_of images k)
+  kept_image k v at taken =
+      let o = is_out k v at taken in
+      record {
+        before = o.entered;
+        there = o.is;
+        whole = o.whole;
+        size = o.size;
+        now = o.now;
+        is = o.now_is;
+        sized = o.of_parts.sized;
+        front = front_was k v at o;
+        segments = λ i lt. let come = has_come state config few r entry began k i v o.entered o.rest (segment_of (shape_in config v) o.now i) at o.is o.here lt (o.of_parts.segments i lt) in (come.was, come.had, come.came);
+      }
+
+  pub may_still : (k : ℕ) (v : VolumeConf) → slice_get config.volumes.items k ≡ Some v → refused k ≡ true → MayLeave (at_name v.name entry.images) (image_of images k)
+  may_still k v at gone =
+      let none = none_or (image_here r.rest.images.items k) (λ m e. cc (sym gone ∙ ap (λ (x : Option (ImageRest D)). not (is_some x)) e)) in
+      still k v at none (image_of images k) (may_at config new images left k v at)
+
+  -- images that might have been left at entry
+  pub chosen : (before : Images) × IsBefore Fronts Segments config entry refused images kept_image may_still before
+  chosen = kept_before Fronts Segments config entry refused images kept_image may_still
+
+  abbrev pub before : Images
+  before = chosen.0
+
+  pub two_or_same : (k : ℕ) (z : Shape) → slice_get shapes k ≡ Some z → ((refused k ≡ true) × (image_of before k ≡ image_of images k)) ⊎ ((refused k ≡ false) × AreTwo (Fronts k) (Segments k) z (image_of images k) (image_of before k))
+  two_or_same = pieces.two_or_same Fronts Segments config entry refused images kept_image may_still before chosen.1
+
+  -- a volume without a station recovers to the same of them
+  module _ (v : ℕ) (closed : IsClosed r v) where
+    closed_but : recovered_but shapes refused images v ≡ recovered_but shapes refused before v
+    closed_but = before_same Fronts Segments config entry refused images kept_image may_still before chosen.1 v (λ now was front. front.1 closed) left.count (λ k i c d came. keeps_came r v k c d closed came)
+
+    closed_all : recovered_from shapes images v ≡ recovered_from shapes before v
+    closed_all = before_all Fronts Segments config entry refused images kept_image may_still before chosen.1 v (λ now was front. front.1 closed) left.count (λ k i c d came. keeps_came r v k c d closed came)
+
+    pub closed_recovers : (before : Images) × AreLeft config entry before × (recovered_from shapes images v ≡ recovered_from shapes before v)
+    closed_recovers = (before, chosen.1.left, closed_all)
+
+  -- ---- A volume with a station: as the images read at entry, but for those that weren't out
+
+  record IsMixed (k : ℕ) (v : VolumeConf) (o : Option (List Block)) : Type 0 where
+    may : MayLeave (at_name v.name entry.images) o
+    gone : refused k ≡ true → o ≡ image_of images k
+    taken : refused k ≡ false → image_of (images_read config entry) k ≡ o
+
+  mixed : (k : ℕ) (v : VolumeConf) → slice_get config.volumes.items k ≡ Some v → (o : Option (List Block)) × IsMixed k v o
+  mixed k v at = go (refused k) refl
+    where
+      go : (t : Bool) → refused k ≡ t → (o : Option (List Block)) × IsMixed k v o
+      go true e = (image_of images k, record { may = may_still k v at e; gone = λ _. refl; taken = λ no. absurd (cc (e, no)) })
+      go false e = (image_of (images_read config entry) k, record { may = may_at config entry (images_read config entry) (reads_are_left config entry) k v at; gone = λ no. absurd (cc (e, no)); taken = λ _. refl })
+
+  open_recovers : (s : ℕ) → refused s ≡ false → recovered_but shapes refused images s ≡ recovered_but shapes refused (images_read config entry) s → (before : Images) × AreLeft config entry before × RecoversSame config refused true images before s
+  open_recovers s taken same = (
+    p.0,
+    record { count = p.1.count; each = λ k d lt. (p.1.each k (slice_index_or config.volumes.items k d) (slice_get-get_or config.volumes.items k d lt)).may },
+    record {
+      but = but;
+      all = ⊎_elim (λ no. absurd (cc no)) (λ none.
+          recovered_none s refused shapes images none ∙ but
+          ∙ sym (recovered_none s refused shapes p.0 (λ k z at gone. subst (λ (o : Option (List Block)). AllByRecursion (λ bs. (rs : List Record) → IsLog bs s rs → ⊥) (segments_of z o)) (sym (stays k z at gone)) (none k z at gone))));
+    },
+  )
+    where
+      p : (before : Images) × ArePicked config IsMixed mixed before
+      p = picked config IsMixed mixed
+
+      stays : (k : ℕ) (z : Shape) → slice_get shapes k ≡ Some z → refused k ≡ true → image_of p.0 k ≡ image_of images k
+      stays k z at gone = let v = volume_at config k z at in (p.1.each k v.0 v.1).gone gone
+
+      read_same : (k : ℕ) (z : Shape) → slice_get shapes k ≡ Some z → refused k ≡ false → image_of (images_read config entry) k ≡ image_of p.0 k
+      read_same k z at taken_k = let v = volume_at config k z at in (p.1.each k v.0 v.1).taken taken_k
+
+      own_home : (o : Option Shape) → slice_get shapes s ≡ o → home_in o (image_of (images_read config entry) s) ≡ home_in o (image_of p.0 s)
+      own_home None e = refl
+      own_home (Some z) e = ap (home_in (Some z)) (read_same s z e taken)
+
+      but : recovered_but shapes refused images s ≡ recovered_but shapes refused p.0 s
+      but = same ∙ recovered_same s refused shapes (images_read config entry) p.0 (length-map config.volumes.items (λ (w : VolumeConf). image_read (at_name w.name entry.images)) ∙ sym p.1.count)
+          (own_home (slice_get shapes s) refl) (λ k z at taken_k. inl (read_same k z at taken_k))
 
 -- ---- Stations by number
 
--- the station of a volume that has one
-station_in : {D : Type 0} (ss : List (Station D)) (v : ℕ) → list_any (λ (s : Station D). eqb s.id v) ss ≡ true → (s : Station D) × Contains ss s × (s.id ≡ v)
-station_in [] v has = absurd (let no : false ≡ true = has in cc no)
-station_in {D} (s ∷ ss) v has = at (eqb s.id v) refl has (station_in ss v)
-  where
-    at : (t : Bool) → eqb s.id v ≡ t → (t || list_any (λ (x : Station D). eqb x.id v) ss) ≡ true → (list_any (λ (x : Station D). eqb x.id v) ss ≡ true → (x : Station D) × Contains ss x × (x.id ≡ v))
-        → (x : Station D) × Contains (s ∷ ss) x × (x.id ≡ v)
-    at true e some rest = (s, first_in s s ss refl, eqb-true s.id v e)
-    at false e some rest = let w = rest some in (w.0, later_in s w.0 ss w.1, w.2)
-
-none_in_list : {D : Type 0} (ss : List (Station D)) (v : ℕ) → list_any (λ (s : Station D). eqb s.id v) ss ≡ false → AllByRecursion (λ (s : Station D). s.id ≢ v) ss
-none_in_list [] v none = tt
-none_in_list {D} (s ∷ ss) v none = at (eqb s.id v) refl none (none_in_list ss v)
-  where
-    at : (t : Bool) → eqb s.id v ≡ t → (t || list_any (λ (x : Station D). eqb x.id v) ss) ≡ false → (list_any (λ (x : Station D). eqb x.id v) ss ≡ false → AllByRecursion (λ (x : Station D). x.id ≢ v) ss)
-        → AllByRecursion (λ (x : Station D). x.id ≢ v) (s ∷ ss)
-    at true e some rest = absurd (let no : true ≡ false = some in cc no)
-    at false e some rest = (λ same. let yes_ = eq-eqb s.id v same in cc (e, yes_), rest some)
-
 pub station_of : {D : Type 0} (r : Rack D) (v : ℕ) → has_station r v ≡ true → (s : Station D) × Contains r.stations.items s × (s.id ≡ v)
-station_of r v has = station_in r.stations.items v has
+station_of {D} r v has = let a = Any-from_list_any (λ (s : Station D). eqb s.id v) r.stations.items has in (a.1, (a.0, a.2, a.3), eqb-true a.1.id v a.4)
 
-pub no_station : {D : Type 0} (r : Rack D) (v : ℕ) → has_station r v ≡ false → (s : Station D) → Contains r.stations.items s → s.id ≢ v
-no_station {D} r v none s has = of_recursion (λ (x : Station D). x.id ≢ v) r.stations.items s (none_in_list r.stations.items v none) has
+pub no_station : {D : Type 0} (r : Rack D) (v : ℕ) → has_station r v ≡ false → IsClosed r v
+no_station {D} r v none s has same =
+    let there = list_any_at (λ (t : Station D). eqb t.id v) r.stations.items has.0 s has.1 (ap (λ (t : Station D). eqb t.id v) has.2 ∙ eq-eqb s.id v (sym same)) in
+    cc (none, there)
 
--- ---- Pieces of blocks
+-- What every volume recovers to once the rack is closed.
 
-piece_long : {X : Type 0} (xs : List X) (a b : ℕ) → a ≤ b → b ≤ length xs → length (slice_range xs a b) ≡ b - a
-piece_long xs a b le within = let n = length-drop a xs in length-take-le (b - a) (drop a xs) (omega (arith, n, le, within))
+module _ {D : Type 0} {state : D → State} {tells : Bool} {config : Config} {b : BayState} {r : Rack D} {first second : Rest D} {old new : Told} {images : Images} (crash : IsCrash state tells config b r first second old new images) (entry : Told) (began : BeganWith state config entry r)
+    (there : WereThere config r.rest.images.items entry) (had : HadRefused config r.rest.images.items entry old) where
+  pub over : IsOver state config b r entry new images
+  over = record {
+    can = crash.ending.can;
+    few = (let few = few_volumes crash.ending in omega (arith, few));
+    began = began;
+    there = there;
+    still = λ k v at none c may. had k v at none c (left_kept crash.ending old new crash.given k v at none c may);
+    parts = λ choice choice_left k z m at here. left_parts (record { ending = crash.ending; told = crash.told; given = crash.given; left = choice_left }) k z m at here;
+    left = crash.left;
+  }
 
--- home, behind label and view
-home_behind : (s : Shape) (label home : List Block) → length label ≡ 2 → length home ≡ s.home → slice_range (label ++ home) 2 (2 + s.home) ≡ home
-home_behind s label home two long =
-    let at : 2 ≡ length label + 0 = omega (arith, two) in
-    let size : 2 + s.home - 2 ≡ s.home = omega arith in
-    ap (λ (n : ℕ). take (2 + s.home - 2) (drop n (label ++ home))) at ∙ ap (take (2 + s.home - 2)) (drop-append-add label home 0) ∙ take_all (2 + s.home - 2) home (omega (arith, long, size))
-
-read_piece : (vs : List (Values Block)) (a b : ℕ) → IsImage (slice_range vs a b) (slice_range (reads vs) a b)
-read_piece vs a b = subst (λ (c : List Block). IsImage (slice_range vs a b) c) (reads_range vs a b) (image_reads (slice_range vs a b))
-
-module _ {D : Type 0} (state : D → State) (tells : Bool) (told : IsTrue tells) (tell_all : (d : D) → TellsContent (state d)) (sound : (d : D) → IsDisk (state d)) (config : Config) (valid : IsValid config) (few_volumes : length (shapes_of config) ≤ 64)
-    (b : BayState) (r : Rack D) (can : IsClosable state config b r) (first second : Rest D) (is : IsRest state config r.shared [] first)
-    (closed : ClosesStations tells state r.stations.items r.rest first)
-    (filled : (k : ℕ) (f : TurnLock (Pool (FreeSegment D)) PoolBase) → slice_get r.shared.pools.items k ≡ Some f → RefillsAll state (lock_id f).base.blocks first k (image_here first.images.items k) (image_here second.images.items k))
-    (kept : KeepsSpindles first second) (old new : Told) (given : GivesBack state config second.images.items 0 old new) (entry : Told) (began : BeganWith state config entry r)
-    (there : WereThere config r.rest.images.items entry) (had : HadRefused config r.rest.images.items entry old) (images : Images) (left : AreLeft config new images) where
-  abbrev out : List (Option (ImageRest D))
-  out = r.rest.images.items
-
-  -- an image that isn't out might have been left at entry
-  still : (k : ℕ) (conf : VolumeConf) → slice_get config.volumes.items k ≡ Some conf → image_here out k ≡ None → MayLeave (at_name conf.name entry.images) (image_of images k)
-  still k conf at none =
-      let lt = slice_get_within config.volumes.items k conf at in
-      let name : (slice_index_or config.volumes.items k conf).name ≡ conf.name = ap (λ (w : VolumeConf). w.name) (get_or_from_slice_get config.volumes.items k conf conf at) in
-      had k conf at none (image_of images k) (subst (λ (o : Option Image). MayLeave o (image_of images k)) (ap (λ n. at_name n new.images) name ∙ given.others conf.name others) (left.each k conf lt))
-    where
-      others : (j : ℕ) (w : VolumeConf) → 0 ≤ j → slice_get config.volumes.items j ≡ Some w → IsImageOut second.images.items j → conf.name ≢ w.name
-      others j w le at_j there_j =
-          ⊎_elim
-          (λ (e : k ≡ j).
-          let no : is_some (image_here second.images.items j) ≡ false = same_out state tells config b r can first second is closed filled kept j ∙ ap (λ (n : ℕ). is_some (image_here out n)) (sym e) ∙ ap is_some none in
-          absurd (cc (no, there_j)))
-          (λ (differs : k ≡ j → ⊥). names_differ config valid k j conf w at at_j differs)
-          (cases_eq k j)
-
-  module _ (v : ℕ) (others : (s : Station D) → Contains r.stations.items s → v ≢ s.id) where
-    -- its home is here
-    home_here_still : (k : ℕ) → k ≡ v → Contains (away_with (map (λ (s : Station D). base_of_station s) r.stations.items)).homes k → ⊥
-    home_here_still k same has =
-        let m = of_map (λ (x : ManagerBase). x.volume.began.owner) (map (λ (s : Station D). base_of_station s) r.stations.items) k has in
-        let s = of_map (λ (t : Station D). base_of_station t) r.stations.items m.0 m.1 in
-        let at : slice_get r.stations.items s.1.0 ≡ Some s.0 = slice_get-get_or r.stations.items s.1.0 s.0 s.1.1 ∙ ap (λ (t : Station D). Some t) s.1.2 in
-        others s.0 s.1 (sym same ∙ sym m.2 ∙ ap (λ (x : ManagerBase). x.volume.began.owner) (sym s.2) ∙ (is_station state tells config b r can first second is closed filled kept s.1.0 s.0 at).id)
-
-    module _ (k : ℕ) (conf : VolumeConf) (at : slice_get config.volumes.items k ≡ Some conf) (m : ImageRest D) (here : image_here out k ≡ Some m) (before : Image) (there_k : at_name conf.name entry.images ≡ Some before) where
-      abbrev z : Shape
-      z = shape_in config conf
-
-      z_at : slice_get (shapes_of config) k ≡ Some z
-      z_at = slice_get-map (shape_in config) config.volumes.items k ∙ ap (option_map (shape_in config)) at
-
-      through : (q : ImageRest D) × IsThrough state tells config b r can first second is closed filled kept k m q
-      through = image_through state tells config b r can first second is closed filled kept k m here
-
-      now : (c : List Block) × (image_of images k ≡ Some c) × IsLeftNow state z through.0 c
-      now = left_now state tells told tell_all sound config few_volumes b r can first second is closed filled kept old new given images left k z through.0 z_at through.1.here
-
-      -- a segment that isn't here any more keeps nothing of the volume now
-      pool_or_other : (i : ℕ) → i < z.segments → ((p : Spun D) → IsSegmentHere r.rest k i p → ⊥) → KeepsNothing v (segment_of z now.0 i)
-      pool_or_other i lt never = go (origin state tells told tell_all sound config few_volumes b r can first second is closed filled kept old new given images left k i through.0 p.0 through.1.here p.1)
-        where
-          p : (p : Spun D) × (segment_here through.0 i ≡ Some p)
-          p =
-              let whole = images_whole state config r.shared first can.locks is second kept.image_count filled k through.0 through.1.here in
-              let rest = (images_rest state config r.shared first can.locks is second kept.image_count filled).1 k z through.0 z_at through.1.here in
-              a_value (segment_here through.0 i) (whole.segments i (omega (arith, lt, rest.count)))
-
-          image : IsImageOf (state_of state p.0).values (segment_of z now.0 i)
-          image = now.2.segments i p.0 p.1
-
-          go : Origin state tells told tell_all sound config few_volumes b r can first second is closed filled kept old new given images left k i p.0 → KeepsNothing v (segment_of z now.0 i)
-          go (was_here there_p foreign) = absurd (never p.0 there_p)
-          go (was_pooled free) = idle_keeps v (segment_of z now.0 i) (free (segment_of z now.0 i) image)
-          go (of_station j t d t_at d_at id l h in_lanes logger in_held index part) =
-              let im : IsImageOf (state_of state (part_of h.segment)).values (segment_of z now.0 i) = subst (λ (n : Spun D). IsImageOf (state_of state n).values (segment_of z now.0 i)) (sym part) image in
-              let small = owner_small state tells told tell_all sound config few_volumes b r can first second is closed filled kept old new given images left j t t_at in
-              let station = is_station state tells config b r can first second is closed filled kept j t t_at in
-              other_keeps v t.id (segment_of z now.0 i) (subst (λ (n : ℕ). n < 2 ^ 32) station.id small) (others t (among state tells config b r can first second is closed filled kept j t t_at))
-              (says_owner state tells config b r can first second is closed filled kept j t d t_at d_at id told l h in_lanes in_held (segment_of z now.0 i) im)
-
-      -- each segment goes with one that it might have been at entry
-      segment_was : (i : ℕ) → i < z.segments → (was : List Block) × (IsImage (slice_range before.blocks (head_place z i) (head_place z (i + 1))) was × SegmentsKeep v (segment_of z now.0 i) was)
-      segment_was i lt = go (here_or_not r.rest k i m here)
-        where
-          had_before : (p : Spun D) → IsSegmentHere r.rest k i p → HadSegmentBefore state before (head_place z i) (head_place z (i + 1)) p
-          had_before p place =
-              ⊎_elim
-              (λ x. (began.left k conf before m at there_k here).segments i p (ap (λ (y : ImageRest D). segment_here y i) (same_Some m x.0 (sym here ∙ x.1)) ∙ x.2))
-              (λ x. began.held x.0 k i conf before p at there_k x.1)
-              place
-
-          end_of : (p : Spun D) → IsSegmentHere r.rest k i p → segment_here through.0 i ≡ Some p
-          end_of p place =
-              ⊎_elim
-              (λ x. through.1.places i p (ap (λ (y : ImageRest D). segment_here y i) (same_Some m x.0 (sym here ∙ x.1)) ∙ x.2))
-              (λ x. through.1.held x.0 i p x.1)
-              place
-
-          go : ((p : Spun D) × IsSegmentHere r.rest k i p) ⊎ ((p : Spun D) → IsSegmentHere r.rest k i p → ⊥) → (was : List Block) × (IsImage (slice_range before.blocks (head_place z i) (head_place z (i + 1))) was × SegmentsKeep v (segment_of z now.0 i) was)
-          go (inl x) =
-              let had_x = had_before x.0 x.1 (segment_of z now.0 i) (now.2.segments i x.0 (end_of x.0 x.1)) in
-              let l = left_keeps v had_x.0 (Some (slice_range before.blocks (head_place z i) (head_place z (i + 1)))) (segment_of z now.0 i) had_x.1 in
-              (l.0, (l.1, l.2))
-          go (inr never) =
-              let g = began.gone k i conf before m at there_k here lt never in
-              (g.was, (g.had, nothing_same v (segment_of z now.0 i) g.was (pool_or_other i lt never) (gone_keeps v (length (shapes_of config)) r.stations.items g.was (omega (arith, few_volumes)) others g.said)))
-
-      -- home is one that it might have been at entry, where it is the volume's own
-      home_was : (h : List Block) × (IsImage (slice_range before.blocks 2 (2 + z.home)) h × (k ≡ v → home_of z now.0 ≡ h))
-      home_was =
-          ⊎_elim
-          (λ (e : k ≡ v).
-          let p = a_value m.home ((can.rest.parts.homes k m here).1 (home_here_still k e)) in
-          (home_of z now.0, ((began.left k conf before m at there_k here).home p.0 p.1 (home_of z now.0) (now.2.home p.0 (through.1.home p.0 p.1)), λ same. refl)))
-          (λ (differs : k ≡ v → ⊥). (slice_range (reads before.blocks) 2 (2 + z.home), (read_piece before.blocks 2 (2 + z.home), λ same. absurd (differs same))))
-          (cases_eq k v)
-
-      module _ (rest_is : before.rest ≡ []) (size : length before.blocks ≡ image_size z) where
-        -- its front has the same home as another, if it is the volume's own
-        abbrev OwnHome : (now was : List Block) → Type 0
-        OwnHome now was = k ≡ v → slice_range was 2 (2 + z.home) ≡ slice_range now 2 (2 + z.home)
-
-        kept_here : pieces.IsKeptImage OwnHome (λ i c d. SegmentsKeep v c d) z (at_name conf.name entry.images) (image_of images k)
-        kept_here = record {
-          before = before;
-          there = there_k;
-          whole = rest_is;
-          size = size;
-          now = now.0;
-          is = now.1;
-          sized = now.2.size;
-          front = (
-            label ++ home_was.0,
-            both_slices before.blocks 0 2 (2 + z.home) label home_was.0 (omega arith) (omega arith) label_image home_was.1.0,
-            λ same. home_behind z label home_was.0 label_long home_long ∙ sym (home_was.1.1 same) ∙ sym (pieces.front_home z now.0 now.2.size),
-          );
-          segments = λ i lt. let w = segment_was i lt in (w.0, w.1.0, w.1.1);
-        }
-          where
-            label : List Block
-            label = slice_range (reads before.blocks) 0 2
-
-            label_image : IsImage (slice_range before.blocks 0 2) label
-            label_image = read_piece before.blocks 0 2
-
-            label_long : length label ≡ 2
-            label_long = image_length (slice_range before.blocks 0 2) label label_image ∙ piece_long before.blocks 0 2 (omega arith) (omega (arith, size))
-
-            home_long : length home_was.0 ≡ z.home
-            home_long = image_length (slice_range before.blocks 2 (2 + z.home)) home_was.0 home_was.1.0 ∙ piece_long before.blocks 2 (2 + z.home) (omega arith) (omega (arith, size)) ∙ (let e : 2 + z.home - 2 ≡ z.home = omega arith in e)
-
-        out_choice : (o : Option (List Block)) × IsChoice config entry (is_kept_home out) v k conf (image_of images k) (image_of images k) o
-        out_choice =
-            let e = pieces.earlier OwnHome (λ i c d. SegmentsKeep v c d) z (at_name conf.name entry.images) (image_of images k) kept_here in (
-              Some e.was,
-              record {
-                may = e.may;
-                keeps = λ taken. pieces.two_keep OwnHome (λ i c d. SegmentsKeep v c d) z v (image_of images k) (Some e.was) (λ i c d keep. keep) e.two;
-                home = λ same. sym (pieces.two_home OwnHome (λ i c d. SegmentsKeep v c d) z (image_of images k) (Some e.was) (λ n w front. front same) e.two);
-                same = λ home. absurd (let no : is_kept_home out k ≡ false = ap (λ (x : Option (ImageRest D)). not (is_some x)) here in cc (no, home));
-              },
-            )
-
-    any_choice : (k : ℕ) (conf : VolumeConf) → slice_get config.volumes.items k ≡ Some conf → (o : Option (List Block)) × IsChoice config entry (is_kept_home out) v k conf (image_of images k) (image_of images k) o
-    any_choice k conf at = by_option (image_here out k)
-        (λ e. (image_of images k, record { may = still k conf at e; keeps = λ taken. absurd (let yes_ : is_kept_home out k ≡ true = ap (λ (x : Option (ImageRest D)). not (is_some x)) e in cc (yes_, taken)); home = λ same. refl; same = λ home. refl }))
-        (λ m e. let t = there k conf at (ap is_some e) in out_choice k conf at m e t.0 t.1 t.2 t.3)
-
-    -- a volume without a station
-    closed_choice : (before : Images) × IsChosen config entry (is_kept_home out) v images images left.count any_choice before
-    closed_choice = chosen config entry (is_kept_home out) v images images left.count any_choice
-
-    pub closed_recovers : (before : Images) × AreLeft config entry before × (recovered_from (shapes_of config) images v ≡ recovered_from (shapes_of config) before v)
-    closed_recovers = (closed_choice.0, closed_choice.1.left, closed_choice.1.all (λ k. refl))
-
-  -- ---- A volume with a station: as the images read at entry
-
-  read_at : (k : ℕ) (conf : VolumeConf) → slice_get config.volumes.items k ≡ Some conf → image_of (images_read config entry) k ≡ image_read (at_name conf.name entry.images)
-  read_at k conf at = ap (λ (o : Option (Option (List Block))). Rattle.std.specs.Prelude.unwrap_or o None) (slice_get-map (λ (w : VolumeConf). image_read (at_name w.name entry.images)) config.volumes.items k ∙ ap (option_map (λ (w : VolumeConf). image_read (at_name w.name entry.images))) at)
-
-  read_choice : (v : ℕ) → IsImageOut out v → (k : ℕ) (conf : VolumeConf) → slice_get config.volumes.items k ≡ Some conf
-      → (o : Option (List Block)) × IsChoice config entry (is_kept_home out) v k conf (image_of (images_read config entry) k) (image_of images k) o
-  read_choice v out_v k conf at = go (image_here out k) refl
-    where
-      go : (x : Option (ImageRest D)) → image_here out k ≡ x → (o : Option (List Block)) × IsChoice config entry (is_kept_home out) v k conf (image_of (images_read config entry) k) (image_of images k) o
-      go None e = (
-        image_of images k,
-        record {
-          may = still k conf at e;
-          keeps = λ taken. absurd (let yes_ : is_kept_home out k ≡ true = ap (λ (x : Option (ImageRest D)). not (is_some x)) e in cc (yes_, taken));
-          home = λ same. absurd (let no : is_some (image_here out k) ≡ false = ap is_some e in let yes_ : is_some (image_here out k) ≡ true = ap (λ (n : ℕ). is_some (image_here out n)) same ∙ out_v in cc (no, yes_));
-          same = λ home. refl;
-        },
-      )
-      go (Some m) e =
-          let t = there k conf at (ap is_some e) in
-          let is_read : image_of (images_read config entry) k ≡ Some (reads t.0.blocks) = read_at k conf at ∙ ap image_read t.1 ∙ ap (λ (l : List ℕ). cond (Rattle.std.specs.Prelude.nat_eq (length l) 0) (Some (reads t.0.blocks)) None) t.2 in
-          let long : length (reads t.0.blocks) ≡ image_size (shape_in config conf) = length-map t.0.blocks (λ (x : Values Block). x.now) ∙ t.3 in (
-            Some (reads t.0.blocks),
-            record {
-              may = subst (λ (o : Option Image). MayLeave o (Some (reads t.0.blocks))) (sym t.1) (t.2, image_reads t.0.blocks);
-              keeps = λ taken. record { now = reads t.0.blocks; was = reads t.0.blocks; now_is = is_read; was_is = refl; now_sized = long; was_sized = long; segments = λ i lt n. refl };
-              home = λ same. ap (home_in (Some (shape_in config conf))) is_read;
-              same = λ home. absurd (let no : is_kept_home out k ≡ false = ap (λ (x : Option (ImageRest D)). not (is_some x)) e in cc (no, home));
-            },
-          )
-
-  open_recovers : All (λ (s : Station D). IsQuiet s) r.stations.items → (s : Station D) → Contains r.stations.items s → (opened : Bool) → opened ≡ true
-      → (before : Images) × AreLeft config entry before × RecoversSame config (is_kept_home out) opened images before s.id
-  open_recovers quiet s has opened is_opened =
-      let same = Rattle.std.proofs.lemmas.List.Elements.All-contains (λ (t : Station D). recovered_out config out images t.id ≡ recovered_out config out (images_read config entry) t.id) r.stations.items s
-      (left_quiet state tells config b r can first second is closed filled kept told tell_all sound few_volumes entry began quiet old new given images left) has in
-      let at : slice_get r.stations.items has.0 ≡ Some s = slice_get-get_or r.stations.items has.0 s has.1 ∙ ap (λ (t : Station D). Some t) has.2 in
-      let base = Rattle.rack_closing.proofs.StationParts.is_base state tells config b r can first second is closed filled kept has.0 s at in
-      let out_s : IsImageOut out s.id = subst (λ (n : ℕ). IsImageOut out n) (is_station state tells config b r can first second is closed filled kept has.0 s at).id base.out in
-      let x = chosen config entry (is_kept_home out) s.id (images_read config entry) images (length-map config.volumes.items (λ (w : VolumeConf). image_read (at_name w.name entry.images))) (read_choice s.id out_s) in
-      let but : recovered_out config out images s.id ≡ recovered_out config out x.0 s.id = same ∙ x.1.but in (
-        x.0,
-        x.1.left,
-        record {
-          but = but;
-          all = ⊎_elim (λ no. absurd (cc (is_opened, no))) (λ none.
-              recovered_none s.id (is_kept_home out) (shapes_of config) images none ∙ but
-              ∙ sym (recovered_none s.id (is_kept_home out) (shapes_of config) x.0 (λ k z at_k home.
-              subst (λ (o : Option (List Block)). AllByRecursion (λ bs. (rs : List Record) → IsLog bs s.id rs → ⊥) (segments_of z o)) (sym (x.1.stay k z at_k home)) (none k z at_k home))));
-        },
-      )
-
-  -- each volume
-  pub volume_recovers : All (λ (s : Station D). IsQuiet s) r.stations.items → (v : ℕ) → (before : Images) × AreLeft config entry before × RecoversSame config (is_kept_home out) (has_station r v) images before v
+  -- each volume, where nothing was written since it was opened
+  pub volume_recovers : All (λ (s : Station D). IsQuiet s) r.stations.items → (v : ℕ) → (before : Images) × AreLeft config entry before × RecoversSame config (is_kept_home r.rest.images.items) (has_station r v) images before v
   volume_recovers quiet v = go (has_station r v) refl
     where
-      go : (t : Bool) → has_station r v ≡ t → (before : Images) × AreLeft config entry before × RecoversSame config (is_kept_home out) t images before v
-      go true has = let s = station_of r v has in subst (λ (n : ℕ). (before : Images) × AreLeft config entry before × RecoversSame config (is_kept_home out) true images before n) s.2 (open_recovers quiet s.0 s.1 true refl)
-      go false none =
-          let others : (s : Station D) → Contains r.stations.items s → v ≢ s.id = λ s has e. no_station r v none s has (sym e) in
-          let x = closed_choice v others in
-          (x.0, x.1.left, record { but = x.1.but; all = λ or. x.1.all (λ k. refl) })
+      go : (t : Bool) → has_station r v ≡ t → (before : Images) × AreLeft config entry before × RecoversSame config (is_kept_home r.rest.images.items) t images before v
+      go true has =
+          let s = station_of r v has in
+          let out : IsImageOut r.rest.images.items s.0.id = subst (λ (n : ℕ). IsImageOut r.rest.images.items n) (id_of crash.ending s.0 s.1) (is_base crash.ending s.0 s.1).out in
+          subst (λ (n : ℕ). (before : Images) × AreLeft config entry before × RecoversSame config (is_kept_home r.rest.images.items) true images before n) s.2 (open_recovers over s.0.id (ap not out) (left_quiet crash entry began quiet s.0 s.1))
+      go false none = let closed = no_station r v none in (before over, (chosen over).1.left, record { but = closed_but over v closed; all = λ or. closed_all over v closed })
 
-module _ {D : Type 0} (state : D → State) (tells : Bool) (config : Config) (b : BayState) (r : Rack D) (can : IsClosable state config b r) (first second : Rest D) (is : IsRest state config r.shared [] first)
-    (closed : ClosesStations tells state r.stations.items r.rest first)
-    (filled : (k : ℕ) (f : TurnLock (Pool (FreeSegment D)) PoolBase) → slice_get r.shared.pools.items k ≡ Some f → RefillsAll state (lock_id f).base.blocks first k (image_here first.images.items k) (image_here second.images.items k))
-    (kept : KeepsSpindles first second) (entry : Told) (began : BeganWith state config entry r) where
-  -- those with a station were opened
-  pub station_opened : (v : ℕ) → has_station r v ≡ true → WasOpened config (is_kept_home r.rest.images.items) entry v
-  station_opened v has =
-      let s = station_of r v has in
-      let at : slice_get r.stations.items s.1.0 ≡ Some s.0 = slice_get-get_or r.stations.items s.1.0 s.0 s.1.1 ∙ ap (λ (t : Station D). Some t) s.1.2 in
-      let base = Rattle.rack_closing.proofs.StationParts.is_base state tells config b r can first second is closed filled kept s.1.0 s.0 at in
-      record {
-        base = (base_of_station s.0).volume.began;
-        owner = (is_station state tells config b r can first second is closed filled kept s.1.0 s.0 at).id ∙ s.2;
-        begun = Rattle.std.proofs.lemmas.List.Elements.All-contains (λ (t : Station D). IsBegun config (images_taken config r.rest.images.items entry) (base_of_station t).volume.began) r.stations.items s.0 began.stations s.1;
-        loggers = all_taken (base_of_station s.0).volume.began.view base.loggers_out;
-      }
-    where
-      all_taken : (view : List ℕ) → AllByRecursion (IsImageOut r.rest.images.items) view → AllByRecursion (λ l. is_kept_home r.rest.images.items l ≡ false) view
-      all_taken [] all = tt
-      all_taken (l ∷ view) all = (ap not all.0, all_taken view all.1)
+-- those with a station were opened
+pub station_opened : {D : Type 0} {state : D → State} {tells : Bool} {config : Config} {b : BayState} {r : Rack D} {first second : Rest D} (ending : IsEnding state tells config b r first second) (entry : Told) → BeganWith state config entry r → (v : ℕ) → has_station r v ≡ true → WasOpened config (is_kept_home r.rest.images.items) entry v
+station_opened {config} {r} ending entry began v has =
+    let s = station_of r v has in
+    record {
+      base = (base_of_station s.0).volume.began;
+      owner = id_of ending s.0 s.1 ∙ s.2;
+      begun = All-contains (λ t. IsBegun config (images_taken config r.rest.images.items entry) (base_of_station t).volume.began) r.stations.items s.0 began.stations s.1;
+      loggers = all_taken (base_of_station s.0).volume.began.view (is_base ending s.0 s.1).loggers_out;
+    }
+  where
+    all_taken : (view : List ℕ) → AllByRecursion (IsImageOut r.rest.images.items) view → AllByRecursion (λ l. is_kept_home r.rest.images.items l ≡ false) view
+    all_taken [] all = tt
+    all_taken (l ∷ view) all = (ap not all.0, all_taken view all.1)

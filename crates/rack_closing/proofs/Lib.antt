@@ -5,7 +5,6 @@ pub mod NewFaults
 pub mod Closable
 pub mod StationRecovers
 pub mod ListedLeft
-pub mod RackClosed
 pub mod HeldSegments
 pub mod LeftImage
 pub mod StationParts

@@ -1,23 +1,11 @@
 -- The records that an index lists, among the extents of the segments that it is of.
-use Rattle.rack_closing.proofs.Basics.{◌≡◌, ◌⊎◌, inl, inr, ⊎_elim, ℕ, zero, suc, List, [], ◌∷◌, ◌++◌, map, Some, refl, sym, ap, ◌∙◌, subst}
-use Rattle.rack_closing.proofs.Basics.{Contains, slice_get, same_Some}
-use Rattle.rack_closing.proofs.Terms.{IsAmong, Extent, IsValid, marked, AreRising, Indexed, Listed, listed_in, Record, extent_of, Held}
-use Rattle.rack_closing.proofs.Terms.{IsEntryOf, IsFound, IsBacked, IsIndexOf, IsSorted, extents_held, IsOfExtent, AreListedOf}
+use Rattle.rack_closing.proofs.Basics.{◌≡◌, ⊎_elim, ℕ, List, [], ◌∷◌, map, Some, refl, sym, ap, ◌∙◌, subst, Contains, slice_get}
+use Rattle.rack_closing.proofs.Terms.{IsAmong, Extent, IsValid, marked, AreRising, Indexed, Listed, listed_in, Record, extent_of, Held, IsEntryOf, IsFound, IsBacked, IsIndexOf, IsSorted}
+use Rattle.rack_closing.proofs.Terms.{extents_held, IsOfExtent, AreListedOf}
+use Rattle.manager_recovery.proofs.ByLogger.{among_left, among_right, among_either, among_map, map_among, among_get, among_at}
 use Rattle.rack_parts.proofs.Members.{first_in, in_cases, in_map, later_in, none_in, of_map, of_recursion}
 
 -- ---- The extents of held segments
-
-among_left : {X : Type 0} (xs ys : List X) (x : X) → IsAmong xs x → IsAmong (xs ++ ys) x
-among_left [] ys x has = absurd has
-among_left (y ∷ xs) ys x has = ⊎_elim (λ same. inl same) (λ more. inr (among_left xs ys x more)) has
-
-among_right : {X : Type 0} (xs ys : List X) (x : X) → IsAmong ys x → IsAmong (xs ++ ys) x
-among_right [] ys x has = has
-among_right (y ∷ xs) ys x has = inr (among_right xs ys x has)
-
-among_either : {X : Type 0} (xs ys : List X) (x : X) → IsAmong (xs ++ ys) x → IsAmong xs x ⊎ IsAmong ys x
-among_either [] ys x has = inr has
-among_either (y ∷ xs) ys x has = ⊎_elim (λ same. inl (inl same)) (λ more. ⊎_elim (λ front. inl (inr front)) (λ back. inr back) (among_either xs ys x more)) has
 
 -- record k of these has the extent
 record IsRecordOf (rs : List Record) (x : Extent) : Type 0 where
@@ -27,15 +15,10 @@ record IsRecordOf (rs : List Record) (x : Extent) : Type 0 where
   is : x ≡ extent_of record_
 
 record_of : (rs : List Record) (x : Extent) → IsAmong (map extent_of rs) x → IsRecordOf rs x
-record_of [] x has = absurd has
-record_of (r ∷ rs) x has = ⊎_elim
-    (λ same. record { k = zero; record_ = r; at = refl; is = same })
-    (λ more. let rest = record_of rs x more in record { k = suc rest.k; record_ = rest.record_; at = rest.at; is = rest.is }) has
+record_of rs x has = let r = map_among extent_of rs x has in let at = among_get rs r.0 r.1 in record { k = at.0; record_ = r.0; at = at.1; is = r.2 }
 
 extent_there : (rs : List Record) (k : ℕ) (r : Record) → slice_get rs k ≡ Some r → IsAmong (map extent_of rs) (extent_of r)
-extent_there [] k r at = absurd (cc at)
-extent_there (x ∷ rs) zero r at = inl (ap extent_of (sym (same_Some x r at)))
-extent_there (x ∷ rs) (suc k) r at = inr (extent_there rs k r at)
+extent_there rs k r at = among_map extent_of rs r (among_at rs k r at)
 
 versions_in : (indexed : List Indexed) → map (λ (e : Listed). e.version) (listed_in indexed) ≡ map (λ (e : Indexed). e.listed.version) indexed
 versions_in [] = refl

@@ -1,7 +1,6 @@
 -- The names and sizes of the volumes of a configuration.
-use Rattle.rack_closing.proofs.Basics.{◌≡◌, ◌≢◌, ⊎_elim, ℕ, zero, suc, ◌<◌, ◌≤◌, Bool, true, false, get_or, Some, refl, sym, ap, ◌∙◌, arith}
-use Rattle.rack_closing.proofs.Basics.{◌^◌, length, option_map, subst, slice_get, cases_lt, slice_get_within, get_or_from_slice_get}
-use Rattle.rack_closing.proofs.Basics.{same_Some, slice_get-map, length-map}
+use Rattle.rack_closing.proofs.Basics.{◌≡◌, ◌≢◌, ⊎_elim, ℕ, ◌<◌, ◌≤◌, Bool, true, false, get_or, Some, refl, sym, ap, ◌∙◌, arith, ◌^◌, length, option_map, subst, slice_get, cases_lt}
+use Rattle.rack_closing.proofs.Basics.{slice_get_within, get_or_from_slice_get, same_Some, slice_get-map, length-map}
 use Rattle.rack_closing.proofs.Terms.{Name, Config, VolumeConf, Shape, IsShape, shape_in, shapes_of}
 use Rattle.std.specs.Str.{bytes_eq}
 use Rattle.std.proofs.lemmas.Slice.Eq.{bytes_eq-Decides}

@@ -1,9 +1,8 @@
 -- Parts that came back with a fault stay in the list of the bay.
-use Rattle.rack_closing.proofs.Basics.{◌≡◌, ℕ, ◌+◌, List, [], ◌++◌, Option, None, Some, option_map, sym, ap, ◌∙◌, subst, append-nil}
-use Rattle.rack_closing.proofs.Basics.{append_assoc, zero, suc, ◌-◌, length, refl, arith, Contains-append_left, Contains-append_right}
-use Rattle.rack_closing.proofs.Basics.{same_Some}
-use Rattle.rack_closing.proofs.Terms.{Name, Told, sent_out, Image, BayState, at_name, HasFaulty, IsFaultAmong, HasNewFault, RefusesImage}
-use Rattle.rack_closing.proofs.Terms.{reads, Config, VolumeConf, IsImageFault, shape_in, shapes_of, ImageRest, VolumeFault, LabelFault}
+use Rattle.rack_closing.proofs.Basics.{◌≡◌, ℕ, ◌+◌, List, [], ◌++◌, Option, None, Some, option_map, sym, ap, ◌∙◌, subst, append-nil, append_assoc, length, Contains-append_left}
+use Rattle.rack_closing.proofs.Basics.{Contains-append_right, same_Some}
+use Rattle.rack_closing.proofs.Terms.{Name, Told, sent_out, Image, BayState, at_name, HasFaulty, IsFaultAmong, HasNewFault, RefusesImage, reads, Config, VolumeConf, IsImageFault, shape_in}
+use Rattle.rack_closing.proofs.Terms.{shapes_of, ImageRest, VolumeFault}
 use Rattle.volume_images.specs.Left.{IsTold}
 use Rattle.volume_images.specs.declared.reading.ImageFault.{ImageFault}
 use Rattle.volume_images.specs.declared.reading.ImageFault.TheVariants as fault

@@ -1,8 +1,7 @@
 -- What stands at the places of a list, and slices of lists that lie side by side.
-use Rattle.rack_closing.proofs.Basics.{◌≡◌, ◌⊎◌, inl, inr, ⊎_elim, ℕ, zero, suc, ◌+◌, ◌-◌, ◌<◌, ◌≤◌, false, List, [], ◌∷◌, ◌++◌, length}
-use Rattle.rack_closing.proofs.Basics.{get_or, Option, None, Some, refl, sym, ap, ◌∙◌, subst, arith, take, drop, slice_get, IsSome, is_some}
-use Rattle.rack_closing.proofs.Basics.{slice_range, cases_lt, get_or_append_left, get_or_push, get_or_past, length_push, drop-drop}
-use Rattle.rack_closing.proofs.Basics.{take_all, none-some}
+use Rattle.rack_closing.proofs.Basics.{◌≡◌, ◌⊎◌, inl, inr, ⊎_elim, ℕ, zero, suc, ◌+◌, ◌-◌, ◌<◌, ◌≤◌, false, List, [], ◌∷◌, ◌++◌, length, get_or, Option, None, Some, refl, sym, ap, ◌∙◌, subst}
+use Rattle.rack_closing.proofs.Basics.{arith, take, drop, slice_get, IsSome, is_some, slice_range, cases_lt, get_or_append_left, get_or_push, get_or_past, length_push, drop-drop, take_all}
+use Rattle.rack_closing.proofs.Basics.{none-some}
 use Rattle.rack_closing.proofs.Terms.{Block, Values, IsImage}
 
 -- ---- One more at the end of a list

@@ -1,17 +1,16 @@
 -- Images whose segments keep the same records, or nothing of a volume, recover to the same array.
-use Rattle.rack_closing.proofs.Basics.{◌≡◌, ◌⊎◌, inl, inr, ⊎_elim, ℕ, zero, suc, ◌+◌, ◌<◌, ◌≤◌, Bool, true, false, cond, List, [], ◌∷◌, ◌++◌, map, length, Option, None, Some, refl}
-use Rattle.rack_closing.proofs.Basics.{sym, ap, ◌∙◌, arith, get_or, subst, ◌≢◌, ◌^◌, option_and_then, slice_get, unwrap_or, slice_index_or, AllByRecursion, range_with_len, eq-eqb}
-use Rattle.rack_closing.proofs.Basics.{cases_eq, flat_map-append, length-map-range_with_len, get_or-map-range_with_len, none-some, same_Some, slice_get_within, slice_get-get_or}
-use Rattle.rack_closing.proofs.Terms.{Block, Values, IsImageOf, Told, at_name, block_of, overlaid, Extent, Cover, newer_of, newest, CoversNothing, Shape, owned_block, Images}
-use Rattle.rack_closing.proofs.Terms.{image_of, image_size, home_in, segment_of, segments_of, accepted, accepted_from, all_segments, Record, IsLog, extent_of, IsIdle, extents_of}
-use Rattle.rack_closing.proofs.Terms.{read_log, log_from, log_read, idle_none, SaysOwnerOrFree, Config, VolumeConf, Station, HasNothing, IsLeftOf, shape_in, shapes_of, MayLeave}
-use Rattle.rack_closing.proofs.Terms.{AreLeft, HasHead, recovered_but, HasNoLogIn}
+use Rattle.rack_closing.proofs.Basics.{◌≡◌, ◌⊎◌, inl, ⊎_elim, ℕ, zero, suc, ◌+◌, ◌<◌, ◌≤◌, Bool, true, false, cond, List, [], ◌∷◌, ◌++◌, map, length, Option, None, Some, refl, sym, ap, ◌∙◌, arith}
+use Rattle.rack_closing.proofs.Basics.{get_or, subst, ◌≢◌, ◌^◌, option_and_then, slice_get, unwrap_or, AllByRecursion, range_with_len, eq-eqb, cases_eq, flat_map-append, length-map-range_with_len}
+use Rattle.rack_closing.proofs.Basics.{get_or-map-range_with_len, none-some, same_Some, slice_get_within}
+use Rattle.rack_closing.proofs.Terms.{Block, Values, IsImageOf, block_of, overlaid, Extent, Cover, newer_of, newest, CoversNothing, Shape, owned_block, Images, image_of, image_size, home_in}
+use Rattle.rack_closing.proofs.Terms.{segment_of, segments_of, accepted, all_segments, Record, IsLog, extent_of, IsIdle, extents_of, log_read, idle_none, SaysOwnerOrFree, Config, VolumeConf}
+use Rattle.rack_closing.proofs.Terms.{Station, HasNothing, IsLeftOf, HasHead, recovered_but, HasNoLogIn}
 use Rattle.wol_model.specs.Extents.{newest_block, with_extents}
 use Rattle.wol_model.specs.Images.{recovered_from}
 use Rattle.wol_model.specs.Recovered.{extents_in, recovered}
 use Rattle.manager_recovery.proofs.Leaves.{all_bare}
-use Rattle.rack_closing.proofs.LeftImage.{volume_at}
-use Rattle.rack_closing.proofs.HeldSegments.{not_of_other}
+use Rattle.rack_closing.proofs.LeftImage.{accepted_count, accepted_both, accepted_same, accepted_gone}
+use Rattle.rack_closing.proofs.HeldSegments.{no_log, not_of_other}
 use Rattle.rack_closing.proofs.Cases.{by_option}
 use Rattle.wol_model.specs.Heads as head
 
@@ -79,138 +78,107 @@ pub record ImagesGo (Together : (now was : List Block) → Type 0) (s : Shape) (
   pub was_sized : length was ≡ image_size s
   pub segments : (i : ℕ) → i < s.segments → Together (segment_of s now i) (segment_of s was i)
 
--- what a list of extents says that says it of two lists in a row where it says it of both
-module _ (F : List Extent → List Extent) (join : (es fs : List Extent) → F (es ++ fs) ≡ F es ++ F fs) (v : ℕ) where
-  abbrev SameSaid : (now was : List Block) → Type 0
-  SameSaid now was = F (extents_in v now) ≡ F (extents_in v was)
+pub segments_are : (s : Shape) (c : List Block) → length c ≡ image_size s → segments_of s (Some c) ≡ map (segment_of s c) (range_with_len 0 s.segments)
+segments_are s c size = ap (λ (t : Bool). cond t (map (segment_of s c) (range_with_len 0 s.segments)) []) (eq-eqb (length c) (image_size s) size)
 
-  rows_say : (s : Shape) (c d : List Block) (from count : ℕ) → ((i : ℕ) → from ≤ i → i < from + count → SameSaid (segment_of s c i) (segment_of s d i))
-      → F (extents_of v (map (segment_of s c) (range_with_len from count))) ≡ F (extents_of v (map (segment_of s d) (range_with_len from count)))
-  rows_say s c d from zero each = refl
-  rows_say s c d from (suc count) each =
-      let rest = rows_say s c d (from + 1) count (λ i le lt. each i (omega (arith, le)) (omega (arith, lt))) in
-      join (extents_in v (segment_of s c from)) (extents_of v (map (segment_of s c) (range_with_len (from + 1) count)))
-      ∙ ap (λ (l : List Extent). l ++ F (extents_of v (map (segment_of s c) (range_with_len (from + 1) count)))) (each from (omega arith) (omega arith))
-      ∙ ap (λ (l : List Extent). F (extents_in v (segment_of s d from)) ++ l) rest
-      ∙ sym (join (extents_in v (segment_of s d from)) (extents_of v (map (segment_of s d) (range_with_len (from + 1) count))))
+-- what relates lists of extents, and lists that are put together of related ones
+module _ (R : (xs ys : List Extent) → Type 0) (nothing : R [] []) (join : (a b c d : List Extent) → R a b → R c d → R (a ++ c) (b ++ d)) (v : ℕ) where
+  abbrev Related : (now was : List Block) → Type 0
+  Related now was = R (extents_in v now) (extents_in v was)
 
-  image_says : (s : Shape) (image before : Option (List Block)) → ImagesGo SameSaid s image before → F (extents_of v (segments_of s image)) ≡ F (extents_of v (segments_of s before))
-  image_says s image before k =
-      ap (λ (o : Option (List Block)). F (extents_of v (segments_of s o))) k.now_is
-      ∙ ap (λ (t : Bool). F (extents_of v (cond t (map (segment_of s k.now) (range_with_len 0 s.segments)) []))) (eq-eqb (length k.now) (image_size s) k.now_sized)
-      ∙ rows_say s k.now k.was 0 s.segments (λ i le lt. k.segments i (omega (arith, lt)))
-      ∙ sym (ap (λ (t : Bool). F (extents_of v (cond t (map (segment_of s k.was) (range_with_len 0 s.segments)) []))) (eq-eqb (length k.was) (image_size s) k.was_sized))
-      ∙ sym (ap (λ (o : Option (List Block)). F (extents_of v (segments_of s o))) k.was_is)
+  moved : (a b c d : List Extent) → a ≡ b → c ≡ d → R b d → R a c
+  moved a b c d e f x = subst (λ (p : List Extent × List Extent). R p.0 p.1) (λ i. (sym e i, sym f i)) x
 
-  pub all_say : (refused : ℕ → Bool) (from : ℕ) (shapes : List Shape) (images before : Images) → length images ≡ length before
-      → ((k : ℕ) (s : Shape) → slice_get shapes k ≡ Some s → k < length images → refused (from + k) ≡ false → (image_of images k ≡ image_of before k) ⊎ ImagesGo SameSaid s (image_of images k) (image_of before k))
-      → F (extents_of v (all_segments shapes (accepted_from from refused images))) ≡ F (extents_of v (all_segments shapes (accepted_from from refused before)))
-  all_say refused from [] images before count each = refl
-  all_say refused from (s ∷ shapes) [] [] count each = refl
-  all_say refused from (s ∷ shapes) [] (d ∷ before) count each = absurd (cc (count))
-  all_say refused from (s ∷ shapes) (c ∷ images) [] count each = absurd (cc (count))
-  all_say refused from (s ∷ shapes) (c ∷ images) (d ∷ before) count each =
-      let rest = all_say refused (from + 1) shapes images before (omega (arith, count))
-      (λ k t is lt not. each (suc k) t is (omega (arith, lt)) (let e : from + suc k ≡ from + 1 + k = omega arith in ap refused e ∙ not)) in
-      joined (cond (refused from) None c) (all_segments shapes (accepted_from (from + 1) refused images))
-      ∙ ap (λ (l : List Extent). l ++ F (extents_of v (all_segments shapes (accepted_from (from + 1) refused images)))) (by_test (refused from) refl)
-      ∙ ap (λ (l : List Extent). F (extents_of v (segments_of s (cond (refused from) None d))) ++ l) rest
-      ∙ sym (joined (cond (refused from) None d) (all_segments shapes (accepted_from (from + 1) refused before)))
-    where
-      front : (t : Bool) → refused from ≡ t → F (extents_of v (segments_of s (cond t None c))) ≡ F (extents_of v (segments_of s (cond t None d)))
-      front true is = refl
-      front false is =
-          ⊎_elim (λ (same : c ≡ d). ap (λ (o : Option (List Block)). F (extents_of v (segments_of s o))) same) (λ together. image_says s c d together)
-          (each 0 s refl (omega arith) (let e : from + 0 ≡ from = omega arith in ap refused e ∙ is))
+  rows_go : (s : Shape) (c d : List Block) (from count : ℕ) → ((i : ℕ) → from ≤ i → i < from + count → Related (segment_of s c i) (segment_of s d i))
+      → R (extents_of v (map (segment_of s c) (range_with_len from count))) (extents_of v (map (segment_of s d) (range_with_len from count)))
+  rows_go s c d from zero each = nothing
+  rows_go s c d from (suc count) each =
+      join (extents_in v (segment_of s c from)) (extents_in v (segment_of s d from)) (extents_of v (map (segment_of s c) (range_with_len (from + 1) count))) (extents_of v (map (segment_of s d) (range_with_len (from + 1) count)))
+      (each from (omega arith) (omega arith)) (rows_go s c d (from + 1) count (λ i le lt. each i (omega (arith, le)) (omega (arith, lt))))
 
-      joined : (o : Option (List Block)) (l : List (List Block)) → F (extents_of v (segments_of s o ++ l)) ≡ F (extents_of v (segments_of s o)) ++ F (extents_of v l)
-      joined o l = ap F (flat_map-append (extents_in v) (segments_of s o) l) ∙ join (extents_of v (segments_of s o)) (extents_of v l)
+  -- it relates whole images whose segments it relates
+  pub image_goes : (s : Shape) (image before : Option (List Block)) → ImagesGo Related s image before → R (extents_of v (segments_of s image)) (extents_of v (segments_of s before))
+  image_goes s image before k =
+      moved (extents_of v (segments_of s image)) (extents_of v (map (segment_of s k.now) (range_with_len 0 s.segments))) (extents_of v (segments_of s before)) (extents_of v (map (segment_of s k.was) (range_with_len 0 s.segments)))
+      (ap (λ (o : Option (List Block)). extents_of v (segments_of s o)) k.now_is ∙ ap (extents_of v) (segments_are s k.now k.now_sized))
+      (ap (λ (o : Option (List Block)). extents_of v (segments_of s o)) k.was_is ∙ ap (extents_of v) (segments_are s k.was k.was_sized))
+      (rows_go s k.now k.was 0 s.segments (λ i le lt. k.segments i (omega (arith, lt))))
 
-      by_test : (t : Bool) → refused from ≡ t → F (extents_of v (segments_of s (cond (refused from) None c))) ≡ F (extents_of v (segments_of s (cond (refused from) None d)))
-      by_test t is =
-          ap (λ (u : Bool). F (extents_of v (segments_of s (cond u None c)))) is
-          ∙ front t is
-          ∙ sym (ap (λ (u : Bool). F (extents_of v (segments_of s (cond u None d)))) is)
+  -- and images each of which it relates
+  pub images_go : (shapes : List Shape) (images before : Images) → length images ≡ length before
+      → ((k : ℕ) (s : Shape) → slice_get shapes k ≡ Some s → k < length images → R (extents_of v (segments_of s (image_of images k))) (extents_of v (segments_of s (image_of before k))))
+      → R (extents_of v (all_segments shapes images)) (extents_of v (all_segments shapes before))
+  images_go [] images before count each = nothing
+  images_go (s ∷ shapes) [] [] count each = nothing
+  images_go (s ∷ shapes) [] (d ∷ before) count each = absurd (cc count)
+  images_go (s ∷ shapes) (c ∷ images) [] count each = absurd (cc count)
+  images_go (s ∷ shapes) (c ∷ images) (d ∷ before) count each =
+      moved (extents_of v (segments_of s c ++ all_segments shapes images)) (extents_of v (segments_of s c) ++ extents_of v (all_segments shapes images))
+      (extents_of v (segments_of s d ++ all_segments shapes before)) (extents_of v (segments_of s d) ++ extents_of v (all_segments shapes before))
+      (flat_map-append (extents_in v) (segments_of s c) (all_segments shapes images)) (flat_map-append (extents_in v) (segments_of s d) (all_segments shapes before))
+      (join (extents_of v (segments_of s c)) (extents_of v (segments_of s d)) (extents_of v (all_segments shapes images)) (extents_of v (all_segments shapes before)) (each 0 s refl (omega arith))
+      (images_go shapes images before (omega (arith, count)) (λ k t at lt. each (suc k) t at (omega (arith, lt)))))
+
+keep_join : (a b c d : List Extent) → KeepSame a b → KeepSame c d → KeepSame (a ++ c) (b ++ d)
+keep_join a b c d first second n = keeping_join n a c ∙ (λ i. first n i ++ second n i) ∙ sym (keeping_join n b d)
 
 -- two whole images keep the same records of a volume
 abbrev pub ImagesKeep : (v : ℕ) → Shape → (image before : Option (List Block)) → Type 0
 ImagesKeep v s image before = ImagesGo (SegmentsKeep v) s image before
 
 module _ (v : ℕ) where
+  -- images of which each is the same, or keeps the same
+  each_keeps : (shapes : List Shape) (images before : Images) → length images ≡ length before
+      → ((k : ℕ) (s : Shape) → slice_get shapes k ≡ Some s → (image_of images k ≡ image_of before k) ⊎ ImagesKeep v s (image_of images k) (image_of before k))
+      → KeepSame (extents_of v (all_segments shapes images)) (extents_of v (all_segments shapes before))
+  each_keeps shapes images before count each = images_go KeepSame (λ n. refl) keep_join v shapes images before count (λ k s at lt. ⊎_elim
+      (λ same. λ n. ap (λ (o : Option (List Block)). keeping n (extents_of v (segments_of s o))) same)
+      (λ go. image_goes KeepSame (λ n. refl) keep_join v s (image_of images k) (image_of before k) go)
+      (each k s at))
+
   -- of the same home they recover to the same
   pub recovered_same : (refused : ℕ → Bool) (shapes : List Shape) (images before : Images) → length images ≡ length before
       → home_in (slice_get shapes v) (image_of images v) ≡ home_in (slice_get shapes v) (image_of before v)
-      → ((k : ℕ) (s : Shape) → slice_get shapes k ≡ Some s → k < length images → refused k ≡ false → (image_of images k ≡ image_of before k) ⊎ ImagesKeep v s (image_of images k) (image_of before k))
+      → ((k : ℕ) (s : Shape) → slice_get shapes k ≡ Some s → refused k ≡ false → (image_of images k ≡ image_of before k) ⊎ ImagesKeep v s (image_of images k) (image_of before k))
       → recovered_but shapes refused images v ≡ recovered_but shapes refused before v
   unfolding recovered
   recovered_same refused shapes images before count home each =
       ap (λ (h : List Block). with_extents h (extents_of v (all_segments shapes (accepted refused images)))) home
       ∙ same_kept (home_in (slice_get shapes v) (image_of before v)) (extents_of v (all_segments shapes (accepted refused images))) (extents_of v (all_segments shapes (accepted refused before)))
-      (λ n. all_say (keeping n) (keeping_join n) v refused 0 shapes images before count
-      (λ k s is lt not.
-      ⊎_elim (λ same. inl same)
-      (λ go. inr (record { now = go.now; was = go.was; now_is = go.now_is; was_is = go.was_is; now_sized = go.now_sized; was_sized = go.was_sized; segments = λ i below. go.segments i below n }))
-      (each k s is lt (let e : 0 + k ≡ k = omega arith in ap refused (sym e) ∙ not))))
-
-  none_refused : ℕ → Bool
-  none_refused k = false
-
-  accepted_all : (from : ℕ) (images : Images) → accepted_from from none_refused images ≡ images
-  unfolding none_refused
-  accepted_all from [] = refl
-  accepted_all from (c ∷ images) = ap (λ (l : Images). c ∷ l) (accepted_all (from + 1) images)
-
-  all_but : (shapes : List Shape) (images : Images) → recovered_from shapes images v ≡ recovered_but shapes none_refused images v
-  unfolding recovered_from
-  all_but shapes images = ap (λ (l : Images). recovered v (home_in (slice_get shapes v) (image_of images v)) (all_segments shapes l)) (sym (accepted_all 0 images))
+      (each_keeps shapes (accepted refused images) (accepted refused before) (accepted_count 0 refused images ∙ count ∙ sym (accepted_count 0 refused before))
+      (λ k s at. accepted_both (λ o p. (o ≡ p) ⊎ ImagesKeep v s o p) refused images before k (inl refl) (each k s at)))
 
   -- where all images give their segments, an image that is the same too
   pub recovered_all : (shapes : List Shape) (images before : Images) → length images ≡ length before
       → home_in (slice_get shapes v) (image_of images v) ≡ home_in (slice_get shapes v) (image_of before v)
-      → ((k : ℕ) (s : Shape) → slice_get shapes k ≡ Some s → k < length images → (image_of images k ≡ image_of before k) ⊎ ImagesKeep v s (image_of images k) (image_of before k))
+      → ((k : ℕ) (s : Shape) → slice_get shapes k ≡ Some s → (image_of images k ≡ image_of before k) ⊎ ImagesKeep v s (image_of images k) (image_of before k))
       → recovered_from shapes images v ≡ recovered_from shapes before v
-  recovered_all shapes images before count home each = all_but shapes images ∙ recovered_same none_refused shapes images before count home (λ k s at lt not. each k s at lt) ∙ sym (all_but shapes before)
+  unfolding recovered recovered_from
+  recovered_all shapes images before count home each =
+      ap (λ (h : List Block). with_extents h (extents_of v (all_segments shapes images))) home
+      ∙ same_kept (home_in (slice_get shapes v) (image_of before v)) (extents_of v (all_segments shapes images)) (extents_of v (all_segments shapes before)) (each_keeps shapes images before count each)
 
   -- segments without a log of the volume
-  none_in_one : (bs : List Block) → ((rs : List Record) → IsLog bs v rs → ⊥) → (o : Option (List Record)) → read_log v bs ≡ o → extents_in v bs ≡ []
-  unfolding extents_in
-  none_in_one bs never None e = ap (λ (p : Option (List Record)). map extent_of (unwrap_or p [])) e
-  none_in_one bs never (Some rs) e = absurd (never rs (log_from bs v rs e))
-
   none_given : (bss : List (List Block)) → AllByRecursion (λ bs. (rs : List Record) → IsLog bs v rs → ⊥) bss → extents_of v bss ≡ []
   none_given [] all = refl
-  none_given (bs ∷ bss) all = ap (λ (l : List Extent). l ++ extents_of v bss) (none_in_one bs all.0 (read_log v bs) refl) ∙ none_given bss all.1
+  none_given (bs ∷ bss) all = λ i. no_log v bs all.0 i ++ none_given bss all.1 i
 
-  -- images that give nothing may be refused
-  given_but : (refused : ℕ → Bool) (from : ℕ) (shapes : List Shape) (images : Images) → ((k : ℕ) (s : Shape) → slice_get shapes k ≡ Some s → refused (from + k) ≡ true → extents_of v (segments_of s (image_of images k)) ≡ [])
-      → extents_of v (all_segments shapes images) ≡ extents_of v (all_segments shapes (accepted_from from refused images))
-  given_but refused from [] images none = refl
-  given_but refused from (s ∷ shapes) [] none = refl
-  given_but refused from (s ∷ shapes) (c ∷ images) none =
-      let rest = given_but refused (from + 1) shapes images (λ k t is yes_. none (suc k) t is (let e : from + suc k ≡ from + 1 + k = omega arith in ap refused e ∙ yes_)) in
-      flat_map-append (extents_in v) (segments_of s c) (all_segments shapes images)
-      ∙ ap (λ (l : List Extent). l ++ extents_of v (all_segments shapes images)) (front (refused from) refl)
-      ∙ ap (λ (l : List Extent). extents_of v (segments_of s (cond (refused from) None c)) ++ l) rest
-      ∙ sym (flat_map-append (extents_in v) (segments_of s (cond (refused from) None c)) (all_segments shapes (accepted_from (from + 1) refused images)))
-    where
-      front : (t : Bool) → refused from ≡ t → extents_of v (segments_of s c) ≡ extents_of v (segments_of s (cond (refused from) None c))
-      front true e = none 0 s refl (let z : from + 0 ≡ from = omega arith in ap refused z ∙ e) ∙ sym (ap (λ (t : Bool). extents_of v (segments_of s (cond t None c))) e)
-      front false e = sym (ap (λ (t : Bool). extents_of v (segments_of s (cond t None c))) e)
-
-  -- where the images that are refused have no log of the volume
+  -- images that have no log of the volume may be refused
   pub recovered_none : (refused : ℕ → Bool) (shapes : List Shape) (images : Images) → HasNoLogIn shapes refused images v → recovered_from shapes images v ≡ recovered_but shapes refused images v
   unfolding recovered recovered_from
   recovered_none refused shapes images none = ap (with_extents (home_in (slice_get shapes v) (image_of images v)))
-      (given_but refused 0 shapes images (λ k s at yes_. none_given (segments_of s (image_of images k)) (none k s at (let z : 0 + k ≡ k = omega arith in ap refused (sym z) ∙ yes_))))
+      (images_go (λ xs ys. xs ≡ ys) refl (λ a b c d e f i. e i ++ f i) v shapes images (accepted refused images) (sym (accepted_count 0 refused images)) (λ k s at lt. go k s at (refused k) refl))
+    where
+      go : (k : ℕ) (s : Shape) → slice_get shapes k ≡ Some s → (t : Bool) → refused k ≡ t → extents_of v (segments_of s (image_of images k)) ≡ extents_of v (segments_of s (image_of (accepted refused images) k))
+      go k s at true e = none_given (segments_of s (image_of images k)) (none k s at e) ∙ sym (ap (λ (o : Option (List Block)). extents_of v (segments_of s o)) (accepted_gone refused images k e))
+      go k s at false e = sym (ap (λ (o : Option (List Block)). extents_of v (segments_of s o)) (accepted_same refused images k e))
 
   -- where each segment has the same extents, all have
   pub same_extents : (shapes : List Shape) (images before : Images) → length images ≡ length before
       → ((k : ℕ) (s : Shape) → slice_get shapes k ≡ Some s → k < length images → ImagesGo (λ now was. extents_in v now ≡ extents_in v was) s (image_of images k) (image_of before k))
       → extents_of v (all_segments shapes images) ≡ extents_of v (all_segments shapes before)
-  same_extents shapes images before count each =
-      ap (λ (l : Images). extents_of v (all_segments shapes l)) (sym (accepted_all 0 images))
-      ∙ all_say (λ es. es) (λ es fs. refl) v none_refused 0 shapes images before count (λ k s is lt not. inr (each k s is lt))
-      ∙ ap (λ (l : Images). extents_of v (all_segments shapes l)) (accepted_all 0 before)
+  same_extents shapes images before count each = images_go (λ xs ys. xs ≡ ys) refl (λ a b c d e f i. e i ++ f i) v shapes images before count
+      (λ k s at lt. image_goes (λ xs ys. xs ≡ ys) refl (λ a b c d e f i. e i ++ f i) v s (image_of images k) (image_of before k) (each k s at lt))
 
 -- Choices of images, one volume at a time.
 
@@ -246,64 +214,6 @@ module _ (config : Config) (P : ℕ → VolumeConf → Option (List Block) → T
       at : (k : ℕ) → k < length config.volumes.items → image_of (map one (range_with_len 0 (length config.volumes.items))) k ≡ one k
       at k lt = image_or (map one (range_with_len 0 (length config.volumes.items))) k ∙ get_or-map-range_with_len one 0 (length config.volumes.items) k k None lt (omega arith)
 
--- images that keep the same of one volume, image by image
-module _ (config : Config) (refused : ℕ → Bool) (v : ℕ) (images before : Images) (count : length images ≡ length before)
-    (keeps : (k : ℕ) (conf : VolumeConf) → slice_get config.volumes.items k ≡ Some conf → refused k ≡ false → ImagesKeep v (shape_in config conf) (image_of images k) (image_of before k))
-    (home : (conf : VolumeConf) → slice_get config.volumes.items v ≡ Some conf → home_in (Some (shape_in config conf)) (image_of images v) ≡ home_in (Some (shape_in config conf)) (image_of before v)) where
-  same_home : home_in (slice_get (shapes_of config) v) (image_of images v) ≡ home_in (slice_get (shapes_of config) v) (image_of before v)
-  same_home = go (slice_get (shapes_of config) v) refl
-    where
-      go : (o : Option Shape) → slice_get (shapes_of config) v ≡ o → home_in o (image_of images v) ≡ home_in o (image_of before v)
-      go None e = refl
-      go (Some s) e = let conf = volume_at config v s e in subst (λ (t : Shape). home_in (Some t) (image_of images v) ≡ home_in (Some t) (image_of before v)) conf.2 (home conf.0 conf.1)
-
-  keeps_at : (k : ℕ) (s : Shape) → slice_get (shapes_of config) k ≡ Some s → refused k ≡ false → ImagesKeep v s (image_of images k) (image_of before k)
-  keeps_at k s at not = let conf = volume_at config k s at in subst (λ (t : Shape). ImagesKeep v t (image_of images k) (image_of before k)) conf.2 (keeps k conf.0 conf.1 not)
-
-  pub but_same : recovered_but (shapes_of config) refused images v ≡ recovered_but (shapes_of config) refused before v
-  but_same = recovered_same v refused (shapes_of config) images before count same_home (λ k s at lt not. inr (keeps_at k s at not))
-
-  -- and where no image is refused, if those that were to be are the same
-  pub all_same : ((k : ℕ) (conf : VolumeConf) → slice_get config.volumes.items k ≡ Some conf → refused k ≡ true → image_of before k ≡ image_of images k)
-      → recovered_from (shapes_of config) images v ≡ recovered_from (shapes_of config) before v
-  all_same same = recovered_all v (shapes_of config) images before count same_home (λ k s at lt. by_test k s at (refused k) refl)
-    where
-      by_test : (k : ℕ) (s : Shape) → slice_get (shapes_of config) k ≡ Some s → (t : Bool) → refused k ≡ t → (image_of images k ≡ image_of before k) ⊎ ImagesKeep v s (image_of images k) (image_of before k)
-      by_test k s at true e = let conf = volume_at config k s at in inl (sym (same k conf.0 conf.1 e))
-      by_test k s at false e = inr (keeps_at k s at e)
-
--- an image of volume k that might have been left at entry, which keeps the same of volume v as another does; of v's own also the home;
--- a refused one is this
-pub record IsChoice (config : Config) (entry : Told) (refused : ℕ → Bool) (v k : ℕ) (conf : VolumeConf) (image this o : Option (List Block)) : Type 0 where
-  pub may : MayLeave (at_name conf.name entry.images) o
-  pub keeps : refused k ≡ false → ImagesKeep v (shape_in config conf) image o
-  pub home : k ≡ v → home_in (Some (shape_in config conf)) image ≡ home_in (Some (shape_in config conf)) o
-  pub same : refused k ≡ true → o ≡ this
-
-module _ (config : Config) (entry : Told) (refused : ℕ → Bool) (v : ℕ) (images these : Images) (count : length images ≡ length config.volumes.items)
-    (choice : (k : ℕ) (conf : VolumeConf) → slice_get config.volumes.items k ≡ Some conf → (o : Option (List Block)) × IsChoice config entry refused v k conf (image_of images k) (image_of these k) o) where
-  -- all of these together recover to the same
-  pub record IsChosen (before : Images) : Type 0 where
-    pub left : AreLeft config entry before
-    pub but : recovered_but (shapes_of config) refused images v ≡ recovered_but (shapes_of config) refused before v
-    -- refused images are these
-    pub stay : (k : ℕ) (s : Shape) → slice_get (shapes_of config) k ≡ Some s → refused k ≡ true → image_of before k ≡ image_of these k
-    pub all : ((k : ℕ) → image_of these k ≡ image_of images k) → recovered_from (shapes_of config) images v ≡ recovered_from (shapes_of config) before v
-
-  pub chosen : (before : Images) × IsChosen before
-  chosen =
-      let p = picked config (λ k conf o. IsChoice config entry refused v k conf (image_of images k) (image_of these k) o) choice in (
-        p.0,
-        record {
-          left = record { count = p.1.count; each = λ k d lt. (p.1.each k (slice_index_or config.volumes.items k d) (slice_get-get_or config.volumes.items k d lt)).may };
-          but = but_same config refused v images p.0 (count ∙ sym p.1.count)
-              (λ k conf at not. (p.1.each k conf at).keeps not) (λ conf at. (p.1.each v conf at).home refl);
-          stay = λ k s at yes_. let conf = volume_at config k s at in (p.1.each k conf.0 conf.1).same yes_;
-          all = λ are. all_same config refused v images p.0 (count ∙ sym p.1.count)
-              (λ k conf at not. (p.1.each k conf at).keeps not) (λ conf at. (p.1.each v conf at).home refl) (λ k conf at yes_. (p.1.each k conf at).same yes_ ∙ are k);
-        },
-      )
-
 -- Segments that keep nothing of a volume.
 
 abbrev pub KeepsNothing : (v : ℕ) → List Block → Type 0
@@ -312,7 +222,7 @@ KeepsNothing v bs = (n : ℕ) → keeping n (extents_in v bs) ≡ []
 pub nothing_same : (v : ℕ) (bs cs : List Block) → KeepsNothing v bs → KeepsNothing v cs → SegmentsKeep v bs cs
 nothing_same v bs cs first second n = first n ∙ sym (second n)
 
-none_keeps : (v : ℕ) (bs : List Block) → extents_in v bs ≡ [] → KeepsNothing v bs
+pub none_keeps : (v : ℕ) (bs : List Block) → extents_in v bs ≡ [] → KeepsNothing v bs
 none_keeps v bs none n = ap (keeping n) none ∙ keeping_none n [] tt
 
 -- a free one

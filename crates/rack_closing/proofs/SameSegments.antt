@@ -1,11 +1,13 @@
 -- The segments that a volume has, in any order, give the same extents as all segments in theirs.
-use Rattle.rack_closing.proofs.Basics.{◌≡◌, ◌≢◌, ◌⊎◌, inl, inr, ⊎_elim, ◌<◌, ◌+◌, ℕ, Bool, true, List, [], ◌∷◌, ◌++◌, map, Some, refl, sym, ap, subst, ◌∙◌, length, arith}
-use Rattle.rack_closing.proofs.Basics.{slice_get, All, ⊤, AllByRecursion, flat_map, flat_map-append, All-from_recursion}
-use Rattle.rack_closing.proofs.Terms.{Block, IsAmong, Shape, AreDistinct, Cover, Extent, covers_of, with_extents, IsValid, Images, image_of, image_size, segment_of, all_segments}
-use Rattle.rack_closing.proofs.Terms.{extents_in, extents_of, AreInOrder, IsBefore}
+use Rattle.rack_closing.proofs.Basics.{◌≡◌, ◌≢◌, ◌⊎◌, inl, inr, ⊎_elim, ◌<◌, ℕ, List, [], ◌∷◌, ◌++◌, map, Some, refl, sym, ap, subst, ◌∙◌, length, slice_get, All, ⊤, AllByRecursion, flat_map}
+use Rattle.rack_closing.proofs.Basics.{flat_map-append, All-from_recursion, All-contains}
+use Rattle.rack_closing.proofs.Terms.{Block, IsAmong, Shape, AreDistinct, Cover, Extent, covers_of, with_extents, IsValid, Images, image_of, image_size, segment_of, all_segments, extents_in}
+use Rattle.rack_closing.proofs.Terms.{extents_of, IsBefore}
 use Rattle.manager_recovery.specs.Owned.{Owned}
 use Rattle.manager_recovery.proofs.SameNewest.{same_array}
-use Rattle.rack_closing.proofs.OwnedSegments.{fits, found, listed, never_itself, ordered, same_all, segment_at, stands, all_among, each_among}
+use Rattle.std.proofs.lemmas.List.Folds.{flat_map-map}
+use Rattle.manager_recovery.proofs.ByLogger.{all_among, all_from, among_map, map_among, contains_among}
+use Rattle.rack_closing.proofs.OwnedSegments.{InOrder, place, behind, every, every_blocks, found, never_itself, ordered, segment_at, stands}
 
 -- ---- The same elements in another order
 
@@ -55,7 +57,7 @@ mapped : {X Y : Type 0} (P : Y → Type 0) (f : X → Y) (xs : List X) → AllBy
 mapped P f [] all = tt
 mapped P f (x ∷ xs) all = (all.0, mapped P f xs all.1)
 
-unmapped : {X Y : Type 0} (P : Y → Type 0) (f : X → Y) (xs : List X) → AllByRecursion P (map f xs) → AllByRecursion (λ x. P (f x)) xs
+pub unmapped : {X Y : Type 0} (P : Y → Type 0) (f : X → Y) (xs : List X) → AllByRecursion P (map f xs) → AllByRecursion (λ x. P (f x)) xs
 unmapped P f [] all = tt
 unmapped P f (x ∷ xs) all = (all.0, unmapped P f xs all.1)
 
@@ -166,67 +168,39 @@ module _ (v : ℕ) where
 
 -- ---- All segments of images
 
-every : List Block → Bool
-every bs = true
+abbrev placed : Owned → Placed
+placed o = ((o.logger, o.index), o.blocks)
 
-abbrev placed_all : List Owned → List Placed
-placed_all os = map (λ (o : Owned). ((o.logger, o.index), o.blocks)) os
-
-among_placed : (os : List Owned) (o : Owned) → IsAmong os o → IsAmong (placed_all os) ((o.logger, o.index), o.blocks)
-among_placed [] o has = absurd has
-among_placed (x ∷ os) o has = ⊎_elim (λ same. inl (ap (λ (y : Owned). ((y.logger, y.index), y.blocks)) same)) (λ more. inr (among_placed os o more)) has
-
-pub record Comes (os : List Owned) (e : Placed) : Type 0 where
-  owned : Owned
-  among : IsAmong os owned
-  is : e ≡ ((owned.logger, owned.index), owned.blocks)
-
-comes : (os : List Owned) (e : Placed) → IsAmong (placed_all os) e → Comes os e
-comes [] e has = absurd has
-comes (x ∷ os) e has = ⊎_elim (λ same. record { owned = x; among = inl refl; is = same }) (λ more. let rest = comes os e more in record { owned = rest.owned; among = inr rest.among; is = rest.is }) has
-
-order_apart : (os : List Owned) → AreInOrder (map (λ (o : Owned). (o.logger, o.index)) os) → AreApartPlaced (placed_all os)
+order_apart : (os : List Owned) → InOrder os → AreApartPlaced (map placed os)
 order_apart [] order = tt
-order_apart (x ∷ os) order = (at os order.0, order_apart os order.1)
-  where
-    at : (ys : List Owned) → AllByRecursion (IsBefore (x.logger, x.index)) (map (λ (o : Owned). (o.logger, o.index)) ys) → AllByRecursion (λ (g : Placed). (x.logger, x.index) ≢ g.0) (placed_all ys)
-    at [] all = tt
-    at (y ∷ ys) all = ((λ same. never_itself (x.logger, x.index) (subst (IsBefore (x.logger, x.index)) (sym same) all.0)), at ys all.1)
-
-blocks_placed : (v : ℕ) (os : List Owned) → extents_of v (map (λ (o : Owned). o.blocks) os) ≡ flat_map (λ (h : Placed). extents_in v h.1) (placed_all os)
-blocks_placed v [] = refl
-blocks_placed v (o ∷ os) = ap (λ (l : List Extent). extents_in v o.blocks ++ l) (blocks_placed v os)
-
-placed_blocks : (v : ℕ) (hs : List Placed) → extents_of v (map (λ (h : Placed). h.1) hs) ≡ flat_map (λ (h : Placed). extents_in v h.1) hs
-placed_blocks v [] = refl
-placed_blocks v (h ∷ hs) = ap (λ (l : List Extent). extents_in v h.1 ++ l) (placed_blocks v hs)
+order_apart (x ∷ os) order = (
+  all_from (λ (g : Placed). (x.logger, x.index) ≢ g.0) (map placed os) (λ g has same.
+      let w = map_among placed os g has in
+      never_itself (place x) (subst (IsBefore (place x)) (sym (same ∙ ap (λ (h : Placed). h.0) w.2)) (behind (place x) os w.0 order.0 w.1))),
+  order_apart os order.1,
+)
 
 -- the volume's segments, in any order, have the extents of all segments in theirs
 pub same_extents : (shapes : List Shape) (images : Images) (v : ℕ) (held : List Placed) → AreThese shapes images v held
     → Shuffled (extents_of v (map (λ (h : Placed). h.1) held)) (extents_of v (all_segments shapes images))
-unfolding every
 same_extents shapes images v held are =
-    let os = listed every 0 shapes images in
-    let all : extents_of v (all_segments shapes images) ≡ flat_map (λ (h : Placed). extents_in v h.1) (placed_all os)
-    = same_all every v (λ bs e. absurd (cc e)) 0 shapes images (fits every shapes images are.sized) ∙ blocks_placed v os in
-    subst (λ (l : List Extent). Shuffled l (extents_of v (all_segments shapes images))) (sym (placed_blocks v held))
-    (subst (λ (l : List Extent). Shuffled (flat_map (λ (h : Placed). extents_in v h.1) held) l) (sym all)
-    (gathered v held (placed_all os) within are.apart (order_apart os (ordered every 0 shapes images)) rest))
+    let all : flat_map (λ (h : Placed). extents_in v h.1) (map placed os) ≡ extents_of v (all_segments shapes images)
+    = flat_map-map (λ (h : Placed). extents_in v h.1) placed os ∙ sym (flat_map-map (extents_in v) (λ (o : Owned). o.blocks) os) ∙ ap (extents_of v) (every_blocks shapes images are.sized) in
+    subst (λ (p : List Extent × List Extent). Shuffled p.0 p.1) (λ i. (sym (flat_map-map (extents_in v) (λ (h : Placed). h.1) held) i, all i))
+    (gathered v held (map placed os) within are.apart (order_apart os (ordered shapes images)) rest)
   where
-    within : (h : Placed) → IsAmong held h → IsAmong (placed_all (listed every 0 shapes images)) h
-    within h has =
-        let w = each_among (λ (g : Placed). (s : Shape) × (c : List Block) × (slice_get shapes g.0.0 ≡ Some s) × (image_of images g.0.0 ≡ Some c) × (g.0.1 < s.segments) × (g.1 ≡ segment_of s c g.0.1)) held are.there h has in
-        let here = among_placed (listed every 0 shapes images) (segment_at every (0 + h.0.0) w.0 w.1 h.0.1) (found every 0 h.0.0 h.0.1 shapes images w.0 w.1 w.2 w.3 w.4 refl) in
-        let z : 0 + h.0.0 ≡ h.0.0 = omega arith in
-        let same : ((0 + h.0.0, h.0.1), segment_of w.0 w.1 h.0.1) ≡ h = λ i. ((z i, h.0.1), sym w.5 i) in
-        subst (λ (g : Placed). IsAmong (placed_all (listed every 0 shapes images)) g) same here
+    os : List Owned
+    os = every shapes images
 
-    rest : (e : Placed) → IsAmong (placed_all (listed every 0 shapes images)) e → AllByRecursion (λ (h : Placed). h.0 ≢ e.0) held → extents_in v e.1 ≡ []
+    within : (h : Placed) → IsAmong held h → IsAmong (map placed os) h
+    within h has =
+        let w = All-contains (λ (g : Placed). (s : Shape) × (c : List Block) × (slice_get shapes g.0.0 ≡ Some s) × (image_of images g.0.0 ≡ Some c) × (g.0.1 < s.segments) × (g.1 ≡ segment_of s c g.0.1)) held h are.there (contains_among held h has) in
+        let here = among_map placed os (segment_at h.0.0 w.0 w.1 h.0.1) (found shapes images h.0.0 h.0.1 w.0 w.1 w.2 w.3 w.4) in
+        subst (λ (bs : List Block). IsAmong (map placed os) (h.0, bs)) (sym w.5) here
+
+    rest : (e : Placed) → IsAmong (map placed os) e → AllByRecursion (λ (h : Placed). h.0 ≢ e.0) held → extents_in v e.1 ≡ []
     rest e has apart =
-        let from = comes (listed every 0 shapes images) e has in
-        let is = stands every 0 shapes images from.owned from.among in
-        let k : from.owned.logger ≡ is.at = (let l = is.logger_is in omega (arith, l)) in
-        let there = ap (image_of images) k ∙ is.there in
-        let shape_is = ap (slice_get shapes) k ∙ is.shape_is in
-        let none_here : All (λ (h : Placed). h.0 ≢ (from.owned.logger, from.owned.index)) held = subst (λ (g : Placed). All (λ (h : Placed). h.0 ≢ g.0) held) from.is (All-from_recursion (λ (h : Placed). h.0 ≢ e.0) held apart) in
-        ap (λ (g : Placed). extents_in v g.1) from.is ∙ ap (extents_in v) is.blocks_are ∙ are.others from.owned.logger from.owned.index is.shape is.image shape_is there is.within none_here
+        let from = map_among placed os e has in
+        let is = stands shapes images from.0 from.1 in
+        let none_here = subst (λ (g : Placed). All (λ (h : Placed). h.0 ≢ g.0) held) from.2 (All-from_recursion (λ (h : Placed). h.0 ≢ e.0) held apart) in
+        ap (λ (g : Placed). extents_in v g.1) from.2 ∙ ap (extents_in v) is.blocks_are ∙ are.others from.0.logger from.0.index is.shape is.image is.shape_is is.there is.within none_here

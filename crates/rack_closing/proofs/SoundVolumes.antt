@@ -1,17 +1,15 @@
 -- Volumes whose images at entry are sound as they read: they are refused only for a failed call, and opened again.
-use Rattle.rack_closing.proofs.Basics.{◌≡◌, ◌≢◌, ℕ, zero, suc, ◌+◌, ◌<◌, ◌≤◌, ◌^◌, ◌==◌, ◌&&◌, Bool, true, false, not, cond, eqb, List, [], ◌∷◌, ◌++◌, length, map, Option, None}
-use Rattle.rack_closing.proofs.Basics.{Some, refl, sym, ap, ◌∙◌, subst, arith, ⊎_elim, ◌*◌, get_or, replicate, option_map, ◌⊎◌, inl, inr, is_some, IfSome, slice_get, unwrap_or}
-use Rattle.rack_closing.proofs.Basics.{filter, Contains, slice_index_or, IsTrue, sum, find, AllByRecursion, range_with_len, position_or_len, eq-eqb, eqb-true, cases_lt, lt-ltb}
-use Rattle.rack_closing.proofs.Basics.{length-append, map-append, length-map, filter-append, All-contains, same_Some, none-some, slice_get-map, slice_get_within, slice_get-get_or}
-use Rattle.rack_closing.proofs.Basics.{get_or_from_slice_get, fails_before_first, sum_by-cons}
-use Rattle.rack_closing.proofs.Terms.{Block, State, Rose, reads, Image, Told, BayState, at_name, bytes_of, Extent, Cover, AreDistinct, covers_of, Shape, owned_block, free_block}
-use Rattle.rack_closing.proofs.Terms.{SpellsView, Images, image_of, image_size, segment_of, segments_of, all_segments, IsSoundSegment, IsSoundImage, AreSound, NamesOthers}
-use Rattle.rack_closing.proofs.Terms.{accepted, Record, IsIdle, IsLog, IsNamed, extent_of, extents_of, log_read, one_segment_head, one_log, one_label, one_view, Config, VolumeConf}
-use Rattle.rack_closing.proofs.Terms.{HasView, Part, Station, Head, records_of, records_in, heads_from, heads_of, heads_in, with_version, IsFault, LiesWithin, AreFirstTwins}
-use Rattle.rack_closing.proofs.Terms.{owned_of, all_owned, HasHead, IsImageFault, part_sizes, shape_in, shapes_of, image_read, images_read, IsOwnedIn, AreOwnedIn, images_taken}
-use Rattle.rack_closing.proofs.Terms.{IsOpeningOf, fault_in_image, RefusesVolume, RefusesImage, RefusesOpening, RefusesBay, AreRefused, NamesVolumes, IsRack, IsOpenBase, IsStation}
-use Rattle.rack_closing.proofs.Terms.{base_of_station, image_here, IsImageOut, ImageRest, VolumeFault, Absent, WrongLength, Refused, LabelFault, BayFailed, is_kept_home}
-use Rattle.rack_closing.proofs.Terms.{HasFaultIn, IsOfFailedCall, RefusesSound, OpensAllAgain, Rack}
+use Rattle.rack_closing.proofs.Basics.{◌≡◌, ◌≢◌, ℕ, suc, ◌+◌, ◌<◌, ◌≤◌, ◌^◌, ◌==◌, ◌&&◌, Bool, true, false, not, cond, eqb, List, [], ◌∷◌, ◌++◌, length, map, Option, None, Some, refl, sym, ap}
+use Rattle.rack_closing.proofs.Basics.{◌∙◌, subst, arith, ⊎_elim, ◌*◌, get_or, replicate, option_map, ◌⊎◌, is_some, IfSome, slice_get, unwrap_or, filter, Contains, slice_index_or, IsTrue, sum}
+use Rattle.rack_closing.proofs.Basics.{find, AllByRecursion, range_with_len, position_or_len, eq-eqb, eqb-true, cases_lt, lt-ltb, length-append, map-append, length-map, filter-append}
+use Rattle.rack_closing.proofs.Basics.{All-contains, same_Some, none-some, slice_get-map, slice_get_within, slice_get-get_or, get_or_from_slice_get, fails_before_first, sum_by-cons}
+use Rattle.rack_closing.proofs.Terms.{Block, State, Rose, reads, Image, Told, BayState, at_name, bytes_of, Extent, Cover, AreDistinct, covers_of, Shape, owned_block, free_block, SpellsView}
+use Rattle.rack_closing.proofs.Terms.{Images, image_of, image_size, segment_of, segments_of, all_segments, IsSoundSegment, IsSoundImage, AreSound, accepted, Record, IsIdle, IsLog, IsNamed}
+use Rattle.rack_closing.proofs.Terms.{extent_of, extents_of, log_read, one_segment_head, one_log, one_label, one_view, Config, VolumeConf, HasView, Part, Station, Head, records_of, records_in}
+use Rattle.rack_closing.proofs.Terms.{heads_from, heads_of, heads_in, with_version, IsFault, LiesWithin, AreFirstTwins, owned_of, all_owned, HasHead, IsImageFault, part_sizes, shape_in, shapes_of}
+use Rattle.rack_closing.proofs.Terms.{image_read, images_read, IsOwnedIn, AreOwnedIn, images_taken, IsOpeningOf, fault_in_image, RefusesVolume, RefusesImage, RefusesOpening, RefusesBay}
+use Rattle.rack_closing.proofs.Terms.{AreRefused, NamesVolumes, IsRack, IsOpenBase, IsStation, base_of_station, image_here, IsImageOut, ImageRest, VolumeFault, Absent, WrongLength, Refused}
+use Rattle.rack_closing.proofs.Terms.{LabelFault, BayFailed, is_kept_home, HasFaultIn, IsOfFailedCall, RefusesSound, OpensAllAgain, Rack}
 use Rattle.std.proofs.lemmas.List.Folds.{sum_by-replicate}
 use Rattle.wol_bay.specs.Refusals.{refusal, refusal_of}
 use Rattle.wol_bay.specs.declared.fault.BayFault.{BayFault}
@@ -29,10 +27,12 @@ use Rattle.manager_recovery.specs.declared.opening.OwnedPart.{OwnedPart}
 use Rattle.manager_recovery.specs.declared.refusal.OpenRefusal.{OpenRefusal}
 use Rattle.volume_images.specs.declared.reading.ImageFault.{ImageFault}
 use Rattle.rack_parts.proofs.Members.{later_in, of_recursion, in_map, first_in, no_value, of_map, element_at}
-use Rattle.rack_closing.proofs.OwnedSegments.{extents_owned}
+use Rattle.manager_recovery.proofs.ByLogger.{all_among, among_map}
+use Rattle.rack_closing.proofs.OwnedSegments.{extents_owned, range_has}
 use Rattle.rack_closing.proofs.SameOut.{out_bit}
-use Rattle.rack_closing.proofs.SoundBefore.{Fewer, none, fewer_same, fewer_images, fewer_distinct}
-use Rattle.rack_closing.proofs.FinalImages.{accepted_at}
+use Rattle.rack_closing.proofs.SoundBefore.{Fewer, none, fewer_same, fewer_images, fewer_distinct, segments_are}
+use Rattle.rack_closing.proofs.LeftImage.{read_here, accepted_is, accepted_same, accepted_gone, accepted_count}
+use Rattle.rack_closing.proofs.HeldSegments.{all_append}
 use Rattle.rack_closing.proofs.NewFaults.{image_said}
 use Rattle.rack_closing.proofs.SoundClosed.{reads_are_left}
 use Rattle.rack_closing.proofs.Cases.{by_option}
@@ -43,11 +43,6 @@ use Rattle.manager_recovery.specs.declared.refusal.OpenRefusal.TheVariants as op
 use Rattle.volume_images.specs.declared.reading.ImageFault.TheVariants as image_fault
 
 -- What sound images say of the segments that a volume owns.
-
-row_at : (P : List Block → Type 0) (f : ℕ → List Block) (a n j : ℕ) → AllByRecursion P (map f (range_with_len a n)) → j < n → P (f (a + j))
-row_at P f a zero j all lt = absurd (omega (arith, lt))
-row_at P f a (suc n) zero all lt = let e : a + 0 ≡ a = omega arith in subst (λ (m : ℕ). P (f m)) (sym e) all.0
-row_at P f a (suc n) (suc j) all lt = let e : a + suc j ≡ a + 1 + j = omega arith in subst (λ (m : ℕ). P (f m)) (sym e) (row_at P f (a + 1) n j all.1 (omega (arith, lt)))
 
 -- ---- Records that keep a block
 
@@ -134,17 +129,11 @@ module _ (shapes : List Shape) (images : Images) (sound : AreSound shapes images
       let same : w.0 ≡ image = same_Some w.0 image (sym read ∙ there) in
       record { ids = w.1; view_is = w.3; is = subst (IsSoundImage shapes sound.views k s w.1) same w.4 }
 
-  pub sized_here : (k : ℕ) (s : Shape) (image : List Block) → slice_get shapes k ≡ Some s → image_of images k ≡ Some image → length image ≡ image_size s
-  sized_here k s image shape there = (sound_here k s image shape there).is.sized
-
   pub segment_sound : (k : ℕ) (s : Shape) (image : List Block) (i : ℕ) → slice_get shapes k ≡ Some s → image_of images k ≡ Some image → i < s.segments → IsSoundSegment shapes sound.views k (segment_of s image i)
   segment_sound k s image i shape there within =
       let here = (sound_here k s image shape there).is in
-      let row : segments_of s (Some image) ≡ map (segment_of s image) (range_with_len 0 s.segments)
-      = ap (λ (t : Bool). cond t (map (segment_of s image) (range_with_len 0 s.segments)) []) (eq-eqb (length image) (image_size s) here.sized) in
-      let at = row_at (IsSoundSegment shapes sound.views k) (segment_of s image) 0 s.segments i (subst (AllByRecursion (IsSoundSegment shapes sound.views k)) row here.segments) within in
-      let e : 0 + i ≡ i = omega arith in
-      subst (λ (m : ℕ). IsSoundSegment shapes sound.views k (segment_of s image m)) e at
+      all_among (IsSoundSegment shapes sound.views k) (map (segment_of s image) (range_with_len 0 s.segments)) (segment_of s image i) (subst (AllByRecursion (IsSoundSegment shapes sound.views k)) (segments_are s image here.sized) here.segments)
+      (among_map (segment_of s image) (range_with_len 0 s.segments) i (range_has 0 s.segments i (omega arith) (omega (arith, within))))
 
   -- ---- The segments of one volume
 
@@ -198,11 +187,7 @@ module _ (shapes : List Shape) (images : Images) (sound : AreSound shapes images
 
     all_named : (os : List Owned) → ((o : Owned) → Contains os o → IsSoundLog o) → AllByRecursion (IsNamed v) (records_in v os)
     all_named [] each = tt
-    all_named (o ∷ os) each = all_joined (records_of v o) (records_in v os) (named o (each o (0, omega arith, refl))) (all_named os (λ x has. each x (later_in o x os has)))
-      where
-        all_joined : (xs ys : List Record) → AllByRecursion (IsNamed v) xs → AllByRecursion (IsNamed v) ys → AllByRecursion (IsNamed v) (xs ++ ys)
-        all_joined [] ys one other = other
-        all_joined (x ∷ xs) ys one other = (one.0, all_joined xs ys one.1 other)
+    all_named (o ∷ os) each = all_append (IsNamed v) (records_of v o) (records_in v os) (named o (each o (0, omega arith, refl))) (all_named os (λ x has. each x (later_in o x os has)))
 
     -- no two records that keep blocks have one version, in images of which no two have
     pub no_twins_in : (others : Images) (sized : (k : ℕ) (s : Shape) (image : List Block) → slice_get shapes k ≡ Some s → image_of others k ≡ Some image → length image ≡ image_size s)
@@ -299,10 +284,9 @@ module _ (config : Config) (valid : IsValid config) (t : Told) (sound : AreSound
   sound_at k v at =
       let shape : slice_get shapes k ≡ Some (shape_in config v) = slice_get-map (shape_in config) config.volumes.items k ∙ ap (option_map (shape_in config)) at in
       let w = sound.each k (shape_in config v) shape in
-      let f : VolumeConf → Option (List Block) = λ x. image_read (at_name x.name t.images) in
-      let got : slice_get (images_read config t) k ≡ Some (f v) = slice_get-map f config.volumes.items k ∙ ap (option_map f) at in
-      let back = read_back (at_name v.name t.images) w.0 (same_Some (f v) (Some w.0) (sym got ∙ w.2)) in
-      let read : image_of (images_read config t) k ≡ Some (reads back.image.blocks) = ap (λ (x : Option (Option (List Block))). unwrap_or x None) w.2 ∙ ap (λ (bs : List Block). Some bs) (sym back.blocks) in
+      let got : image_of (images_read config t) k ≡ Some w.0 = ap (λ (x : Option (Option (List Block))). unwrap_or x None) w.2 in
+      let back = read_back (at_name v.name t.images) w.0 (sym (read_here config t k v at) ∙ got) in
+      let read : image_of (images_read config t) k ≡ Some (reads back.image.blocks) = got ∙ ap (λ (bs : List Block). Some bs) (sym back.blocks) in
       record {
         image = back.image;
         there = back.there;
@@ -343,16 +327,15 @@ module _ (config : Config) (valid : IsValid config) (t : Told) (sound : AreSound
   pub no_image_fault : (missing : ℕ → Type 0) (k : ℕ) (v : VolumeConf) (x : IsSoundAt k v) (e : ImageFault) (old new : BayState) → (Rattle.volume_images.specs.Refusals.IsCallFault e → Rose old.faults new.faults)
       → IsImageFault (length shapes) k (shape_in config v) (reads x.image.blocks) e → IsCallRefusal missing old new (fault_in_image k e)
   no_image_fault missing k v x (image_fault.Damaged block) old new cause is =
+      let label = x.here.is.label in
+      let view = x.here.is.view in
       ⊎_elim
-      (λ first.
-      ⊎_elim
+      (λ first. ⊎_elim
       (λ no_label. no_label.1 k (shape_in config v) (record { block = label.0; first = label.1; spelled = label.2 }))
-      (λ no_view.
-      ⊎_elim
+      (λ no_view. ⊎_elim
       (λ (none : Rattle.logger_view.specs.Stored.HasNoView (reads x.image.blocks)). none x.here.ids (record { block = view.0; second = view.1; spelled = view.2 }))
       (λ (itself : Rattle.logger_view.specs.Stored.NamesItself k (reads x.image.blocks)).
-      let same = view_of k v x itself.0 itself.1 in
-      let has : Contains x.here.ids k = subst (λ (ids : List ℕ). Contains ids k) same itself.2 in
+      let has : Contains x.here.ids k = subst (λ (ids : List ℕ). Contains ids k) (view_of k v x itself.0 itself.1) itself.2 in
       (of_recursion (λ (id : ℕ). (id < length shapes) × (id ≢ k)) x.here.ids k view.3 has).1 refl)
       no_view.2)
       first)
@@ -362,12 +345,6 @@ module _ (config : Config) (valid : IsValid config) (t : Told) (sound : AreSound
       (segment_sound shapes (images_read config t) sound k (shape_in config v) (reads x.image.blocks) headless.0 x.shape_is x.read h.within) in
       h.headless some.0 some.1)
       is
-    where
-      label : (block : Block) × (slice_get (reads x.image.blocks) 0 ≡ Some block) × head.SpellsLabel block k (shape_in config v)
-      label = x.here.is.label
-
-      view : (block : Block) × (slice_get (reads x.image.blocks) 1 ≡ Some block) × SpellsView block x.here.ids × NamesOthers (length shapes) k x.here.ids
-      view = x.here.is.view
   no_image_fault missing k v x image_fault.LabelDiffers old new cause is =
       let label = x.here.is.label in
       let same : is.label.block ≡ label.0 = same_Some is.label.block label.0 (sym is.label.first ∙ label.1) in
@@ -378,31 +355,14 @@ module _ (config : Config) (valid : IsValid config) (t : Told) (sound : AreSound
 
 -- Of images that are sound as they read, a volume is refused only for a failed call, also where others aren't out.
 
--- an image that is taken is one of those
-taken_at : (refused : ℕ → Bool) (images : Images) (k : ℕ) → (image_of (accepted refused images) k ≡ image_of images k) ⊎ (image_of (accepted refused images) k ≡ None)
-taken_at refused images k = go (refused k) refl
-  where
-    e : image_of (accepted refused images) k ≡ cond (refused k) None (image_of images k)
-    e = accepted_at 0 refused images k ∙ ap (λ (n : ℕ). cond (refused n) None (image_of images k)) (omega arith)
-
-    go : (t : Bool) → refused k ≡ t → (image_of (accepted refused images) k ≡ image_of images k) ⊎ (image_of (accepted refused images) k ≡ None)
-    go true is = inr (e ∙ ap (λ (t : Bool). cond t None (image_of images k)) is)
-    go false is = inl (e ∙ ap (λ (t : Bool). cond t None (image_of images k)) is)
-
-pub taken_there : (refused : ℕ → Bool) (images : Images) (k : ℕ) (c : List Block) → image_of (accepted refused images) k ≡ Some c → image_of images k ≡ Some c
-taken_there refused images k c is = ⊎_elim (λ same. sym same ∙ is) (λ gone. absurd (none-some c (sym gone ∙ is))) (taken_at refused images k)
-
 -- the records of those that are taken are some of all
-pub taken_distinct : (every_shape : List Shape) (refused : ℕ → Bool) (images : Images) (v : ℕ) → AreDistinct (covers_of (extents_of v (all_segments every_shape images))) → AreDistinct (covers_of (extents_of v (all_segments every_shape (accepted refused images))))
-taken_distinct every_shape refused images v =
-    fewer_distinct (extents_of v (all_segments every_shape (accepted refused images))) (extents_of v (all_segments every_shape images))
-    (fewer_images v every_shape (accepted refused images) images
-    (λ k s at. fewer k s (taken_at refused images k)))
+taken_distinct : (every_shape : List Shape) (refused : ℕ → Bool) (images : Images) (v : ℕ) → AreDistinct (covers_of (extents_of v (all_segments every_shape images))) → AreDistinct (covers_of (extents_of v (all_segments every_shape (accepted refused images))))
+taken_distinct every_shape refused images v = fewer_distinct (extents_of v (all_segments every_shape (accepted refused images))) (extents_of v (all_segments every_shape images))
+    (fewer_images v every_shape (accepted refused images) images (accepted_count 0 refused images) (λ k s at. go k s (refused k) refl))
   where
-    fewer : (k : ℕ) (s : Shape) → (image_of (accepted refused images) k ≡ image_of images k) ⊎ (image_of (accepted refused images) k ≡ None)
-        → Fewer (extents_of v (segments_of s (image_of (accepted refused images) k))) (extents_of v (segments_of s (image_of images k)))
-    fewer k s (inl same) = subst (λ (c : Option (List Block)). Fewer (extents_of v (segments_of s c)) (extents_of v (segments_of s (image_of images k)))) (sym same) (fewer_same (extents_of v (segments_of s (image_of images k))))
-    fewer k s (inr gone) = subst (λ (c : Option (List Block)). Fewer (extents_of v (segments_of s c)) (extents_of v (segments_of s (image_of images k)))) (sym gone) (none (extents_of v (segments_of s (image_of images k))))
+    go : (k : ℕ) (s : Shape) (t : Bool) → refused k ≡ t → Fewer (extents_of v (segments_of s (image_of (accepted refused images) k))) (extents_of v (segments_of s (image_of images k)))
+    go k s true e = subst (λ (c : Option (List Block)). Fewer (extents_of v (segments_of s c)) (extents_of v (segments_of s (image_of images k)))) (sym (accepted_gone refused images k e)) (none (extents_of v (segments_of s (image_of images k))))
+    go k s false e = subst (λ (c : Option (List Block)). Fewer (extents_of v (segments_of s c)) (extents_of v (segments_of s (image_of images k)))) (sym (accepted_same refused images k e)) (fewer_same (extents_of v (segments_of s (image_of images k))))
 
 -- what is found passes, and is one of the list
 found : {X : Type 0} (test : X → Bool) (xs : List X) (x : X) → find test xs ≡ Some x → (test x ≡ true) × Contains xs x
@@ -443,12 +403,10 @@ module _ {D : Type 0} (tells : Bool) (telling : IsTrue tells) (state : D → Sta
     log_of s has =
         let its = All-contains (IsOwnedIn every_shape (images_taken config out t) k) os s is.owned.each has in
         sound_log every_shape images sound k known s
-        (record { image = its.image; shape = its.shape; there = taken_there (is_kept_home out) images s.logger its.image its.there; shape_is = its.shape_is; within = its.within; blocks_are = its.blocks_are; first_is = its.first_is; rest = its.rest; owner = its.owner })
+        (record { image = its.image; shape = its.shape; there = (accepted_is (is_kept_home out) images s.logger its.image its.there).1; shape_is = its.shape_is; within = its.within; blocks_are = its.blocks_are; first_is = its.first_is; rest = its.rest; owner = its.owner })
 
     read_own : image_of (images_taken config out t) k ≡ Some (reads x.image.blocks)
-    read_own =
-        accepted_at 0 (is_kept_home out) images k ∙ ap (λ (m : ℕ). cond (is_kept_home out m) None (image_of images k)) (omega arith)
-        ∙ ap (λ (b : Bool). cond (not b) None (image_of images k)) is_out ∙ x.read
+    read_own = accepted_same (is_kept_home out) images k (ap not is_out) ∙ x.read
 
     same_view : o.view ≡ x.here.ids
     same_view = view_of config valid t sound k v x o.view (is.view (reads x.image.blocks) read_own)
@@ -476,7 +434,7 @@ module _ {D : Type 0} (tells : Bool) (telling : IsTrue tells) (state : D → Sta
         no_fault every_shape images sound k known o.want.home block first.segment its home (subst (λ (w : ℕ). IsFault w o.want.home first.segment block) is.id first.fault)
     opening_of (opening.Twins first_volume first second_volume second) r names old new =
         let twins = r.1 telling in
-        no_twins_in every_shape images sound k known (images_taken config out t) (λ j s c shape there. sized_here every_shape images sound j s c shape (taken_there (is_kept_home out) images j c there))
+        no_twins_in every_shape images sound k known (images_taken config out t) (λ j s c shape there. (sound_here every_shape images sound j s c shape (accepted_is (is_kept_home out) images j c there).1).is.sized)
         (taken_distinct every_shape (is_kept_home out) images k (sound.distinct k (slice_get_within every_shape k (shape_in config v) x.shape_is))) os is.owned log_of
         (head_at twins.version first_volume first) (head_at twins.version second_volume second)
         (subst (λ (w : ℕ). AreFirstTwins (heads_in w os) (head_at twins.version first_volume first) (head_at twins.version second_volume second)) is.id twins.twins)

@@ -1,21 +1,19 @@
 -- What images of a station's parts recover to, among all segments.
-use Rattle.rack_closing.proofs.Basics.{◌≡◌, ◌≢◌, ◌<◌, ◌≤◌, ◌⊎◌, inl, inr, ℕ, Bool, List, [], ◌∷◌, length, map, Option, Some, None, refl}
-use Rattle.rack_closing.proofs.Basics.{sym, ap, ◌∙◌, subst, arith, All, AllPairs, Contains, IsTrue, is_some, slice_get, unwrap_or}
-use Rattle.rack_closing.proofs.Basics.{AllByRecursion, AllZip, cases_lt, slice_get_within, get_or_from_slice_get, All-from_recursion}
-use Rattle.rack_closing.proofs.Terms.{Block, State, IsImageOf, after, AreDistinct, Extent, covers_of, with_extents, Shape, writes}
-use Rattle.rack_closing.proofs.Terms.{flight_of, IsCut, Images, image_of, image_size, segment_of, all_segments, Indexed, Listed, listed_in}
-use Rattle.rack_closing.proofs.Terms.{IsLog, extent_of, extents_in, extents_of, Held, IsBacked, extents_held, Noted, entries_of, state_of}
-use Rattle.rack_closing.proofs.Terms.{volume_of, Spun, parts_of, all_held, Keeps, AreListedOf, IsOfExtent, IsOnLogger}
+use Rattle.rack_closing.proofs.Basics.{◌≡◌, ◌≢◌, ◌<◌, ◌≤◌, ◌⊎◌, inl, inr, ℕ, Bool, List, [], ◌∷◌, length, map, Option, Some, None, refl, sym, ap, ◌∙◌, subst, arith, All, AllPairs, Contains}
+use Rattle.rack_closing.proofs.Basics.{IsTrue, is_some, slice_get, unwrap_or, AllByRecursion, AllZip, cases_lt, slice_get_within, get_or_from_slice_get, All-from_recursion}
+use Rattle.rack_closing.proofs.Terms.{Block, State, IsImageOf, after, AreDistinct, Extent, covers_of, with_extents, Shape, writes, flight_of, IsCut, Images, image_of, image_size, segment_of}
+use Rattle.rack_closing.proofs.Terms.{all_segments, Indexed, Listed, listed_in, IsLog, extent_of, extents_in, extents_of, Held, IsBacked, extents_held, Noted, entries_of, state_of, volume_of}
+use Rattle.rack_closing.proofs.Terms.{Spun, parts_of, all_held, Keeps, AreListedOf, IsOfExtent, IsOnLogger, Write}
 use Rattle.wol_model.specs.Recovered.{recovered}
 use Rattle.wol_promise.specs.Stands.{place_in, ApartFrom, AreApartPlaces, IsHeldBy, IsWhole, IsSoundOf, AreSoundOf}
 use Rattle.wol_promise.proofs.Choices.{chosen_extents, recovers_from}
 use Rattle.wol_promise.proofs.SoundSegments.{logs_sound}
 use Rattle.manager.specs.declared.base.ManagerBase.{ManagerBase}
 use Rattle.manager.specs.declared.manager.Manager.{Manager}
-use Rattle.manager_recovery.proofs.SameNewest.{same_array}
-use Rattle.rack_closing.proofs.ListedLeft.{listed_held, listed_same, of_record}
+use Rattle.wol_model.proofs.Histories.{cut_whole}
 use Rattle.rack_parts.proofs.Members.{of_map, of_recursion}
-use Rattle.rack_closing.proofs.SameSegments.{Placed, AreApartPlaced, AreThese, Shuffled, same_extents, shuffled_same, shuffled_distinct, shuffled_to, shuffled_from, once}
+use Rattle.rack_closing.proofs.ListedLeft.{listed_held, listed_same, of_record}
+use Rattle.rack_closing.proofs.SameSegments.{unmapped, Placed, AreApartPlaced, AreThese, Shuffled, same_extents, shuffled_same, shuffled_distinct, shuffled_to, shuffled_from}
 
 -- the blocks of a segment of these images
 abbrev pub blocks_in : Option Shape → Option (List Block) → (i : ℕ) → List Block
@@ -123,44 +121,34 @@ module _ {D : Type 0} (tells : Bool) (state : D → State) (told : IsTrue tells)
     sound_chosen : AreSoundOf v b.volume.began.home_blocks chosen_segments
     sound_chosen = of_flight (flight_of (entries_of notes)) refl
       where
-        of_flight : (o : Option (List Rattle.wol_model.specs.Blocks.Write)) → flight_of (entries_of notes) ≡ o → AreSoundOf v b.volume.began.home_blocks chosen_segments
+        of_flight : (o : Option (List Write)) → flight_of (entries_of notes) ≡ o → AreSoundOf v b.volume.began.home_blocks chosen_segments
         of_flight (Some fl) e = kp.upholds.sound told (ap is_some e) chosen_segments (chosen held are.each)
         of_flight None e =
             let whole = (kp.upholds.calm e).whole told in
             logs_sound (λ h bs. IsTrue tells × IsImageOf (state_of state h.part).values bs) v b.volume.began.home_blocks held whole.logs (kp.upholds.known told).within whole.distinct chosen_segments (chosen held are.each)
 
-    sound_mapped : (hs : List (Held (Spun D))) → AllByRecursion (IsSoundOf v b.volume.began.home_blocks) (map (λ (p : Placed). p.1) (map placed_held hs)) → AllByRecursion (λ (h : Held (Spun D)). IsSoundOf v b.volume.began.home_blocks (blocks_of_held h)) hs
-    sound_mapped [] all = tt
-    sound_mapped (h ∷ hs) all = (all.0, sound_mapped hs all.1)
-
     pub sound_now : AllByRecursion (λ (h : Held (Spun D)). IsSoundOf v b.volume.began.home_blocks (blocks_of_held h)) held
-    sound_now = sound_mapped held sound_chosen.each
+    sound_now = unmapped (λ (p : Placed). IsSoundOf v b.volume.began.home_blocks p.1) placed_held held (unmapped (IsSoundOf v b.volume.began.home_blocks) (λ (p : Placed). p.1) (map placed_held held) sound_chosen.each)
 
     pub distinct_now : AreDistinct (covers_of (extents_of v (all_segments shapes images)))
     distinct_now = shuffled_distinct (extents_of v chosen_segments) (extents_of v (all_segments shapes images)) shuffled sound_chosen.distinct
 
+    same_now : recovered v home chosen_segments ≡ recovered v home (all_segments shapes images)
+    same_now = same_recovered v home chosen_segments (all_segments shapes images) (shuffled_same home (extents_of v chosen_segments) (extents_of v (all_segments shapes images)) shuffled sound_chosen.distinct)
+
+    whole_chosen : flight_of (entries_of notes) ≡ None → recovered v home chosen_segments ≡ after b.volume.began.array (writes (entries_of notes))
+    whole_chosen up =
+        let whole = (kp.upholds.calm up).whole told in
+        recovers_from (λ h bs. IsTrue tells × IsImageOf (state_of state h.part).values bs) v (λ bs. IsTrue tells × IsImageOf (state_of state m.home).values bs) held (after b.volume.began.array (writes (entries_of notes)))
+        whole.logs (λ image is. (whole.holds image is).stands) home chosen_segments (told, are.home_left) (chosen held are.each)
+
     -- a cut of the writes in flight
     pub cut_now : IsCut b.volume.began.array (writes (entries_of notes)) (unwrap_or (flight_of (entries_of notes)) []) (recovered v home (all_segments shapes images))
-    cut_now =
-        let same : recovered v home chosen_segments ≡ recovered v home (all_segments shapes images) =
-        same_recovered v home chosen_segments (all_segments shapes images)
-        (same_array (extents_of v chosen_segments) (extents_of v (all_segments shapes images)) (λ x has valid. shuffled_to (extents_of v chosen_segments) (extents_of v (all_segments shapes images)) shuffled x has)
-        (λ y has valid. shuffled_from (extents_of v chosen_segments) (extents_of v (all_segments shapes images)) shuffled y has) (once (extents_of v (all_segments shapes images)) distinct_now) home) in
-        subst (λ (x : List Block). IsCut b.volume.began.array (writes (entries_of notes)) (unwrap_or (flight_of (entries_of notes)) []) x) same (of_flight (flight_of (entries_of notes)) refl)
+    cut_now = subst (λ (x : List Block). IsCut b.volume.began.array (writes (entries_of notes)) (unwrap_or (flight_of (entries_of notes)) []) x) same_now (of_flight (flight_of (entries_of notes)) refl)
       where
-        of_flight : (o : Option (List Rattle.wol_model.specs.Blocks.Write)) → flight_of (entries_of notes) ≡ o → IsCut b.volume.began.array (writes (entries_of notes)) (unwrap_or (flight_of (entries_of notes)) []) (recovered v home chosen_segments)
-        of_flight (Some fl) e =
-            subst (λ (f : Option (List Rattle.wol_model.specs.Blocks.Write)). IsCut b.volume.began.array (writes (entries_of notes)) (unwrap_or f []) (recovered v home chosen_segments)) (sym e)
-            (kp.upholds.cut told fl e home chosen_segments (told, are.home_left) (chosen held are.each))
-        of_flight None e =
-            subst (λ (f : Option (List Rattle.wol_model.specs.Blocks.Write)). IsCut b.volume.began.array (writes (entries_of notes)) (unwrap_or f []) (recovered v home chosen_segments)) (sym e)
-            (subst (λ (x : List Block). IsCut b.volume.began.array (writes (entries_of notes)) [] x) (sym (whole_chosen e)) (Rattle.wol_model.proofs.Histories.cut_whole b.volume.began.array (writes (entries_of notes)) []))
-          where
-            whole_chosen : flight_of (entries_of notes) ≡ None → recovered v home chosen_segments ≡ after b.volume.began.array (writes (entries_of notes))
-            whole_chosen up =
-                let whole = (kp.upholds.calm up).whole told in
-                recovers_from (λ h bs. IsTrue tells × IsImageOf (state_of state h.part).values bs) v (λ bs. IsTrue tells × IsImageOf (state_of state m.home).values bs) held (after b.volume.began.array (writes (entries_of notes)))
-                whole.logs (λ image is. (whole.holds image is).stands) home chosen_segments (told, are.home_left) (chosen held are.each)
+        of_flight : (o : Option (List Write)) → flight_of (entries_of notes) ≡ o → IsCut b.volume.began.array (writes (entries_of notes)) (unwrap_or o []) (recovered v home chosen_segments)
+        of_flight (Some fl) e = kp.upholds.cut told fl e home chosen_segments (told, are.home_left) (chosen held are.each)
+        of_flight None e = subst (λ (x : List Block). IsCut b.volume.began.array (writes (entries_of notes)) [] x) (sym (whole_chosen e)) (cut_whole b.volume.began.array (writes (entries_of notes)) [])
 
     -- where nothing broke
     module _ (up : flight_of (entries_of notes) ≡ None) where
@@ -168,10 +156,7 @@ module _ {D : Type 0} (tells : Bool) (state : D → State) (told : IsTrue tells)
       whole_is = (kp.upholds.calm up).whole told
 
       pub whole_now : recovered v home (all_segments shapes images) ≡ after b.volume.began.array (writes (entries_of notes))
-      whole_now =
-          sym (same_recovered v home chosen_segments (all_segments shapes images) (shuffled_same home (extents_of v chosen_segments) (extents_of v (all_segments shapes images)) shuffled sound_chosen.distinct))
-          ∙ recovers_from (λ h bs. IsTrue tells × IsImageOf (state_of state h.part).values bs) v (λ bs. IsTrue tells × IsImageOf (state_of state m.home).values bs) held (after b.volume.began.array (writes (entries_of notes)))
-          whole_is.logs (λ image is. (whole_is.holds image is).stands) home chosen_segments (told, are.home_left) (chosen held are.each)
+      whole_now = sym same_now ∙ whole_chosen up
 
       -- what the index lists is what is left
       pub listed_now : AreListedOf (listed_in m.index.entries) (extents_of v (all_segments shapes images))

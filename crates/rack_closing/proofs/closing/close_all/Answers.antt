@@ -1,164 +1,125 @@
-use Rattle.rack_closing.proofs.Basics.{◌≡◌, ◌≢◌, ℕ, false, length, sym, ap, ◌∙◌, subst, arith, AllByRecursion}
-use Rattle.rack_closing.proofs.Terms.{PassOf, Spindle, SpindleBase, shapes_of}
-use Rattle.rack_closing.proofs.Closable.{stations_may, pools_may, spindles_may, images_rest, images_whole}
-use Rattle.rack_closing.proofs.RackClosed.{none_out, few, out_there, lists_ended}
-use Rattle.rack_closing.proofs.VolumesClosed.{none_made, volumes_closed, few_volumes, told_end}
-use Rattle.rack_closing.proofs.LeftVolumes.{fault_through, listed_through, left_parts, closed_recovers, station_opened, volume_recovers}
-use Rattle.rack_closing.proofs.FinalImages.{left_quiet}
-use Rattle.rack_closing.proofs.SoundClosed.{left_sound, left_kept}
+use Rattle.rack_closing.proofs.Basics.{◌≡◌, ◌≢◌, ◌≤◌, ℕ, false, length, sym, ap, ◌∙◌, subst, arith, AllByRecursion, same_Some, slice_get_within, slice_get}
+use Rattle.rack_closing.proofs.Terms.{Told, PassOf, Spindle, SpindleBase, shapes_of, Rose, GivesBack, HasFaultHere, LeavesNoneOut, pass_number, lock_id, AreComplete, AreImageRests, IsImageOut, AreLeftOfParts, LeavesOpen, HadRefused, KeepsAllSound, IsTold}
+use Rattle.std.specs.Prelude.{reverse}
+use Rattle.std.proofs.lemmas.List.{length-reverse}
+use Rattle.std.proofs.lemmas.Grind.{common_steps}
+use Rattle.wol_bay.specs.Bay.{outs}
+use Rattle.turn_lock.specs.Histories.{own}
+use Rattle.turn_lock.specs.Passes.{IsPartOf}
+use Rattle.spin_model.specs.Operations.{has_token}
+use Rattle.spin_model.specs.Spindles.{StandsFor}
+use Rattle.rack_parts.specs.Closing.{IsAccessBut}
+use Rattle.rack_parts.proofs.Members.{element_at, all_member}
+use Rattle.rack_closing.specs.Closes.{LeavesVolumes, LeavesUnopened, ListsFaulty}
+use Rattle.rack_closing.specs.Opens.{KeepsOthers}
+use Rattle.rack_closing.proofs.Closable.{stations_may, pools_may, spindles_may}
+use Rattle.rack_closing.proofs.StationParts.{IsEnding, lists_ended, none_out, few, out_there, rests_end, whole_end}
+use Rattle.rack_closing.proofs.VolumesClosed.{none_made, volumes_closed, told_end}
+use Rattle.rack_closing.proofs.LeftVolumes.{fault_through, listed_through, left_kept, left_parts, over, closed_recovers, station_opened, volume_recovers}
+use Rattle.rack_closing.proofs.FinalImages.{IsCrash, left_quiet}
+use Rattle.rack_closing.proofs.SoundClosed.{left_sound}
 use Rattle.rack_closing.proofs.closing.close_all.Goals as goal
 
 pub close_stations-requires : goal.close_stations-requires
-close_stations-requires g c =
-    (c.args.config.now, c.args.rack.shared, stations_may g.B.Part.Disk.state c.args.config.now (g.B.Bay.state c.args.bay.now) c.args.rack c.requires.rack)
+close_stations-requires g c = (c.args.config.now, c.args.rack.shared, stations_may c.requires.rack)
 
 pub close_pools-requires : goal.close_pools-requires
-close_pools-requires g c =
-    let is1 = c.close_stations.ensures.rest c.args.config.now c.args.rack.shared (stations_may g.B.Part.Disk.state c.args.config.now (g.B.Bay.state c.args.bay.now) c.args.rack c.requires.rack) in
-    (c.args.config.now, pools_may g.B.Part.Disk.state c.args.config.now c.args.rack.shared c.close_stations.new.self c.requires.rack.locks is1)
+close_pools-requires g c = (c.args.config.now, pools_may c.requires.rack.locks (c.close_stations.ensures.rest c.args.config.now c.args.rack.shared (stations_may c.requires.rack)))
 
 pub close_spindles-requires-clause-locks : goal.close_spindles-requires-clause-locks
-close_spindles-requires-clause-locks g c =
-    let is1 = c.close_stations.ensures.rest c.args.config.now c.args.rack.shared (stations_may g.B.Part.Disk.state c.args.config.now (g.B.Bay.state c.args.bay.now) c.args.rack c.requires.rack) in
-    spindles_may g.B.Part.Disk.state c.args.config.now c.args.rack.shared c.close_stations.new.self c.requires.rack.locks is1 c.args.rack.keepers.items c.close_pools.new.self c.requires.rack.keepers (c.close_stations.ensures.accesses c.args.config.now c.args.rack.shared (stations_may g.B.Part.Disk.state c.args.config.now (g.B.Bay.state c.args.bay.now) c.args.rack c.requires.rack)) c.close_pools.ensures.spindles c.close_pools.ensures.rooms
+close_spindles-requires-clause-locks g c = spindles_may c.requires.rack.locks (c.close_stations.ensures.rest c.args.config.now c.args.rack.shared (stations_may c.requires.rack)) c.args.rack.keepers.items c.close_pools.new.self c.requires.rack.keepers
+    (c.close_stations.ensures.accesses c.args.config.now c.args.rack.shared (stations_may c.requires.rack)) c.close_pools.ensures.spindles c.close_pools.ensures.rooms
 
 pub close_spindles-requires-clause-empty : goal.close_spindles-requires-clause-empty
-close_spindles-requires-clause-empty g c =
-    let is1 = c.close_stations.ensures.rest c.args.config.now c.args.rack.shared (stations_may g.B.Part.Disk.state c.args.config.now (g.B.Bay.state c.args.bay.now) c.args.rack c.requires.rack) in
-    ap (λ r. r.closed.items) c.close_pools.ensures.rooms ∙ is1.rooms.closed.0
+close_spindles-requires-clause-empty g c = let is = c.close_stations.ensures.rest c.args.config.now c.args.rack.shared (stations_may c.requires.rack) in ap (λ r. r.closed.items) c.close_pools.ensures.rooms ∙ is.rooms.closed.0
 
 pub end_passes-requires : goal.end_passes-requires
 end_passes-requires g c =
-    let is1 = c.close_stations.ensures.rest c.args.config.now c.args.rack.shared (stations_may g.B.Part.Disk.state c.args.config.now (g.B.Bay.state c.args.bay.now) c.args.rack c.requires.rack) in
-    lists_ended (length (shapes_of c.args.config.now)) c.close_pools.new.self c.close_spindles.new.self (c.close_pools.ensures.spindles.count ∙ is1.parts.count) (c.close_pools.ensures.spindles.rows (length (shapes_of c.args.config.now)) is1.parts.rows) c.close_spindles.ensures.rows
+    let is = c.close_stations.ensures.rest c.args.config.now c.args.rack.shared (stations_may c.requires.rack) in
+    lists_ended (length (shapes_of c.args.config.now)) c.close_pools.new.self c.close_spindles.new.self (c.close_pools.ensures.spindles.count ∙ is.parts.count) (c.close_pools.ensures.spindles.rows (length (shapes_of c.args.config.now)) is.parts.rows) c.close_spindles.ensures.rows
     (λ v k below. c.close_pools.ensures.held v k (omega (arith, below, c.requires.rack.locks.pool_count)))
 
-pub give_back-requires-clause-count : goal.give_back-requires-clause-count
-give_back-requires-clause-count g c =
-    let is1 = c.close_stations.ensures.rest c.args.config.now c.args.rack.shared (stations_may g.B.Part.Disk.state c.args.config.now (g.B.Bay.state c.args.bay.now) c.args.rack c.requires.rack) in
-    let images = ap (λ v. length v.items) c.close_spindles.ensures.images in
-    let most = few g.B.Part.Disk.state g.B.Part.Disk.tells c.args.config.now (g.B.Bay.state c.args.bay.now) c.args.rack c.requires.rack c.close_stations.new.self c.close_pools.new.self is1 c.close_stations.ensures.closed c.close_pools.ensures.images c.close_pools.ensures.spindles in
-    omega (arith, images, most)
-
-pub give_back-requires-clause-images : goal.give_back-requires-clause-images
-give_back-requires-clause-images g c =
-    let is1 = c.close_stations.ensures.rest c.args.config.now c.args.rack.shared (stations_may g.B.Part.Disk.state c.args.config.now (g.B.Bay.state c.args.bay.now) c.args.rack c.requires.rack) in
-    let rest2 = images_rest g.B.Part.Disk.state c.args.config.now c.args.rack.shared c.close_stations.new.self c.requires.rack.locks is1 c.close_pools.new.self c.close_pools.ensures.spindles.image_count c.close_pools.ensures.images in
-    (subst (λ v. Rattle.rack_parts.specs.Rests.AreImageRests g.B.Part.Disk.state c.args.config.now v.items) (sym c.close_spindles.ensures.images) rest2).1
-
-pub give_back-requires-clause-whole : goal.give_back-requires-clause-whole
-give_back-requires-clause-whole g c =
-    let is1 = c.close_stations.ensures.rest c.args.config.now c.args.rack.shared (stations_may g.B.Part.Disk.state c.args.config.now (g.B.Bay.state c.args.bay.now) c.args.rack c.requires.rack) in
-    let whole2 = images_whole g.B.Part.Disk.state c.args.config.now c.args.rack.shared c.close_stations.new.self c.requires.rack.locks is1 c.close_pools.new.self c.close_pools.ensures.spindles.image_count c.close_pools.ensures.images in
-    subst (λ v. Rattle.rack_parts.specs.Closing.AreComplete v.items) (sym c.close_spindles.ensures.images) whole2
-
-pub give_back-requires-clause-out : goal.give_back-requires-clause-out
-give_back-requires-clause-out g c =
-    let is1 = c.close_stations.ensures.rest c.args.config.now c.args.rack.shared (stations_may g.B.Part.Disk.state c.args.config.now (g.B.Bay.state c.args.bay.now) c.args.rack c.requires.rack) in
-    λ k v at out. out_there g.B.Part.Disk.state g.B.Part.Disk.tells c.args.config.now (g.B.Bay.state c.args.bay.now) c.args.rack c.requires.rack c.close_stations.new.self c.close_pools.new.self is1 c.close_stations.ensures.closed c.close_pools.ensures.images c.close_pools.ensures.spindles
-    k v at (subst (λ w. Rattle.rack_parts.specs.Rests.IsImageOut w.items k) c.close_spindles.ensures.images out)
-
-pub returns-clause-home : goal.returns-clause-home
-returns-clause-home g c =
-    let is1 = c.close_stations.ensures.rest c.args.config.now c.args.rack.shared (stations_may g.B.Part.Disk.state c.args.config.now (g.B.Bay.state c.args.bay.now) c.args.rack c.requires.rack) in
-    none_out g.B.Part.Disk.state g.B.Part.Disk.tells c.args.config.now (g.B.Bay.state c.args.bay.now) c.args.rack c.requires.rack c.close_stations.new.self c.close_pools.new.self is1 c.close_stations.ensures.closed c.close_pools.ensures.images c.close_pools.ensures.spindles
-    (Rattle.wol_bay.specs.Bay.outs (g.B.Bay.state c.args.bay.now)) (Rattle.wol_bay.specs.Bay.outs (g.B.Bay.state c.give_back.new.bay))
-    (subst (λ w. Rattle.rack_parts.specs.Closing.LeavesNoneOut c.args.config.now w.items (Rattle.wol_bay.specs.Bay.outs (g.B.Bay.state c.args.bay.now)) (Rattle.wol_bay.specs.Bay.outs (g.B.Bay.state c.give_back.new.bay))) c.close_spindles.ensures.images c.give_back.ensures.home)
-
-pub returns-clause-spindles : goal.returns-clause-spindles
-returns-clause-spindles g c = λ k s at.
-    let list : c.reverse.new.self.items ≡ Rattle.std.specs.Prelude.reverse c.close_spindles.new.self.rooms.closed.items = c.reverse.ensures.items in
-    let below = Rattle.std.proofs.lemmas.Option.slice_get_within c.reverse.new.self.items k s at in
-    let n = ap length list ∙ Rattle.std.proofs.lemmas.List.length-reverse c.close_spindles.new.self.rooms.closed.items in
-    let l = Rattle.rack_parts.proofs.Members.element_at c.args.rack.shared.spindles.items k (omega (arith, below, n, c.close_spindles.ensures.closed.count)) in
-    let p = Rattle.rack_parts.proofs.Members.element_at c.args.rack.keepers.items k (omega (arith, below, n, c.close_spindles.ensures.closed.count, c.requires.rack.keepers.0, c.requires.rack.locks.spindle_count)) in
-    let is = c.close_spindles.ensures.closed.each k l.0 p.0 s l.1 p.1 (sym (ap (λ xs. Rattle.std.specs.Prelude.slice_get xs k) list) ∙ at) in
+pub give_back-requires : goal.give_back-requires
+give_back-requires g c =
+    let e : IsEnding g.B.Part.Disk.state g.B.Part.Disk.tells c.args.config.now (g.B.Bay.state c.args.bay.now) c.args.rack c.close_stations.new.self c.close_pools.new.self = record {
+      valid = c.requires.config;
+      tell_all = λ told d. g.met.B.Part.Disk.told told d;
+      sound = g.met.B.Part.Disk.sound;
+      can = c.requires.rack;
+      is = c.close_stations.ensures.rest c.args.config.now c.args.rack.shared (stations_may c.requires.rack);
+      closed = c.close_stations.ensures.closed;
+      filled = c.close_pools.ensures.images;
+      kept = c.close_pools.ensures.spindles;
+    } in
+    let images = sym c.close_spindles.ensures.images in
     record {
-      entries = is.entries;
-      stands = λ m there. subst (λ q. Rattle.spin_model.specs.Spindles.StandsFor s (Rattle.turn_lock.specs.Passes.lock_id q).base is.entries) (Rattle.std.proofs.lemmas.Option.same_Some l.0 m (sym l.1 ∙ there)) is.stands;
-      accesses = λ q there. subst (λ (x : PassOf Spindle SpindleBase). AllByRecursion (Rattle.rack_parts.specs.Closing.IsAccessBut (Rattle.turn_lock.specs.Passes.pass_number x)) is.entries) (Rattle.std.proofs.lemmas.Option.same_Some p.0 q (sym p.1 ∙ there)) is.accesses;
-      ended = λ q there. subst (λ (x : PassOf Spindle SpindleBase). (n : ℕ) → n ≢ Rattle.turn_lock.specs.Passes.pass_number x → Rattle.spin_model.specs.Operations.has_token (Rattle.turn_lock.specs.Histories.own n is.entries) ≡ false)
-          (Rattle.std.proofs.lemmas.Option.same_Some p.0 q (sym p.1 ∙ there)) is.ended;
-      users = λ q there views keep n differs other never.
-          let same : p.0 ≡ q = Rattle.std.proofs.lemmas.Option.same_Some p.0 q (sym p.1 ∙ there) in
-          is.made n (λ e. differs (e ∙ ap (λ (x : PassOf Spindle SpindleBase). Rattle.turn_lock.specs.Passes.pass_number x) same))
-          ∙ none_made views c.args.rack keep c.requires.rack.stations c.close_pools.new.self n k other never
-          (λ away. c.close_pools.ensures.spindles.spindles n k ∙ c.close_stations.ensures.closed.spindles n k other away);
-      keeper_part = λ q there. subst (λ x. Rattle.turn_lock.specs.Passes.IsPartOf is.entries x) (Rattle.std.proofs.lemmas.Option.same_Some p.0 q (sym p.1 ∙ there)) is.keeper_part;
+      config = c.requires.config;
+      count = subst (λ v. length v.items ≤ length c.args.config.now.volumes.items) images (few e);
+      images = (subst (λ v. AreImageRests g.B.Part.Disk.state c.args.config.now v.items) images (rests_end e)).1;
+      whole = subst (λ v. AreComplete v.items) images (whole_end e);
+      out = λ k v at out. out_there e k v at (subst (λ w. IsImageOut w.items k) c.close_spindles.ensures.images out);
     }
 
-pub returns-clause-stations : goal.returns-clause-stations
-returns-clause-stations g c =
-    let is1 = c.close_stations.ensures.rest c.args.config.now c.args.rack.shared (stations_may g.B.Part.Disk.state c.args.config.now (g.B.Bay.state c.args.bay.now) c.args.rack c.requires.rack) in
-    let cause = subst (λ w. Rattle.rack_parts.specs.Closing.HasFaultHere g.B.Part.Disk.state w.items 0 → Rattle.wol_disk.specs.Disk.Rose (g.B.Bay.state c.args.bay.now).faults (g.B.Bay.state c.give_back.new.bay).faults) c.close_spindles.ensures.images c.give_back.ensures.cause in
-    volumes_closed g.B.Part.Disk.state g.B.Part.Disk.tells c.args.config.now (g.B.Bay.state c.args.bay.now) c.args.rack c.requires.rack c.close_stations.new.self c.close_pools.new.self is1 c.close_stations.ensures.closed c.close_pools.ensures.images c.close_pools.ensures.spindles c.close_pools.ensures.uses
-    (λ told d. g.met.B.Part.Disk.told told d) g.met.B.Part.Disk.sound (few_volumes c.args.config.now c.requires.config.count.1) (g.B.Bay.state c.args.bay.now) (g.B.Bay.state c.give_back.new.bay)
-    (told_end g.B.Part.Disk.state c.args.config.now c.close_pools.new.self c.close_spindles.new.self (g.B.Bay.state c.args.bay.now).told (g.B.Bay.state c.give_back.new.bay).told
-    c.close_spindles.ensures.images c.give_back.ensures.back (Rattle.rack_parts.specs.Closing.GivesBack g.B.Part.Disk.state c.args.config.now c.close_pools.new.self.images.items 0) (λ o n back. back)) cause
-
-pub returns-clause-cause : goal.returns-clause-cause
-returns-clause-cause g c = λ fault.
-    let is1 = c.close_stations.ensures.rest c.args.config.now c.args.rack.shared (stations_may g.B.Part.Disk.state c.args.config.now (g.B.Bay.state c.args.bay.now) c.args.rack c.requires.rack) in
-    let cause = subst (λ w. Rattle.rack_parts.specs.Closing.HasFaultHere g.B.Part.Disk.state w.items 0 → Rattle.wol_disk.specs.Disk.Rose (g.B.Bay.state c.args.bay.now).faults (g.B.Bay.state c.give_back.new.bay).faults) c.close_spindles.ensures.images c.give_back.ensures.cause in
-    cause (fault_through g.B.Part.Disk.state g.B.Part.Disk.tells c.args.config.now (g.B.Bay.state c.args.bay.now) c.args.rack c.requires.rack c.close_stations.new.self c.close_pools.new.self is1 c.close_stations.ensures.closed c.close_pools.ensures.images c.close_pools.ensures.spindles fault)
-
-pub returns-clause-parts : goal.returns-clause-parts
-returns-clause-parts g c = λ told.
-    let is1 = c.close_stations.ensures.rest c.args.config.now c.args.rack.shared (stations_may g.B.Part.Disk.state c.args.config.now (g.B.Bay.state c.args.bay.now) c.args.rack c.requires.rack) in
-    told_end g.B.Part.Disk.state c.args.config.now c.close_pools.new.self c.close_spindles.new.self (g.B.Bay.state c.args.bay.now).told (g.B.Bay.state c.give_back.new.bay).told
-    c.close_spindles.ensures.images c.give_back.ensures.back (λ o n. Rattle.rack_closing.specs.Closes.AreLeftOfParts g.B.Part.Disk.state c.args.config.now c.args.rack n)
-    (λ o n back images left k z m at here. left_parts g.B.Part.Disk.state g.B.Part.Disk.tells told (g.met.B.Part.Disk.told told) g.met.B.Part.Disk.sound c.args.config.now (few_volumes c.args.config.now c.requires.config.count.1) (g.B.Bay.state c.args.bay.now) c.args.rack c.requires.rack c.close_stations.new.self c.close_pools.new.self is1 c.close_stations.ensures.closed c.close_pools.ensures.images c.close_pools.ensures.spindles o n back images left k z m at here)
-
-pub returns-clause-left : goal.returns-clause-left
-returns-clause-left g c = λ entry told began quiet.
-    let is1 = c.close_stations.ensures.rest c.args.config.now c.args.rack.shared (stations_may g.B.Part.Disk.state c.args.config.now (g.B.Bay.state c.args.bay.now) c.args.rack c.requires.rack) in
-    told_end g.B.Part.Disk.state c.args.config.now c.close_pools.new.self c.close_spindles.new.self (g.B.Bay.state c.args.bay.now).told (g.B.Bay.state c.give_back.new.bay).told
-    c.close_spindles.ensures.images c.give_back.ensures.back (λ o n. Rattle.rack_closing.specs.Closes.LeavesOpen c.args.config.now c.args.rack entry n)
-    (λ o n back. left_quiet g.B.Part.Disk.state g.B.Part.Disk.tells c.args.config.now (g.B.Bay.state c.args.bay.now) c.args.rack c.requires.rack c.close_stations.new.self c.close_pools.new.self is1 c.close_stations.ensures.closed c.close_pools.ensures.images c.close_pools.ensures.spindles told (g.met.B.Part.Disk.told told) g.met.B.Part.Disk.sound (few_volumes c.args.config.now c.requires.config.count.1) entry began quiet o n back)
-
-pub returns-clause-sound : goal.returns-clause-sound
-returns-clause-sound g c = λ entry told began there.
-    let is1 = c.close_stations.ensures.rest c.args.config.now c.args.rack.shared (stations_may g.B.Part.Disk.state c.args.config.now (g.B.Bay.state c.args.bay.now) c.args.rack c.requires.rack) in
-    told_end g.B.Part.Disk.state c.args.config.now c.close_pools.new.self c.close_spindles.new.self (g.B.Bay.state c.args.bay.now).told (g.B.Bay.state c.give_back.new.bay).told
-    c.close_spindles.ensures.images c.give_back.ensures.back (λ o n. Rattle.rack_closing.specs.Owners.HadRefused c.args.config.now c.args.rack.rest.images.items entry o → Rattle.rack_closing.specs.Opens.KeepsAllSound c.args.config.now entry n)
-    (λ o n back. left_sound g.B.Part.Disk.state g.B.Part.Disk.tells c.args.config.now (g.B.Bay.state c.args.bay.now) c.args.rack c.requires.rack c.close_stations.new.self c.close_pools.new.self is1 c.close_stations.ensures.closed c.close_pools.ensures.images c.close_pools.ensures.spindles told (g.met.B.Part.Disk.told told) g.met.B.Part.Disk.sound (few_volumes c.args.config.now c.requires.config.count.1)
-    c.requires.config entry began there o n back)
-
-pub returns-clause-volumes : goal.returns-clause-volumes
-returns-clause-volumes g c = λ entry told began there quiet.
-    let is1 = c.close_stations.ensures.rest c.args.config.now c.args.rack.shared (stations_may g.B.Part.Disk.state c.args.config.now (g.B.Bay.state c.args.bay.now) c.args.rack c.requires.rack) in
-    told_end g.B.Part.Disk.state c.args.config.now c.close_pools.new.self c.close_spindles.new.self (g.B.Bay.state c.args.bay.now).told (g.B.Bay.state c.give_back.new.bay).told
-    c.close_spindles.ensures.images c.give_back.ensures.back (λ o n. Rattle.rack_closing.specs.Owners.HadRefused c.args.config.now c.args.rack.rest.images.items entry o → Rattle.rack_closing.specs.Closes.LeavesVolumes c.args.config.now c.args.rack entry n)
-    (λ o n back had. record {
-      are_opened = station_opened g.B.Part.Disk.state g.B.Part.Disk.tells c.args.config.now (g.B.Bay.state c.args.bay.now) c.args.rack c.requires.rack c.close_stations.new.self c.close_pools.new.self is1 c.close_stations.ensures.closed c.close_pools.ensures.images c.close_pools.ensures.spindles entry began;
-      each = λ images left v. volume_recovers g.B.Part.Disk.state g.B.Part.Disk.tells told (g.met.B.Part.Disk.told told) g.met.B.Part.Disk.sound c.args.config.now c.requires.config (few_volumes c.args.config.now c.requires.config.count.1) (g.B.Bay.state c.args.bay.now) c.args.rack c.requires.rack c.close_stations.new.self c.close_pools.new.self is1 c.close_stations.ensures.closed c.close_pools.ensures.images c.close_pools.ensures.spindles o n back entry began there had images left quiet v;
-    })
-
-pub returns-clause-unopened : goal.returns-clause-unopened
-returns-clause-unopened g c = λ entry told began there.
-    let is1 = c.close_stations.ensures.rest c.args.config.now c.args.rack.shared (stations_may g.B.Part.Disk.state c.args.config.now (g.B.Bay.state c.args.bay.now) c.args.rack c.requires.rack) in
-    told_end g.B.Part.Disk.state c.args.config.now c.close_pools.new.self c.close_spindles.new.self (g.B.Bay.state c.args.bay.now).told (g.B.Bay.state c.give_back.new.bay).told
-    c.close_spindles.ensures.images c.give_back.ensures.back (λ o n. Rattle.rack_closing.specs.Owners.HadRefused c.args.config.now c.args.rack.rest.images.items entry o → Rattle.rack_closing.specs.Closes.LeavesUnopened c.args.config.now c.args.rack entry n)
-    (λ o n back had images left v others. closed_recovers g.B.Part.Disk.state g.B.Part.Disk.tells told (g.met.B.Part.Disk.told told) g.met.B.Part.Disk.sound c.args.config.now c.requires.config (few_volumes c.args.config.now c.requires.config.count.1) (g.B.Bay.state c.args.bay.now) c.args.rack c.requires.rack c.close_stations.new.self c.close_pools.new.self is1 c.close_stations.ensures.closed c.close_pools.ensures.images c.close_pools.ensures.spindles o n back entry began there had images left v (λ s has. others s has))
-
-pub returns-clause-kept : goal.returns-clause-kept
-returns-clause-kept g c = λ told.
-    let is1 = c.close_stations.ensures.rest c.args.config.now c.args.rack.shared (stations_may g.B.Part.Disk.state c.args.config.now (g.B.Bay.state c.args.bay.now) c.args.rack c.requires.rack) in
-    told_end g.B.Part.Disk.state c.args.config.now c.close_pools.new.self c.close_spindles.new.self (g.B.Bay.state c.args.bay.now).told (g.B.Bay.state c.give_back.new.bay).told
-    c.close_spindles.ensures.images c.give_back.ensures.back (Rattle.rack_closing.specs.Owners.HadRefused c.args.config.now c.args.rack.rest.images.items)
-    (λ o n back. left_kept g.B.Part.Disk.state g.B.Part.Disk.tells c.args.config.now (g.B.Bay.state c.args.bay.now) c.args.rack c.requires.rack c.close_stations.new.self c.close_pools.new.self is1 c.close_stations.ensures.closed c.close_pools.ensures.images c.close_pools.ensures.spindles c.requires.config o n back)
-
-pub returns-clause-others : goal.returns-clause-others
-returns-clause-others g c =
-    told_end g.B.Part.Disk.state c.args.config.now c.close_pools.new.self c.close_spindles.new.self (g.B.Bay.state c.args.bay.now).told (g.B.Bay.state c.give_back.new.bay).told
-    c.close_spindles.ensures.images c.give_back.ensures.back (Rattle.rack_closing.specs.Opens.KeepsOthers c.args.config.now) (λ o n back name not. back.others name (λ k v le at there. not k v at))
-
-pub returns-clause-faulty : goal.returns-clause-faulty
-returns-clause-faulty g c =
-    let is1 = c.close_stations.ensures.rest c.args.config.now c.args.rack.shared (stations_may g.B.Part.Disk.state c.args.config.now (g.B.Bay.state c.args.bay.now) c.args.rack c.requires.rack) in
-    told_end g.B.Part.Disk.state c.args.config.now c.close_pools.new.self c.close_spindles.new.self (g.B.Bay.state c.args.bay.now).told (g.B.Bay.state c.give_back.new.bay).told
-    c.close_spindles.ensures.images c.give_back.ensures.back (Rattle.rack_closing.specs.Closes.ListsFaulty g.B.Part.Disk.state c.args.config.now c.args.rack.rest) (λ o n back. record {
-      more = back.more;
-      more_is = back.faulty;
-      each = listed_through g.B.Part.Disk.state g.B.Part.Disk.tells c.args.config.now (g.B.Bay.state c.args.bay.now) c.args.rack c.requires.rack c.close_stations.new.self c.close_pools.new.self is1 c.close_stations.ensures.closed c.close_pools.ensures.images c.close_pools.ensures.spindles o n back;
-    })
+pub returns : goal.returns
+returns g c =
+    let e : IsEnding g.B.Part.Disk.state g.B.Part.Disk.tells c.args.config.now (g.B.Bay.state c.args.bay.now) c.args.rack c.close_stations.new.self c.close_pools.new.self = record {
+      valid = c.requires.config;
+      tell_all = λ told d. g.met.B.Part.Disk.told told d;
+      sound = g.met.B.Part.Disk.sound;
+      can = c.requires.rack;
+      is = c.close_stations.ensures.rest c.args.config.now c.args.rack.shared (stations_may c.requires.rack);
+      closed = c.close_stations.ensures.closed;
+      filled = c.close_pools.ensures.images;
+      kept = c.close_pools.ensures.spindles;
+    } in
+    let state = g.B.Part.Disk.state in
+    let config = c.args.config.now in
+    let rack = c.args.rack in
+    let old = g.B.Bay.state c.args.bay.now in
+    let new = g.B.Bay.state c.give_back.new.bay in
+    let images = c.close_spindles.ensures.images in
+    let cause = subst (λ w. HasFaultHere state w.items 0 → Rose old.faults new.faults) images c.give_back.ensures.cause in
+    let given : (R : Told → Told → Type 0) → ((o n : Told) → GivesBack state config c.close_pools.new.self.images.items 0 o n → R o n) → IsTold R old.told new.told
+    = told_end state config c.close_pools.new.self c.close_spindles.new.self old.told new.told images c.give_back.ensures.back in
+    record {
+      home = none_out e (outs old) (outs new) (subst (λ w. LeavesNoneOut config w.items (outs old) (outs new)) images c.give_back.ensures.home);
+      count = let list : c.reverse.new.self.items ≡ reverse c.close_spindles.new.self.rooms.closed.items = c.reverse.ensures.items in
+          let n = ap length list ∙ length-reverse c.close_spindles.new.self.rooms.closed.items in
+          omega (arith, n, c.close_spindles.ensures.closed.count, c.requires.rack.locks.spindle_count);
+      spindles = λ k s at.
+          let list : c.reverse.new.self.items ≡ reverse c.close_spindles.new.self.rooms.closed.items = c.reverse.ensures.items in
+          let below = slice_get_within c.reverse.new.self.items k s at in
+          let n = ap length list ∙ length-reverse c.close_spindles.new.self.rooms.closed.items in
+          let l = element_at c.args.rack.shared.spindles.items k (omega (arith, below, n, c.close_spindles.ensures.closed.count)) in
+          let p = element_at c.args.rack.keepers.items k (omega (arith, below, n, c.close_spindles.ensures.closed.count, c.requires.rack.keepers.0, c.requires.rack.locks.spindle_count)) in
+          let is = c.close_spindles.ensures.closed.each k l.0 p.0 s l.1 p.1 (sym (ap (λ xs. slice_get xs k) list) ∙ at) in
+          record {
+            entries = is.entries;
+            stands = λ m there. subst (λ q. StandsFor s (lock_id q).base is.entries) (same_Some l.0 m (sym l.1 ∙ there)) is.stands;
+            accesses = λ q there. subst (λ (x : PassOf Spindle SpindleBase). AllByRecursion (IsAccessBut (pass_number x)) is.entries) (same_Some p.0 q (sym p.1 ∙ there)) is.accesses;
+            ended = λ q there. subst (λ (x : PassOf Spindle SpindleBase). (n : ℕ) → n ≢ pass_number x → has_token (own n is.entries) ≡ false)
+                (same_Some p.0 q (sym p.1 ∙ there)) is.ended;
+            users = λ q there views keep n differs other never.
+                let same : p.0 ≡ q = same_Some p.0 q (sym p.1 ∙ there) in
+                is.made n (λ e. differs (e ∙ ap (λ (x : PassOf Spindle SpindleBase). pass_number x) same))
+                ∙ none_made views c.args.rack keep c.requires.rack.stations c.close_pools.new.self n k other never
+                (λ away. c.close_pools.ensures.spindles.spindles n k ∙ c.close_stations.ensures.closed.spindles n k other away);
+            keeper_part = λ q there. subst (λ x. IsPartOf is.entries x) (same_Some p.0 q (sym p.1 ∙ there)) is.keeper_part;
+          };
+      stations = volumes_closed e c.close_pools.ensures.uses old new (given (GivesBack state config c.close_pools.new.self.images.items 0) (λ o n back. back)) cause;
+      parts = λ told. given (λ o n. AreLeftOfParts state config rack n) (λ o n back images left k z m at here. left_parts (record { ending = e; told = told; given = back; left = left }) k z m at here);
+      left = λ entry told began quiet. given (λ o n. LeavesOpen config rack entry n)
+          (λ o n back images left. all_member (λ s. Rattle.rack_closing.specs.Closes.recovered_out config rack.rest.images.items images s.id ≡ Rattle.rack_closing.specs.Closes.recovered_out config rack.rest.images.items (Rattle.volume_images.specs.Volumes.images_read config entry) s.id) rack.stations.items
+          (λ s has. left_quiet (record { ending = e; told = told; given = back; left = left }) entry began quiet s has));
+      volumes = λ entry told began there quiet. given (λ o n. HadRefused config rack.rest.images.items entry o → LeavesVolumes config rack entry n)
+          (λ o n back had. record { are_opened = station_opened e entry began; each = λ images left v. volume_recovers (record { ending = e; told = told; given = back; left = left }) entry began there had quiet v });
+      unopened = λ entry told began there. given (λ o n. HadRefused config rack.rest.images.items entry o → LeavesUnopened config rack entry n)
+          (λ o n back had images left v others. closed_recovers (over (record { ending = e; told = told; given = back; left = left }) entry began there had) v others);
+      sound = λ entry told began there. given (λ o n. HadRefused config rack.rest.images.items entry o → KeepsAllSound config entry n)
+          (λ o n back had all images left. left_sound (record { ending = e; told = told; given = back; left = left }) entry began there had all);
+      kept = λ told. given (HadRefused config rack.rest.images.items) (left_kept e);
+      others = given (KeepsOthers config) (λ o n back name not. back.others name (λ k v le at there. not k v at));
+      faulty = given (ListsFaulty state config rack.rest) (λ o n back. record { more = back.more; more_is = back.faulty; each = listed_through e o n back });
+      counts = c.give_back.ensures.counts;
+      cause = λ fault. cause (fault_through e fault);
+    }
