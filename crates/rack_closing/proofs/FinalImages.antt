@@ -13,7 +13,7 @@ use Rattle.wol_model.proofs.Overlay.{after_none}
 use Rattle.manager.specs.declared.manager.Manager.{Manager}
 use Rattle.rack_parts.proofs.Members.{first_in, later_in, here_within, of_map, in_map, none_in, is_member}
 use Rattle.rack_parts.proofs.ManagerBack.{is_lane_of, lanes_with, with_lane}
-use Rattle.rack_closing.proofs.StationParts.{few_volumes, IsEnding, one_place, among, is_base, is_station, id_of, image_end, shape_of_image, same_out, was_there, rests_end, segment_end}
+use Rattle.rack_closing.proofs.StationParts.{few_volumes, IsEnding, one_place, is_base, is_station, id_of, image_end, shape_of_image, same_out, was_there, rests_end, segment_end}
 use Rattle.rack_closing.proofs.StationParts.{index_within, closing_of, manager_of, entries_of_station, is_closing, home_there, lane_there, of_seen, says_owner}
 use Rattle.rack_closing.proofs.HeldSegments.{no_log, no_log_of_other, not_idle, each_held}
 use Rattle.rack_closing.proofs.StationRecovers.{blocks_in, IsThereNow, AreLeftNow, cut_now, whole_now, distinct_now, listed_now, on_loggers_now, sound_now}

@@ -1,9 +1,9 @@
 -- Images that are left of those at entry, but for segments that keep the same records: they recover to what one at entry does.
 use Rattle.rack_closing.proofs.Basics.{◌≡◌, ℕ, zero, suc, ◌+◌, ◌-◌, ◌*◌, ◌<◌, ◌≤◌, List, [], ◌++◌, length, take, drop, sym, ap, ◌∙◌, subst, arith, ⊎_elim, Bool, true, false, Option, Some, refl}
 use Rattle.rack_closing.proofs.Basics.{slice_range, slice_get, slice_index_or, drop-append-add, take-append_seam, take_all, length-append, length-drop, length-take-le, drop-take, cases_lt}
-use Rattle.rack_closing.proofs.Basics.{slice_get-get_or, not, ◌⊎◌, inl, inr, None}
+use Rattle.rack_closing.proofs.Basics.{slice_get-get_or, ◌⊎◌, inl, inr, None}
 use Rattle.rack_closing.proofs.Terms.{Block, Values, IsImage, Image, Told, at_name, Shape, image_size, segment_of, Images, image_of, home_in, home_of, recovered_from, Config, VolumeConf, shape_in}
-use Rattle.rack_closing.proofs.Terms.{shapes_of, MayLeave, AreLeft, recovered_but, Keeps}
+use Rattle.rack_closing.proofs.Terms.{shapes_of, MayLeave, AreLeft, recovered_but}
 use Rattle.std.proofs.Math.Nat.{suc-mul, mul-le-mul_right}
 use Rattle.rack_parts.proofs.GivenBack.{image_length}
 use Rattle.rack_closing.proofs.Places.{both_slices}

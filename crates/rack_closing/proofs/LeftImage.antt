@@ -1,9 +1,9 @@
 -- Images without those that were refused, and an image that a crash leaves of parts that went back.
 use Rattle.rack_closing.proofs.Basics.{◌≡◌, ◌+◌, ℕ, List, [], length, Option, Some, None, option_map, refl, sym, ap, ◌∙◌, subst, arith, slice_get, slice_range, length-map, same_Some}
-use Rattle.rack_closing.proofs.Basics.{slice_get_within, slice_get-map, get_or_from_slice_get, zero, suc, Bool, true, false, cond, ◌∷◌, is_some, not, unwrap_or}
+use Rattle.rack_closing.proofs.Basics.{slice_get_within, slice_get-map, get_or_from_slice_get, zero, suc, Bool, true, false, cond, ◌∷◌, is_some, not, unwrap_or, ◌⊎◌, inl, inr, eqb, ne_eqb}
 use Rattle.rack_closing.proofs.Terms.{Block, State, Values, IsDisk, TellsContent, IsImageOf, Shape, Images, image_of, image_size, segment_of, Name, Told, at_name, blocks_of, Config, VolumeConf}
 use Rattle.rack_closing.proofs.Terms.{state_of, Spun, shape_in, shapes_of, MayLeave, AreLeft, segment_here, IsImageRest, IsStoredAs, ImageRest, accepted_from, accepted, is_kept_home, image_here}
-use Rattle.rack_closing.proofs.Terms.{IsImageOut, images_read, image_read}
+use Rattle.rack_closing.proofs.Terms.{IsImageOut, images_read, image_read, Image, reads}
 use Rattle.rack_parts.proofs.Members.{element_at}
 use Rattle.rack_parts.proofs.GivenBack.{all_told, left_size, left_label, left_home, left_segment}
 
@@ -75,6 +75,17 @@ pub read_here : (config : Config) (t : Told) (k : ℕ) (v : VolumeConf) → slic
 read_here config t k v at =
     let f : VolumeConf → Option (List Block) = λ w. image_read (at_name w.name t.images) in
     ap (λ (x : Option (Option (List Block))). unwrap_or x None) (slice_get-map f config.volumes.items k ∙ ap (option_map f) at)
+
+-- an image reads where it has whole blocks
+pub read_cases : (i : Image) → ((i.rest ≡ []) × (image_read (Some i) ≡ Some (reads i.blocks))) ⊎ ((i.rest ≡ [] → ⊥) × (image_read (Some i) ≡ None))
+read_cases i = go i.rest refl
+  where
+    go : (l : List ℕ) → i.rest ≡ l → ((i.rest ≡ []) × (image_read (Some i) ≡ Some (reads i.blocks))) ⊎ ((i.rest ≡ [] → ⊥) × (image_read (Some i) ≡ None))
+    go [] e = inl (e, ap (λ (l : List ℕ). cond (eqb (length l) 0) (Some (reads i.blocks)) None) e)
+    go (x ∷ l) e =
+        let some = ap (λ (y : List ℕ). length y) e in
+        let other : eqb (length i.rest) 0 ≡ false = ne_eqb (length i.rest) 0 (λ none. omega (arith, none, some)) in
+        inr (λ none. cc (sym none ∙ e), ap (λ (t : Bool). cond t (Some (reads i.blocks)) None) other)
 
 -- what is left of an image's parts
 pub record IsLeftNow {D : Type 0} (state : D → State) (z : Shape) (q : ImageRest D) (c : List Block) : Type 0 where

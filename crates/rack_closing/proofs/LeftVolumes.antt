@@ -1,7 +1,7 @@
 -- What closing a rack leaves: what each part comes from, and what every volume recovers to.
 use Rattle.rack_closing.proofs.Basics.{◌≡◌, ◌<◌, ◌≤◌, ◌+◌, ◌⊎◌, inl, inr, ℕ, Bool, List, [], length, map, Option, Some, None, refl, sym, ap, ◌∙◌, subst, arith, ⊎_elim, ◌∷◌, ◌≢◌, ◌^◌, true, false}
-use Rattle.rack_closing.proofs.Basics.{not, cond, eqb, option_map, is_some, option_and_then, Contains, slice_get, slice_index_or, IsTrue, slice_range, All, cases_lt, cases_eq, eqb-true, eq-eqb}
-use Rattle.rack_closing.proofs.Basics.{none-some, slice_get_past, slice_get-get_or, same_Some, slice_get-map, AllByRecursion, length-map, ne_eqb, All-contains}
+use Rattle.rack_closing.proofs.Basics.{not, eqb, option_map, is_some, option_and_then, Contains, slice_get, slice_index_or, IsTrue, slice_range, All, cases_lt, cases_eq, eqb-true, eq-eqb}
+use Rattle.rack_closing.proofs.Basics.{none-some, slice_get_past, slice_get-get_or, same_Some, slice_get-map, AllByRecursion, length-map, All-contains}
 use Rattle.rack_closing.proofs.Terms.{State, Block, IsImageOf, Values, IsImage, reads, image_reads, BayState, Told, Image, at_name, Shape, Images, image_of, segment_of, image_size, home_in}
 use Rattle.rack_closing.proofs.Terms.{recovered_from, segments_of, Record, IsNamed, IsIdle, IsLog, LiesInHome, IsSoundOf, Config, VolumeConf, state_of, Spun, part_of, logger_of, held_in}
 use Rattle.rack_closing.proofs.Terms.{HeldSegment, Lane, ManagerBase, Part, Station, may_be, shapes_of, AreLeft, shape_in, image_read, images_read, MayLeave, image_here, segment_here, held_here}
@@ -18,7 +18,7 @@ use Rattle.rack_closing.proofs.VolumesClosed.{part_at, segment_at_place, fault_h
 use Rattle.rack_closing.proofs.SoundBefore.{IsClosed, Came, has_come, keeps_came, reads_among, at_front}
 use Rattle.rack_closing.proofs.KeptImages.{IsKeptImage, AreTwo, IsBefore, kept_before, before_same, before_all}
 use Rattle.rack_closing.proofs.SameRecovered.{picked, ArePicked, recovered_same, recovered_none}
-use Rattle.rack_closing.proofs.LeftImage.{volume_at, read_here, may_at, out_taken}
+use Rattle.rack_closing.proofs.LeftImage.{read_cases, volume_at, read_here, may_at, out_taken}
 use Rattle.rack_closing.proofs.Places.{both_slices, slice_join}
 use Rattle.rack_closing.proofs.Cases.{none_or, some_or}
 use Rattle.rack_closing.proofs.HeldSegments.{not_idle}
@@ -192,14 +192,7 @@ module _ {D : Type 0} {state : D → State} {tells : Bool} {config : Config} {b 
 -- an image as it reads is one that may be left of it
 read_may : (o : Option Image) → MayLeave o (image_read o)
 read_may None = tt
-read_may (Some i) = go i.rest refl
-  where
-    go : (l : List ℕ) → i.rest ≡ l → MayLeave (Some i) (cond (eqb (length i.rest) 0) (Some (reads i.blocks)) None)
-    go [] e = subst (λ (n : Bool). MayLeave (Some i) (cond n (Some (reads i.blocks)) None)) (sym (ap (λ (l : List ℕ). eqb (length l) 0) e)) (e, image_reads i.blocks)
-    go (x ∷ l) e =
-        let some : length i.rest ≡ length (x ∷ l) = ap (λ (y : List ℕ). length y) e in
-        let other : eqb (length i.rest) 0 ≡ false = ne_eqb (length i.rest) 0 (λ none. omega (arith, none, some)) in
-        subst (λ (n : Bool). MayLeave (Some i) (cond n (Some (reads i.blocks)) None)) (sym other) (λ none. let both : [] ≡ x ∷ l = sym none ∙ e in cc both)
+read_may (Some i) = ⊎_elim (λ r. subst (MayLeave (Some i)) (sym r.1) (r.0, image_reads i.blocks)) (λ r. subst (MayLeave (Some i)) (sym r.1) r.0) (read_cases i)
 
 -- the images as they read are some that may be left
 pub reads_are_left : ReadsAreLeft

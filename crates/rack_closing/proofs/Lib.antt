@@ -4,7 +4,6 @@ pub mod CutParts
 pub mod NewFaults
 pub mod Closable
 pub mod StationRecovers
-pub mod ListedLeft
 pub mod HeldSegments
 pub mod LeftImage
 pub mod StationParts

@@ -1,11 +1,11 @@
 -- The names and sizes of the volumes of a configuration.
-use Rattle.rack_closing.proofs.Basics.{◌≡◌, ◌≢◌, ⊎_elim, ℕ, ◌<◌, ◌≤◌, Bool, true, false, get_or, Some, refl, sym, ap, ◌∙◌, arith, ◌^◌, length, option_map, subst, slice_get, cases_lt}
-use Rattle.rack_closing.proofs.Basics.{slice_get_within, get_or_from_slice_get, same_Some, slice_get-map, length-map}
+use Rattle.rack_closing.proofs.Basics.{◌≡◌, ◌≢◌, ⊎_elim, ℕ, ◌<◌, ◌≤◌, Bool, true, false, get_or, Some, refl, sym, ap, ◌∙◌, arith, ◌^◌, subst, slice_get, cases_lt, slice_get_within}
+use Rattle.rack_closing.proofs.Basics.{get_or_from_slice_get}
 use Rattle.rack_closing.proofs.Terms.{Name, Config, VolumeConf, Shape, IsShape, shape_in, shapes_of}
 use Rattle.std.specs.Str.{bytes_eq}
 use Rattle.std.proofs.lemmas.Slice.Eq.{bytes_eq-Decides}
 use Rattle.wol_config.specs.Configs.{IsValid}
-use Rattle.rack_closing.proofs.Places.{some_at}
+use Rattle.rack_closing.proofs.LeftImage.{volume_at}
 
 -- two names are the same or not
 pub cases_name : {P : Type 0} (x y : Name) → (x ≡ y → P) → (x ≢ y → P) → P
@@ -33,13 +33,11 @@ names_differ config valid j k v w at at' other = λ same.
 pub valid_shape : (config : Config) → IsValid config → (k : ℕ) (s : Shape) → slice_get (shapes_of config) k ≡ Some s → IsShape s × (s.segment_blocks ≡ config.segment_blocks)
 valid_shape config valid k s at =
     let vs = config.volumes.items in
-    let within = slice_get_within (shapes_of config) k s at in
-    let below : k < length vs = let e = length-map vs (shape_in config) in omega (arith, within, e) in
-    let v = some_at vs k below in
-    let is : shape_in config v.0 ≡ s = same_Some (shape_in config v.0) s (sym (ap (option_map (shape_in config)) v.1) ∙ sym (slice_get-map (shape_in config) vs k) ∙ at) in
+    let v = volume_at config k s at in
+    let below = slice_get_within vs k v.0 v.1 in
     let one : get_or vs k v.0 ≡ v.0 = get_or_from_slice_get vs k v.0 v.0 v.1 in
     let ok = valid.volumes k v.0 below in
     let home : (1 ≤ v.0.home) × (v.0.home ≤ 2 ^ 32) = subst (λ (w : VolumeConf). (1 ≤ w.home) × (w.home ≤ 2 ^ 32)) one ok.home in
     let segments : v.0.segments ≤ 1024 = subst (λ (w : VolumeConf). w.segments ≤ 1024) one ok.segments in
     let shape : IsShape (shape_in config v.0) = record { home = home; segments = segments; segment_blocks = valid.segment_blocks } in
-    subst (λ (t : Shape). IsShape t × (t.segment_blocks ≡ config.segment_blocks)) is (shape, refl)
+    subst (λ (t : Shape). IsShape t × (t.segment_blocks ≡ config.segment_blocks)) v.2 (shape, refl)

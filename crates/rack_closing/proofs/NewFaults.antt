@@ -1,6 +1,6 @@
 -- Parts that came back with a fault stay in the list of the bay.
 use Rattle.rack_closing.proofs.Basics.{◌≡◌, ℕ, ◌+◌, List, [], ◌++◌, Option, None, Some, option_map, sym, ap, ◌∙◌, subst, append-nil, append_assoc, length, Contains-append_left}
-use Rattle.rack_closing.proofs.Basics.{Contains-append_right, same_Some}
+use Rattle.rack_closing.proofs.Basics.{Contains-append_right, same_Some, Contains}
 use Rattle.rack_closing.proofs.Terms.{Name, Told, sent_out, Image, BayState, at_name, HasFaulty, IsFaultAmong, HasNewFault, RefusesImage, reads, Config, VolumeConf, IsImageFault, shape_in}
 use Rattle.rack_closing.proofs.Terms.{shapes_of, ImageRest, VolumeFault}
 use Rattle.volume_images.specs.Left.{IsTold}
@@ -29,17 +29,11 @@ pub sent_faulty : (name : Name) (sizes : List ℕ) (o n : Option Told) → n ≡
 sent_faulty name sizes None n sent = sent
 sent_faulty name sizes (Some t) n sent = subst (λ (x : Option Told). IsTold HasFaulty (Some t) x) (sym sent) ([], sym (append-nil t.faulty))
 
-among_left : (name : Name) (f : ImageFault) (xs ys : List (Name × ℕ)) → IsFaultAmong name f xs → IsFaultAmong name f (xs ++ ys)
-among_left name (fault.Damaged block) xs ys is = tt
-among_left name fault.LabelDiffers xs ys is = tt
-among_left name fault.LabelFault xs ys is = Contains-append_left xs ys (name, 0) is
-among_left name (fault.SegmentFault index) xs ys is = Contains-append_left xs ys (name, 2 + index) is
-
-among_right : (name : Name) (f : ImageFault) (xs ys : List (Name × ℕ)) → IsFaultAmong name f ys → IsFaultAmong name f (xs ++ ys)
-among_right name (fault.Damaged block) xs ys is = tt
-among_right name fault.LabelDiffers xs ys is = tt
-among_right name fault.LabelFault xs ys is = Contains-append_right xs ys (name, 0) is
-among_right name (fault.SegmentFault index) xs ys is = Contains-append_right xs ys (name, 2 + index) is
+among_more : (name : Name) (f : ImageFault) (xs ys : List (Name × ℕ)) → ((p : Name × ℕ) → Contains xs p → Contains ys p) → IsFaultAmong name f xs → IsFaultAmong name f ys
+among_more name (fault.Damaged block) xs ys more is = tt
+among_more name fault.LabelDiffers xs ys more is = tt
+among_more name fault.LabelFault xs ys more is = more (name, 0) is
+among_more name (fault.SegmentFault index) xs ys more is = more (name, 2 + index) is
 
 -- what came back since a moment came back since an earlier one
 pub fault_since : (name : Name) (f : ImageFault) (e o n : Option Told) → IsTold HasFaulty e o → IsTold (HasNewFault name f) o n → IsTold (HasNewFault name f) e n
@@ -50,7 +44,7 @@ fault_since name f (Some e) (Some o) None gained new = absurd new
 fault_since name f (Some e) (Some o) (Some n) gained new = record {
   more = gained.0 ++ new.more;
   more_is = new.more_is ∙ ap (λ (fs : List (Name × ℕ)). fs ++ new.more) gained.1 ∙ append_assoc e.faulty gained.0 new.more;
-  among = among_right name f gained.0 new.more new.among;
+  among = among_more name f new.more (gained.0 ++ new.more) (λ p. Contains-append_right gained.0 new.more p) new.among;
 }
 
 -- and until a later one
@@ -62,7 +56,7 @@ fault_later name f (Some e) (Some o) None new gained = absurd gained
 fault_later name f (Some e) (Some o) (Some n) new gained = record {
   more = new.more ++ gained.0;
   more_is = gained.1 ∙ ap (λ (fs : List (Name × ℕ)). fs ++ gained.0) new.more_is ∙ append_assoc e.faulty new.more gained.0;
-  among = among_left name f new.more gained.0 new.among;
+  among = among_more name f new.more (new.more ++ gained.0) (λ p. Contains-append_left new.more gained.0 p) new.among;
 }
 
 -- what the image that is told said

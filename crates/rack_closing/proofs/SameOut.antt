@@ -1,7 +1,7 @@
 -- Lists of which the same images are out.
 use Rattle.rack_closing.proofs.Basics.{◌≡◌, inl, inr, ⊎_elim, ℕ, zero, suc, Bool, false, not, List, [], ◌∷◌, length, map, get_or, Option, None, Some, refl, sym, ap, ◌∙◌, subst, arith, is_some}
 use Rattle.rack_closing.proofs.Terms.{State, Images, accepted, Told, BayState, Config, VolumeConf, images_read, RefusesVolume, image_here, IsImageOut, ImageRest, VolumeFault, Absent, WrongLength}
-use Rattle.rack_closing.proofs.Terms.{Refused, LabelFault, BayFailed, after}
+use Rattle.rack_closing.proofs.Terms.{Refused, LabelFault, BayFailed}
 use Rattle.manager_recovery.specs.declared.opening.Opening.{Opening}
 use Rattle.rack_closing.specs.Owners.{images_taken, IsOpeningOf}
 

@@ -14,7 +14,7 @@ use Rattle.rack_closing.proofs.SoundBefore.{Fewer, none, fewer_same, fewer_disti
 use Rattle.rack_closing.proofs.SoundBefore.{sound_with, some_image, at_front}
 use Rattle.rack_closing.proofs.KeptImages.{two_go}
 use Rattle.rack_closing.proofs.SameRecovered.{images_go}
-use Rattle.rack_closing.proofs.LeftImage.{volume_at, read_here, accepted_count, accepted_same, accepted_gone}
+use Rattle.rack_closing.proofs.LeftImage.{read_cases, volume_at, read_here, accepted_count, accepted_same, accepted_gone}
 use Rattle.rack_closing.proofs.FinalImages.{IsCrash, distinct_left, array_out}
 use Rattle.rack_closing.proofs.StationParts.{place_of, one_place}
 pub use Rattle.rack_closing.proofs.LeftVolumes.{reads_are_left}
@@ -24,11 +24,7 @@ use Rattle.rack_closing.proofs.HeldSegments.{no_log}
 -- The images that a crash leaves of a rack that was closed are sound where all that it might have left at the rack's opening were.
 
 read_whole : (o : Option Image) (i : Image) → o ≡ Some i → i.rest ≡ [] → image_read o ≡ Some (reads i.blocks)
-read_whole o i is whole = ap image_read is ∙ at i.rest whole
-  where
-    at : (rest : List ℕ) → rest ≡ [] → image_read (Some (record { blocks = i.blocks; rest = rest })) ≡ Some (reads i.blocks)
-    at [] e = refl
-    at (x ∷ rest) e = absurd (cc e)
+read_whole o i is whole = ap image_read is ∙ ⊎_elim (λ r. r.1) (λ r. absurd (r.0 whole)) (read_cases i)
 
 read_at : (config : Config) (t : Told) (k : ℕ) (v : VolumeConf) (i : Image) → slice_get config.volumes.items k ≡ Some v → at_name v.name t.images ≡ Some i → i.rest ≡ [] → image_of (images_read config t) k ≡ Some (reads i.blocks)
 read_at config t k v i at is whole = read_here config t k v at ∙ read_whole (at_name v.name t.images) i is whole

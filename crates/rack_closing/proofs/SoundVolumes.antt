@@ -3,6 +3,7 @@ use Rattle.rack_closing.proofs.Basics.{◌≡◌, ◌≢◌, ℕ, suc, ◌+◌, 
 use Rattle.rack_closing.proofs.Basics.{◌∙◌, subst, arith, ⊎_elim, ◌*◌, get_or, replicate, option_map, ◌⊎◌, is_some, IfSome, slice_get, unwrap_or, filter, Contains, slice_index_or, IsTrue, sum}
 use Rattle.rack_closing.proofs.Basics.{find, AllByRecursion, range_with_len, position_or_len, eq-eqb, eqb-true, cases_lt, lt-ltb, length-append, map-append, length-map, filter-append}
 use Rattle.rack_closing.proofs.Basics.{All-contains, same_Some, none-some, slice_get-map, slice_get_within, slice_get-get_or, get_or_from_slice_get, fails_before_first, sum_by-cons}
+use Rattle.rack_closing.proofs.Basics.{Contains-append_right}
 use Rattle.rack_closing.proofs.Terms.{Block, State, Rose, reads, Image, Told, BayState, at_name, bytes_of, Extent, Cover, AreDistinct, covers_of, Shape, owned_block, free_block, SpellsView}
 use Rattle.rack_closing.proofs.Terms.{Images, image_of, image_size, segment_of, segments_of, all_segments, IsSoundSegment, IsSoundImage, AreSound, accepted, Record, IsIdle, IsLog, IsNamed}
 use Rattle.rack_closing.proofs.Terms.{extent_of, extents_of, log_read, one_segment_head, one_log, one_label, one_view, Config, VolumeConf, HasView, Part, Station, Head, records_of, records_in}
@@ -31,7 +32,7 @@ use Rattle.manager_recovery.proofs.ByLogger.{all_among, among_map}
 use Rattle.rack_closing.proofs.OwnedSegments.{extents_owned, range_has}
 use Rattle.rack_closing.proofs.SameOut.{out_bit}
 use Rattle.rack_closing.proofs.SoundBefore.{Fewer, none, fewer_same, fewer_images, fewer_distinct, segments_are}
-use Rattle.rack_closing.proofs.LeftImage.{read_here, accepted_is, accepted_same, accepted_gone, accepted_count}
+use Rattle.rack_closing.proofs.LeftImage.{read_cases, read_here, accepted_is, accepted_same, accepted_gone, accepted_count}
 use Rattle.rack_closing.proofs.HeldSegments.{all_append}
 use Rattle.rack_closing.proofs.NewFaults.{image_said}
 use Rattle.rack_closing.proofs.SoundClosed.{reads_are_left}
@@ -210,10 +211,6 @@ pub never_found : {X : Type 0} (test : X → Bool) (xs : List X) → ((x : X) �
 never_found test [] each = refl
 never_found test (x ∷ xs) each = ap (λ (t : Bool). cond t (Some x) (find test xs)) (each x (first_in x x xs refl)) ∙ never_found test xs (λ y has. each y (later_in x y xs has))
 
-pub in_middle : {X : Type 0} (xs : List X) (x : X) (ys : List X) → Contains (xs ++ x ∷ ys) x
-in_middle [] x ys = first_in x x ys refl
-in_middle (y ∷ xs) x ys = later_in y x (xs ++ x ∷ ys) (in_middle xs x ys)
-
 -- a view names the loggers that it has
 pub has_name : (view : List ℕ) (logger : ℕ) → Contains view logger → is_named view logger ≡ true
 has_name view logger has =
@@ -230,10 +227,6 @@ has_name view logger has =
     test : ℕ → Bool
     test id = id == logger
 
-no_blocks : {X : Type 0} (xs : List X) → length xs ≡ 0 → xs ≡ []
-no_blocks [] e = refl
-no_blocks (x ∷ xs) e = absurd (omega (arith, e))
-
 -- an image that reads has whole blocks
 record IsReadAs (o : Option Image) (c : List Block) : Type 0 where
   pub image : Image
@@ -243,11 +236,10 @@ record IsReadAs (o : Option Image) (c : List Block) : Type 0 where
 
 read_back : (o : Option Image) (c : List Block) → image_read o ≡ Some c → IsReadAs o c
 read_back None c is = absurd (none-some c is)
-read_back (Some i) c is = go (length i.rest == 0) refl is
-  where
-    go : (t : Bool) → (length i.rest == 0) ≡ t → cond t (Some (reads i.blocks)) None ≡ Some c → IsReadAs (Some i) c
-    go true e is = record { image = i; there = refl; whole = no_blocks i.rest (eqb-true (length i.rest) 0 e); blocks = same_Some (reads i.blocks) c is }
-    go false e is = absurd (none-some c is)
+read_back (Some i) c is = ⊎_elim
+    (λ r. record { image = i; there = refl; whole = r.0; blocks = same_Some (reads i.blocks) c (sym r.1 ∙ is) })
+    (λ r. absurd (none-some c (sym r.1 ∙ is)))
+    (read_cases i)
 
 -- the parts of an image have all of its blocks
 sum_parts : (s : Shape) → sum (part_sizes s) ≡ image_size s
@@ -428,7 +420,7 @@ module _ {D : Type 0} (tells : Bool) (telling : IsTrue tells) (state : D → Sta
     opening_of (opening.OutsideView logger segment) r names old new = none-some r.2.0 (sym none_outside ∙ r.2.1)
     opening_of (opening.Damaged volume block) r names old new =
         let first = r.1 telling in
-        let has : Contains os first.segment = subst (λ (l : List Owned). Contains l first.segment) (sym first.split) (in_middle first.before first.segment first.after) in
+        let has : Contains os first.segment = subst (λ (l : List Owned). Contains l first.segment) (sym first.split) (Contains-append_right first.before (first.segment ∷ first.after) first.segment (first_in first.segment first.segment first.after refl)) in
         let its = log_of first.segment has in
         let home : o.want.home ≡ its.shape.home = ap (λ (s : Shape). s.home) (same_Some (shape_of o.want) its.shape (sym is.shape ∙ its.shape_is)) in
         no_fault every_shape images sound k known o.want.home block first.segment its home (subst (λ (w : ℕ). IsFault w o.want.home first.segment block) is.id first.fault)

@@ -1,6 +1,6 @@
 -- What images of a station's parts recover to, among all segments.
-use Rattle.rack_closing.proofs.Basics.{◌≡◌, ◌≢◌, ◌<◌, ◌≤◌, ◌⊎◌, inl, inr, ℕ, Bool, List, [], ◌∷◌, length, map, Option, Some, None, refl, sym, ap, ◌∙◌, subst, arith, All, AllPairs, Contains}
-use Rattle.rack_closing.proofs.Basics.{IsTrue, is_some, slice_get, unwrap_or, AllByRecursion, AllZip, cases_lt, slice_get_within, get_or_from_slice_get, All-from_recursion}
+use Rattle.rack_closing.proofs.Basics.{◌≡◌, ◌≢◌, ◌<◌, ◌≤◌, ◌⊎◌, inl, inr, ℕ, Bool, List, [], ◌∷◌, length, map, Option, Some, None, refl, sym, ap, ◌∙◌, subst, arith, AllPairs, Contains, IsTrue}
+use Rattle.rack_closing.proofs.Basics.{is_some, slice_get, unwrap_or, AllByRecursion, AllZip, cases_lt, slice_get_within, get_or_from_slice_get, All-from_recursion}
 use Rattle.rack_closing.proofs.Terms.{Block, State, IsImageOf, after, AreDistinct, Extent, covers_of, with_extents, Shape, writes, flight_of, IsCut, Images, image_of, image_size, segment_of}
 use Rattle.rack_closing.proofs.Terms.{all_segments, Indexed, Listed, listed_in, IsLog, extent_of, extents_in, extents_of, Held, IsBacked, extents_held, Noted, entries_of, state_of, volume_of}
 use Rattle.rack_closing.proofs.Terms.{Spun, parts_of, all_held, Keeps, AreListedOf, IsOfExtent, IsOnLogger, Write}
@@ -11,8 +11,9 @@ use Rattle.wol_promise.proofs.SoundSegments.{logs_sound}
 use Rattle.manager.specs.declared.base.ManagerBase.{ManagerBase}
 use Rattle.manager.specs.declared.manager.Manager.{Manager}
 use Rattle.wol_model.proofs.Histories.{cut_whole}
+use Rattle.std.proofs.lemmas.List.Elements.{recursion_from_All}
 use Rattle.rack_parts.proofs.Members.{of_map, of_recursion}
-use Rattle.rack_closing.proofs.ListedLeft.{listed_held, listed_same, of_record}
+use Rattle.rack_closing.proofs.HeldSegments.{listed_held, listed_same, of_record}
 use Rattle.rack_closing.proofs.SameSegments.{unmapped, Placed, AreApartPlaced, AreThese, Shuffled, same_extents, shuffled_same, shuffled_distinct, shuffled_to, shuffled_from}
 
 -- the blocks of a segment of these images
@@ -96,19 +97,13 @@ module _ {D : Type 0} (tells : Bool) (state : D → State) (told : IsTrue tells)
     apart_each [] all apart = tt
     apart_each (h ∷ hs) all apart = (apart_from h hs all.0 all.1 apart.0, apart_each hs all.1 apart.1)
 
-    unplaced : (hs : List (Held (Spun D))) (k i : ℕ) → All (λ (p : Placed). ◌≢◌ {A = ℕ × ℕ} p.0 (k, i)) (map placed_held hs) → AllByRecursion (λ (h : Held (Spun D)). ◌≢◌ {A = ℕ × ℕ} (volume_of h.part, h.index) (k, i)) hs
-    unplaced [] k i all = tt
-    unplaced (h ∷ hs) k i all = (
-      Rattle.std.proofs.lemmas.List.Elements.All-head (λ (p : Placed). ◌≢◌ {A = ℕ × ℕ} p.0 (k, i)) (placed_held h) (map placed_held hs) all,
-      unplaced hs k i (Rattle.std.proofs.lemmas.List.Elements.All-tail (λ (p : Placed). ◌≢◌ {A = ℕ × ℕ} p.0 (k, i)) (placed_held h) (map placed_held hs) all),
-    )
-
     these : AreThese shapes images v (map placed_held held)
     these = record {
       sized = are.sized;
       there = All-from_recursion (λ (p : Placed). (s : Shape) × (c : List Block) × (slice_get shapes p.0.0 ≡ Some s) × (image_of images p.0.0 ≡ Some c) × (p.0.1 < s.segments) × (p.1 ≡ segment_of s c p.0.1)) (map placed_held held) (there_each held are.each);
       apart = apart_each held kp.upholds.places.each kp.upholds.places.apart;
-      others = λ k i z c shape_is image_is within all. are.others k i z c shape_is image_is within (unplaced held k i all);
+      others = λ k i z c shape_is image_is within all. are.others k i z c shape_is image_is within
+          (unmapped (λ (p : Placed). ◌≢◌ {A = ℕ × ℕ} p.0 (k, i)) placed_held held (recursion_from_All (λ (p : Placed). ◌≢◌ {A = ℕ × ℕ} p.0 (k, i)) (map placed_held held) all));
     }
 
     abbrev chosen_segments : List (List Block)

@@ -1,7 +1,7 @@
 -- The volumes of a rack that was closed: their entries, the parts that had a fault, and their passes at the pools.
 use Rattle.rack_closing.proofs.Basics.{◌≡◌, ◌≢◌, ◌<◌, ◌≤◌, ℕ, Bool, false, List, [], ◌∷◌, length, Option, Some, None, is_some, refl, sym, ap, ◌∙◌, subst, arith, ◌+◌, zero, suc, get_or, map}
 use Rattle.rack_closing.proofs.Basics.{option_map, cond, Contains, IsTrue, slice_get, IsSome, count_by, All, AllByRecursion, cons_option, same_Some, slice_get-get_or, slice_get_within}
-use Rattle.rack_closing.proofs.Basics.{slice_get-map, get_or_from_slice_get, none-some, All-from_recursion, All-contains, Contains-get_or, sum_by-cons, ⊎_elim, sum, ⊤}
+use Rattle.rack_closing.proofs.Basics.{slice_get-map, get_or_from_slice_get, none-some, All-from_recursion, All-contains, Contains-get_or, sum_by-cons, ⊎_elim, ⊤}
 use Rattle.rack_closing.proofs.Terms.{Block, State, IsImageOf, Rose, Told, BayState, faulty_places, Shape, flight_of, writes, Images, image_of, segment_of, Indexed, listed_in, Record, IsLog}
 use Rattle.rack_closing.proofs.Terms.{extent_of, Write, Held, AreInUse, IsFound, HomePart, SegmentPart, IsPartOf, SaysOwnerOrFree, versions, PartName, entries_of, last_look, HasPassed, Look}
 use Rattle.rack_closing.proofs.Terms.{IsHeldBy, Config, VolumeConf, pass_number, pass_mine, TurnLock, PassOf, state_of, disk_of, volume_of, Spun, Spindle, SpindleBase, PoolBase, Pool, part_of}
@@ -15,7 +15,7 @@ use Rattle.manager.specs.declared.base.LaneBase.{LaneBase}
 use Rattle.volume_images.proofs.SettledParts.{fault_found}
 use Rattle.rack_parts.proofs.Members.{a_value, none_in, of_recursion, element_at, first_in, later_in, here_within}
 use Rattle.rack_closing.proofs.StationParts.{IsEnding, is_base, is_station, id_of, image_end, shape_of_image, whole_end, closing_of, manager_of, entries_of_station, is_closing, home_there}
-use Rattle.rack_closing.proofs.StationParts.{in_view, lane_there, of_seen, says_owner, among}
+use Rattle.rack_closing.proofs.StationParts.{in_view, lane_there, of_seen, says_owner}
 use Rattle.rack_closing.proofs.FinalImages.{IsCrash, station_with, left_now, left_out, left_origin, only_held, cut_left, whole_left, distinct_left, listed_left, on_loggers_left, volume_at}
 use Rattle.rack_closing.proofs.Cases.{by_option, some_or}
 use Rattle.rack_closing.specs.PoolUses.{PassesEmpty, TakesFew, times_empty, times_taken}
