@@ -1,14 +1,16 @@
 -- What the steps of closing a rack need, from what the rack promises.
 use Rattle.rack_closing.proofs.Basics.{◌≡◌, ◌<◌, ◌≤◌, ◌+◌, ◌⊎◌, inl, inr, ℕ, List, [], length, Option, Some, None, refl, sym, ap, ◌∙◌, subst, arith, Contains, All, IsSome, slice_get, none-some}
-use Rattle.rack_closing.proofs.Basics.{slice_get_within}
-use Rattle.rack_closing.proofs.Terms.{State, Shape, BayState, Config, lock_id, TurnLock, PoolBase, Pool, FreeSegment, shapes_of, image_here, segment_here, pool_pass, spindle_pass, held_here}
-use Rattle.rack_closing.proofs.Terms.{IsPart, IsImageRest, AreImageRests, IsPassAt, AreLocks, OnlyAccess, IsRest, IsClosable, AreKeepers, CanCloseStations, CanClosePool, CanClosePools}
-use Rattle.rack_closing.proofs.Terms.{CanCloseSpindles, KeepsSpindles, RefillsAll, AreComplete, ImageRest, Rack, Rest}
+use Rattle.rack_closing.proofs.Basics.{slice_get_within, ⊎_elim, IfSome, All-contains, same_Some}
+use Rattle.rack_closing.proofs.Terms.{State, Shape, BayState, Config, lock_id, TurnLock, PoolBase, Pool, FreeSegment, shapes_of, image_here, pool_pass, spindle_pass, held_here, IsPart}
+use Rattle.rack_closing.proofs.Terms.{IsImageRest, AreImageRests, IsPassAt, AreLocks, OnlyAccess, IsRest, IsClosable, AreKeepers, CanCloseStations, CanClosePool, CanClosePools, CanCloseSpindles}
+use Rattle.rack_closing.proofs.Terms.{KeepsSpindles, RefillsAll, AreComplete, ImageRest, Rack, Rest, Spun}
 use Rattle.turn_lock.specs.declared.pass.PassOf.{PassOf}
 use Rattle.spin_model.specs.declared.spindle.Spindle.{Spindle}
 use Rattle.spin_model.specs.declared.spindle.SpindleBase.{SpindleBase}
 use Rattle.logger.specs.declared.shared.Shared.{Shared}
-use Rattle.rack_parts.proofs.Members.{a_value, none_in}
+use Rattle.std.specs.Prelude.{vec_capacity}
+use Rattle.rack_parts.specs.Closing.{IsRefilledAll}
+use Rattle.rack_parts.proofs.Members.{a_value, none_in, element_at, here_within}
 
 module _ {D : Type 0} {state : D → State} {config : Config} where
   pub stations_may : {b : BayState} {r : Rack D} → IsClosable state config b r → CanCloseStations state config r.shared r.stations.items r.rest
@@ -69,15 +71,19 @@ module _ {D : Type 0} {state : D → State} {config : Config} where
             settled = λ v q there. is.parts.spindles.settled v k q (sym (kept.spindles v k) ∙ there);
           };
       room_count = ap (λ r. length r.spindles.items) rooms ∙ is.rooms.spindle_count ∙ sym locks.spindle_count;
-      rooms = subst (λ r. All (λ row. (row.items ≡ []) × (length cur.passes.items + 1 ≤ Rattle.std.specs.Prelude.vec_capacity row)) r.spindles.items) (sym rooms)
-          (subst (λ (n : ℕ). All (λ row. (row.items ≡ []) × (n + 1 ≤ Rattle.std.specs.Prelude.vec_capacity row)) rest.rooms.spindles.items) (sym (kept.count ∙ is.parts.count)) is.rooms.spindles);
-      closed = subst (λ r. length r.closed.items + length shared.spindles.items ≤ Rattle.std.specs.Prelude.vec_capacity r.closed) (sym rooms)
+      rooms = subst (λ r. All (λ row. (row.items ≡ []) × (length cur.passes.items + 1 ≤ vec_capacity row)) r.spindles.items) (sym rooms)
+          (subst (λ (n : ℕ). All (λ row. (row.items ≡ []) × (n + 1 ≤ vec_capacity row)) rest.rooms.spindles.items) (sym (kept.count ∙ is.parts.count)) is.rooms.spindles);
+      closed = subst (λ r. length r.closed.items + length shared.spindles.items ≤ vec_capacity r.closed) (sym rooms)
           (let none = ap length is.rooms.closed.0 in omega (arith, none, is.rooms.closed.1, locks.spindle_count));
     }
       where
         nobody_there : (v k : ℕ) → Contains {X = ℕ × ℕ} [] (v, k) ⊎ ((v ≡ k) × Contains {X = ℕ} [] v) → ⊥
         nobody_there v k (inl has) = none_in (v, k) has
         nobody_there v k (inr has) = none_in v has.1
+
+    was_of : (blocks k : ℕ) (o new : Option (ImageRest D)) (n : ImageRest D) → RefillsAll state blocks rest k o new → new ≡ Some n → (r : ImageRest D) × (o ≡ Some r) × IsRefilledAll state blocks rest k r n
+    was_of blocks k None new n x here = absurd (none-some n (sym x ∙ here))
+    was_of blocks k (Some r) new n x here = (r, refl, subst (λ (q : ImageRest D). IsRefilledAll state blocks rest k r q) (same_Some x.0 n (sym x.1 ∙ here)) x.2)
 
     -- the images once all pools are closed
     module _ (cur : Rest D) (count : length cur.images.items ≡ length rest.images.items) (filled : (k : ℕ) (f : TurnLock (Pool (FreeSegment D)) PoolBase) → slice_get shared.pools.items k ≡ Some f → RefillsAll state (lock_id f).base.blocks rest k (image_here rest.images.items k) (image_here cur.images.items k)) where
@@ -88,31 +94,17 @@ module _ {D : Type 0} {state : D → State} {config : Config} where
           blocks_in None = 0
           blocks_in (Some f) = (lock_id f).base.blocks
 
-      filled_at : (k : ℕ) → k < length shared.pools.items → RefillsAll state (blocks_at k) rest k (image_here rest.images.items k) (image_here cur.images.items k)
-      filled_at k below =
-          let f = Rattle.rack_parts.proofs.Members.element_at shared.pools.items k below in
-          rw f.1 (filled k f.0 f.1)
-
       -- an image that is out, and what was here of it
-      pub image_was : (k : ℕ) (n : ImageRest D) → image_here cur.images.items k ≡ Some n → (r : ImageRest D) × (image_here rest.images.items k ≡ Some r) × Rattle.rack_parts.specs.Closing.IsRefilledAll state (blocks_at k) rest k r n
-      image_was k n here = go (image_here rest.images.items k) refl (filled_at k below)
-        where
-          within : k < length cur.images.items
-          within = Rattle.rack_parts.proofs.Members.here_within cur.images.items k n here
-
-          below : k < length shared.pools.items
-          below = omega (arith, within, count, is.parts.images.0, locks.pool_count)
-
-          go : (o : Option (ImageRest D)) → image_here rest.images.items k ≡ o → RefillsAll state (blocks_at k) rest k (image_here rest.images.items k) (image_here cur.images.items k) → (r : ImageRest D) × (image_here rest.images.items k ≡ Some r) × Rattle.rack_parts.specs.Closing.IsRefilledAll state (blocks_at k) rest k r n
-          go None e x = absurd (none-some n (sym (subst (λ (o : Option (ImageRest D)). RefillsAll state (blocks_at k) rest k o (image_here cur.images.items k)) e x) ∙ here))
-          go (Some r) e x =
-              let y = subst (λ (o : Option (ImageRest D)). RefillsAll state (blocks_at k) rest k o (image_here cur.images.items k)) e x in
-              (r, e, subst (λ (q : ImageRest D). Rattle.rack_parts.specs.Closing.IsRefilledAll state (blocks_at k) rest k r q) (Rattle.std.proofs.lemmas.Option.same_Some y.0 n (sym y.1 ∙ here)) y.2)
+      pub image_was : (k : ℕ) (n : ImageRest D) → image_here cur.images.items k ≡ Some n → (r : ImageRest D) × (image_here rest.images.items k ≡ Some r) × IsRefilledAll state (blocks_at k) rest k r n
+      image_was k n here =
+          let within = here_within cur.images.items k n here in
+          let f = element_at shared.pools.items k (omega (arith, within, count, is.parts.images.0, locks.pool_count)) in
+          was_of (blocks_at k) k (image_here rest.images.items k) (image_here cur.images.items k) n (rw f.1 (filled k f.0 f.1)) here
 
       pub images_whole : AreComplete cur.images.items
       images_whole k n here =
           let was = image_was k n here in
-          record { home = subst (λ (h : Option (Rattle.spin_model.specs.declared.spun.Spun.Spun D)). IsSome h) (sym was.2.same.home) ((is.parts.homes k was.0 was.1).1 (λ has. none_in k has)); segments = was.2.all }
+          record { home = subst (λ (h : Option (Spun D)). IsSome h) (sym was.2.same.home) ((is.parts.homes k was.0 was.1).1 (λ has. none_in k has)); segments = was.2.all }
 
       pub images_rest : AreImageRests state config cur.images.items
       images_rest = (count ∙ is.parts.images.0, each)
@@ -121,22 +113,20 @@ module _ {D : Type 0} {state : D → State} {config : Config} where
           each k z n at here =
               let was = image_was k n here in
               let rest_of = is.parts.images.1 k z was.0 at was.1 in
+              let below = slice_get_within (shapes_of config) k z at in
+              let f = element_at shared.pools.items k (omega (arith, below, locks.pool_count)) in
+              let size : blocks_at k ≡ z.segment_blocks = rw f.1 (locks.pools k z f.0 at f.1).blocks in
               record {
                 label = subst (IsPart state k 2) (sym was.2.same.label) rest_of.label;
-                home = subst (λ h. Rattle.std.specs.Prelude.IfSome h (IsPart state k z.home)) (sym was.2.same.home) rest_of.home;
+                home = subst (λ h. IfSome h (IsPart state k z.home)) (sym was.2.same.home) rest_of.home;
                 count = was.2.same.count ∙ rest_of.count;
-                segments = λ i p is_there_. part k z n at was.0 was.1 was.2 rest_of i p (was.2.only i p is_there_) is_there_;
-                row = subst (λ w. (w.items ≡ []) × (z.segments ≤ Rattle.std.specs.Prelude.vec_capacity w)) (sym was.2.same.row) rest_of.row;
-                room = subst (λ w. (w.items ≡ []) × (2 + z.segments ≤ Rattle.std.specs.Prelude.vec_capacity w)) (sym was.2.same.room) rest_of.room;
+                segments = λ i p there. ⊎_elim
+                    (λ same. rest_of.segments i p same)
+                    (λ more. ⊎_elim
+                    (λ v. All-contains (λ (h : ℕ × Spun D). IsPart state k z.segment_blocks h.1) (held_here rest v.0 k) (i, p) (is.parts.returned.parts v.0 k z at) v.1)
+                    (λ b. record { of_volume = b.part.of_volume; sized = b.part.sized ∙ size })
+                    more)
+                    (was.2.only i p there);
+                row = subst (λ w. (w.items ≡ []) × (z.segments ≤ vec_capacity w)) (sym was.2.same.row) rest_of.row;
+                room = subst (λ w. (w.items ≡ []) × (2 + z.segments ≤ vec_capacity w)) (sym was.2.same.room) rest_of.room;
               }
-            where
-              part : (k : ℕ) (z : Shape) (n : ImageRest D) → slice_get (shapes_of config) k ≡ Some z → (r : ImageRest D) → image_here rest.images.items k ≡ Some r → Rattle.rack_parts.specs.Closing.IsRefilledAll state (blocks_at k) rest k r n → IsImageRest state k z r
-                  → (i : ℕ) (p : Rattle.spin_model.specs.declared.spun.Spun.Spun D)
-                  → (segment_here r i ≡ Some p) ⊎ (((v : ℕ) × Contains (held_here rest v k) (i, p)) ⊎ Rattle.rack_parts.specs.Parts.IsBlankPart state k (blocks_at k) p) → segment_here n i ≡ Some p → IsPart state k z.segment_blocks p
-              part k z n at r here re rest_of i p (inl was) there = rest_of.segments i p was
-              part k z n at r here re rest_of i p (inr (inl v)) there = Rattle.std.proofs.lemmas.List.Elements.All-contains (λ (h : ℕ × Rattle.spin_model.specs.declared.spun.Spun.Spun D). IsPart state k z.segment_blocks h.1) (held_here rest v.0 k) (i, p) (is.parts.returned.parts v.0 k z at) v.1
-              part k z n at r here re rest_of i p (inr (inr b)) there =
-                  let below : k < length shared.pools.items = omega (arith, slice_get_within (shapes_of config) k z at, locks.pool_count) in
-                  let f = Rattle.rack_parts.proofs.Members.element_at shared.pools.items k below in
-                  let size : blocks_at k ≡ z.segment_blocks = rw f.1 (locks.pools k z f.0 at f.1).blocks in
-                  record { of_volume = b.part.of_volume; sized = b.part.sized ∙ size }

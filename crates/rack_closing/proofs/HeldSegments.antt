@@ -8,7 +8,7 @@ use Rattle.wol_model.specs.Recovered.{extents_in}
 use Rattle.wol_model.proofs.ReadLogs.{log_from}
 use Rattle.wol_model.proofs.Spellings.{one_segment_head}
 use Rattle.rack_parts.proofs.Members.{none_in, first_in, later_in, in_cases, in_map, of_map, of_recursion}
-use Rattle.manager_recovery.proofs.ByLogger.{among_left, among_right, among_either, among_map, map_among, among_get, among_at}
+use Rattle.manager_recovery.proofs.ByLogger.{all_from, all_among, among_left, among_right, among_either, among_map, map_among, among_get, among_at}
 
 -- ---- Blocks that are no log of a volume
 
@@ -44,16 +44,13 @@ not_of_other v w bs small differs says = no_log v bs (λ rs log. no_log_of_other
 -- ---- What is held
 
 pub all_append : {X : Type 0} (P : X → Type 0) (xs ys : List X) → AllByRecursion P xs → AllByRecursion P ys → AllByRecursion P (xs ++ ys)
-all_append P [] ys front back = back
-all_append P (x ∷ xs) ys front back = (front.0, all_append P xs ys front.1 back)
+all_append P xs ys front back = all_from P (xs ++ ys) (λ x has. ⊎_elim (λ one. all_among P xs x front one) (λ other. all_among P ys x back other) (among_either xs ys x has))
 
 front_of : {X : Type 0} (P : X → Type 0) (xs ys : List X) → AllByRecursion P (xs ++ ys) → AllByRecursion P xs
-front_of P [] ys all = tt
-front_of P (x ∷ xs) ys all = (all.0, front_of P xs ys all.1)
+front_of P xs ys all = all_from P xs (λ x has. all_among P (xs ++ ys) x all (among_left xs ys x has))
 
 back_of : {X : Type 0} (P : X → Type 0) (xs ys : List X) → AllByRecursion P (xs ++ ys) → AllByRecursion P ys
-back_of P [] ys all = all
-back_of P (x ∷ xs) ys all = back_of P xs ys all.1
+back_of P xs ys all = all_from P ys (λ x has. all_among P (xs ++ ys) x all (among_right xs ys x has))
 
 module _ {D : Type 0} where
   each_with : (P : Held (Spun D) → Type 0) (j : ℕ) (hs : List (HeldSegment D)) (logs : List (List Record)) → ((h : HeldSegment D) (rs : List Record) (broken : Bool) → Contains hs h → P (record { part = part_of h.segment; lane = j; index = h.index; broken = broken; records = rs }))
