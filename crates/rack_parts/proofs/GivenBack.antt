@@ -4,7 +4,7 @@ use Rattle.rack_parts.proofs.Basics.{None, is_some, refl, ap, subst, arith, appe
 use Rattle.rack_parts.proofs.Basics.{◌*◌, drop, replicate, map, option_map, slice_get, Contains, slice_range, IfSome, All, cases_eq}
 use Rattle.rack_parts.proofs.Basics.{cases_lt, append-nil, length-map, get_or-map, drop-drop, length-append, length-drop, take_all}
 use Rattle.rack_parts.proofs.Basics.{Contains-append_left, Contains-append_right, All-contains, none-some, same_Some, slice_get-get_or}
-use Rattle.rack_parts.proofs.Basics.{slice_get_within, get_or_from_slice_get}
+use Rattle.rack_parts.proofs.Basics.{slice_get_within, get_or_from_slice_get, get_or_past, length-take, ⊎_elim}
 use Rattle.rack_parts.proofs.Terms.{Name, at_name, without, AreNamedApart, Image, Told, stored, each_place, came_back, BayState, outs}
 use Rattle.rack_parts.proofs.Terms.{IsOut, Config, VolumeConf, shape_in, out_names, image_here, segment_here, IsPart, IsImageRest}
 use Rattle.rack_parts.proofs.Terms.{IsImageOut, ImageRest, Block, Values, State, IsDisk, TellsContent, IsImage, IsImageOf, Rose, blocks_of}
@@ -21,6 +21,7 @@ use Rattle.wol_config.specs.Configs.{IsValid}
 use Rattle.spin_model.specs.Spun.{state_of, disk_of}
 use Rattle.volume_images.specs.Formatted.{part_sizes}
 use Rattle.volume_images.specs.Left.{IsTold}
+use Rattle.rack_parts.specs.Closing.{LeavesNoneOut}
 use Rattle.rack_parts.proofs.Members.{first_in, later_in}
 
 -- ---- The names of images that are out, as the last ones go back
@@ -123,13 +124,10 @@ module _ {D : Type 0} (state : D → State) (config : Config) (images : List (Op
   }
     where
       not_here : (k : ℕ) (r : ImageRest D) → n ≤ k → image_here images k ≡ Some r → suc n ≤ k
-      not_here k r from here = go (cases_lt n k)
-        where
-          go : (n < k) ⊎ (k ≤ n) → suc n ≤ k
-          go (inl lt) = omega (arith, lt)
-          go (inr le) =
-              let same : n ≡ k = omega (arith, from, le) in
-              absurd (none-some r (sym home ∙ ap (image_here images) same ∙ here))
+      not_here k r from here = ⊎_elim
+          (λ lt. omega (arith, lt))
+          (λ le. let same : n ≡ k = omega (arith, from, le) in absurd (none-some r (sym home ∙ ap (image_here images) same ∙ here)))
+          (cases_lt n k)
 
   -- one that is out came back
   pub one_back : (n : ℕ) (v : VolumeConf) (r : ImageRest D) (disks : List D) (old new : Told) → slice_get config.volumes.items n ≡ Some v → image_here images n ≡ Some r → IsTogether r disks
@@ -144,13 +142,12 @@ module _ {D : Type 0} (state : D → State) (config : Config) (images : List (Op
     where
       this : (w : VolumeConf) (q : ImageRest D) → w ≡ v → q ≡ r → IsStoredAs state w.name q (given.more ++ each_place v.name (faulty_places state disks)) (came_back v.name (blocks_of state disks) (faulty_places state disks) new)
       this w q same_conf same =
-          subst (λ (u : VolumeConf). IsStoredAs state u.name q (given.more ++ each_place v.name (faulty_places state disks)) (came_back v.name (blocks_of state disks) (faulty_places state disks) new)) (sym same_conf) (subst (λ (i : ImageRest D). IsStoredAs state v.name i (given.more ++ each_place v.name (faulty_places state disks)) (came_back v.name (blocks_of state disks) (faulty_places state disks) new)) (sym same)
-          (record {
+          rw (same_conf, same) (record {
             disks = disks;
             together = together;
-            stored = λ vs is. subst (λ (o : Option (List (Values Block))). at_name v.name (stored v.name o new.images) ≡ Some (record { blocks = vs; rest = [] })) (sym is) (stored_here v.name new.images apart vs);
+            stored = λ vs is. rw is (stored_here v.name new.images apart vs);
             faulty = λ place has. Contains-append_right given.more (each_place v.name (faulty_places state disks)) (v.name, place) (named v.name (faulty_places state disks) place has);
-          }))
+          })
 
       earlier : (k : ℕ) (w : VolumeConf) (q : ImageRest D) → k ≢ n → slice_get config.volumes.items k ≡ Some w → IsStoredAs state w.name q given.more new → IsStoredAs state w.name q (given.more ++ each_place v.name (faulty_places state disks)) (came_back v.name (blocks_of state disks) (faulty_places state disks) new)
       earlier k w q differs is s = record {
@@ -161,12 +158,27 @@ module _ {D : Type 0} (state : D → State) (config : Config) (images : List (Op
       }
 
       back : (k : ℕ) (w : VolumeConf) (q : ImageRest D) → n ≤ k → slice_get config.volumes.items k ≡ Some w → image_here images k ≡ Some q → IsStoredAs state w.name q (given.more ++ each_place v.name (faulty_places state disks)) (came_back v.name (blocks_of state disks) (faulty_places state disks) new)
-      back k w q from is out = go (cases_eq k n)
-        where
-          go : (k ≡ n) ⊎ (k ≡ n → ⊥) → IsStoredAs state w.name q (given.more ++ each_place v.name (faulty_places state disks)) (came_back v.name (blocks_of state disks) (faulty_places state disks) new)
-          go (inl same) =
-              this w q (same_Some w v (sym is ∙ ap (slice_get config.volumes.items) same ∙ at)) (same_Some q r (sym out ∙ ap (image_here images) same ∙ here))
-          go (inr differs) = earlier k w q differs is (given.back k w q (omega (arith, from, differs)) is out)
+      back k w q from is out = ⊎_elim
+          (λ same. this w q (same_Some w v (sym is ∙ ap (slice_get config.volumes.items) same ∙ at)) (same_Some q r (sym out ∙ ap (image_here images) same ∙ here)))
+          (λ differs. earlier k w q differs is (given.back k w q (omega (arith, from, differs)) is out))
+          (cases_eq k n)
+
+-- ---- The parts of an image that is put together
+
+each_some : {X : Type 0} (xs : List X) (i : ℕ) → get_or (map (λ (x : X). Some x) xs) i None ≡ slice_get xs i
+each_some [] i = refl
+each_some (x ∷ xs) zero = refl
+each_some (x ∷ xs) (suc i) = each_some xs i
+
+module _ {D : Type 0} (state : D → State) (k : ℕ) (z : Shape) (r : ImageRest D) (rest : IsImageRest state k z r) (disks : List D) (together : IsTogether r disks) where
+  home_sized : (state_of state together.home).size ≡ z.home
+  home_sized = (subst (λ (o : Option (Spun D)). IfSome o (IsPart state k z.home)) together.home_is rest.home).sized
+
+  part_at : (i : ℕ) → segment_here r i ≡ slice_get together.segments i
+  part_at i = ap (λ (l : List (Option (Spun D))). get_or l i None) together.segments_are ∙ each_some together.segments i
+
+  part_count : length together.segments ≡ z.segments
+  part_count = sym (length-map together.segments (λ (q : Spun D). Some q)) ∙ sym (ap length together.segments_are) ∙ rest.count
 
 -- ---- The images that a crash leaves of an image's blocks, by its parts
 
@@ -192,11 +204,6 @@ pub both_told : (a b : Option (List (Values Block))) (vs : List (Values Block)) 
 both_told None b vs is = absurd (none-some vs is)
 both_told (Some x) None vs is = absurd (none-some vs is)
 both_told (Some x) (Some y) vs is = (x, y, refl, refl, same_Some (x ++ y) vs is)
-
-each_some : {X : Type 0} (xs : List X) (i : ℕ) → get_or (map (λ (x : X). Some x) xs) i None ≡ slice_get xs i
-each_some [] i = refl
-each_some (x ∷ xs) zero = refl
-each_some (x ∷ xs) (suc i) = each_some xs i
 
 module _ {D : Type 0} (state : D → State) where
   -- where each part tells its content, all do together
@@ -253,35 +260,25 @@ module _ {D : Type 0} (state : D → State) where
       all_parts : blocks_of state (disk_of r.label ∷ disk_of together.home ∷ map (λ (q : Spun D). disk_of q) together.segments) ≡ Some vs
       all_parts = subst (λ (ds : List D). blocks_of state ds ≡ Some vs) together.disks_are told
 
-      home_sized : (state_of state together.home).size ≡ z.home
-      home_sized = (subst (λ (o : Option (Spun D)). IfSome o (IsPart state k z.home)) together.home_is rest.home).sized
-
       after_label : IsImageOf (state_of state r.label).values (take 2 c)
           × ((ws : List (Values Block)) × (blocks_of state (disk_of together.home ∷ map (λ (q : Spun D). disk_of q) together.segments) ≡ Some ws) × IsImage ws (drop 2 c) × (length c ≡ 2 + length ws))
       after_label = first_part (disk_of r.label) (disk_of together.home ∷ map (λ (q : Spun D). disk_of q) together.segments) 2 vs c rest.label.sized all_parts image
 
       after_home : IsImageOf (state_of state together.home).values (take z.home (drop 2 c))
           × ((ws : List (Values Block)) × (blocks_of state (map (λ (q : Spun D). disk_of q) together.segments) ≡ Some ws) × IsImage ws (drop z.home (drop 2 c)) × (length (drop 2 c) ≡ z.home + length ws))
-      after_home = first_part (disk_of together.home) (map (λ (q : Spun D). disk_of q) together.segments) z.home after_label.1.0 (drop 2 c) home_sized after_label.1.1 after_label.1.2
-
-      place_of_segment : (i : ℕ) → segment_here r i ≡ slice_get together.segments i
-      place_of_segment i = ap (λ (l : List (Option (Spun D))). get_or l i None) together.segments_are ∙ each_some together.segments i
+      after_home = first_part (disk_of together.home) (map (λ (q : Spun D). disk_of q) together.segments) z.home after_label.1.0 (drop 2 c) (home_sized state k z r rest disks together) after_label.1.1 after_label.1.2
 
       each_sized : (q : Spun D) → Contains together.segments q → (state_of state q).size ≡ z.segment_blocks
       each_sized q has =
-          (rest.segments has.0 q (place_of_segment has.0 ∙ here together.segments has.0 q has.1 has.2)).sized
-        where
-          here : (xs : List (Spun D)) (n : ℕ) (q : Spun D) → n < length xs → get_or xs n q ≡ q → slice_get xs n ≡ Some q
-          here xs n q within is = slice_get-get_or xs n q within ∙ ap (λ (x : Spun D). Some x) is
+          (rest.segments has.0 q (part_at state k z r rest disks together has.0 ∙ slice_get-get_or together.segments has.0 q has.1 ∙ ap (λ (x : Spun D). Some x) has.2)).sized
 
       pub left_size : length c ≡ image_size z
       left_size =
           let row = row_length together.segments z.segment_blocks after_home.1.0 each_sized after_home.1.1 in
-          let count : length together.segments ≡ z.segments = sym (length-map together.segments (λ (q : Spun D). Some q)) ∙ sym (ap length together.segments_are) ∙ rest.count in
           let behind = length-drop 2 c in
           let one = after_label.1.3 in
           let two = after_home.1.3 in
-          let product : length together.segments * z.segment_blocks ≡ z.segments * z.segment_blocks = ap (λ (n : ℕ). n * z.segment_blocks) count in
+          let product : length together.segments * z.segment_blocks ≡ z.segments * z.segment_blocks = ap (λ (n : ℕ). n * z.segment_blocks) (part_count state k z r rest disks together) in
           omega (arith, row, behind, one, two, product)
 
       pub left_label : IsImageOf (state_of state r.label).values (slice_range c 0 2)
@@ -295,7 +292,7 @@ module _ {D : Type 0} (state : D → State) where
 
       pub left_segment : (i : ℕ) (p : Spun D) → segment_here r i ≡ Some p → IsImageOf (state_of state p).values (segment_of z c i)
       left_segment i p is =
-          let one = in_row together.segments z.segment_blocks after_home.1.0 (drop z.home (drop 2 c)) each_sized after_home.1.1 after_home.1.2 i p (sym (place_of_segment i) ∙ is) in
+          let one = in_row together.segments z.segment_blocks after_home.1.0 (drop z.home (drop 2 c)) each_sized after_home.1.1 after_home.1.2 i p (sym (part_at state k z r rest disks together i) ∙ is) in
           let more = add-mul i 1 z.segment_blocks in
           let once : 1 * z.segment_blocks ≡ z.segment_blocks = omega arith in
           let size : z.segment_blocks ≡ 2 + z.home + (i + 1) * z.segment_blocks - (2 + z.home + i * z.segment_blocks) = omega (arith, more, once) in
@@ -309,18 +306,9 @@ module _ {D : Type 0} (state : D → State) where
 pub sizes_together : {D : Type 0} (state : D → State) (k : ℕ) (z : Shape) (r : ImageRest D) (disks : List D) → IsImageRest state k z r → IsTogether r disks → sizes_of state disks ≡ part_sizes z
 sizes_together {D} state k z r disks rest together =
     ap (sizes_of state) together.disks_are
-    ∙ (λ i. rest.label.sized i ∷ home i ∷ map (λ (d : D). (state d).size) (map (λ (p : Spun D). disk_of p) together.segments))
-    ∙ ap (λ (l : List ℕ). 2 ∷ z.home ∷ l) (all_same together.segments z.segments (λ n q at. (rest.segments n q (place n ∙ at)).sized) count)
+    ∙ (λ i. rest.label.sized i ∷ home_sized state k z r rest disks together i ∷ map (λ (d : D). (state d).size) (map (λ (p : Spun D). disk_of p) together.segments))
+    ∙ ap (λ (l : List ℕ). 2 ∷ z.home ∷ l) (all_same together.segments z.segments (λ n q at. (rest.segments n q (part_at state k z r rest disks together n ∙ at)).sized) (part_count state k z r rest disks together))
   where
-    home : (state_of state together.home).size ≡ z.home
-    home = (subst (λ (o : Option (Spun D)). IfSome o (IsPart state k z.home)) together.home_is rest.home).sized
-
-    place : (i : ℕ) → segment_here r i ≡ slice_get together.segments i
-    place i = ap (λ (l : List (Option (Spun D))). get_or l i None) together.segments_are ∙ each_some together.segments i
-
-    count : length together.segments ≡ z.segments
-    count = sym (length-map together.segments (λ (q : Spun D). Some q)) ∙ sym (ap length together.segments_are) ∙ rest.count
-
     all_same : (qs : List (Spun D)) (n : ℕ) → ((i : ℕ) (q : Spun D) → slice_get qs i ≡ Some q → (state_of state q).size ≡ z.segment_blocks) → length qs ≡ n
         → map (λ (d : D). (state d).size) (map (λ (p : Spun D). disk_of p) qs) ≡ replicate n z.segment_blocks
     all_same [] zero each e = refl
@@ -334,15 +322,13 @@ sizes_together {D} state k z r disks rest together =
 
 -- no two volumes have one name
 pub names_apart : (config : Config) → IsValid config → (j k : ℕ) (v w : VolumeConf) → j ≢ k → slice_get config.volumes.items j ≡ Some v → slice_get config.volumes.items k ≡ Some w → v.name ≢ w.name
-names_apart config valid j k v w differs at_j at_k same = go (cases_lt j k)
+names_apart config valid j k v w differs at_j at_k same = ⊎_elim
+    (λ less. (valid.apart j k v less (slice_get_within config.volumes.items k w at_k)).names (name_at j v v at_j ∙ same ∙ sym (name_at k w v at_k)))
+    (λ le. (valid.apart k j v (omega (arith, le, differs)) (slice_get_within config.volumes.items j v at_j)).names (name_at k w v at_k ∙ sym same ∙ sym (name_at j v v at_j)))
+    (cases_lt j k)
   where
-    go : (j < k) ⊎ (k ≤ j) → ⊥
-    go (inl less) =
-        let apart = valid.apart j k v less (slice_get_within config.volumes.items k w at_k) in
-        apart.names (ap (λ (x : VolumeConf). x.name) (get_or_from_slice_get config.volumes.items j v v at_j) ∙ same ∙ ap (λ (x : VolumeConf). x.name) (sym (get_or_from_slice_get config.volumes.items k w v at_k)))
-    go (inr le) =
-        let apart = valid.apart k j v (omega (arith, le, differs)) (slice_get_within config.volumes.items j v at_j) in
-        apart.names (ap (λ (x : VolumeConf). x.name) (get_or_from_slice_get config.volumes.items k w v at_k) ∙ sym same ∙ ap (λ (x : VolumeConf). x.name) (sym (get_or_from_slice_get config.volumes.items j v v at_j)))
+    name_at : (i : ℕ) (u d : VolumeConf) → slice_get config.volumes.items i ≡ Some u → (get_or config.volumes.items i d).name ≡ u.name
+    name_at i u d at = ap (λ (x : VolumeConf). x.name) (get_or_from_slice_get config.volumes.items i u d at)
 
 -- ---- What a bay tells
 
@@ -351,7 +337,7 @@ told_self holds None each = refl
 told_self holds (Some t) each = each t
 
 -- what holds of the names of others still does
-others_out : (name other : Name) (sizes : List ℕ) (blocks : Option (List (Rattle.wol_disk.specs.Disk.Values Rattle.wol_disk.specs.Disk.Block))) (places : List ℕ) (old new : BayState) → other ≢ name
+others_out : (name other : Name) (sizes : List ℕ) (blocks : Option (List (Values Block))) (places : List ℕ) (old new : BayState) → other ≢ name
     → new.told ≡ option_map (came_back name blocks places) old.told → IsOut other sizes old → IsOut other sizes new
 others_out name other sizes blocks places old new differs is out = go old.told refl out
   where
@@ -371,7 +357,7 @@ pub record IsBackFrom {D : Type 0} (state : D → State) (config : Config) (imag
 
 module _ {D : Type 0} (state : D → State) (config : Config) (images : List (Option (ImageRest D))) where
   past : (k : ℕ) → length images ≤ k → image_here images k ≡ None
-  past k le = Rattle.std.proofs.lemmas.List.get_or_past images k None le
+  past k le = get_or_past images k None le
 
   pub none_so_far : (b : BayState) → ((k : ℕ) (v : VolumeConf) → slice_get config.volumes.items k ≡ Some v → IsImageOut images k → IsOut v.name (part_sizes (shape_in config v)) b) → IsBackFrom state config images (length images) b b
   none_so_far b are = record {
@@ -403,11 +389,10 @@ module _ {D : Type 0} (state : D → State) (config : Config) (images : List (Op
         here_none = get_or_from_slice_get images n None None none
 
         behind : (fault : HasFaultHere state images n) → suc n ≤ fault.volume
-        behind fault = go (cases_eq fault.volume n)
-          where
-            go : (fault.volume ≡ n) ⊎ (fault.volume ≡ n → ⊥) → suc n ≤ fault.volume
-            go (inl e) = absurd (none-some fault.image (sym here_none ∙ ap (image_here images) (sym e) ∙ fault.here))
-            go (inr differs) = omega (arith, fault.behind, differs)
+        behind fault = ⊎_elim
+            (λ e. absurd (none-some fault.image (sym here_none ∙ ap (image_here images) (sym e) ∙ fault.here)))
+            (λ differs. omega (arith, fault.behind, differs))
+            (cases_eq fault.volume n)
 
         weaker : (o m : Option Told) → IsTold (GivesBack state config images (suc n)) o m → IsTold (GivesBack state config images n) o m
         weaker None m given = given
@@ -443,18 +428,16 @@ module _ {D : Type 0} (state : D → State) (config : Config) (images : List (Op
         rose_late x y z le (inr top) = inr top
 
         same_disks : (es : List D) → IsTogether r es → es ≡ disks
-        same_disks es t = t.disks_are ∙ same_parts t.home together.home t.segments together.segments
-            (same_Some t.home together.home (sym t.home_is ∙ together.home_is)) (some_each t.segments together.segments (sym t.segments_are ∙ together.segments_are)) ∙ sym together.disks_are
+        same_disks es t =
+            let home = same_Some t.home together.home (sym t.home_is ∙ together.home_is) in
+            let segments = some_each t.segments together.segments (sym t.segments_are ∙ together.segments_are) in
+            t.disks_are ∙ rw (home, segments) (sym together.disks_are)
           where
-            some_each : (xs ys : List (Rattle.spin_model.specs.declared.spun.Spun.Spun D)) → map (λ p. Some p) xs ≡ map (λ p. Some p) ys → xs ≡ ys
+            some_each : (xs ys : List (Spun D)) → map (λ p. Some p) xs ≡ map (λ p. Some p) ys → xs ≡ ys
             some_each [] [] e = refl
             some_each [] (y ∷ ys) e = absurd (cc e)
             some_each (x ∷ xs) [] e = absurd (cc e)
             some_each (x ∷ xs) (y ∷ ys) e = let first : x ≡ y = cc e in let more = some_each xs ys (cc e) in cc
-
-            same_parts : (h g : Rattle.spin_model.specs.declared.spun.Spun.Spun D) (xs ys : List (Rattle.spin_model.specs.declared.spun.Spun.Spun D)) → h ≡ g → xs ≡ ys
-                → Rattle.spin_model.specs.Spun.disk_of r.label ∷ Rattle.spin_model.specs.Spun.disk_of h ∷ map (λ p. Rattle.spin_model.specs.Spun.disk_of p) xs ≡ Rattle.spin_model.specs.Spun.disk_of r.label ∷ Rattle.spin_model.specs.Spun.disk_of g ∷ map (λ p. Rattle.spin_model.specs.Spun.disk_of p) ys
-            same_parts h g xs ys e f = rw (e, f)
 
         rose : (fault : HasFaultHere state images n) → (fault.volume ≡ n) ⊎ (fault.volume ≡ n → ⊥) → Rose b.faults new.faults
         rose fault (inl e) =
@@ -465,26 +448,22 @@ module _ {D : Type 0} (state : D → State) (config : Config) (images : List (Op
             rose_on b.faults cur.faults new.faults
             (so_far.cause (record { volume = fault.volume; behind = omega (arith, fault.behind, differs); image = fault.image; here = fault.here; disks = fault.disks; together = fault.together; fault = fault.fault })) counts
 
+        gone : outs new ≡ option_map (without v.name) (outs cur)
+        gone = ap (λ (o : Option Told). option_map (λ t. t.out) o) told ∙ through cur.told
+          where
+            through : (o : Option Told) → option_map (λ t. t.out) (option_map (came_back v.name (blocks_of state disks) (faulty_places state disks)) o) ≡ option_map (without v.name) (option_map (λ t. t.out) o)
+            through None = refl
+            through (Some t) = refl
+
         names_then : (before : Option (List (Name × List ℕ))) → IfSome before (λ os. All (λ (w : VolumeConf). at_name w.name os ≡ None) config.volumes.items)
             → outs cur ≡ option_map (λ os. os ++ out_names config config.volumes.items (take (suc n) images)) before → outs new ≡ option_map (λ os. os ++ out_names config config.volumes.items (take n images)) before
-        names_then before away is = go before away cur.told refl is
-          where
-            gone : outs new ≡ option_map (without v.name) (outs cur)
-            gone = ap (λ (o : Option Told). option_map (λ t. t.out) o) told ∙ through cur.told
-              where
-                through : (o : Option Told) → option_map (λ t. t.out) (option_map (came_back v.name (blocks_of state disks) (faulty_places state disks)) o) ≡ option_map (without v.name) (option_map (λ t. t.out) o)
-                through None = refl
-                through (Some t) = refl
-
-            go : (before : Option (List (Name × List ℕ))) → IfSome before (λ os. All (λ (w : VolumeConf). at_name w.name os ≡ None) config.volumes.items) → (o : Option Told) → cur.told ≡ o
-                → outs cur ≡ option_map (λ os. os ++ out_names config config.volumes.items (take (suc n) images)) before → outs new ≡ option_map (λ os. os ++ out_names config config.volumes.items (take n images)) before
-            go None away o e is = gone ∙ ap (option_map (without v.name)) is
-            go (Some os) away o e is =
-                let more : out_names config config.volumes.items (take (suc n) images) ≡ out_names config config.volumes.items (take n images) ++ (v.name, part_sizes (shape_in config v)) ∷ [] = out_more config config.volumes.items images n v r at is_out in
-                let free : at_name v.name os ≡ None = All-contains (λ (w : VolumeConf). at_name w.name os ≡ None) config.volumes.items v away (n, slice_get_within config.volumes.items n v at, get_or_from_slice_get config.volumes.items n v v at) in
-                let apart : at_name v.name (out_names config config.volumes.items (take n images)) ≡ None =
-                not_named config config.volumes.items (take n images) v.name (λ k w within at_k. others_named k w (λ same. absurd (let l = Rattle.std.proofs.lemmas.List.length-take n images in omega (arith, l, within, same))) at_k) in
-                gone ∙ ap (option_map (without v.name)) (is ∙ ap (λ (l : List (Name × List ℕ)). Some (os ++ l)) more) ∙ ap (λ (l : List (Name × List ℕ)). Some l) (last_gone config os (out_names config config.volumes.items (take n images)) v free apart)
+        names_then None away is = gone ∙ ap (option_map (without v.name)) is
+        names_then (Some os) away is =
+            let more : out_names config config.volumes.items (take (suc n) images) ≡ out_names config config.volumes.items (take n images) ++ (v.name, part_sizes (shape_in config v)) ∷ [] = out_more config config.volumes.items images n v r at is_out in
+            let free : at_name v.name os ≡ None = All-contains (λ (w : VolumeConf). at_name w.name os ≡ None) config.volumes.items v away (n, slice_get_within config.volumes.items n v at, get_or_from_slice_get config.volumes.items n v v at) in
+            let apart : at_name v.name (out_names config config.volumes.items (take n images)) ≡ None =
+            not_named config config.volumes.items (take n images) v.name (λ k w within at_k. others_named k w (λ same. absurd (let l = length-take n images in omega (arith, l, within, same))) at_k) in
+            gone ∙ ap (option_map (without v.name)) (is ∙ ap (λ (l : List (Name × List ℕ)). Some (os ++ l)) more) ∙ ap (λ (l : List (Name × List ℕ)). Some l) (last_gone config os (out_names config config.volumes.items (take n images)) v free apart)
 
   -- the next one comes back, or isn't out
   pub one_more_back : IsValid config → (n : ℕ) (v : VolumeConf) → slice_get config.volumes.items n ≡ Some v → (b cur new : BayState) (image : Option (ImageRest D)) → slice_get images n ≡ Some image → IfSome cur.told (λ t. AreNamedApart t) → IsBackFrom state config images (suc n) b cur
@@ -493,7 +472,7 @@ module _ {D : Type 0} (state : D → State) (config : Config) (images : List (Op
   one_more_back valid n v at b cur new (Some r) is apart so_far back = comes_back valid n v at b cur new r back.0 is back.1 apart so_far back.2 back.3 back.4
 
   -- all are back
-  pub all_are_back : (b b' : BayState) → IsBackFrom state config images 0 b b' → Rattle.rack_parts.specs.Closing.LeavesNoneOut config images (outs b) (outs b')
+  pub all_are_back : (b b' : BayState) → IsBackFrom state config images 0 b b' → LeavesNoneOut config images (outs b) (outs b')
   all_are_back b b' so_far before away is = so_far.names before away is ∙ nothing before
     where
       none_left : out_names {D = D} config config.volumes.items [] ≡ []
@@ -501,4 +480,4 @@ module _ {D : Type 0} (state : D → State) (config : Config) (images : List (Op
 
       nothing : (o : Option (List (Name × List ℕ))) → option_map (λ os. os ++ out_names {D = D} config config.volumes.items []) o ≡ o
       nothing None = refl
-      nothing (Some os) = ap (λ (l : List (Name × List ℕ)). Some (os ++ l)) none_left ∙ ap (λ (l : List (Name × List ℕ)). Some l) (Rattle.std.proofs.lemmas.List.append-nil os)
+      nothing (Some os) = ap (λ (l : List (Name × List ℕ)). Some (os ++ l)) none_left ∙ ap (λ (l : List (Name × List ℕ)). Some l) (append-nil os)

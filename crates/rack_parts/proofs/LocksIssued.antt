@@ -1,9 +1,9 @@
 -- Locks are issued: those of spindles, and those of pools, which get the free segments of an image.
 use Rattle.rack_parts.proofs.Basics.{◌≡◌, ⊎_elim, ◌<◌, ◌≤◌, ℕ, List, [], ◌∷◌, ◌++◌, sym, ap, subst, arith, ◌≢◌, ◌+◌, Option, None, Some}
-use Rattle.rack_parts.proofs.Basics.{refl, ◌∙◌, zero, suc, option_map, cases_lt, cases_eq, false≢true, get_or_append_left, get_or_push}
+use Rattle.rack_parts.proofs.Basics.{refl, ◌∙◌, option_map, cases_lt, cases_eq, get_or_append_left, get_or_push, length-map}
 use Rattle.rack_parts.proofs.Basics.{length_push, length-set, get_or-set_same, get_or-set_other, get_or_past, All-push, length, slice_get}
-use Rattle.rack_parts.proofs.Basics.{slice_index_or, slice_set, IsSome, Result, Ok, Err, OnErr, none-some, same_Some, slice_get-get_or}
-use Rattle.rack_parts.proofs.Basics.{slice_get_within, slice_get_past, slice_get-map, Global, Vec}
+use Rattle.rack_parts.proofs.Basics.{slice_index_or, slice_set, Result, Ok, Err, OnErr, none-some, same_Some, slice_get-get_or}
+use Rattle.rack_parts.proofs.Basics.{slice_get_within, slice_get_past, slice_get-map, slice_get_read, Global, Vec}
 use Rattle.rack_parts.proofs.Terms.{lock_passes, AreNewPasses, lock_id, has_token, Spindle, SpindleBase, AreAccesses, IsInOrder, AreSettled}
 use Rattle.rack_parts.proofs.Terms.{AreSpindlesOf, IsSpindleLock, segment_here, Issued, State, Spun, holder, IsEmptyPool, IsSamePool}
 use Rattle.rack_parts.proofs.Terms.{StandsFor, item_at, note_at, room_of, base_of, volume_of, Pool, IsBlank, free_part, FreeSegment}
@@ -12,7 +12,9 @@ use Rattle.rack_parts.proofs.Terms.{item_part, IsBlankPart, IsSameBut, IsRefille
 use Rattle.rack_parts.proofs.Terms.{IsIssuedPool, Supplies, CanEnd, EndsInto, holder_by, Shape, Elsewhere, InPool, HeldBy, Said, ImageRest}
 use Rattle.rack_parts.proofs.Terms.{Config, VolumeConf, PoolBase, shape_in, shapes_of, TurnLock, PassOf}
 use Rattle.seg_pool.specs.Pools.{blocks_of}
+use Rattle.rack_parts.proofs.Members.{a_value, element_at, get_front, get_last}
 use Rattle.rack_parts.proofs.PoolsEmptied.{holder_of, holder_at}
+use Rattle.rack_parts.proofs.Returned.{same_but_then}
 
 -- ---- The passes of a new lock
 
@@ -36,19 +38,13 @@ new_settled k i new = record {
 pub one_more : (volumes timeout : ℕ) (made : List (Issued Spindle SpindleBase)) (i : Issued Spindle SpindleBase) → AreSpindlesOf volumes timeout made → IsInOrder i → AreSettled (length made) i → IsSpindleLock volumes (length made) timeout i.lock → AreSpindlesOf volumes timeout (made ++ i ∷ [])
 one_more volumes timeout made i so_far order settled lock = record {
   each = All-push (λ x. IsInOrder x) made i so_far.each order;
-  spindles = λ k d within.
-      ⊎_elim
-      (λ (less : k < length made). subst (λ (x : Issued Spindle SpindleBase). IsSpindleLock volumes k timeout x.lock) (sym (get_or_append_left made (i ∷ []) d k less)) (so_far.spindles k d less))
-      (λ (more : length made ≤ k).
-      let e : k ≡ length made = omega (arith, within, more, length_push made i) in
-      subst (λ (x : Issued Spindle SpindleBase). IsSpindleLock volumes k timeout x.lock) (sym (get_or_push made i d k (sym e))) (subst (λ (n : ℕ). IsSpindleLock volumes n timeout i.lock) (sym e) lock))
+  spindles = λ k d within. ⊎_elim
+      (λ (less : k < length made). rw (get_or_append_left made (i ∷ []) d k less) (so_far.spindles k d less))
+      (λ (more : length made ≤ k). let e : k ≡ length made = omega (arith, within, more, length_push made i) in rw (e, get_or_push made i d (length made) refl) lock)
       (cases_lt k (length made));
-  settled = λ k d within.
-      ⊎_elim
-      (λ (less : k < length made). subst (λ (x : Issued Spindle SpindleBase). AreSettled k x) (sym (get_or_append_left made (i ∷ []) d k less)) (so_far.settled k d less))
-      (λ (more : length made ≤ k).
-      let e : k ≡ length made = omega (arith, within, more, length_push made i) in
-      subst (λ (x : Issued Spindle SpindleBase). AreSettled k x) (sym (get_or_push made i d k (sym e))) (subst (λ (n : ℕ). AreSettled n i) (sym e) settled))
+  settled = λ k d within. ⊎_elim
+      (λ (less : k < length made). rw (get_or_append_left made (i ∷ []) d k less) (so_far.settled k d less))
+      (λ (more : length made ≤ k). let e : k ≡ length made = omega (arith, within, more, length_push made i) in rw (e, get_or_push made i d (length made) refl) settled)
       (cases_lt k (length made));
 }
 
@@ -106,8 +102,7 @@ module _ {D : Type 0} where
               (fills.items i other ∙ was_none.0, fills.notes i other ∙ was_none.1);
           count = length-set now n left ∙ so_far.count;
           taken = λ i g lt there. ⊎_elim
-              (λ e. ap (λ (j : ℕ). slice_index_or (slice_set now n left) j None) e ∙ get_or-set_same now n left None in_now ∙ left_is
-              ∙ ap (λ (k : SegHead). left_by k segment) (head_is i g e there) ∙ ap (left_by g) (was ∙ sym (ap (λ (j : ℕ). slice_index_or before j None) e)))
+              (λ e. rw e (get_or-set_same now n left None in_now ∙ left_is ∙ ap (λ (k : SegHead). left_by k segment) (head_is i g e there) ∙ ap (left_by g) was))
               (λ other. get_or-set_other now n i left None other ∙ so_far.taken i g (below i lt other) there)
               (cases_eq i n);
           left = λ i behind. get_or-set_other now n i left None (λ e. absurd (omega (arith, e, behind))) ∙ so_far.left i (omega (arith, behind));
@@ -151,22 +146,9 @@ module _ {D : Type 0} (state : D → State) where
         let was = filled.items i f is in let within = slice_get_within heads i Free was.0 in
         (omega (arith, within, can.segments.count, takes.count), takes.each i Free was.0)
 
-    some_item : (i : ℕ) → IsSome (item_at p i) → (f : FreeSegment D) × (item_at p i ≡ Some f)
-    some_item i some = which (item_at p i) some
-      where
-        which : (o : Option (FreeSegment D)) → IsSome o → (f : FreeSegment D) × (o ≡ Some f)
-        which None some = absurd (false≢true some)
-        which (Some f) some = (f, refl)
-
     restored : (m : ImageRest D) → IsRefilled p n m → IsRestored state (volume_of p) (blocks_of p) said r m
     restored m refilled = record {
-      same = record {
-        label = refilled.same.label ∙ same_image.label;
-        home = refilled.same.home ∙ same_image.home;
-        count = refilled.same.count ∙ same_image.count;
-        row = refilled.same.row ∙ same_image.row;
-        room = refilled.same.room ∙ same_image.room;
-      };
+      same = same_but_then r n m same_image refilled.same;
       free = λ i is.
           let found = in_pool_item (item_at p i) (note_at p i) (sym (holder_at p i) ∙ filled.holders i Free is) in
           let was = filled.items i found.0 found.1 in
@@ -189,8 +171,8 @@ module _ {D : Type 0} (state : D → State) where
           (cases_lt i (length heads));
       supplies = (same_image, takes);
       places = record {
-        within = λ i some. (let f = some_item i some in (item_place i f.0 f.1).0);
-        empty = λ i some. (let f = some_item i some in (item_place i f.0 f.1).1);
+        within = λ i some. (let f = a_value (item_at p i) some in (item_place i f.0 f.1).0);
+        empty = λ i some. (let f = a_value (item_at p i) some in (item_place i f.0 f.1).1);
       };
       restorable = λ last empties. subst (Restores state (volume_of p) (blocks_of p) (Some said) (Some r)) (sym empties.1) (restored empties.0 empties.2);
     }
@@ -199,11 +181,13 @@ module _ {D : Type 0} (state : D → State) where
 
 -- the segments of each volume have the configuration's size
 pub shape_blocks : (config : Config) (k : ℕ) (s : Shape) → slice_get (shapes_of config) k ≡ Some s → s.segment_blocks ≡ config.segment_blocks
-shape_blocks config k s is = by_volume (slice_get config.volumes.items k) (sym (slice_get-map (shape_in config) config.volumes.items k) ∙ is)
-  where
-    by_volume : (o : Option VolumeConf) → option_map (shape_in config) o ≡ Some s → s.segment_blocks ≡ config.segment_blocks
-    by_volume None is = absurd (none-some s is)
-    by_volume (Some v) is = ap (λ (x : Shape). x.segment_blocks) (sym (same_Some (shape_in config v) s is))
+shape_blocks config k s is =
+    let v = element_at config.volumes.items k (omega (arith, slice_get_within (shapes_of config) k s is, length-map config.volumes.items (shape_in config))) in
+    ap (λ (x : Shape). x.segment_blocks) (same_Some s (shape_in config v.0) (sym is ∙ slice_get-map (shape_in config) config.volumes.items k ∙ ap (option_map (shape_in config)) v.1))
+
+-- the shape of a volume that was read
+pub shape_read : (config : Config) (k : ℕ) (v : VolumeConf) → k < length config.volumes.items → v ≡ slice_index_or config.volumes.items k v → slice_get (shapes_of config) k ≡ Some (shape_in config v)
+shape_read config k v within read = slice_get-map (shape_in config) config.volumes.items k ∙ ap (option_map (shape_in config)) (slice_get_read config.volumes.items (length config.volumes.items) k v refl within read)
 
 pub on_err : {X E : Type 0} (r : Result X E) (P : Type 0) → P → OnErr r P
 on_err (Ok x) P p = tt
@@ -221,19 +205,15 @@ module _ {D : Type 0} (state : D → State) (volumes id : ℕ) (s : Shape) where
   abbrev PoolLock : Type 0
   PoolLock = Issued (Pool (FreeSegment D)) PoolBase
 
-  part_there : (o : Option (Spun D)) → IsSome o → (p : Spun D) × (o ≡ Some p)
-  part_there None some = absurd (false≢true some)
-  part_there (Some p) some = (p, refl)
-
   -- an image of which nothing was taken
   pub unchanged : (said : Option Said) (image : Option (ImageRest D)) → CanIssue state volumes id s said image → Restores state id s.segment_blocks said image image
   unchanged None image can = refl
   unchanged (Some said) None can = absurd can
   unchanged (Some said) (Some r) can = record {
-    same = record { label = refl; home = refl; count = refl; row = refl; room = refl };
+    same = assumption;
     free = λ i is.
         let within = slice_get_within said.heads.items i Free is in
-        let found = part_there (slice_index_or r.segments.items i None) (can.segments.here i within) in
+        let found = a_value (slice_index_or r.segments.items i None) (can.segments.here i within) in
         let there : slice_get r.segments.items i ≡ Some (Some found.0) = slice_get-get_or r.segments.items i None (omega (arith, within, can.segments.count)) ∙ ap (λ (o : Option (Spun D)). Some o) found.1 in
         (found.0, found.1, can.segments.blank i found.0 is there);
     owned = λ i owner is. refl;
@@ -267,13 +247,7 @@ module _ {D : Type 0} (state : D → State) (volumes id : ℕ) (s : Shape) where
   pool_restored (Some said) (Some r) (Some n) new i can supplies issued ends =
       let m = ends.0 in let e = ends.2 in let b = (lock_id i.lock).base in
       subst (Restores state id s.segment_blocks (Some said) (Some r)) (sym ends.1) (record {
-        same = record {
-          label = e.same.label ∙ supplies.0.label;
-          home = e.same.home ∙ supplies.0.home;
-          count = e.same.count ∙ supplies.0.count;
-          row = e.same.row ∙ supplies.0.row;
-          room = e.same.room ∙ supplies.0.room;
-        };
+        same = same_but_then r n m supplies.0 e.same;
         free = λ index is.
             let found = e.free index (issued.holders index ∙ ap of_head is) in (
               found.0,
@@ -285,11 +259,6 @@ module _ {D : Type 0} (state : D → State) (volumes id : ℕ) (s : Shape) where
       })
 
 -- ---- All of them
-
-there_at : {X : Type 0} (xs : List X) (k : ℕ) → k < length xs → (x : X) × (slice_get xs k ≡ Some x)
-there_at [] k lt = absurd (omega (arith, lt))
-there_at (x ∷ xs) zero lt = (x, refl)
-there_at (x ∷ xs) (suc k) lt = there_at xs k (omega (arith, lt))
 
 module _ {D : Type 0} (state : D → State) (config : Config) (volumes : ℕ) (said : List (Option Said)) where
   abbrev saying : ℕ → Option Said
@@ -320,7 +289,7 @@ module _ {D : Type 0} (state : D → State) (config : Config) (volumes : ℕ) (s
       → ((k : ℕ) (s : Shape) → slice_get (shapes_of config) k ≡ Some s → CanIssue state volumes k s (saying k) (image_of old k))
       → (k : ℕ) → Restores state k config.segment_blocks (saying k) (image_of old k) (image_of old k)
   kept_at old shapes sayings can k = ⊎_elim
-      (λ lt. let shape = there_at (shapes_of config) k (omega (arith, lt, shapes)) in
+      (λ lt. let shape = element_at (shapes_of config) k (omega (arith, lt, shapes)) in
       subst (λ (b : ℕ). Restores state k b (saying k) (image_of old k) (image_of old k)) (shape_blocks config k shape.0 shape.1) (unchanged state volumes k shape.0 (saying k) (image_of old k) (can k shape.0 shape.1)))
       (λ past. subst (λ (o : Option Said). Restores state k config.segment_blocks o (image_of old k) (image_of old k)) (sym (get_or_past said k None (omega (arith, past, sayings)))) refl)
       (cases_lt k (length old))
@@ -352,23 +321,12 @@ module _ {D : Type 0} (state : D → State) (config : Config) (volumes : ℕ) (s
           subst (λ (x : ℕ). IsIssuedPool volumes x s (saying x) j) (sym k_is) (subst (IsIssuedPool volumes n s (saying n)) j_is (one s (ap (slice_get (shapes_of config)) (sym k_is) ∙ shape))))
           (cases_lt k n);
       supplies = λ k lt. ⊎_elim
-          (λ e. subst (λ (x : ℕ). Supplies (saying x) (image_of old x) (image_of (slice_set now n image) x)) (sym e)
-          (subst (Supplies (saying n) (image_of old n)) (sym (get_or-set_same now n image None in_now)) (subst (λ (o : Option (ImageRest D)). Supplies (saying n) o image) (so_far.left n (omega arith)) supplies)))
-          (λ other. subst (Supplies (saying k) (image_of old k)) (sym (get_or-set_other now n k image None other)) (so_far.supplies k (omega (arith, lt, other))))
+          (λ (e : k ≡ n). rw (e, get_or-set_same now n image None in_now) (rw (so_far.left n (omega arith)) at supplies))
+          (λ other. rw (get_or-set_other now n k image None other) (so_far.supplies k (omega (arith, lt, other))))
           (cases_eq k n);
       left = λ k behind. get_or-set_other now n k image None (λ e. absurd (omega (arith, e, behind))) ∙ so_far.left k (omega (arith, behind));
     }
       where
-        get_front : {X : Type 0} (xs : List X) (x : X) (j : ℕ) → j < length xs → slice_get (xs ++ x ∷ []) j ≡ slice_get xs j
-        get_front [] x j lt = absurd (omega (arith, lt))
-        get_front (y ∷ ys) x zero lt = refl
-        get_front (y ∷ ys) x (suc j) lt = get_front ys x j (omega (arith, lt))
-
-        get_last : {X : Type 0} (xs : List X) (x : X) (j : ℕ) → length xs ≡ j → slice_get (xs ++ x ∷ []) j ≡ Some x
-        get_last [] x j size = ap (slice_get (x ∷ [])) (sym size)
-        get_last (y ∷ ys) x zero size = absurd (omega (arith, size))
-        get_last (y ∷ ys) x (suc j) size = get_last ys x j (omega (arith, size))
-
         at_end : (k : ℕ) (j : Issued (Pool (FreeSegment D)) PoolBase) → slice_get newer k ≡ Some j → n ≤ k → k ≡ n
         at_end k j is past = let w = slice_get_within newer k j is in let e = ap length pushed ∙ length_push made i in omega (arith, w, e, past, so_far.count)
 
@@ -377,7 +335,7 @@ module _ {D : Type 0} (state : D → State) (config : Config) (volumes : ℕ) (s
     may_end image shapes k i is =
         let lt : k < n = let w = slice_get_within made k i is in omega (arith, w, so_far.count) in
         let other : k ≢ n = λ e. absurd (omega (arith, e, lt)) in
-        let shape = there_at (shapes_of config) k (omega (arith, lt, within, shapes)) in
+        let shape = element_at (shapes_of config) k (omega (arith, lt, within, shapes)) in
         subst (CanEnd i) (sym (get_or-set_other now n k image None other))
         (can_end state volumes k shape.0 (saying k) (image_of old k) (image_of now k) i (can k shape.0 shape.1) (so_far.supplies k lt) (so_far.issued k shape.0 i shape.1 is))
 
@@ -391,23 +349,16 @@ module _ {D : Type 0} (state : D → State) (config : Config) (volumes : ℕ) (s
       where
         before : k < n → Restores state k config.segment_blocks (saying k) (image_of old k) (image_of last k)
         before lt =
-            let shape = there_at (shapes_of config) k (omega (arith, lt, within, shapes)) in
-            let i = there_at made k (omega (arith, lt, so_far.count)) in
-            let other : k ≢ n = λ e. absurd (omega (arith, e, lt)) in
-            let ended = subst (λ (o : Option (ImageRest D)). EndsInto state (lock_id i.0.lock).base o (image_of last k)) (get_or-set_other now n k image None other) (ends k i.0 i.1) in
-            subst (λ (b : ℕ). Restores state k b (saying k) (image_of old k) (image_of last k)) (shape_blocks config k shape.0 shape.1)
-            (pool_restored state volumes k shape.0 (saying k) (image_of old k) (image_of now k) (image_of last k) i.0 (can k shape.0 shape.1) (so_far.supplies k lt) (so_far.issued k shape.0 i.0 shape.1 i.1) ended)
+            let shape = element_at (shapes_of config) k (omega (arith, lt, within, shapes)) in
+            let i = element_at made k (omega (arith, lt, so_far.count)) in
+            rw (← (shape_blocks config k shape.0 shape.1)) (pool_restored state volumes k shape.0 (saying k) (image_of old k) (image_of now k) (image_of last k) i.0 (can k shape.0 shape.1) (so_far.supplies k lt) (so_far.issued k shape.0 i.0 shape.1 i.1)
+            (rw (get_or-set_other now n k image None (λ e. absurd (omega (arith, e, lt)))) at (ends k i.0 i.1)))
 
         here : k ≡ n → Restores state k config.segment_blocks (saying k) (image_of old k) (image_of last k)
-        here e =
-            subst (λ (x : ℕ). Restores state x config.segment_blocks (saying x) (image_of old x) (image_of last x)) (sym e)
-            (subst (Restores state n config.segment_blocks (saying n) (image_of old n)) (sym (others n (omega (arith, so_far.count)) ∙ get_or-set_same now n image None in_now))
-            (subst (λ (o : Option (ImageRest D)). Restores state n config.segment_blocks (saying n) o image) (so_far.left n (omega arith)) one))
+        here e = rw (e, others n (omega (arith, so_far.count)), get_or-set_same now n image None in_now) (rw (so_far.left n (omega arith)) at one)
 
         after : n ≤ k → k ≢ n → Restores state k config.segment_blocks (saying k) (image_of old k) (image_of last k)
-        after behind other =
-            subst (Restores state k config.segment_blocks (saying k) (image_of old k)) (sym (others k (omega (arith, behind, so_far.count)) ∙ get_or-set_other now n k image None other ∙ so_far.left k behind))
-            (kept_at old shapes sayings can k)
+        after behind other = rw (others k (omega (arith, behind, so_far.count)), get_or-set_other now n k image None other, so_far.left k behind) (kept_at old shapes sayings can k)
 
 -- ---- The lock of one pool is made
 

@@ -1,18 +1,21 @@
 -- A manager comes back to the rest of its rack.
-use Rattle.rack_parts.proofs.Basics.{◌≡◌, ◌⊎◌, inl, inr, ℕ, List, [], ◌∷◌, ◌++◌, map, sym, ap, ◌∙◌, subst, append_assoc, ◌≢◌, ◌<◌, ◌↔◌}
-use Rattle.rack_parts.proofs.Basics.{true, length, Option, Some, None, is_some, refl, arith, Contains, All, AllPairs, IsSome, IfSome}
+use Rattle.rack_parts.proofs.Basics.{◌≡◌, ◌⊎◌, inl, inr, ⊎_elim, ℕ, Bool, false, List, [], ◌∷◌, ◌++◌, map, sym, ap, ◌∙◌, subst, append_assoc, ◌≢◌}
+use Rattle.rack_parts.proofs.Basics.{◌<◌, ◌↔◌, length, Option, Some, None, refl, arith, Contains, All, AllPairs, IsSome, IfSome}
 use Rattle.rack_parts.proofs.Basics.{slice_get, slice_index_or, option_and_then, cases_eq, append-nil, map_push, get_or-map, length-map}
 use Rattle.rack_parts.proofs.Basics.{Contains-append_left, Contains-append_right, Contains-append_cases, Contains-push, Contains-push_cases}
-use Rattle.rack_parts.proofs.Basics.{All-contains, AllByRecursion, none-some, same_Some, get_or_from_slice_get}
+use Rattle.rack_parts.proofs.Basics.{All-contains, All-weaker, All-from_recursion, AllByRecursion, none-some, same_Some, get_or_from_slice_get, Vec, Global}
 use Rattle.rack_parts.proofs.Terms.{ManagerBase, away_with, image_here, segment_here, pool_pass, spindle_pass, held_here, indexes_here}
 use Rattle.rack_parts.proofs.Terms.{IsImageOut, IsPassAt, IsPart, IsImageRest, IsHolding, IsHeldHere, AreLocks, OnlyAccess, IsRestBut}
-use Rattle.rack_parts.proofs.Terms.{State, AreApart, Shape, Config, lock_id, pass_lock, pass_number, pass_mine, TurnLock, PassOf, has_token}
-use Rattle.rack_parts.proofs.Terms.{Spun, Spindle, SpindleBase, holds, PoolBase, Pool, part_of, FreeSegment, IsLane, IsHeld, logger_of}
+use Rattle.rack_parts.proofs.Terms.{State, AreApart, Shape, Config, lock_id, pass_lock, pass_mine, TurnLock, PassOf, has_token}
+use Rattle.rack_parts.proofs.Terms.{Spun, Spindle, SpindleBase, holds, PoolBase, Pool, part_of, FreeSegment, IsLane, IsHeld, logger_of, AreAccesses}
 use Rattle.rack_parts.proofs.Terms.{pool_of, spindle_of, held_in, taken_in, indexes_in, HeldSegment, Lane, Shared, Keeps, IsReadyLane}
 use Rattle.rack_parts.proofs.Terms.{IsNamed, AreNamed, IsLaneShared, Manager, ManagerParts, shapes_of, IsOpenBase, HasPlace, IsBarePlace}
 use Rattle.rack_parts.proofs.Terms.{HasBack, KeepsPlace, CanPutLanes, IsHomeAway, PutsManager, held_parts, with_home, KeepsButHome}
 use Rattle.rack_parts.proofs.Terms.{home_here, ImageRest, Rest, Rooms}
+use Rattle.std.specs.Option.{option_to_list}
+use Rattle.std.proofs.lemmas.List.Elements.{recursion_from_All}
 use Rattle.wol_promise.specs.Ruled.{Noted}
+use Rattle.logger.specs.Lanes.{segments_in}
 use Rattle.manager.specs.declared.base.LaneBase.{LaneBase}
 use Rattle.rack_parts.proofs.Members.{first_in, later_in, none_in, in_map, of_map, is_member, map_map, element_at, no_value, a_value, is_there, no_members, all_member, of_recursion, in_cases}
 
@@ -39,11 +42,10 @@ with_lane b v k has =
 -- a lane among these is one of them, whose owner it names
 pub lane_of_owner : (bs : List ManagerBase) (v k : ℕ) → Contains (away_with bs).lanes (v, k) → Contains (away_with bs).homes v
 lane_of_owner [] v k has = absurd (none_in (v, k) has)
-lane_of_owner (b ∷ bs) v k has = go (Contains-append_cases (lanes_with b) (away_with bs).lanes (v, k) has) (λ more. lane_of_owner bs v k more)
-  where
-    go : Contains (lanes_with b) (v, k) ⊎ Contains (away_with bs).lanes (v, k) → (Contains (away_with bs).lanes (v, k) → Contains (away_with bs).homes v) → Contains (away_with (b ∷ bs)).homes v
-    go (inl here) later = first_in b.volume.began.owner v (away_with bs).homes (sym (with_lane b v k here).0)
-    go (inr more) later = later_in b.volume.began.owner v (away_with bs).homes (later more)
+lane_of_owner (b ∷ bs) v k has = ⊎_elim
+    (λ here. first_in b.volume.began.owner v (away_with bs).homes (sym (with_lane b v k here).0))
+    (λ more. later_in b.volume.began.owner v (away_with bs).homes (lane_of_owner bs v k more))
+    (Contains-append_cases (lanes_with b) (away_with bs).lanes (v, k) has)
 
 -- the same is away before and after, but what the last one had
 pub lane_stays : (bs : List ManagerBase) (b : ManagerBase) (v k : ℕ) → Contains (away_with bs).lanes (v, k) → Contains (away_with (bs ++ b ∷ [])).lanes (v, k)
@@ -53,11 +55,10 @@ pub lane_came : (bs : List ManagerBase) (b : ManagerBase) (k : ℕ) → Contains
 lane_came bs b k has = subst (λ (l : List (ℕ × ℕ)). Contains l (b.volume.began.owner, k)) (sym (lanes_push bs b)) (Contains-append_right (away_with bs).lanes (lanes_with b) (b.volume.began.owner, k) (lane_with b k has))
 
 pub lane_cases : (bs : List ManagerBase) (b : ManagerBase) (v k : ℕ) → Contains (away_with (bs ++ b ∷ [])).lanes (v, k) → Contains (away_with bs).lanes (v, k) ⊎ ((v ≡ b.volume.began.owner) × Contains b.volume.began.view k)
-lane_cases bs b v k has = go (Contains-append_cases (away_with bs).lanes (lanes_with b) (v, k) (subst (λ (l : List (ℕ × ℕ)). Contains l (v, k)) (lanes_push bs b) has))
-  where
-    go : Contains (away_with bs).lanes (v, k) ⊎ Contains (lanes_with b) (v, k) → Contains (away_with bs).lanes (v, k) ⊎ ((v ≡ b.volume.began.owner) × Contains b.volume.began.view k)
-    go (inl front) = inl front
-    go (inr last) = inr (with_lane b v k last)
+lane_cases bs b v k has = ⊎_elim
+    (λ front. inl front)
+    (λ last. inr (with_lane b v k last))
+    (Contains-append_cases (away_with bs).lanes (lanes_with b) (v, k) (subst (λ (l : List (ℕ × ℕ)). Contains l (v, k)) (lanes_push bs b) has))
 
 pub home_stays : (bs : List ManagerBase) (b : ManagerBase) (v : ℕ) → Contains (away_with bs).homes v → Contains (away_with (bs ++ b ∷ [])).homes v
 home_stays bs b v has = subst (λ (l : List ℕ). Contains l v) (sym (homes_push bs b)) (Contains-append_left (away_with bs).homes (b.volume.began.owner ∷ []) v has)
@@ -70,13 +71,10 @@ home_cases bs b v has = Contains-push_cases (away_with bs).homes b.volume.began.
 
 -- whether a place is one of a manager's
 pub is_lane_of : (b : ManagerBase) (v k : ℕ) → ((v ≡ b.volume.began.owner) × Contains b.volume.began.view k) ⊎ ((v ≡ b.volume.began.owner → Contains b.volume.began.view k → ⊥))
-is_lane_of b v k = go (cases_eq v b.volume.began.owner) (is_member b.volume.began.view k)
-  where
-    go : (v ≡ b.volume.began.owner) ⊎ (v ≡ b.volume.began.owner → ⊥) → Contains b.volume.began.view k ⊎ (Contains b.volume.began.view k → ⊥)
-        → ((v ≡ b.volume.began.owner) × Contains b.volume.began.view k) ⊎ (v ≡ b.volume.began.owner → Contains b.volume.began.view k → ⊥)
-    go (inl e) (inl has) = inl (e, has)
-    go (inl e) (inr never) = inr (λ same has. never has)
-    go (inr differs) rest = inr (λ same has. differs same)
+is_lane_of b v k = ⊎_elim
+    (λ e. ⊎_elim (λ has. inl (e, has)) (λ never. inr (λ same has. never has)) (is_member b.volume.began.view k))
+    (λ differs. inr (λ same has. differs same))
+    (cases_eq v b.volume.began.owner)
 
 -- ---- A manager comes back to the rest of its rack
 
@@ -84,17 +82,34 @@ is_lane_of b v k = go (cases_eq v b.volume.began.owner) (is_member b.volume.bega
 named_lane : {D : Type 0} (ls : List (Lane D)) (bs : List LaneBase) (l : Lane D) → AreNamed ls bs → Contains ls l → (b : LaneBase) × Contains bs b × IsNamed l b
 named_lane [] bs l named has = absurd (none_in l has)
 named_lane (x ∷ ls) [] l named has = absurd named
-named_lane {D} (x ∷ ls) (y ∷ bs) l named has = go (in_cases x l ls has) (λ more. named_lane ls bs l named.1 more)
-  where
-    go : (x ≡ l) ⊎ Contains ls l → (Contains ls l → (b : LaneBase) × Contains bs b × IsNamed l b) → (b : LaneBase) × Contains (y ∷ bs) b × IsNamed l b
-    go (inl e) later = (y, first_in y y bs refl, subst (λ (z : Lane D). IsNamed z y) e named.0)
-    go (inr more) later = let rest = later more in (rest.0, later_in y rest.0 bs rest.1, rest.2)
+named_lane {D} (x ∷ ls) (y ∷ bs) l named has = ⊎_elim
+    (λ e. (y, first_in y y bs refl, subst (λ (z : Lane D). IsNamed z y) e named.0))
+    (λ more. let rest = named_lane ls bs l named.1 more in (rest.0, later_in y rest.0 bs rest.1, rest.2))
+    (in_cases x l ls has)
 
--- a lane that names this logger, where the view does
-lane_named : {D : Type 0} (lanes : List (Lane D)) (view : List ℕ) (k : ℕ) → map logger_of lanes ≡ view → Contains view k → (l : Lane D) × Contains lanes l × (logger_of l ≡ k)
-lane_named lanes view k same has = of_map logger_of lanes k (subst (λ (xs : List ℕ). Contains xs k) (sym same) has)
+-- an image that changed at most in its home
+module _ {D : Type 0} where
+  pub kept_all : (o : Option (ImageRest D)) → KeepsButHome o o
+  kept_all None = refl
+  kept_all (Some r) = refl
 
-module _ {D : Type 0} (state : D → State) (tells : Rattle.std.specs.Prelude.Bool) (config : Config) (shared : Shared D) (bases : List ManagerBase) (b : ManagerBase) (id : ℕ) (owner_is : b.volume.began.owner ≡ id) (old : Rest D)
+  kept_home : (home : Option (Spun D)) (o : Option (ImageRest D)) → KeepsButHome o (with_home home o)
+  kept_home home None = refl
+  kept_home home (Some r) = refl
+
+  kept_some : (o : Option (ImageRest D)) (n : ImageRest D) → KeepsButHome o (Some n) → (r : ImageRest D) × (o ≡ Some r) × (n ≡ record r { home = n.home })
+  kept_some None n kept = absurd (none-some n (sym kept))
+  kept_some (Some r) n kept = (r, refl, kept)
+
+  kept_none : (o : Option (ImageRest D)) → KeepsButHome o None → o ≡ None
+  kept_none None kept = refl
+  kept_none (Some r) kept = absurd kept
+
+  kept_out : (r : ImageRest D) (n : Option (ImageRest D)) → KeepsButHome (Some r) n → IsSome n
+  kept_out r None kept = absurd kept
+  kept_out r (Some n) kept = refl
+
+module _ {D : Type 0} (state : D → State) (tells : Bool) (config : Config) (shared : Shared D) (bases : List ManagerBase) (b : ManagerBase) (id : ℕ) (owner_is : b.volume.began.owner ≡ id) (old : Rest D)
     (open_base : IsOpenBase config shared old.images.items b) (locks : AreLocks config shared) (parts : IsRestBut state config shared (away_with (bases ++ b ∷ [])) old) (accesses : OnlyAccess old)
     (not_again : Contains (away_with bases).homes b.volume.began.owner → ⊥) (m : Manager D) (notes : List Noted) (keeps : Keeps tells state m b notes) (rooms : Rooms D) where
   abbrev volumes : ℕ
@@ -144,12 +159,9 @@ module _ {D : Type 0} (state : D → State) (tells : Rattle.std.specs.Prelude.Bo
   no_pool k below away = no_value (pool_pass old id k) (λ is. (parts.pools.here id k id_below below).0 is away)
 
   nothing_held : (k : ℕ) → pool_pass old id k ≡ None → held_here old id k ≡ []
-  nothing_held k none = no_members (held_here old id k) (λ h has. go h has)
-    where
-      go : (h : ℕ × Spun D) → Contains (held_here old id k) h → ⊥
-      go h has =
-          let held = parts.returned.held id k h.0 (in_map (λ (x : ℕ × Spun D). x.0) (held_here old id k) h has) in
-          absurd (none-some held.0 (sym none ∙ held.1))
+  nothing_held k none = no_members (held_here old id k) (λ h has.
+      let held = parts.returned.held id k h.0 (in_map (λ (x : ℕ × Spun D). x.0) (held_here old id k) h has) in
+      none-some held.0 (sym none ∙ held.1))
 
   -- home is away
   pub home_away : IsHomeAway mid id
@@ -198,7 +210,7 @@ module _ {D : Type 0} (state : D → State) (tells : Rattle.std.specs.Prelude.Bo
 
   module _ (mp : ManagerParts D) (home_is : mp.home ≡ m.home) (spindle_is : mp.spindle ≡ m.spindle) (lanes_is : mp.lanes ≡ m.lanes) (new : Rest D) (put : PutsManager mid new id mp) where
     lanes_same : mp.lanes.items ≡ m.lanes.items
-    lanes_same = ap (λ (v : Rattle.std.specs.declared.vec.Vec.Vec (Lane D) Rattle.std.specs.declared.alloc.Global.Global). v.items) lanes_is
+    lanes_same = ap (λ (v : Vec (Lane D) Global). v.items) lanes_is
 
     -- what each lane had is here
     pub lane_back : (l : Lane D) → Contains m.lanes.items l → HasBack new id l
@@ -206,7 +218,7 @@ module _ {D : Type 0} (state : D → State) (tells : Rattle.std.specs.Prelude.Bo
 
     -- a logger of the view has a lane
     lane_at : (k : ℕ) → Contains b.volume.began.view k → (l : Lane D) × Contains m.lanes.items l × (logger_of l ≡ k)
-    lane_at k has = lane_named m.lanes.items b.volume.began.view k view_is has
+    lane_at k has = of_map logger_of m.lanes.items k (subst (λ (xs : List ℕ). Contains xs k) (sym view_is) has)
 
     -- other places are as they were
     pub other_place : (w k : ℕ) → (w ≡ b.volume.began.owner → Contains b.volume.began.view k → ⊥) → (w ≡ id → k ≢ id) → KeepsPlace old new w k
@@ -220,28 +232,17 @@ module _ {D : Type 0} (state : D → State) (tells : Rattle.std.specs.Prelude.Bo
 
     -- the pool and the list of each place that no lane has
     pool_same : (w k : ℕ) → (w ≡ b.volume.began.owner → Contains b.volume.began.view k → ⊥) → (pool_pass new w k ≡ pool_pass old w k) × (held_here new w k ≡ held_here old w k)
-    pool_same w k never = go (cases_eq w id) (cases_eq k id)
-      where
-        go : (w ≡ id) ⊎ (w ≡ id → ⊥) → (k ≡ id) ⊎ (k ≡ id → ⊥) → (pool_pass new w k ≡ pool_pass old w k) × (held_here new w k ≡ held_here old w k)
-        go (inl e) (inl f) = rw (e, f) (put.own_pool, put.own_held)
-        go (inl e) (inr f) = let kept = other_place w k never (λ same. f) in (kept.pool, kept.held)
-        go (inr e) rest = let kept = other_place w k never (λ same. absurd (e same)) in (kept.pool, kept.held)
+    pool_same w k never = ⊎_elim
+        (λ (e : w ≡ id). ⊎_elim (λ (f : k ≡ id). rw (e, f) (put.own_pool, put.own_held)) (λ f. let kept = other_place w k never (λ same. f) in (kept.pool, kept.held)) (cases_eq k id))
+        (λ e. let kept = other_place w k never (λ same. absurd (e same)) in (kept.pool, kept.held))
+        (cases_eq w id)
 
     -- each image is as it was, but for the home
     pub images_kept : (k : ℕ) → KeepsButHome (image_here old.images.items k) (image_here new.images.items k)
-    images_kept k = go (cases_eq k id)
-      where
-        filled : (o n : Option (ImageRest D)) → n ≡ with_home (Some mp.home) o → KeepsButHome o n
-        filled None n e = e
-        filled (Some r) n e = subst (λ (x : Option (ImageRest D)). KeepsButHome (Some r) x) (sym e) refl
-
-        same : (o n : Option (ImageRest D)) → n ≡ o → KeepsButHome o n
-        same None n e = e
-        same (Some r) n e = subst (λ (x : Option (ImageRest D)). KeepsButHome (Some r) x) (sym e) refl
-
-        go : (k ≡ id) ⊎ (k ≡ id → ⊥) → KeepsButHome (image_here old.images.items k) (image_here new.images.items k)
-        go (inl e) = filled (image_here old.images.items k) (image_here new.images.items k) (rw e put.image)
-        go (inr differs) = same (image_here old.images.items k) (image_here new.images.items k) (put.images k differs)
+    images_kept k = ⊎_elim
+        (λ (e : k ≡ id). rw (e, put.image) (kept_home (Some mp.home) (image_here old.images.items id)))
+        (λ differs. rw (put.images k differs) (kept_all (image_here old.images.items k)))
+        (cases_eq k id)
 
     pub homes_kept : (k : ℕ) → k ≢ id → home_here new k ≡ home_here old k
     homes_kept k differs = ap (λ (o : Option (ImageRest D)). option_and_then (λ r. r.home) o) (put.images k differs)
@@ -253,18 +254,10 @@ module _ {D : Type 0} (state : D → State) (tells : Rattle.std.specs.Prelude.Bo
 
     -- an image that is out, with what it was
     pub was_image : (k : ℕ) (n : ImageRest D) → image_here new.images.items k ≡ Some n → (r : ImageRest D) × (image_here old.images.items k ≡ Some r) × (n ≡ record r { home = n.home })
-    was_image k n is = go (image_here old.images.items k) refl (subst (λ (x : Option (ImageRest D)). KeepsButHome (image_here old.images.items k) x) is (images_kept k))
-      where
-        go : (o : Option (ImageRest D)) → image_here old.images.items k ≡ o → KeepsButHome o (Some n) → (r : ImageRest D) × (image_here old.images.items k ≡ Some r) × (n ≡ record r { home = n.home })
-        go None e kept = absurd (none-some n (sym kept))
-        go (Some r) e kept = (r, e, kept)
+    was_image k n is = kept_some (image_here old.images.items k) n (rw is at (images_kept k))
 
     none_was : (k : ℕ) → image_here new.images.items k ≡ None → image_here old.images.items k ≡ None
-    none_was k is = go (image_here old.images.items k) refl (subst (λ (x : Option (ImageRest D)). KeepsButHome (image_here old.images.items k) x) is (images_kept k))
-      where
-        go : (o : Option (ImageRest D)) → image_here old.images.items k ≡ o → KeepsButHome o None → image_here old.images.items k ≡ None
-        go None e kept = e
-        go (Some r) e kept = absurd kept
+    none_was k is = kept_none (image_here old.images.items k) (rw is at (images_kept k))
 
     no_lane_again : (k : ℕ) → Contains (away_with bases).lanes (b.volume.began.owner, k) → ⊥
     no_lane_again k has = not_again (lane_of_owner bases b.volume.began.owner k has)
@@ -301,160 +294,144 @@ module _ {D : Type 0} (state : D → State) (tells : Rattle.std.specs.Prelude.Bo
     }
 
     -- what is at a place: a lane's, or what was there
-    pub data AtPlace (v k : ℕ) : Type 0 where
-      of_lane : (l : Lane D) → v ≡ b.volume.began.owner → Contains m.lanes.items l → logger_of l ≡ k → HasBack new v l → AtPlace v k
-      as_before : (v ≡ b.volume.began.owner → Contains b.volume.began.view k → ⊥) → pool_pass new v k ≡ pool_pass old v k → held_here new v k ≡ held_here old v k → AtPlace v k
+    record IsLaneAt (v k : ℕ) : Type 0 where
+      lane : Lane D
+      same : v ≡ b.volume.began.owner
+      has : Contains m.lanes.items lane
+      at : logger_of lane ≡ k
+      pool : pool_pass new v k ≡ Some (pool_of lane)
+      spindle : spindle_pass new v k ≡ Some (spindle_of lane)
+      held : held_here new v k ≡ held_parts lane
 
-    pub at_place : (v k : ℕ) → AtPlace v k
-    at_place v k = go (is_lane_of b v k)
-      where
-        go : ((v ≡ b.volume.began.owner) × Contains b.volume.began.view k) ⊎ (v ≡ b.volume.began.owner → Contains b.volume.began.view k → ⊥) → AtPlace v k
-        go (inl x) =
-            let l = lane_at k x.1 in
-            of_lane l.0 x.0 l.1 l.2 (subst (λ (w : ℕ). HasBack new w l.0) (sym owner_is ∙ sym x.0) (lane_back l.0 l.1))
-        go (inr never) = let kept = pool_same v k never in as_before never kept.0 kept.1
+    record IsAsBefore (v k : ℕ) : Type 0 where
+      never : v ≡ b.volume.began.owner → Contains b.volume.began.view k → ⊥
+      pool : pool_pass new v k ≡ pool_pass old v k
+      held : held_here new v k ≡ held_here old v k
+
+    lane_is_at : (v k : ℕ) (l : Lane D) → v ≡ b.volume.began.owner → Contains m.lanes.items l → logger_of l ≡ k → IsLaneAt v k
+    lane_is_at v k l same has at =
+        let back = lane_back l has in
+        record { lane = l; same = same; has = has; at = at; pool = rw (same, owner_is, ← at) back.pool; spindle = rw (same, owner_is, ← at) back.spindle; held = rw (same, owner_is, ← at) back.held }
+
+    at_place : (v k : ℕ) → IsLaneAt v k ⊎ IsAsBefore v k
+    at_place v k = ⊎_elim
+        (λ x. let l = lane_at k x.1 in inl (lane_is_at v k l.0 x.0 l.1 l.2))
+        (λ never. let kept = pool_same v k never in inr (record { never = never; pool = kept.0; held = kept.1 }))
+        (is_lane_of b v k)
 
     -- ---- The passes of pools
 
     pools_here : (v k : ℕ) → v < length new.passes.items → k < length shared.pools.items → IsSome (pool_pass new v k) ↔ (Contains (away_with bases).lanes (v, k) → ⊥)
-    pools_here v k row below = go (at_place v k)
-      where
-        row_old : v < length old.passes.items
-        row_old = omega (arith, row, put.rows.count)
-
-        go : AtPlace v k → IsSome (pool_pass new v k) ↔ (Contains (away_with bases).lanes (v, k) → ⊥)
-        go (of_lane l same has at back) = (
-          λ some. λ away. no_lane_again k (subst (λ (w : ℕ). Contains (away_with bases).lanes (w, k)) same away),
-          λ never. is_there (pool_pass new v k) (pool_of l) (subst (λ (j : ℕ). pool_pass new v j ≡ Some (pool_of l)) at back.pool),
-        )
-        go (as_before never pool held) = (
-          λ some. λ away. (parts.pools.here v k row_old below).0 (ap is_some (sym pool) ∙ some) (lane_stays bases b v k away),
-          λ none. ap is_some pool ∙ (parts.pools.here v k row_old below).1 (λ away. two (lane_cases bases b v k away) none never),
-        )
-          where
-            two : Contains (away_with bases).lanes (v, k) ⊎ ((v ≡ b.volume.began.owner) × Contains b.volume.began.view k) → (Contains (away_with bases).lanes (v, k) → ⊥) → (v ≡ b.volume.began.owner → Contains b.volume.began.view k → ⊥) → ⊥
-            two (inl front) none never = none front
-            two (inr last) none never = never last.0 last.1
+    pools_here v k row below =
+        let was = parts.pools.here v k (omega (arith, row, put.rows.count)) below in
+        ⊎_elim
+        (λ l. (λ some away. no_lane_again k (rw l.same at away), λ never. is_there (pool_pass new v k) (pool_of l.lane) l.pool))
+        (λ s. (
+          λ some away. was.0 (rw s.pool at some) (lane_stays bases b v k away),
+          λ none. rw s.pool (was.1 (λ away. ⊎_elim none (λ last. s.never last.0 last.1) (lane_cases bases b v k away))),
+        ))
+        (at_place v k)
 
     pools_each : (v k : ℕ) (f : TurnLock (Pool (FreeSegment D)) PoolBase) (p : PassOf (Pool (FreeSegment D)) PoolBase) → slice_get shared.pools.items k ≡ Some f → pool_pass new v k ≡ Some p → IsPassAt f v p
-    pools_each v k f p is here = go (at_place v k)
-      where
-        go : AtPlace v k → IsPassAt f v p
-        go (of_lane l same has at back) =
-            subst (λ (q : PassOf (Pool (FreeSegment D)) PoolBase). IsPassAt f v q) (same_Some (pool_of l) p (sym (subst (λ (j : ℕ). pool_pass new v j ≡ Some (pool_of l)) at back.pool) ∙ here)) (pool_at v k f l same has at is)
-        go (as_before never pool held) = parts.pools.each v k f p is (sym pool ∙ here)
+    pools_each v k f p is here = ⊎_elim
+        (λ l. subst (IsPassAt f v) (same_Some (pool_of l.lane) p (sym l.pool ∙ here)) (pool_at v k f l.lane l.same l.has l.at is))
+        (λ s. parts.pools.each v k f p is (sym s.pool ∙ here))
+        (at_place v k)
 
     -- ---- The passes of spindles
 
-    -- what is at a place of spindles
-    data AtSpindle (v k : ℕ) : Type 0 where
-      lane_spindle : (l : Lane D) → v ≡ b.volume.began.owner → Contains m.lanes.items l → logger_of l ≡ k → spindle_pass new v k ≡ Some (spindle_of l) → AtSpindle v k
-      own_spindle : v ≡ id → k ≡ id → spindle_pass new v k ≡ Some m.spindle → AtSpindle v k
-      other_spindle : (v ≡ b.volume.began.owner → Contains b.volume.began.view k → ⊥) → (v ≡ id → k ≢ id) → spindle_pass new v k ≡ spindle_pass old v k → AtSpindle v k
+    -- what is at a place of spindles: a pass that came back, with a lane or with home, or what was there
+    record IsSpindleBack (v k : ℕ) : Type 0 where
+      pass : PassOf Spindle SpindleBase
+      here : spindle_pass new v k ≡ Some pass
+      same : v ≡ b.volume.began.owner
+      each : (f : TurnLock Spindle SpindleBase) → slice_get shared.spindles.items k ≡ Some f → IsPassAt f v pass
+      settled : has_token (pass_mine pass) ≡ false
+      accessed : AreAccesses (pass_mine pass)
 
-    at_spindle : (v k : ℕ) → AtSpindle v k
-    at_spindle v k = go (at_place v k) (cases_eq v id) (cases_eq k id)
+    record IsSpindleSame (v k : ℕ) : Type 0 where
+      never : v ≡ b.volume.began.owner → Contains b.volume.began.view k → ⊥
+      not_own : v ≡ id → k ≢ id
+      spindle : spindle_pass new v k ≡ spindle_pass old v k
+
+    at_spindle : (v k : ℕ) → IsSpindleBack v k ⊎ IsSpindleSame v k
+    at_spindle v k = ⊎_elim of_lane (λ s. ⊎_elim (λ e. ⊎_elim (own e) (λ f. other s (λ same. f)) (cases_eq k id)) (λ e. other s (λ same. absurd (e same))) (cases_eq v id)) (at_place v k)
       where
-        go : AtPlace v k → (v ≡ id) ⊎ (v ≡ id → ⊥) → (k ≡ id) ⊎ (k ≡ id → ⊥) → AtSpindle v k
-        go (of_lane l same has at back) x y = lane_spindle l same has at (subst (λ (j : ℕ). spindle_pass new v j ≡ Some (spindle_of l)) at back.spindle)
-        go (as_before never pool held) (inl e) (inl f) = own_spindle e f (rw (e, f) (put.spindle ∙ ap (λ (q : PassOf Spindle SpindleBase). Some q) spindle_is))
-        go (as_before never pool held) (inl e) (inr f) = other_spindle never (λ same. f) (other_place v k never (λ same. f)).spindle
-        go (as_before never pool held) (inr e) y = other_spindle never (λ same. absurd (e same)) (other_place v k never (λ same. absurd (e same))).spindle
+        of_lane : IsLaneAt v k → IsSpindleBack v k ⊎ IsSpindleSame v k
+        of_lane l =
+            let ready = (ready_lane l.lane l.has).lane in
+            inl (record { pass = spindle_of l.lane; here = l.spindle; same = l.same; each = λ f is. spindle_at v k f l.lane l.same l.has l.at is; settled = ready.settled; accessed = ready.accesses })
+
+        own : v ≡ id → k ≡ id → IsSpindleBack v k ⊎ IsSpindleSame v k
+        own e f = inl (record {
+          pass = m.spindle;
+          here = rw (e, f) (put.spindle ∙ ap (λ (q : PassOf Spindle SpindleBase). Some q) spindle_is);
+          same = e ∙ sym owner_is;
+          each = λ x is. own_spindle_at v k x e f is;
+          settled = keeps.ready.ready.settled;
+          accessed = keeps.ready.ready.accesses;
+        })
+
+        other : IsAsBefore v k → (v ≡ id → k ≢ id) → IsSpindleBack v k ⊎ IsSpindleSame v k
+        other s not_own = inr (record { never = s.never; not_own = not_own; spindle = (other_place v k s.never not_own).spindle })
 
     spindles_here : (v k : ℕ) → v < length new.passes.items → k < length shared.spindles.items
         → IsSome (spindle_pass new v k) ↔ ((Contains (away_with bases).lanes (v, k) ⊎ ((v ≡ k) × Contains (away_with bases).homes v)) → ⊥)
-    spindles_here v k row below = go (at_spindle v k)
-      where
-        row_old : v < length old.passes.items
-        row_old = omega (arith, row, put.rows.count)
-
-        front_not : v ≡ b.volume.began.owner → Contains (away_with bases).lanes (v, k) ⊎ ((v ≡ k) × Contains (away_with bases).homes v) → ⊥
-        front_not same (inl away) = no_lane_again k (subst (λ (w : ℕ). Contains (away_with bases).lanes (w, k)) same away)
-        front_not same (inr away) = not_again (subst (λ (w : ℕ). Contains (away_with bases).homes w) same away.1)
-
-        stays : Contains (away_with bases).lanes (v, k) ⊎ ((v ≡ k) × Contains (away_with bases).homes v) → Contains (away_with (bases ++ b ∷ [])).lanes (v, k) ⊎ ((v ≡ k) × Contains (away_with (bases ++ b ∷ [])).homes v)
-        stays (inl away) = inl (lane_stays bases b v k away)
-        stays (inr away) = inr (away.0, home_stays bases b v away.1)
-
-        leaves : (v ≡ b.volume.began.owner → Contains b.volume.began.view k → ⊥) → (v ≡ id → k ≢ id) → (Contains (away_with bases).lanes (v, k) ⊎ ((v ≡ k) × Contains (away_with bases).homes v) → ⊥)
-            → Contains (away_with (bases ++ b ∷ [])).lanes (v, k) ⊎ ((v ≡ k) × Contains (away_with (bases ++ b ∷ [])).homes v) → ⊥
-        leaves never not_own none (inl away) = two (lane_cases bases b v k away)
-          where
-            two : Contains (away_with bases).lanes (v, k) ⊎ ((v ≡ b.volume.began.owner) × Contains b.volume.began.view k) → ⊥
-            two (inl front) = none (inl front)
-            two (inr last) = never last.0 last.1
-        leaves never not_own none (inr away) = two (home_cases bases b v away.1)
-          where
-            two : Contains (away_with bases).homes v ⊎ (b.volume.began.owner ≡ v) → ⊥
-            two (inl front) = none (inr (away.0, front))
-            two (inr last) = not_own (sym last ∙ owner_is) (sym away.0 ∙ sym last ∙ owner_is)
-
-        go : AtSpindle v k → IsSome (spindle_pass new v k) ↔ ((Contains (away_with bases).lanes (v, k) ⊎ ((v ≡ k) × Contains (away_with bases).homes v)) → ⊥)
-        go (lane_spindle l same has at here) = (λ some. front_not same, λ none. is_there (spindle_pass new v k) (spindle_of l) here)
-        go (own_spindle e f here) = (λ some. front_not (e ∙ sym owner_is), λ none. is_there (spindle_pass new v k) m.spindle here)
-        go (other_spindle never not_own same) = (
-          λ some. λ away. (parts.spindles.here v k row_old below).0 (ap is_some (sym same) ∙ some) (stays away),
-          λ none. ap is_some same ∙ (parts.spindles.here v k row_old below).1 (leaves never not_own none),
-        )
+    spindles_here v k row below =
+        let was = parts.spindles.here v k (omega (arith, row, put.rows.count)) below in
+        ⊎_elim
+        (λ s. (λ some away. ⊎_elim (λ lane. no_lane_again k (rw s.same at lane)) (λ home. not_again (rw s.same at home.1)) away, λ none. is_there (spindle_pass new v k) s.pass s.here))
+        (λ s. (
+          λ some away. was.0 (rw s.spindle at some) (⊎_elim (λ lane. inl (lane_stays bases b v k lane)) (λ home. inr (home.0, home_stays bases b v home.1)) away),
+          λ none. rw s.spindle (was.1 (λ away. ⊎_elim
+              (λ lane. ⊎_elim (λ front. none (inl front)) (λ last. s.never last.0 last.1) (lane_cases bases b v k lane))
+              (λ home. ⊎_elim (λ front. none (inr (home.0, front))) (λ last. s.not_own (sym last ∙ owner_is) (sym home.0 ∙ sym last ∙ owner_is)) (home_cases bases b v home.1))
+              away)),
+        ))
+        (at_spindle v k)
 
     spindles_each : (v k : ℕ) (f : TurnLock Spindle SpindleBase) (p : PassOf Spindle SpindleBase) → slice_get shared.spindles.items k ≡ Some f → spindle_pass new v k ≡ Some p → IsPassAt f v p
-    spindles_each v k f p is here = go (at_spindle v k)
-      where
-        go : AtSpindle v k → IsPassAt f v p
-        go (lane_spindle l same has at there) = subst (λ (q : PassOf Spindle SpindleBase). IsPassAt f v q) (same_Some (spindle_of l) p (sym there ∙ here)) (spindle_at v k f l same has at is)
-        go (own_spindle e g there) = subst (λ (q : PassOf Spindle SpindleBase). IsPassAt f v q) (same_Some m.spindle p (sym there ∙ here)) (own_spindle_at v k f e g is)
-        go (other_spindle never not_own same) = parts.spindles.each v k f p is (sym same ∙ here)
+    spindles_each v k f p is here = ⊎_elim
+        (λ s. subst (IsPassAt f v) (same_Some s.pass p (sym s.here ∙ here)) (s.each f is))
+        (λ s. parts.spindles.each v k f p is (sym s.spindle ∙ here))
+        (at_spindle v k)
 
-    spindles_settled : (v k : ℕ) (p : PassOf Spindle SpindleBase) → spindle_pass new v k ≡ Some p → has_token (pass_mine p) ≡ Rattle.std.specs.Prelude.false
-    spindles_settled v k p here = go (at_spindle v k)
-      where
-        go : AtSpindle v k → has_token (pass_mine p) ≡ Rattle.std.specs.Prelude.false
-        go (lane_spindle l same has at there) = subst (λ (q : PassOf Spindle SpindleBase). has_token (pass_mine q) ≡ Rattle.std.specs.Prelude.false) (same_Some (spindle_of l) p (sym there ∙ here)) (ready_lane l has).lane.settled
-        go (own_spindle e g there) = subst (λ (q : PassOf Spindle SpindleBase). has_token (pass_mine q) ≡ Rattle.std.specs.Prelude.false) (same_Some m.spindle p (sym there ∙ here)) keeps.ready.ready.settled
-        go (other_spindle never not_own same) = parts.spindles.settled v k p (sym same ∙ here)
+    spindles_settled : (v k : ℕ) (p : PassOf Spindle SpindleBase) → spindle_pass new v k ≡ Some p → has_token (pass_mine p) ≡ false
+    spindles_settled v k p here = ⊎_elim (λ s. rw (same_Some s.pass p (sym s.here ∙ here)) at s.settled) (λ s. parts.spindles.settled v k p (sym s.spindle ∙ here)) (at_spindle v k)
 
     -- spindles were only accessed
     pub spindles_accessed : OnlyAccess new
-    spindles_accessed v k p here = go (at_spindle v k)
-      where
-        go : AtSpindle v k → Rattle.logger.specs.Lanes.AreAccesses (pass_mine p)
-        go (lane_spindle l same has at there) = subst (λ (q : PassOf Spindle SpindleBase). Rattle.logger.specs.Lanes.AreAccesses (pass_mine q)) (same_Some (spindle_of l) p (sym there ∙ here)) (ready_lane l has).lane.accesses
-        go (own_spindle e g there) = subst (λ (q : PassOf Spindle SpindleBase). Rattle.logger.specs.Lanes.AreAccesses (pass_mine q)) (same_Some m.spindle p (sym there ∙ here)) keeps.ready.ready.accesses
-        go (other_spindle never not_own same) = accesses v k p (sym same ∙ here)
+    spindles_accessed v k p here = ⊎_elim (λ s. rw (same_Some s.pass p (sym s.here ∙ here)) at s.accessed) (λ s. accesses v k p (sym s.spindle ∙ here)) (at_spindle v k)
 
     -- ---- The segments
 
     -- the indexes of a lane that came back are those of its held segments
-    indexes_back : (v k : ℕ) (l : Lane D) → logger_of l ≡ k → HasBack new v l → indexes_here new v k ≡ map (λ (h : HeldSegment D). h.index) (held_in l)
-    indexes_back v k l at back =
-        ap (map (λ (h : ℕ × Spun D). h.0)) (subst (λ (j : ℕ). held_here new v j ≡ held_parts l) at back.held) ∙ map_map (λ (h : HeldSegment D). (h.index, part_of h.segment)) (λ (h : ℕ × Spun D). h.0) (held_in l)
+    indexes_back : (v k : ℕ) (l : IsLaneAt v k) → indexes_here new v k ≡ map (λ (h : HeldSegment D). h.index) (held_in l.lane)
+    indexes_back v k l = ap (map (λ (h : ℕ × Spun D). h.0)) l.held ∙ map_map (λ (h : HeldSegment D). (h.index, part_of h.segment)) (λ (h : ℕ × Spun D). h.0) (held_in l.lane)
 
     -- a lane's own indexes are those too
     pub all_indexes : (l : Lane D) → Contains m.lanes.items l → indexes_in l ≡ map (λ (h : HeldSegment D). h.index) (held_in l)
     all_indexes l has =
-        ap (λ (t : Option (ℕ × FreeSegment D)). map (λ (h : HeldSegment D). h.index) (held_in l) ++ map (λ (x : ℕ × FreeSegment D). x.0) (Rattle.std.specs.Option.option_to_list t)) (ready_lane l has).untaken
-        ∙ Rattle.std.proofs.lemmas.List.append-nil (map (λ (h : HeldSegment D). h.index) (held_in l))
+        ap (λ (t : Option (ℕ × FreeSegment D)). map (λ (h : HeldSegment D). h.index) (held_in l) ++ map (λ (x : ℕ × FreeSegment D). x.0) (option_to_list t)) (ready_lane l has).untaken
+        ∙ append-nil (map (λ (h : HeldSegment D). h.index) (held_in l))
+
+    -- a lane holds each of its segments as its pass says
+    each_held : (l : Lane D) (h : HeldSegment D) → Contains m.lanes.items l → Contains (held_in l) h → IsHeld state l.logger l.owner (segments_in l) l.pool h
+    each_held l h lane has = of_recursion (IsHeld state l.logger l.owner (segments_in l) l.pool) (held_in l) h (ready_lane l lane).lane.each has
 
     held_at : (v k i : ℕ) → Contains (indexes_here new v k) i → IsHolding new v k i
-    held_at v k i has = go (at_place v k)
-      where
-        go : AtPlace v k → IsHolding new v k i
-        go (of_lane l same lane at back) =
-            let h = of_map (λ (h : HeldSegment D). h.index) (held_in l) i (subst (λ (xs : List ℕ). Contains xs i) (indexes_back v k l at back) has) in
-            let each : IsHeld state l.logger l.owner (Rattle.logger.specs.Lanes.segments_in l) l.pool h.0 =
-            of_recursion (IsHeld state l.logger l.owner (Rattle.logger.specs.Lanes.segments_in l) l.pool) (held_in l) h.0 (ready_lane l lane).lane.each h.1 in
-            (pool_of l, subst (λ (j : ℕ). pool_pass new v j ≡ Some (pool_of l)) at back.pool, subst (λ (x : ℕ). holds (pass_lock (pool_of l)).base (pass_number (pool_of l)) (pass_mine (pool_of l)) x ≡ true) h.2 each.holding)
-        go (as_before never pool held) =
-            let old_one = parts.returned.held v k i (subst (λ (xs : List (ℕ × Spun D)). Contains (map (λ (h : ℕ × Spun D). h.0) xs) i) held has) in
-            (old_one.0, pool ∙ old_one.1, old_one.2)
+    held_at v k i has = ⊎_elim
+        (λ l.
+        let h = of_map (λ (h : HeldSegment D). h.index) (held_in l.lane) i (subst (λ (xs : List ℕ). Contains xs i) (indexes_back v k l) has) in
+        (pool_of l.lane, l.pool, rw h.2 at (each_held l.lane h.0 l.has h.1).holding))
+        (λ s. let was = parts.returned.held v k i (rw s.held at has) in (was.0, s.pool ∙ was.1, was.2))
+        (at_place v k)
 
     held_once : (v k : ℕ) → AreApart (indexes_here new v k)
-    held_once v k = go (at_place v k)
-      where
-        go : AtPlace v k → AreApart (indexes_here new v k)
-        go (of_lane l same lane at back) =
-            subst AreApart (sym (indexes_back v k l at back)) (subst AreApart (all_indexes l lane) (ready_lane l lane).lane.apart)
-        go (as_before never pool held) = subst (λ (xs : List (ℕ × Spun D)). AreApart (map (λ (h : ℕ × Spun D). h.0) xs)) (sym held) (parts.returned.once v k)
+    held_once v k = ⊎_elim
+        (λ l. subst AreApart (all_indexes l.lane l.has ∙ sym (indexes_back v k l)) (ready_lane l.lane l.has).lane.apart)
+        (λ s. rw s.held (parts.returned.once v k))
+        (at_place v k)
 
     -- the segments of a lane have the size of its logger's
     lane_sized : (k : ℕ) (z : Shape) (l : Lane D) → Contains m.lanes.items l → logger_of l ≡ k → slice_get (shapes_of config) k ≡ Some z → (pass_lock (pool_of l)).base.blocks ≡ z.segment_blocks
@@ -464,60 +441,45 @@ module _ {D : Type 0} (state : D → State) (tells : Rattle.std.specs.Prelude.Bo
         ap (λ (x : Rattle.turn_lock.specs.LockIds.LockId PoolBase). x.base.blocks) (pool_at b.volume.began.owner k f.0 l refl has at f.1).own ∙ (locks.pools k z f.0 is f.1).blocks
 
     held_sized : (v k : ℕ) (z : Shape) → slice_get (shapes_of config) k ≡ Some z → All (λ (h : ℕ × Spun D). IsPart state k z.segment_blocks h.1) (held_here new v k)
-    held_sized v k z is = go (at_place v k)
-      where
-        go : AtPlace v k → All (λ (h : ℕ × Spun D). IsPart state k z.segment_blocks h.1) (held_here new v k)
-        go (of_lane l same lane at back) =
-            subst (λ (xs : List (ℕ × Spun D)). All (λ (h : ℕ × Spun D). IsPart state k z.segment_blocks h.1) xs) (sym (subst (λ (j : ℕ). held_here new v j ≡ held_parts l) at back.held))
-            (all_member (λ (h : ℕ × Spun D). IsPart state k z.segment_blocks h.1) (held_parts l) (λ x has. one x (of_map (λ (h : HeldSegment D). (h.index, part_of h.segment)) (held_in l) x has)))
-          where
-            one : (x : ℕ × Spun D) → (h : HeldSegment D) × Contains (held_in l) h × ((h.index, part_of h.segment) ≡ x) → IsPart state k z.segment_blocks x.1
-            one x w =
-                let h = w.0 in
-                let each : IsHeld state l.logger l.owner (Rattle.logger.specs.Lanes.segments_in l) l.pool h = of_recursion (IsHeld state l.logger l.owner (Rattle.logger.specs.Lanes.segments_in l) l.pool) (held_in l) h (ready_lane l lane).lane.each w.1 in
-                subst (λ (q : ℕ × Spun D). IsPart state k z.segment_blocks q.1) w.2
-                (record { of_volume = each.volume ∙ at; sized = each.shape.size ∙ each.blocks ∙ lane_sized k z l lane at is })
-        go (as_before never pool held) = subst (λ (xs : List (ℕ × Spun D)). All (λ (h : ℕ × Spun D). IsPart state k z.segment_blocks h.1) xs) (sym held) (parts.returned.parts v k z is)
+    held_sized v k z is = ⊎_elim
+        (λ l. rw l.held (all_member (λ (h : ℕ × Spun D). IsPart state k z.segment_blocks h.1) (held_parts l.lane) (λ x has.
+        let w = of_map (λ (h : HeldSegment D). (h.index, part_of h.segment)) (held_in l.lane) x has in
+        let each = each_held l.lane w.0 l.has w.1 in
+        subst (λ (q : ℕ × Spun D). IsPart state k z.segment_blocks q.1) w.2 (record { of_volume = each.volume ∙ l.at; sized = each.shape.size ∙ each.blocks ∙ lane_sized k z l.lane l.has l.at is }))))
+        (λ s. rw s.held (parts.returned.parts v k z is))
+        (at_place v k)
 
     held_out : (v k : ℕ) → image_here new.images.items k ≡ None → held_here new v k ≡ []
-    held_out v k none = go (at_place v k)
-      where
-        go : AtPlace v k → held_here new v k ≡ []
-        go (of_lane l same lane at back) =
-            let out : IsImageOut old.images.items k = of_recursion (IsImageOut old.images.items) b.volume.began.view k open_base.loggers_out (subst (λ (j : ℕ). Contains b.volume.began.view j) at (in_view l lane)) in
-            let image = a_value (image_here old.images.items k) out in
-            absurd (none-some image.0 (sym (none_was k none) ∙ image.1))
-        go (as_before never pool held) = held ∙ parts.returned.out v k (none_was k none)
+    held_out v k none = ⊎_elim
+        (λ l.
+        let out : IsImageOut old.images.items k = of_recursion (IsImageOut old.images.items) b.volume.began.view k open_base.loggers_out (rw l.at at (in_view l.lane l.has)) in
+        let image = a_value (image_here old.images.items k) out in
+        absurd (none-some image.0 (sym (none_was k none) ∙ image.1)))
+        (λ s. s.held ∙ parts.returned.out v k (none_was k none))
+        (at_place v k)
 
     -- the segments that no lane had are where they were
     held_here_same : (k i : ℕ) → (IsHeldHere new k i → IsHeldHere old k i) × (IsHeldHere old k i → IsHeldHere new k i)
     held_here_same k i = (to_old, to_new)
       where
         to_old : IsHeldHere new k i → IsHeldHere old k i
-        to_old h = go (at_place h.0 k)
-          where
-            go : AtPlace h.0 k → IsHeldHere old k i
-            go (of_lane l same lane at back) =
-                let p = h.1 in
-                let is : p.0 ≡ pool_of l = same_Some p.0 (pool_of l) (sym p.1 ∙ subst (λ (j : ℕ). pool_pass new h.0 j ≡ Some (pool_of l)) at back.pool) in
-                let holding : holds (pass_lock (pool_of l)).base (pass_number (pool_of l)) (pass_mine (pool_of l)) i ≡ true =
-                subst (λ (q : PassOf (Pool (FreeSegment D)) PoolBase). holds (pass_lock q).base (pass_number q) (pass_mine q) i ≡ true) is p.2 in
-                let among = subst (λ (xs : List ℕ). Contains xs i) (all_indexes l lane ∙ sym (indexes_back h.0 k l at back)) ((ready_lane l lane).all i holding) in
-                absurd (h.2 among)
-            go (as_before never pool held) =
-                (h.0, (h.1.0, sym pool ∙ h.1.1, h.1.2), λ has. h.2 (subst (λ (xs : List (ℕ × Spun D)). Contains (map (λ (x : ℕ × Spun D). x.0) xs) i) (sym held) has))
+        to_old h = ⊎_elim
+            (λ (l : IsLaneAt h.0 k).
+            let holding = rw (same_Some h.1.0 (pool_of l.lane) (sym h.1.1 ∙ l.pool)) at h.1.2 in
+            absurd (h.2 (subst (λ (xs : List ℕ). Contains xs i) (all_indexes l.lane l.has ∙ sym (indexes_back h.0 k l)) ((ready_lane l.lane l.has).all i holding))))
+            (λ s. (h.0, (h.1.0, sym s.pool ∙ h.1.1, h.1.2), λ has. h.2 (rw s.held has)))
+            (at_place h.0 k)
 
         to_new : IsHeldHere old k i → IsHeldHere new k i
-        to_new h = go (at_place h.0 k)
-          where
-            go : AtPlace h.0 k → IsHeldHere new k i
-            go (of_lane l same lane at back) =
-                let none : pool_pass old id k ≡ None = subst (λ (j : ℕ). pool_pass old id j ≡ None) at (no_pool (logger_of l) (logger_below l lane) (away_lane l lane)) in
-                absurd (none-some h.1.0 (sym none ∙ subst (λ (w : ℕ). pool_pass old w k ≡ Some h.1.0) (same ∙ owner_is) h.1.1))
-            go (as_before never pool held) =
-                (h.0, (h.1.0, pool ∙ h.1.1, h.1.2), λ has. h.2 (subst (λ (xs : List (ℕ × Spun D)). Contains (map (λ (x : ℕ × Spun D). x.0) xs) i) held has))
+        to_new h = ⊎_elim
+            (λ (l : IsLaneAt h.0 k). absurd (none-some h.1.0 (sym (rw l.at at (no_pool (logger_of l.lane) (logger_below l.lane l.has) (away_lane l.lane l.has))) ∙ rw (l.same ∙ owner_is) at h.1.1)))
+            (λ s. (h.0, (h.1.0, s.pool ∙ h.1.1, h.1.2), λ has. h.2 (rw s.held at has)))
+            (at_place h.0 k)
 
     -- ---- The images
+
+    home_now : (k : ℕ) (n : ImageRest D) → image_here new.images.items k ≡ Some n → k ≡ id → n.home ≡ Some m.home
+    home_now k n here same = ap (λ (o : Option (ImageRest D)). option_and_then (λ x. x.home) o) (sym here) ∙ rw same home_came_back
 
     image_rest : (k : ℕ) (z : Shape) (n : ImageRest D) → slice_get (shapes_of config) k ≡ Some z → image_here new.images.items k ≡ Some n → IsImageRest state k z n
     image_rest k z n is here =
@@ -526,37 +488,23 @@ module _ {D : Type 0} (state : D → State) (tells : Rattle.std.specs.Prelude.Bo
         subst (IsImageRest state k z) (sym was.2) (record { label = rest.label; home = home k z n is here was.0 was.1 rest; count = rest.count; segments = rest.segments; row = rest.row; room = rest.room })
       where
         home : (k : ℕ) (z : Shape) (n : ImageRest D) → slice_get (shapes_of config) k ≡ Some z → image_here new.images.items k ≡ Some n → (r : ImageRest D) → image_here old.images.items k ≡ Some r → IsImageRest state k z r → IfSome n.home (IsPart state k z.home)
-        home k z n is here r was rest = go (cases_eq k id)
-          where
-            of_home : (o : Option (Spun D)) → o ≡ Some m.home → k ≡ id → IfSome o (IsPart state k z.home)
-            of_home o e same =
-                subst (λ (x : Option (Spun D)). IfSome x (IsPart state k z.home)) (sym e)
-                (record {
-                  of_volume = keeps.ready.ready.home_volume ∙ keeps.locks.owner ∙ owner_is ∙ sym same;
-                  sized = keeps.upholds.places.home_size ∙ open_base.home_blocks z (subst (λ (j : ℕ). slice_get (shapes_of config) j ≡ Some z) (same ∙ sym owner_is) is);
-                })
-
-            go : (k ≡ id) ⊎ (k ≡ id → ⊥) → IfSome n.home (IsPart state k z.home)
-            go (inl same) =
-                of_home n.home (ap (λ (o : Option (ImageRest D)). option_and_then (λ x. x.home) o) (sym here) ∙ subst (λ (j : ℕ). home_here new j ≡ Some m.home) (sym same) home_came_back) same
-            go (inr differs) =
-                subst (λ (x : ImageRest D). IfSome x.home (IsPart state k z.home)) (same_Some r n (sym was ∙ sym (put.images k differs) ∙ here)) rest.home
+        home k z n is here r was rest = ⊎_elim
+            (λ same. rw (home_now k n here same) (record {
+              of_volume = keeps.ready.ready.home_volume ∙ keeps.locks.owner ∙ owner_is ∙ sym same;
+              sized = keeps.upholds.places.home_size ∙ open_base.home_blocks z (rw (same ∙ sym owner_is) at is);
+            }))
+            (λ differs. rw (same_Some r n (sym was ∙ sym (put.images k differs) ∙ here)) at rest.home)
+            (cases_eq k id)
 
     homes_here : (k : ℕ) (n : ImageRest D) → image_here new.images.items k ≡ Some n → IsSome n.home ↔ (Contains (away_with bases).homes k → ⊥)
-    homes_here k n here = go (cases_eq k id)
-      where
-        go : (k ≡ id) ⊎ (k ≡ id → ⊥) → IsSome n.home ↔ (Contains (away_with bases).homes k → ⊥)
-        go (inl same) = (
-          λ some. λ away. not_again (subst (λ (j : ℕ). Contains (away_with bases).homes j) (same ∙ sym owner_is) away),
-          λ none. is_there n.home m.home (ap (λ (o : Option (ImageRest D)). option_and_then (λ x. x.home) o) (sym here) ∙ subst (λ (j : ℕ). home_here new j ≡ Some m.home) (sym same) home_came_back),
-        )
-        go (inr differs) =
-            let was : image_here old.images.items k ≡ Some n = sym (put.images k differs) ∙ here in
-            (λ some. λ away. (parts.homes k n was).0 some (home_stays bases b k away), λ none. (parts.homes k n was).1 (λ away. two (home_cases bases b k away) none))
-          where
-            two : Contains (away_with bases).homes k ⊎ (b.volume.began.owner ≡ k) → (Contains (away_with bases).homes k → ⊥) → ⊥
-            two (inl front) none = none front
-            two (inr last) none = differs (sym last ∙ owner_is)
+    homes_here k n here = ⊎_elim
+        (λ (same : k ≡ id). (λ some away. not_again (rw (same ∙ sym owner_is) at away), λ none. is_there n.home m.home (home_now k n here same)))
+        (λ differs.
+        let was = parts.homes k n (sym (put.images k differs) ∙ here) in (
+          λ some away. was.0 some (home_stays bases b k away),
+          λ none. was.1 (λ away. ⊎_elim none (λ last. differs (sym last ∙ owner_is)) (home_cases bases b k away)),
+        ))
+        (cases_eq k id)
 
     -- ---- The whole
 
@@ -597,37 +545,27 @@ module _ {D : Type 0} (state : D → State) (tells : Rattle.std.specs.Prelude.Bo
     }
       where
         out_still : (k : ℕ) → IsImageOut old.images.items k → IsImageOut new.images.items k
-        out_still k is = go (image_here old.images.items k) refl (image_here new.images.items k) refl (images_kept k)
-          where
-            go : (o : Option (ImageRest D)) → image_here old.images.items k ≡ o → (n : Option (ImageRest D)) → image_here new.images.items k ≡ n → KeepsButHome (image_here old.images.items k) (image_here new.images.items k) → IsImageOut new.images.items k
-            go None e n f kept = absurd (let image = a_value (image_here old.images.items k) is in none-some image.0 (sym e ∙ image.1))
-            go (Some r) e (Some n) f kept = is_there (image_here new.images.items k) n f
-            go (Some r) e None f kept = absurd (subst (λ (y : Option (ImageRest D)). KeepsButHome (Some r) y) f (subst (λ (x : Option (ImageRest D)). KeepsButHome x (image_here new.images.items k)) e kept))
+        out_still k is = let image = a_value (image_here old.images.items k) is in kept_out image.0 (image_here new.images.items k) (rw image.1 at (images_kept k))
 
         each_out : (ks : List ℕ) → AllByRecursion (IsImageOut old.images.items) ks → AllByRecursion (IsImageOut new.images.items) ks
-        each_out [] all = all
-        each_out (k ∷ ks) all = (out_still k all.0, each_out ks all.1)
+        each_out ks all = recursion_from_All (IsImageOut new.images.items) ks (All-weaker (IsImageOut old.images.items) (IsImageOut new.images.items) out_still ks (All-from_recursion (IsImageOut old.images.items) ks all))
 
     -- the lists that no lane of the manager has are as they were
     pub lists_kept : (v k : ℕ) → (Contains (away_with (b ∷ [])).lanes (v, k) → ⊥) → held_here new v k ≡ held_here old v k
-    lists_kept v k away = go (at_place v k)
-      where
-        go : AtPlace v k → held_here new v k ≡ held_here old v k
-        go (of_lane l same has at back) =
-            absurd (away (subst (λ (x : ℕ × ℕ). Contains (away_with (b ∷ [])).lanes x) {x = (b.volume.began.owner, k)} {y = (v, k)} (λ i. (sym same i, k))
-            (Contains-append_left (lanes_with b) [] (b.volume.began.owner, k) (lane_with b k (subst (λ (j : ℕ). Contains b.volume.began.view j) at (in_view l has))))))
-        go (as_before never pool held) = held
+    lists_kept v k away = ⊎_elim
+        (λ l. absurd (away (rw l.same (Contains-append_left (lanes_with b) [] (b.volume.began.owner, k) (lane_with b k (rw l.at at (in_view l.lane l.has)))))))
+        (λ s. s.held)
+        (at_place v k)
 
     -- a segment that came back was here with a lane's list, or the manager held it
     pub held_from : (v k i : ℕ) (p : Spun D) → Contains (held_here new v k) (i, p)
         → Contains (held_here old v k) (i, p) ⊎ ((l : Lane D) × Contains m.lanes.items l × (h : HeldSegment D) × Contains (held_in l) h × (h.index ≡ i) × (part_of h.segment ≡ p) × (logger_of l ≡ k))
-    held_from v k i p has = go (at_place v k)
-      where
-        go : AtPlace v k → Contains (held_here old v k) (i, p) ⊎ ((l : Lane D) × Contains m.lanes.items l × (h : HeldSegment D) × Contains (held_in l) h × (h.index ≡ i) × (part_of h.segment ≡ p) × (logger_of l ≡ k))
-        go (of_lane l same lane at back) =
-            let x = of_map (λ (h : HeldSegment D). (h.index, part_of h.segment)) (held_in l) (i, p) (subst (λ (xs : List (ℕ × Spun D)). Contains xs (i, p)) (subst (λ (j : ℕ). held_here new v j ≡ held_parts l) at back.held) has) in
-            inr (l, lane, x.0, x.1, ap (λ (y : ℕ × Spun D). y.0) x.2, ap (λ (y : ℕ × Spun D). y.1) x.2, at)
-        go (as_before never pool held) = inl (subst (λ (xs : List (ℕ × Spun D)). Contains xs (i, p)) held has)
+    held_from v k i p has = ⊎_elim
+        (λ l.
+        let x = of_map (λ (h : HeldSegment D). (h.index, part_of h.segment)) (held_in l.lane) (i, p) (rw l.held at has) in
+        inr (l.lane, l.has, x.0, x.1, ap (λ (y : ℕ × Spun D). y.0) x.2, ap (λ (y : ℕ × Spun D). y.1) x.2, l.at))
+        (λ s. inl (rw s.held at has))
+        (at_place v k)
 
     -- and what it held is here
     pub held_back : (l : Lane D) (h : HeldSegment D) → Contains m.lanes.items l → Contains (held_in l) h → Contains (held_here new id (logger_of l)) (h.index, part_of h.segment)

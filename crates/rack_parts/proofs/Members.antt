@@ -1,9 +1,9 @@
 -- Members of lists, and lists side by side.
-use Rattle.rack_parts.proofs.Basics.{◌≡◌, ◌<◌, ◌≤◌, ◌+◌, ◌⊎◌, inl, inr, ℕ, zero, suc, List, [], ◌∷◌, ◌++◌, length, take, get_or, map}
+use Rattle.rack_parts.proofs.Basics.{◌≡◌, ◌<◌, ◌+◌, ◌⊎◌, inl, inr, ⊎_elim, ℕ, zero, suc, List, [], ◌∷◌, ◌++◌, length, take, get_or, map}
 use Rattle.rack_parts.proofs.Basics.{Option, Some, None, is_some, refl, sym, ap, ◌∙◌, subst, arith, ◌-◌, reverse, Contains, All, IsSome}
-use Rattle.rack_parts.proofs.Basics.{slice_get, AllByRecursion, cases_eq, slice_get-get_or, take-take, take_at, length-take, get_or-take}
-use Rattle.rack_parts.proofs.Basics.{get_or_at, get_or_append_left, get_or-map, length-map, length_push, append_assoc, map-append}
-use Rattle.rack_parts.proofs.Basics.{reverse-append, length-reverse, get_or-reverse, All-contains, Contains-push, Contains-get_or}
+use Rattle.rack_parts.proofs.Basics.{slice_get, AllByRecursion, cases_eq, cases_lt, slice_get-get_or, take-take, take_at, length-take, get_or-take}
+use Rattle.rack_parts.proofs.Basics.{get_or_at, get_or_append_left, get_or_past, get_or_push, none-some, get_or-map, length-map, length_push}
+use Rattle.rack_parts.proofs.Basics.{append_assoc, map-append, reverse-append, length-reverse, get_or-reverse, All-contains, All-take, Contains-push, Contains-get_or}
 
 -- ---- Members of lists, and options that are empty
 
@@ -51,11 +51,7 @@ module _ {X : Type 0} where
 
   pub of_recursion : (P : X → Type 0) (xs : List X) (x : X) → AllByRecursion P xs → Contains xs x → P x
   of_recursion P [] x all has = absurd (none_in x has)
-  of_recursion P (y ∷ xs) x all has = go (in_cases y x xs has) (λ more. of_recursion P xs x all.1 more)
-    where
-      go : (y ≡ x) ⊎ Contains xs x → (Contains xs x → P x) → P x
-      go (inl e) later = subst P e all.0
-      go (inr more) later = later more
+  of_recursion P (y ∷ xs) x all has = ⊎_elim (λ e. subst P e all.0) (λ more. of_recursion P xs x all.1 more) (in_cases y x xs has)
 
 module _ {X Y : Type 0} (f : X → Y) where
   pub in_map : (xs : List X) (x : X) → Contains xs x → Contains (map f xs) (f x)
@@ -63,25 +59,19 @@ module _ {X Y : Type 0} (f : X → Y) where
 
   pub of_map : (xs : List X) (y : Y) → Contains (map f xs) y → (x : X) × Contains xs x × (f x ≡ y)
   of_map [] y has = absurd (none_in y has)
-  of_map (x ∷ xs) y has = go (in_cases (f x) y (map f xs) has) (λ more. of_map xs y more)
-    where
-      go : (f x ≡ y) ⊎ Contains (map f xs) y → (Contains (map f xs) y → (z : X) × Contains xs z × (f z ≡ y)) → (z : X) × Contains (x ∷ xs) z × (f z ≡ y)
-      go (inl e) later = (x, first_in x x xs refl, e)
-      go (inr more) later = let rest = later more in (rest.0, later_in x rest.0 xs rest.1, rest.2)
+  of_map (x ∷ xs) y has = ⊎_elim (λ e. (x, first_in x x xs refl, e)) (λ more. let rest = of_map xs y more in (rest.0, later_in x rest.0 xs rest.1, rest.2)) (in_cases (f x) y (map f xs) has)
+
+  -- what holds of what each is mapped to
+  pub all_of_map : (P : Y → Type 0) (xs : List X) → All P (map f xs) → All (λ x. P (f x)) xs
+  all_of_map P xs all = all_member (λ x. P (f x)) xs (λ x has. All-contains P (map f xs) (f x) all (in_map xs x has))
 
 -- whether a number is among these
 pub is_member : (xs : List ℕ) (k : ℕ) → Contains xs k ⊎ (Contains xs k → ⊥)
 is_member [] k = inr (none_in k)
-is_member (x ∷ xs) k = go (cases_eq x k) (is_member xs k)
-  where
-    either : (x ≡ k → ⊥) → (Contains xs k → ⊥) → (x ≡ k) ⊎ Contains xs k → ⊥
-    either differs none (inl e) = differs e
-    either differs none (inr more) = none more
-
-    go : (x ≡ k) ⊎ (x ≡ k → ⊥) → Contains xs k ⊎ (Contains xs k → ⊥) → Contains (x ∷ xs) k ⊎ (Contains (x ∷ xs) k → ⊥)
-    go (inl e) rest = inl (first_in x k xs e)
-    go (inr differs) (inl more) = inl (later_in x k xs more)
-    go (inr differs) (inr none) = inr (λ has. either differs none (in_cases x k xs has))
+is_member (x ∷ xs) k = ⊎_elim
+    (λ e. inl (first_in x k xs e))
+    (λ differs. ⊎_elim (λ more. inl (later_in x k xs more)) (λ none. inr (λ has. ⊎_elim differs none (in_cases x k xs has))) (is_member xs k))
+    (cases_eq x k)
 
 pub map_map : {X Y Z : Type 0} (f : X → Y) (g : Y → Z) (xs : List X) → map g (map f xs) ≡ map (λ (x : X). g (f x)) xs
 map_map f g [] = refl
@@ -104,11 +94,17 @@ segment_in_image q k m is i = rw is
 
 -- an image that is out is one of the list
 pub here_within : {R : Type 0} (xs : List (Option R)) (k : ℕ) (r : R) → get_or xs k None ≡ Some r → k < length xs
-here_within xs k r is = go (Rattle.std.proofs.lemmas.Bool.cases_lt k (length xs))
-  where
-    go : (k < length xs) ⊎ (length xs ≤ k) → k < length xs
-    go (inl less) = less
-    go (inr past) = absurd (cc (sym (Rattle.std.proofs.lemmas.List.get_or_past xs k None past) ∙ is))
+here_within xs k r is = ⊎_elim (λ less. less) (λ past. absurd (none-some r (sym (get_or_past xs k None past) ∙ is))) (cases_lt k (length xs))
+
+pub some_within : {R : Type 0} (xs : List (Option R)) (k : ℕ) → IsSome (get_or xs k None) → k < length xs
+some_within xs k some = let v = a_value (get_or xs k None) some in here_within xs k v.0 v.1
+
+-- the elements in front of the last, and the last
+pub get_last : {X : Type 0} (xs : List X) (x : X) (j : ℕ) → length xs ≡ j → slice_get (xs ++ x ∷ []) j ≡ Some x
+get_last xs x j size = slice_get-get_or (xs ++ x ∷ []) j x (let n = length_push xs x in omega (arith, n, size)) ∙ ap (λ y. Some y) (get_or_push xs x x j size)
+
+pub get_front : {X : Type 0} (xs : List X) (x : X) (j : ℕ) → j < length xs → slice_get (xs ++ x ∷ []) j ≡ slice_get xs j
+get_front xs x j less = let y = element_at xs j less in get_left xs (x ∷ []) j y.0 y.1 ∙ sym y.1
 
 -- the first elements of a list, when the last of them goes
 pub front_less : {X : Type 0} (all xs ys : List X) (y : X) → xs ≡ take (length xs) all → xs ≡ ys ++ y ∷ [] → ys ≡ take (length ys) all
@@ -125,6 +121,10 @@ front_last {X} all xs ys y front split =
     let within : length ys < length all = omega (arith, n, l, ap length front) in
     slice_get-get_or all (length ys) y within
     ∙ ap (λ (x : X). Some x) (sym (get_or-take (length xs) all (length ys) y (omega (arith, n))) ∙ ap (λ (l : List X). get_or l (length ys) y) (sym front ∙ split) ∙ get_or_at ys y [] y (length ys) refl)
+
+-- what holds of all holds of that one
+pub last_of_front : {X : Type 0} (P : X → Type 0) (n : ℕ) (all xs ys : List X) (y : X) → xs ≡ take n all → xs ≡ ys ++ y ∷ [] → All P all → P y
+last_of_front P n all xs ys y front split each = all_last P ys y (subst (All P) (sym front ∙ split) (All-take P n all each))
 
 -- ---- The parts of an image are put together
 

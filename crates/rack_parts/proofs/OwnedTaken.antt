@@ -1,21 +1,24 @@
 -- The owned segments of a volume go out, and all that it is opened of.
 use Rattle.rack_parts.proofs.Basics.{◌≡◌, ◌<◌, ◌≤◌, ◌+◌, ⊎_elim, inr, ℕ, Bool, true, false, List, [], ◌∷◌, ◌++◌, length, map, take, drop}
-use Rattle.rack_parts.proofs.Basics.{cond, Option, None, Some, refl, sym, ap, subst, ◌∙◌, arith, zero, suc, option_map, inl, is_some, ◌≢◌}
-use Rattle.rack_parts.proofs.Basics.{option_and_then, All, Contains, slice_get, slice_index_or, slice_set, count_by, IsSome, IfSome}
+use Rattle.rack_parts.proofs.Basics.{cond, Option, None, Some, refl, sym, ap, subst, ◌∙◌, arith, option_map, inl, is_some, ◌≢◌, All-map}
+use Rattle.rack_parts.proofs.Basics.{option_and_then, All, Contains, slice_get, slice_index_or, slice_set, IsSome, IfSome, All-weaker}
 use Rattle.rack_parts.proofs.Basics.{AllByRecursion, cases_eq, cases_Bool, false≢true, eq-eqb, eqb-true, append_assoc, map-append}
 use Rattle.rack_parts.proofs.Basics.{length_push, take-append-drop, take_all, get_or-set_same, get_or-set_other, length-set, append-nil}
-use Rattle.rack_parts.proofs.Basics.{length-append, take_more, All-nil, All-push, Contains-append_left, Contains-push, All-head, All-tail}
-use Rattle.rack_parts.proofs.Basics.{All-append, All-contains, All-from_recursion, Contains-append_right, Contains-append_cases, All-cons}
-use Rattle.rack_parts.proofs.Basics.{same_Some, get_or_from_slice_get, slice_get_within, slice_get-map, none-some, with_item, Global, Vec}
+use Rattle.rack_parts.proofs.Basics.{length-append, take_more, All-nil, All-push, Contains-append_left, Contains-push, All-append, All-contains}
+use Rattle.rack_parts.proofs.Basics.{Contains-append_right, Contains-append_cases, same_Some, get_or_from_slice_get, slice_get_within, slice_get-map}
+use Rattle.rack_parts.proofs.Basics.{none-some, with_item, Global, Vec}
 use Rattle.rack_parts.proofs.Terms.{Shape, Spun, SegHead, Free, Owned, AreInOrder, IsBefore, place_of, OwnedPart, segment_here, image_here}
 use Rattle.rack_parts.proofs.Terms.{IsRow, spindle_pass, is_owned_by, count_owners, IsSameBut, TakesOwners, TakesOne, owned_in}
 use Rattle.rack_parts.proofs.Terms.{TakesOwnedIn, owned_total, KeepsImage, segment_in, in_image, IsOwnedPlace, IsTakenOf, TakesOwnedOf}
 use Rattle.rack_parts.proofs.Terms.{CanTakeOwnedOf, AreOwnedHere, TakesOwned, HasPlace, KeepsPlace, TakesLanes, CanTake, loggers_out}
 use Rattle.rack_parts.proofs.Terms.{ImageRest, Config, VolumeConf, shape_in, shapes_of, Said, Rest, State, Lane, VolumePasses}
+use Rattle.std.specs.Prelude.{sum_by}
+use Rattle.std.proofs.lemmas.List.Elements.{All-filter, recursion_from_All}
 use Rattle.std.proofs.lemmas.List.Sums.{sum_by-append, count_by_more_yes, count_by_more_no, sum_by_push}
 use Rattle.volume_images.specs.Accepted.{head_place}
-use Rattle.rack_parts.proofs.Returned.{same_but_then, keeps_image_then}
-use Rattle.rack_parts.proofs.LanesMoved.{place_then}
+use Rattle.rack_parts.proofs.Members.{all_member, element_at, none_in, of_map}
+use Rattle.rack_parts.proofs.Returned.{keeps_image, same_but_then, keeps_image_then}
+use Rattle.rack_parts.proofs.LanesMoved.{all_both, place_then}
 
 -- ---- The owned segments of a volume go out of an image
 
@@ -27,18 +30,21 @@ owner_of_true v (Owned o) is = ap (λ (n : ℕ). Owned n) (eqb-true o v is)
 pub true_of_owner : (v : ℕ) (h : SegHead) → h ≡ Owned v → is_owned_by v h ≡ true
 true_of_owner v h is = ap (is_owned_by v) is ∙ eq-eqb v v refl
 
--- one more behind all of them
-pub in_order_push : (ps : List (ℕ × ℕ)) (p : ℕ × ℕ) → AreInOrder ps → AllByRecursion (λ q. IsBefore q p) ps → AreInOrder (ps ++ p ∷ [])
-in_order_push [] p order before = (tt, tt)
-in_order_push (q ∷ qs) p order before = (push qs order.0, in_order_push qs p order.1 before.1)
-  where
-    push : (rs : List (ℕ × ℕ)) → AllByRecursion (IsBefore q) rs → AllByRecursion (IsBefore q) (rs ++ p ∷ [])
-    push [] all = (before.0, tt)
-    push (r ∷ rs) all = (all.0, push rs all.1)
+all_append : {X : Type 0} (P : X → Type 0) (xs ys : List X) → AllByRecursion P xs → AllByRecursion P ys → AllByRecursion P (xs ++ ys)
+all_append P [] ys a b = b
+all_append P (x ∷ xs) ys a b = (a.0, all_append P xs ys a.1 b)
 
-pub count_front : {X : Type 0} (p : X → Bool) (xs : List X) (n : ℕ) → count_by p (take n xs) ≤ count_by p xs
-count_front p xs n =
-    let e = ap (count_by p) (take-append-drop n xs) in let a = sum_by-append (λ x. cond (p x) 1 0) (take n xs) (drop n xs) in
+-- more places behind all of these
+in_order_append : (ps qs : List (ℕ × ℕ)) → AreInOrder ps → AreInOrder qs → AllByRecursion (λ p. AllByRecursion (IsBefore p) qs) ps → AreInOrder (ps ++ qs)
+in_order_append [] qs ordered later before = later
+in_order_append (p ∷ ps) qs ordered later before = (all_append (IsBefore p) ps qs ordered.0 before.0, in_order_append ps qs ordered.1 later before.1)
+
+map_all : {X : Type 0} {Y : Type 0} (P : Y → Type 0) (f : X → Y) (xs : List X) → All (λ x. P (f x)) xs → AllByRecursion P (map f xs)
+map_all P f xs all = recursion_from_All P (map f xs) (All-map P f xs all)
+
+pub sum_front : {X : Type 0} (f : X → ℕ) (xs : List X) (n : ℕ) → sum_by f (take n xs) ≤ sum_by f xs
+sum_front f xs n =
+    let e = ap (sum_by f) (take-append-drop n xs) in let a = sum_by-append f (take n xs) (drop n xs) in
     omega (arith, e, a)
 
 module _ {D : Type 0} (s : Shape) (v k : ℕ) (heads : List SegHead) where
@@ -47,7 +53,7 @@ module _ {D : Type 0} (s : Shape) (v k : ℕ) (heads : List SegHead) where
     pub same : IsSameBut old new
     pub count : length os ≡ count_owners v (take n heads)
     pub in_order : AreInOrder (map place_of os)
-    pub before : AllByRecursion (λ (p : ℕ × ℕ). (p.0 ≡ k) × (p.1 < n)) (map place_of os)
+    pub before : All (λ (o : OwnedPart D). o.index < n) os
     pub loggers : All (λ (o : OwnedPart D). o.logger ≡ k) os
     pub each : All (λ (o : OwnedPart D). (slice_get heads o.index ≡ Some (Owned v)) × (segment_here old o.index ≡ Some o.part)) os
     pub first : All (λ (o : OwnedPart D). o.first_block ≡ head_place s o.index) os
@@ -56,18 +62,14 @@ module _ {D : Type 0} (s : Shape) (v k : ℕ) (heads : List SegHead) where
     pub others : (i : ℕ) → (i < n → slice_get heads i ≡ Some (Owned v) → ⊥) → segment_here new i ≡ segment_here old i
 
   pub taken_none : (r : ImageRest D) → AreTakenTo r r [] 0
-  taken_none r = record {
-    same = record { label = refl; home = refl; count = refl; row = refl; room = refl };
-    count = refl;
-    in_order = tt;
-    before = tt;
-    loggers = All-nil (λ (o : OwnedPart D). o.logger ≡ k);
-    each = All-nil (λ (o : OwnedPart D). (slice_get heads o.index ≡ Some (Owned v)) × (segment_here r o.index ≡ Some o.part));
-    first = All-nil (λ (o : OwnedPart D). o.first_block ≡ head_place s o.index);
-    all = λ i lt. absurd (omega (arith, lt));
-    gone = λ i lt. absurd (omega (arith, lt));
-    others = λ i other. refl;
-  }
+  taken_none r =
+      let before = All-nil (λ (o : OwnedPart D). o.index < 0) in
+      let loggers = All-nil (λ (o : OwnedPart D). o.logger ≡ k) in
+      let each = All-nil (λ (o : OwnedPart D). (slice_get heads o.index ≡ Some (Owned v)) × (segment_here r o.index ≡ Some o.part)) in
+      let first = All-nil (λ (o : OwnedPart D). o.first_block ≡ head_place s o.index) in
+      let all : (i : ℕ) → i < 0 → slice_get heads i ≡ Some (Owned v) → Contains {X = ℕ × ℕ} [] (k, i) = λ i lt. absurd (omega (arith, lt)) in
+      let gone : (i : ℕ) → i < 0 → slice_get heads i ≡ Some (Owned v) → segment_here r i ≡ None = λ i lt. absurd (omega (arith, lt)) in
+      assumption
 
   module _ (old new newer : ImageRest D) (os : List (OwnedPart D)) (n : ℕ) (h : SegHead) (so_far : AreTakenTo old new os n) (is : slice_get heads n ≡ Some h) (count : length heads ≡ length old.segments.items) where
     within : n < length heads
@@ -83,28 +85,21 @@ module _ {D : Type 0} (s : Shape) (v k : ℕ) (heads : List SegHead) where
     pub fewer_taken : is_owned_by v h ≡ true → length os < count_owners v heads
     fewer_taken is_own =
         let more = count_by_more_yes (is_owned_by v) heads n h within (ap (is_owned_by v) (get_or_from_slice_get heads n h h is) ∙ is_own) in
-        let front = count_front (is_owned_by v) heads (n + 1) in
+        let front = sum_front (λ (x : SegHead). cond (is_owned_by v x) 1 0) heads (n + 1) in
         omega (arith, more, front, so_far.count)
+
+    wider : All (λ (o : OwnedPart D). o.index < n + 1) os
+    wider = All-weaker (λ (o : OwnedPart D). o.index < n) (λ (o : OwnedPart D). o.index < n + 1) (λ o lt. omega (arith, lt)) os so_far.before
 
     skip : is_owned_by v h ≡ false → AreTakenTo old new os (n + 1)
     skip is_other =
         let other : (i : ℕ) → i < n + 1 → slice_get heads i ≡ Some (Owned v) → i < n = λ i lt owned. ⊎_elim (λ e. absurd (false≢true (sym is_other ∙ here_is i e owned))) (λ ne. omega (arith, lt, ne)) (cases_eq i n) in
-        record {
-          same = so_far.same;
-          count = so_far.count ∙ sym (count_by_more_no (is_owned_by v) heads n h within (ap (is_owned_by v) (get_or_from_slice_get heads n h h is) ∙ is_other));
-          in_order = so_far.in_order;
-          before = widen (map place_of os) so_far.before;
-          loggers = so_far.loggers;
-          each = so_far.each;
-          first = so_far.first;
-          all = λ i lt owned. so_far.all i (other i lt owned) owned;
-          gone = λ i lt owned. so_far.gone i (other i lt owned) owned;
-          others = λ i none. so_far.others i (λ lt owned. none (omega (arith, lt)) owned);
-        }
-      where
-        widen : (ps : List (ℕ × ℕ)) → AllByRecursion (λ (p : ℕ × ℕ). (p.0 ≡ k) × (p.1 < n)) ps → AllByRecursion (λ (p : ℕ × ℕ). (p.0 ≡ k) × (p.1 < n + 1)) ps
-        widen [] all = tt
-        widen (p ∷ ps) all = ((all.0.0, (let lt = all.0.1 in omega (arith, lt))), widen ps all.1)
+        let size : length os ≡ count_owners v (take (n + 1) heads) = so_far.count ∙ sym (count_by_more_no (is_owned_by v) heads n h within (ap (is_owned_by v) (get_or_from_slice_get heads n h h is) ∙ is_other)) in
+        let before = wider in
+        let all : (i : ℕ) → i < n + 1 → slice_get heads i ≡ Some (Owned v) → Contains (map place_of os) (k, i) = λ i lt owned. so_far.all i (other i lt owned) owned in
+        let gone : (i : ℕ) → i < n + 1 → slice_get heads i ≡ Some (Owned v) → segment_here new i ≡ None = λ i lt owned. so_far.gone i (other i lt owned) owned in
+        let others : (i : ℕ) → (i < n + 1 → slice_get heads i ≡ Some (Owned v) → ⊥) → segment_here new i ≡ segment_here old i = λ i none. so_far.others i (λ lt owned. none (omega (arith, lt)) owned) in
+        assumption
 
     more : (o : OwnedPart D) → is_owned_by v h ≡ true → place_of o ≡ (k, n) → o.first_block ≡ head_place s n → segment_here new n ≡ Some o.part → IsSameBut new newer
         → newer.segments.items ≡ slice_set new.segments.items n None → AreTakenTo old newer (os ++ o ∷ []) (n + 1)
@@ -118,8 +113,9 @@ module _ {D : Type 0} (s : Shape) (v k : ℕ) (heads : List SegHead) where
         record {
           same = same_but_then old new newer so_far.same same;
           count = length_push os o ∙ ap (λ (m : ℕ). m + 1) so_far.count ∙ sym (count_by_more_yes (is_owned_by v) heads n h within (ap (is_owned_by v) (get_or_from_slice_get heads n h h is) ∙ is_own));
-          in_order = subst AreInOrder (sym places) (in_order_push (map place_of os) (k, n) so_far.in_order (lower (map place_of os) so_far.before));
-          before = subst (AllByRecursion (λ (p : ℕ × ℕ). (p.0 ≡ k) × (p.1 < n + 1))) (sym places) (widen_push (map place_of os) so_far.before);
+          in_order = subst AreInOrder (sym places) (in_order_append (map place_of os) ((k, n) ∷ []) so_far.in_order (tt, tt) (map_all (λ p. AllByRecursion (IsBefore p) ((k, n) ∷ [])) place_of os
+              (all_both (λ (p : OwnedPart D). p.logger ≡ k) (λ (p : OwnedPart D). p.index < n) (λ (p : OwnedPart D). AllByRecursion (IsBefore (place_of p)) ((k, n) ∷ [])) os (λ p e lt. (inr (e, lt), tt)) so_far.loggers so_far.before)));
+          before = All-push (λ (p : OwnedPart D). p.index < n + 1) os o wider (omega (arith, index));
           loggers = All-push (λ (p : OwnedPart D). p.logger ≡ k) os o so_far.loggers logger;
           each = All-push (λ (p : OwnedPart D). (slice_get heads p.index ≡ Some (Owned v)) × (segment_here old p.index ≡ Some p.part)) os o so_far.each
               (ap (slice_get heads) index ∙ is ∙ ap (λ (g : SegHead). Some g) h_is, ap (segment_here old) index ∙ sym still_here ∙ there);
@@ -135,55 +131,31 @@ module _ {D : Type 0} (s : Shape) (v k : ℕ) (heads : List SegHead) where
           others = λ i none. read i ∙ get_or-set_other new.segments.items n i None None (λ e. none (omega (arith, e)) (ap (slice_get heads) e ∙ is ∙ ap (λ (g : SegHead). Some g) h_is))
               ∙ so_far.others i (λ lt owned. none (omega (arith, lt)) owned);
         }
-      where
-        lower : (ps : List (ℕ × ℕ)) → AllByRecursion (λ (p : ℕ × ℕ). (p.0 ≡ k) × (p.1 < n)) ps → AllByRecursion (λ q. IsBefore q (k, n)) ps
-        lower [] all = tt
-        lower (p ∷ ps) all = (inr (all.0.0, all.0.1), lower ps all.1)
-
-        widen_push : (ps : List (ℕ × ℕ)) → AllByRecursion (λ (p : ℕ × ℕ). (p.0 ≡ k) × (p.1 < n)) ps → AllByRecursion (λ (p : ℕ × ℕ). (p.0 ≡ k) × (p.1 < n + 1)) (ps ++ (k, n) ∷ [])
-        widen_push [] all = ((refl, omega arith), tt)
-        widen_push (p ∷ ps) all = ((all.0.0, (let lt = all.0.1 in omega (arith, lt))), widen_push ps all.1)
 
     pub taken_next : (before after base : List (OwnedPart D)) → before ≡ base ++ os → TakesOne s k (is_owned_by v h) new newer n before after → (us : List (OwnedPart D)) × (after ≡ base ++ us) × AreTakenTo old newer us (n + 1)
-    taken_next before after base was takes = ⊎_elim is_own is_other (cases_Bool (is_owned_by v h))
-      where
-        is_own : is_owned_by v h ≡ true → (us : List (OwnedPart D)) × (after ≡ base ++ us) × AreTakenTo old newer us (n + 1)
-        is_own is_true =
-            let t = subst (λ (b : Bool). TakesOne s k b new newer n before after) is_true takes in
-            (os ++ t.0 ∷ [], t.1 ∙ ap (λ (l : List (OwnedPart D)). l ++ t.0 ∷ []) was ∙ append_assoc base os (t.0 ∷ []), more t.0 is_true t.2 t.3 t.4 t.5 t.6)
-
-        is_other : is_owned_by v h ≡ false → (us : List (OwnedPart D)) × (after ≡ base ++ us) × AreTakenTo old newer us (n + 1)
-        is_other is_false =
-            let t = subst (λ (b : Bool). TakesOne s k b new newer n before after) is_false takes in
-            (os, t.1 ∙ was, subst (λ (r : ImageRest D). AreTakenTo old r os (n + 1)) (sym t.0) (skip is_false))
+    taken_next before after base was takes = ⊎_elim
+        (λ is_true.
+        let t = subst (λ (b : Bool). TakesOne s k b new newer n before after) is_true takes in
+        (os ++ t.0 ∷ [], t.1 ∙ ap (λ (l : List (OwnedPart D)). l ++ t.0 ∷ []) was ∙ append_assoc base os (t.0 ∷ []), more t.0 is_true t.2 t.3 t.4 t.5 t.6))
+        (λ is_false.
+        let t = subst (λ (b : Bool). TakesOne s k b new newer n before after) is_false takes in
+        (os, t.1 ∙ was, rw t.0 (skip is_false)))
+        (cases_Bool (is_owned_by v h))
 
   pub taken_all : (old new : ImageRest D) (os : List (OwnedPart D)) (n : ℕ) → AreTakenTo old new os n → length heads ≤ n → (length os ≡ count_owners v heads) × TakesOwners s old new v k heads os
   taken_all old new os n so_far end =
-      let below : (i : ℕ) → slice_get heads i ≡ Some (Owned v) → i < n = λ i owned. (let w = slice_get_within heads i (Owned v) owned in omega (arith, w, end)) in (
-        so_far.count ∙ ap (count_owners v) (take_all n heads end),
-        record {
-          same = so_far.same;
-          in_order = so_far.in_order;
-          loggers = so_far.loggers;
-          each = so_far.each;
-          first = so_far.first;
-          all = λ i owned. so_far.all i (below i owned) owned;
-          gone = λ i owned. so_far.gone i (below i owned) owned;
-          others = λ i other. so_far.others i (λ lt owned. other owned);
-        },
-      )
+      let below : (i : ℕ) → slice_get heads i ≡ Some (Owned v) → i < n = λ i owned. (let w = slice_get_within heads i (Owned v) owned in omega (arith, w, end)) in
+      let all : (i : ℕ) → slice_get heads i ≡ Some (Owned v) → Contains (map place_of os) (k, i) = λ i owned. so_far.all i (below i owned) owned in
+      let gone : (i : ℕ) → slice_get heads i ≡ Some (Owned v) → segment_here new i ≡ None = λ i owned. so_far.gone i (below i owned) owned in
+      let others : (i : ℕ) → slice_get heads i ≢ Some (Owned v) → segment_here new i ≡ segment_here old i = λ i other. so_far.others i (λ lt owned. other owned) in
+      (so_far.count ∙ ap (count_owners v) (take_all n heads end), assumption)
 
 -- ---- The owned segments of one image went out of a rest
-
-there_at : {X : Type 0} (xs : List X) (k : ℕ) → k < length xs → (x : X) × (slice_get xs k ≡ Some x)
-there_at [] k lt = absurd (omega (arith, lt))
-there_at (x ∷ xs) zero lt = (x, refl)
-there_at (x ∷ xs) (suc k) lt = there_at xs k (omega (arith, lt))
 
 -- the shape of a volume of the configuration
 pub shape_at : (config : Config) (k : ℕ) (s : Shape) → k < length config.volumes.items → ((d : VolumeConf) → s ≡ shape_in config (slice_index_or config.volumes.items k d)) → slice_get (shapes_of config) k ≡ Some s
 shape_at config k s lt is =
-    let v = there_at config.volumes.items k lt in
+    let v = element_at config.volumes.items k lt in
     slice_get-map (shape_in config) config.volumes.items k ∙ ap (option_map (shape_in config)) v.1
     ∙ ap (λ (x : Shape). Some x) (ap (shape_in config) (sym (get_or_from_slice_get config.volumes.items k v.0 v.0 v.1)) ∙ sym (is v.0))
 
@@ -220,47 +192,9 @@ module _ {D : Type 0} where
 
 -- ---- The owned segments of a volume go out of all images
 
--- places of a later logger stand behind those of earlier ones
-pub in_order_append : (n : ℕ) (ps qs : List (ℕ × ℕ)) → AreInOrder ps → AreInOrder qs → AllByRecursion (λ (p : ℕ × ℕ). p.0 < n) ps → AllByRecursion (λ (q : ℕ × ℕ). q.0 ≡ n) qs → AreInOrder (ps ++ qs)
-in_order_append n [] qs ordered later before here = later
-in_order_append n (p ∷ ps) qs ordered later before here = (both ps qs ordered.0 here, in_order_append n ps qs ordered.1 later before.1 here)
-  where
-    behind : (rs : List (ℕ × ℕ)) → AllByRecursion (λ (q : ℕ × ℕ). q.0 ≡ n) rs → AllByRecursion (IsBefore p) rs
-    behind [] all = tt
-    behind (r ∷ rs) all = (inl (let e = all.0 in let lt = before.0 in omega (arith, e, lt)), behind rs all.1)
-
-    both : (xs rs : List (ℕ × ℕ)) → AllByRecursion (IsBefore p) xs → AllByRecursion (λ (q : ℕ × ℕ). q.0 ≡ n) rs → AllByRecursion (IsBefore p) (xs ++ rs)
-    both [] rs all more = behind rs more
-    both (x ∷ xs) rs all more = (all.0, both xs rs all.1 more)
-
--- a member of a mapped list
-pub contains_map : {X Y : Type 0} (f : X → Y) (xs : List X) (y : Y) → Contains (map f xs) y → (x : X) × Contains xs x × (f x ≡ y)
-contains_map {X} {Y} f xs y has = find xs has.0 has.1 has.2
-  where
-    find : (zs : List X) (i : ℕ) → i < length (map f zs) → slice_index_or (map f zs) i y ≡ y → (x : X) × Contains zs x × (f x ≡ y)
-    find [] i lt is = absurd (omega (arith, lt))
-    find (z ∷ zs) zero lt is = (z, (0, omega arith, refl), is)
-    find (z ∷ zs) (suc i) lt is = (let r = find zs i (omega (arith, lt)) is in (r.0, (suc r.1.0, (let w = r.1.1 in omega (arith, w)), r.1.2), r.2))
-
-all_append : {X : Type 0} (P : X → Type 0) (xs ys : List X) → AllByRecursion P xs → AllByRecursion P ys → AllByRecursion P (xs ++ ys)
-all_append P [] ys a b = b
-all_append P (x ∷ xs) ys a b = (a.0, all_append P xs ys a.1 b)
-
-map_all : {X : Type 0} {Y : Type 0} (P : Y → Type 0) (f : X → Y) (xs : List X) → All (λ x. P (f x)) xs → AllByRecursion P (map f xs)
-map_all P f [] all = tt
-map_all P f (x ∷ xs) all = (All-head (λ z. P (f z)) x xs all, map_all P f xs (All-tail (λ z. P (f z)) x xs all))
-
-pub total_front : (v : ℕ) (said : List (Option Said)) (n : ℕ) → owned_total v (take n said) ≤ owned_total v said
-total_front v said n =
-    let e = ap (owned_total v) (take-append-drop n said) in let a = sum_by-append (owned_in v) (take n said) (drop n said) in
-    omega (arith, e, a)
-
 pub total_next : (v : ℕ) (said : List (Option Said)) (n : ℕ) (o : Option Said) → slice_get said n ≡ Some o → owned_total v (take (n + 1) said) ≡ owned_total v (take n said) + owned_in v o
 total_next v said n o is =
     ap (owned_total v) (take_more said n o (slice_get_within said n o is) ∙ ap (λ (x : Option Said). take n said ++ x ∷ []) (get_or_from_slice_get said n o o is)) ∙ sum_by_push (owned_in v) (take n said) o
-
-none_in : (p : ℕ × ℕ) → Contains [] p → ⊥
-none_in p has = absurd (let lt = has.1 in omega (arith, lt))
 
 module _ {D : Type 0} (config : Config) (said : List (Option Said)) (v : ℕ) where
   -- those on the first loggers went out
@@ -271,32 +205,21 @@ module _ {D : Type 0} (config : Config) (said : List (Option Said)) (v : ℕ) wh
     pub images : (k : ℕ) → KeepsImage (image_here old.images.items k) (image_here new.images.items k)
     pub total : length os ≡ owned_total v (take n said)
     pub in_order : AreInOrder (map place_of os)
-    pub before : AllByRecursion (λ (p : ℕ × ℕ). p.0 < n) (map place_of os)
+    pub before : All (λ (o : OwnedPart D). o.logger < n) os
     pub each : All (IsTakenOf config old said v) os
     pub all : (k i : ℕ) → k < n → IsOwnedPlace said v k i → Contains (map place_of os) (k, i)
     pub gone : (k i : ℕ) → Contains (map place_of os) (k, i) → segment_in new k i ≡ None
     pub others : (k i : ℕ) → (Contains (map place_of os) (k, i) → ⊥) → segment_in new k i ≡ segment_in old k i
     pub left : (k : ℕ) → n ≤ k → image_here new.images.items k ≡ image_here old.images.items k
 
-  same_image : (o : Option (ImageRest D)) → KeepsImage o o
-  same_image None = refl
-  same_image (Some r) = (r, refl, record { label = refl; home = refl; count = refl; row = refl; room = refl })
-
   pub owned_to_none : (r : Rest D) → AreOwnedTo r r [] 0
-  owned_to_none r = record {
-    passes = refl;
-    rooms = refl;
-    count = refl;
-    images = λ k. same_image (image_here r.images.items k);
-    total = refl;
-    in_order = tt;
-    before = tt;
-    each = All-nil (IsTakenOf config r said v);
-    all = λ k i lt. absurd (omega (arith, lt));
-    gone = λ k i has. absurd (none_in (k, i) has);
-    others = λ k i other. refl;
-    left = λ k behind. refl;
-  }
+  owned_to_none r =
+      let images : (k : ℕ) → KeepsImage (image_here r.images.items k) (image_here r.images.items k) = λ k. keeps_image (image_here r.images.items k) in
+      let before = All-nil (λ (o : OwnedPart D). o.logger < 0) in
+      let each = All-nil (IsTakenOf config r said v) in
+      let all : (k i : ℕ) → k < 0 → IsOwnedPlace said v k i → Contains {X = ℕ × ℕ} [] (k, i) = λ k i lt. absurd (omega (arith, lt)) in
+      let gone : (k i : ℕ) → Contains {X = ℕ × ℕ} [] (k, i) → segment_in r k i ≡ None = λ k i has. absurd (none_in (k, i) has) in
+      assumption
 
   module _ (old new newer : Rest D) (os : List (OwnedPart D)) (n : ℕ) (so_far : AreOwnedTo old new os n) where
     -- the image at n is as it was
@@ -314,12 +237,13 @@ module _ {D : Type 0} (config : Config) (said : List (Option Said)) (v : ℕ) wh
           λ i owner. ap is_some (sym (ap (λ (x : Option (ImageRest D)). in_image x i) out.1)) ∙ here.here n i (s, is, owner),
         )
 
-    widen : (ps : List (ℕ × ℕ)) → AllByRecursion (λ (p : ℕ × ℕ). p.0 < n) ps → AllByRecursion (λ (p : ℕ × ℕ). p.0 < n + 1) ps
-    widen [] all = tt
-    widen (p ∷ ps) all = ((let lt = all.0 in omega (arith, lt)), widen ps all.1)
+    wider_to : All (λ (o : OwnedPart D). o.logger < n + 1) os
+    wider_to = All-weaker (λ (o : OwnedPart D). o.logger < n) (λ (o : OwnedPart D). o.logger < n + 1) (λ o lt. omega (arith, lt)) os so_far.before
 
-    before_other : (ps : List (ℕ × ℕ)) (i : ℕ) → AllByRecursion (λ (p : ℕ × ℕ). p.0 < n) ps → Contains ps (n, i) → ⊥
-    before_other ps i all has = absurd (let lt = All-contains (λ (p : ℕ × ℕ). p.0 < n) ps (n, i) (All-from_recursion (λ (p : ℕ × ℕ). p.0 < n) ps all) has in omega (arith, lt))
+    before_other : (i : ℕ) → Contains (map place_of os) (n, i) → ⊥
+    before_other i has =
+        let o = of_map place_of os (n, i) has in
+        omega (arith, All-contains (λ (p : OwnedPart D). p.logger < n) os o.0 so_far.before o.1, ap (λ (p : ℕ × ℕ). p.0) o.2)
 
     module _ (s : Said) (is : slice_get said n ≡ Some (Some s)) (more : List (OwnedPart D)) (size : length more ≡ owned_in v (Some s)) (t : TakesOwnedIn config new newer v n s more) where
       here_now : (i : ℕ) → segment_in newer n i ≡ segment_here t.after i
@@ -340,16 +264,13 @@ module _ {D : Type 0} (config : Config) (said : List (Option Said)) (v : ℕ) wh
         first = λ x shape. first ∙ ap (λ (y : Shape). head_place y o.index) (same_Some t.shape x (sym t.shape_is ∙ ap (slice_get (shapes_of config)) (sym logger) ∙ shape));
       }
 
-      places_more : AllByRecursion (λ (p : ℕ × ℕ). p.0 ≡ n) (map place_of more)
-      places_more = map_all (λ (p : ℕ × ℕ). p.0 ≡ n) place_of more t.takes.loggers
-
       joined : map place_of (os ++ more) ≡ map place_of os ++ map place_of more
       joined = map-append place_of os more
 
       -- a place of these is one of logger n, whose head names the owner
       named : (k i : ℕ) → Contains (map place_of more) (k, i) → (k ≡ n) × (slice_get s.heads.items i ≡ Some (Owned v))
       named k i has =
-          let o = contains_map place_of more (k, i) has in
+          let o = of_map place_of more (k, i) has in
           let logger = All-contains (λ (p : OwnedPart D). p.logger ≡ n) more o.0 t.takes.loggers o.1 in
           let head = All-contains (λ (p : OwnedPart D). (slice_get s.heads.items p.index ≡ Some (Owned v)) × (segment_here t.before p.index ≡ Some p.part)) more o.0 t.takes.each o.1 in
           (sym (ap (λ (p : ℕ × ℕ). p.0) o.2) ∙ logger, ap (slice_get s.heads.items) (sym (ap (λ (p : ℕ × ℕ). p.1) o.2)) ∙ head.0)
@@ -359,14 +280,13 @@ module _ {D : Type 0} (config : Config) (said : List (Option Said)) (v : ℕ) wh
         passes = t.passes ∙ so_far.passes;
         rooms = t.rooms ∙ so_far.rooms;
         count = t.count ∙ so_far.count;
-        images = λ k. keeps_image_then (image_here old.images.items k) (image_here new.images.items k) (image_here newer.images.items k) (so_far.images k) (⊎_elim
-            (λ e. subst (λ (x : ℕ). KeepsImage (image_here new.images.items x) (image_here newer.images.items x)) (sym e)
-            (subst (λ (x : Option (ImageRest D)). KeepsImage x (image_here newer.images.items n)) (sym t.was) (t.after, t.is, t.takes.same)))
-            (λ other. subst (λ (x : Option (ImageRest D)). KeepsImage (image_here new.images.items k) x) (sym (t.images k other)) (same_image (image_here new.images.items k)))
-            (cases_eq k n));
+        images = λ k. keeps_image_then (image_here old.images.items k) (image_here new.images.items k) (image_here newer.images.items k) (so_far.images k)
+            (⊎_elim (λ (e : k ≡ n). rw (e, t.was, t.is) (t.after, refl, t.takes.same)) (λ other. rw (t.images k other) (keeps_image (image_here new.images.items k))) (cases_eq k n));
         total = length-append os more ∙ ap (λ (m : ℕ). m + length more) so_far.total ∙ ap (λ (m : ℕ). owned_total v (take n said) + m) size ∙ sym (total_next v said n (Some s) is);
-        in_order = subst AreInOrder (sym joined) (in_order_append n (map place_of os) (map place_of more) so_far.in_order t.takes.in_order so_far.before places_more);
-        before = subst (AllByRecursion (λ (p : ℕ × ℕ). p.0 < n + 1)) (sym joined) (all_append (λ (p : ℕ × ℕ). p.0 < n + 1) (map place_of os) (map place_of more) (widen (map place_of os) so_far.before) (level (map place_of more) places_more));
+        in_order = subst AreInOrder (sym joined) (in_order_append (map place_of os) (map place_of more) so_far.in_order t.takes.in_order (map_all (λ p. AllByRecursion (IsBefore p) (map place_of more)) place_of os
+            (All-weaker (λ (o : OwnedPart D). o.logger < n) (λ (o : OwnedPart D). AllByRecursion (IsBefore (place_of o)) (map place_of more)) (λ o lt. map_all (IsBefore (place_of o)) place_of more
+            (All-weaker (λ (m : OwnedPart D). m.logger ≡ n) (λ (m : OwnedPart D). IsBefore (place_of o) (place_of m)) (λ m e. inl (omega (arith, lt, e))) more t.takes.loggers)) os so_far.before)));
+        before = All-append (λ (o : OwnedPart D). o.logger < n + 1) os more wider_to (All-weaker (λ (o : OwnedPart D). o.logger ≡ n) (λ (o : OwnedPart D). o.logger < n + 1) (λ o e. omega (arith, e)) more t.takes.loggers);
         each = All-append (IsTakenOf config old said v) os more so_far.each (λ j d within. taken (slice_index_or more j d) (t.takes.loggers j d within) (t.takes.each j d within) (t.takes.first j d within));
         all = λ k i lt owned. subst (λ (l : List (ℕ × ℕ)). Contains l (k, i)) (sym joined) (⊎_elim
             (λ e. Contains-append_right (map place_of os) (map place_of more) (k, i)
@@ -375,7 +295,7 @@ module _ {D : Type 0} (config : Config) (said : List (Option Said)) (v : ℕ) wh
             (λ other. Contains-append_left (map place_of os) (map place_of more) (k, i) (so_far.all k i (omega (arith, lt, other)) owned))
             (cases_eq k n));
         gone = λ k i has. ⊎_elim
-            (λ first. ap (λ (x : Option (ImageRest D)). in_image x i) (t.images k (λ e. before_other (map place_of os) i so_far.before (subst (λ (x : ℕ). Contains (map place_of os) (x, i)) e first))) ∙ so_far.gone k i first)
+            (λ first. ap (λ (x : Option (ImageRest D)). in_image x i) (t.images k (λ e. before_other i (subst (λ (x : ℕ). Contains (map place_of os) (x, i)) e first))) ∙ so_far.gone k i first)
             (λ second. let at = named k i second in ap (λ (x : ℕ). segment_in newer x i) at.0 ∙ here_now i ∙ t.takes.gone i at.1)
             (Contains-append_cases (map place_of os) (map place_of more) (k, i) (subst (λ (l : List (ℕ × ℕ)). Contains l (k, i)) joined has));
         others = λ k i none.
@@ -389,46 +309,26 @@ module _ {D : Type 0} (config : Config) (said : List (Option Said)) (v : ℕ) wh
             ∙ so_far.others k i none_first;
         left = λ k behind. t.images k (λ e. absurd (omega (arith, e, behind))) ∙ so_far.left k (omega (arith, behind));
       }
-        where
-          level : (ps : List (ℕ × ℕ)) → AllByRecursion (λ (p : ℕ × ℕ). p.0 ≡ n) ps → AllByRecursion (λ (p : ℕ × ℕ). p.0 < n + 1) ps
-          level [] all = tt
-          level (p ∷ ps) all = ((let e = all.0 in omega (arith, e)), level ps all.1)
 
     pub owned_to_same : slice_get said n ≡ Some None → newer ≡ new → AreOwnedTo old newer os (n + 1)
-    owned_to_same is same = subst (λ (r : Rest D). AreOwnedTo old r os (n + 1)) (sym same) (record {
-      passes = so_far.passes;
-      rooms = so_far.rooms;
-      count = so_far.count;
-      images = so_far.images;
-      total = so_far.total ∙ (let t = total_next v said n None is in omega (arith, t));
-      in_order = so_far.in_order;
-      before = widen (map place_of os) so_far.before;
-      each = so_far.each;
-      all = λ k i lt owned. ⊎_elim
-          (λ e. absurd (none-some owned.0 (same_Some None (Some owned.0) (sym is ∙ ap (slice_get said) (sym e) ∙ owned.1))))
-          (λ other. so_far.all k i (omega (arith, lt, other)) owned)
-          (cases_eq k n);
-      gone = so_far.gone;
-      others = so_far.others;
-      left = λ k behind. so_far.left k (omega (arith, behind));
-    })
+    owned_to_same is same =
+        let total : length os ≡ owned_total v (take (n + 1) said) = so_far.total ∙ (let t = total_next v said n None is in omega (arith, t)) in
+        let before = wider_to in
+        let all : (k i : ℕ) → k < n + 1 → IsOwnedPlace said v k i → Contains (map place_of os) (k, i) = λ k i lt owned. ⊎_elim
+        (λ e. absurd (none-some owned.0 (same_Some None (Some owned.0) (sym is ∙ ap (slice_get said) (sym e) ∙ owned.1))))
+        (λ other. so_far.all k i (omega (arith, lt, other)) owned)
+        (cases_eq k n) in
+        let left : (k : ℕ) → n + 1 ≤ k → image_here new.images.items k ≡ image_here old.images.items k = λ k behind. so_far.left k (omega (arith, behind)) in
+        rw same assumption
 
     pub owned_to_next : (o : Option Said) → slice_get said n ≡ Some o → (more : List (OwnedPart D)) → length more ≡ owned_in v o → TakesOwnedOf config new newer v n o more → AreOwnedTo old newer (os ++ more) (n + 1)
     owned_to_next None is more size t = subst (λ (l : List (OwnedPart D)). AreOwnedTo old newer l (n + 1)) (sym (ap (λ (m : List (OwnedPart D)). os ++ m) t.1 ∙ append-nil os)) (owned_to_same is t.0)
     owned_to_next (Some s) is more size t = owned_to_more s is more size t
 
   pub owned_to_all : (old new : Rest D) (os : List (OwnedPart D)) (n : ℕ) → AreOwnedTo old new os n → length said ≤ n → TakesOwned config old new said v os
-  owned_to_all old new os n so_far end = record {
-    passes = so_far.passes;
-    rooms = so_far.rooms;
-    count = so_far.count;
-    images = so_far.images;
-    in_order = so_far.in_order;
-    each = so_far.each;
-    all = λ k i owned. so_far.all k i (let w = slice_get_within said k (Some owned.0) owned.1 in omega (arith, w, end)) owned;
-    gone = so_far.gone;
-    others = so_far.others;
-  }
+  owned_to_all old new os n so_far end =
+      let all : (k i : ℕ) → IsOwnedPlace said v k i → Contains (map place_of os) (k, i) = λ k i owned. so_far.all k i (let w = slice_get_within said k (Some owned.0) owned.1 in omega (arith, w, end)) owned in
+      assumption
 
 -- ---- What a volume is opened of goes out
 
@@ -443,12 +343,7 @@ module _ {D : Type 0} where
 
   -- a volume that the view doesn't name is none of its loggers
   pub not_logger : (r : Rest D) (view : List ℕ) (v : ℕ) → (Contains view v → ⊥) → All (λ l. v ≢ l) (loggers_out r view)
-  not_logger r [] v others = All-nil (λ (l : ℕ). v ≢ l)
-  not_logger r (x ∷ xs) v others = by (is_some (image_here r.images.items x)) (not_logger r xs v (λ has. others (suc has.0, (let lt = has.1 in omega (arith, lt)), has.2)))
-    where
-      by : (b : Bool) → All (λ l. v ≢ l) (loggers_out r xs) → All (λ l. v ≢ l) (cond b (x ∷ loggers_out r xs) (loggers_out r xs))
-      by true rest = All-cons (λ (l : ℕ). v ≢ l) x (loggers_out r xs) (λ e. others (0, omega arith, sym e)) rest
-      by false rest = rest
+  not_logger r view v others = All-filter (λ k. is_some (image_here r.images.items k)) (λ l. v ≢ l) view (all_member (λ l. v ≢ l) view (λ l has e. others (subst (Contains view) (sym e) has)))
 
   module _ (state : D → State) (config : Config) (old mid last : Rest D) (said : List (Option Said)) (v : ℕ) (view : List ℕ) (lanes : List (Lane D)) (os : List (OwnedPart D))
       (can : CanTake config old said v view) (takes : TakesLanes state config old mid v (loggers_out old view) lanes) (owned : TakesOwned config mid last said v os) where

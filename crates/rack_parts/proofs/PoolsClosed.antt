@@ -1,39 +1,38 @@
 -- Pools are closed one after the other.
-use Rattle.rack_parts.proofs.Basics.{◌≡◌, ◌≢◌, ◌<◌, ◌≤◌, ◌⊎◌, inl, inr, ℕ, zero, suc, true, List, [], ◌∷◌, length, get_or, set, map, Option}
-use Rattle.rack_parts.proofs.Basics.{Some, None, is_some, refl, sym, ap, ◌∙◌, subst, arith, ◌+◌, Contains, All, IsSome, slice_get}
-use Rattle.rack_parts.proofs.Basics.{slice_index_or, option_and_then, cases_eq, cases_lt, nat_tests, get_or_past, get_or-set_same}
-use Rattle.rack_parts.proofs.Basics.{get_or-set_other, All-contains, none-some, same_Some, slice_get-get_or, slice_get_past}
-use Rattle.rack_parts.proofs.Basics.{slice_get_within}
+use Rattle.rack_parts.proofs.Basics.{◌≡◌, ◌≢◌, ◌<◌, ◌≤◌, ◌⊎◌, inl, inr, ⊎_elim, ℕ, zero, suc, true, List, [], ◌∷◌, length, get_or, set}
+use Rattle.rack_parts.proofs.Basics.{Option, Some, None, is_some, refl, sym, ap, ◌∙◌, subst, arith, ◌+◌, Contains, All, IsSome, slice_get}
+use Rattle.rack_parts.proofs.Basics.{option_and_then, cases_eq, cases_lt, nat_tests, get_or-set_same, MatchOption}
+use Rattle.rack_parts.proofs.Basics.{get_or-set_other, All-contains, none-some, same_Some, slice_get_past, slice_get_within}
 use Rattle.rack_parts.proofs.Terms.{State, Shape, Entry, own, lock_id, pass_lock, pass_number, pass_mine, AreWhole, TurnLock, PassOf, Spun}
-use Rattle.rack_parts.proofs.Terms.{PoolUse, Took, Gave, holder, pool_used, pool_after, MayUsePool, ArePoolUses, is_in_pool, is_held_by}
-use Rattle.rack_parts.proofs.Terms.{uses_of, holds, StandsFor, holders_after, item_at, IsEmptyPool, Holder, Elsewhere, InPool, HeldBy}
+use Rattle.rack_parts.proofs.Terms.{PoolUse, Took, Gave, holder, pool_used, pool_after, MayUsePool, ArePoolUses, is_in_pool, is_held_by, IsPartOf}
+use Rattle.rack_parts.proofs.Terms.{uses_of, holds, StandsFor, holders_after, item_at, IsEmptyPool, Holder, Elsewhere, InPool, HeldBy, pool_in}
 use Rattle.rack_parts.proofs.Terms.{PoolBase, Pool, IsBlank, free_part, FreeSegment, image_here, segment_here, pool_pass, held_here}
-use Rattle.rack_parts.proofs.Terms.{indexes_here, IsHolding, IsHeldHere, IsRow, IsPart, HasPlaces, EmptiesInto, IsRefilled, IsBlankPart}
-use Rattle.rack_parts.proofs.Terms.{IsSameBut, KeepsImage, segment_in, item_part, either_part, CanClosePool, IsClosedPool, CanPutAllHeld}
+use Rattle.rack_parts.proofs.Terms.{indexes_here, IsHolding, IsHeldHere, HasPlaces, EmptiesInto, IsRefilled, IsBlankPart}
+use Rattle.rack_parts.proofs.Terms.{IsSameBut, KeepsImage, item_part, either_part, CanClosePool, IsClosedPool, CanPutAllHeld}
 use Rattle.rack_parts.proofs.Terms.{PutsAllHeld, ArePoolsTaken, RefillsAll, IsRefilledAll, KeepsLogger, KeepsSpindles, ImageRest, Rest}
-use Rattle.rack_parts.proofs.Terms.{VolumePasses, AreApart}
+use Rattle.rack_parts.proofs.Terms.{IsPassOf, IsFree, VolumePasses}
 use Rattle.turn_lock.specs.LockIds.{LockId}
 use Rattle.seg_pool.proofs.Holding.{holder_own, is_holder}
 use Rattle.seg_pool.proofs.Using.{has_index}
-use Rattle.rack_parts.proofs.SpindlesClosed.{some_element}
-use Rattle.rack_parts.proofs.Members.{no_value, a_value, is_there, in_map, of_map, is_member}
+use Rattle.rack_parts.proofs.PoolsEmptied.{in_pool}
+use Rattle.rack_parts.proofs.SpindlesClosed.{all_gathered, gathered_at, lists_stay, rows_stay}
+use Rattle.rack_parts.proofs.Returned.{same_but_then}
+use Rattle.rack_parts.proofs.Members.{no_value, a_value, is_there, here_within, in_map, of_map, is_member, segment_in_image}
 
 -- ---- The segments of a pool that is closed are all in their places again
 
 -- ---- Who has a segment, as passes use the pool
 
+set_known : (hs : List Holder) (j : ℕ) (h : Holder) (i : ℕ) → h ≢ Elsewhere → holder hs i ≢ Elsewhere → holder (set hs j h) i ≢ Elsewhere
+set_known hs j h i some known = ⊎_elim
+    (λ e gone. some (sym (rw e (get_or-set_same hs j h Elsewhere (has_index hs j (rw e at known)))) ∙ gone))
+    (λ e gone. known (sym (get_or-set_other hs j i h Elsewhere e) ∙ gone))
+    (cases_eq i j)
+
 known_then : (hs : List Holder) (pass : ℕ) (u : PoolUse) (i : ℕ) → MayUsePool hs pass u → holder hs i ≢ Elsewhere → holder (pool_used hs pass u) i ≢ Elsewhere
 known_then hs pass (Took None) i may known = known
-known_then hs pass (Took (Some j)) i may known = go (cases_eq i j)
-  where
-    go : (i ≡ j) ⊎ (i ≡ j → ⊥) → holder (set hs j (HeldBy pass)) i ≢ Elsewhere
-    go (inl e) gone = absurd (cc (sym (subst (λ (x : ℕ). holder (set hs j (HeldBy pass)) x ≡ HeldBy pass) (sym e) (get_or-set_same hs j (HeldBy pass) Elsewhere (has_index hs j (λ never. known (ap (holder hs) e ∙ never))))) ∙ gone))
-    go (inr e) gone = known (sym (get_or-set_other hs j i (HeldBy pass) Elsewhere e) ∙ gone)
-known_then hs pass (Gave j) i may known = go (cases_eq i j)
-  where
-    go : (i ≡ j) ⊎ (i ≡ j → ⊥) → holder (set hs j InPool) i ≢ Elsewhere
-    go (inl e) gone = absurd (cc (sym (subst (λ (x : ℕ). holder (set hs j InPool) x ≡ InPool) (sym e) (get_or-set_same hs j InPool Elsewhere (has_index hs j (λ never. known (ap (holder hs) e ∙ never))))) ∙ gone))
-    go (inr e) gone = known (sym (get_or-set_other hs j i InPool Elsewhere e) ∙ gone)
+known_then hs pass (Took (Some j)) i may known = set_known hs j (HeldBy pass) i (λ e. cc) known
+known_then hs pass (Gave j) i may known = set_known hs j InPool i (λ e. cc) known
 
 -- a segment that someone has someone has afterwards
 stays_known : (hs : List Holder) (us : List (ℕ × PoolUse)) (i : ℕ) → ArePoolUses hs us → holder hs i ≢ Elsewhere → holder (pool_after hs us) i ≢ Elsewhere
@@ -64,20 +63,16 @@ one_holder v w h e f = let both : HeldBy v ≡ HeldBy w = sym e ∙ f in cc
 -- whose list an index is in, among the first so many
 pub listed : {D : Type 0} (r : Rest D) (k i n : ℕ) → ((v : ℕ) × Contains (indexes_here r v k) i) ⊎ ((v : ℕ) → v < n → Contains (indexes_here r v k) i → ⊥)
 listed r k i zero = inr (λ v less. absurd (omega (arith, less)))
-listed r k i (suc n) = go (is_member (indexes_here r n k) i) (listed r k i n)
-  where
-    go : Contains (indexes_here r n k) i ⊎ (Contains (indexes_here r n k) i → ⊥) → ((v : ℕ) × Contains (indexes_here r v k) i) ⊎ ((v : ℕ) → v < n → Contains (indexes_here r v k) i → ⊥)
-        → ((v : ℕ) × Contains (indexes_here r v k) i) ⊎ ((v : ℕ) → v < suc n → Contains (indexes_here r v k) i → ⊥)
-    go (inl has) rest = inl (n, has)
-    go (inr never) (inl more) = inl more
-    go (inr never) (inr none) = inr below
-      where
-        below : (v : ℕ) → v < suc n → Contains (indexes_here r v k) i → ⊥
-        below v less has = pick (cases_eq v n)
-          where
-            pick : (v ≡ n) ⊎ (v ≡ n → ⊥) → ⊥
-            pick (inl e) = never (subst (λ (w : ℕ). Contains (indexes_here r w k) i) e has)
-            pick (inr differs) = none v (omega (arith, less, differs)) has
+listed r k i (suc n) = ⊎_elim
+    (λ has. inl (n, has))
+    (λ never. ⊎_elim (λ more. inl more) (λ none. inr (λ v less has. ⊎_elim (λ e. never (rw e at has)) (λ differs. none v (omega (arith, less, differs)) has) (cases_eq v n))) (listed r k i n))
+    (is_member (indexes_here r n k) i)
+
+-- the passes that were gathered are those of the lock
+pub pool_passes : {D : Type 0} (state : D → State) (volumes k : ℕ) (z : Shape) (lock : TurnLock (Pool (FreeSegment D)) PoolBase) (old : Rest D) → CanClosePool state volumes k z lock old
+    → (rows : List (VolumePasses D)) (ps : List (PassOf (Pool (FreeSegment D)) PoolBase)) → ArePoolsTaken k old.passes.items rows ps → All (λ p. IsPassOf lock p × IsFree p) ps
+pool_passes {D} state volumes k z lock old can rows ps taken =
+    all_gathered (λ (q : VolumePasses D). pool_in q k) old.passes.items ps taken.taken (λ v d e h. (taken.each v d e h).there) lock (λ v less. can.passes v (omega (arith, less, can.count)))
 
 module _ {D : Type 0} (state : D → State) (volumes k : ℕ) (z : Shape) (lock : TurnLock (Pool (FreeSegment D)) PoolBase) (old : Rest D) (can : CanClosePool state volumes k z lock old)
     (pool : Pool (FreeSegment D)) (entries : List Entry) (rows : List (VolumePasses D)) (ps : List (PassOf (Pool (FreeSegment D)) PoolBase)) (taken : ArePoolsTaken k old.passes.items rows ps)
@@ -90,30 +85,24 @@ module _ {D : Type 0} (state : D → State) (volumes k : ℕ) (z : Shape) (lock 
   has_then i = holder (holders_after base entries) i
 
   row_within : (v : ℕ) (p : PassOf (Pool (FreeSegment D)) PoolBase) → pool_pass old v k ≡ Some p → v < volumes
-  row_within v p here = go (cases_lt v volumes)
-    where
-      go : (v < volumes) ⊎ (volumes ≤ v) → v < volumes
-      go (inl less) = less
-      go (inr past) =
-          let none : slice_get old.passes.items v ≡ None = slice_get_past old.passes.items v (omega (arith, past, can.count)) in
-          absurd (none-some p (sym (ap (λ (o : Option (VolumePasses D)). option_and_then (λ q. slice_index_or q.pools.items k None) o) none) ∙ here))
+  row_within v p here = ⊎_elim
+      (λ less. less)
+      (λ past. absurd (none-some p (sym (ap (option_and_then (λ (q : VolumePasses D). pool_in q k)) (slice_get_past old.passes.items v (omega (arith, past, can.count)))) ∙ here)))
+      (cases_lt v volumes)
 
   abbrev pass_of : (v : ℕ) → v < volumes → PassOf (Pool (FreeSegment D)) PoolBase
   pass_of v below = (can.passes v below).0
 
+  same_pass : (v : ℕ) (d : PassOf (Pool (FreeSegment D)) PoolBase) → v < length ps → (below : v < volumes) → pass_of v below ≡ get_or ps v d
+  same_pass v d within below =
+      same_Some (pass_of v below) (get_or ps v d) (sym (can.passes v below).1 ∙ gathered_at (λ (q : VolumePasses D). pool_in q k) old.passes.items ps taken.taken (λ w r e h. (taken.each w r e h).there) v d within)
+
   among : (v : ℕ) (below : v < volumes) → Contains ps (pass_of v below)
-  among v below =
-      let h : v < length old.passes.items = omega (arith, below, can.count) in
-      let d = some_element old.passes.items v h in
-      let within : v < length ps = omega (arith, h, taken.taken) in
-      let p = pass_of v below in
-      let same : p ≡ get_or ps v p = same_Some p (get_or ps v p) (sym (can.passes v below).1
-      ∙ ap (λ (o : Option (VolumePasses D)). option_and_then (λ q. slice_index_or q.pools.items k None) o) (slice_get-get_or old.passes.items v d h) ∙ (taken.each v d p h).there) in
-      (v, within, sym same)
+  among v below = let within : v < length ps = omega (arith, below, can.count, taken.taken) in (v, within, sym (same_pass v (pass_of v below) within below))
 
   own_is : (v : ℕ) (below : v < volumes) → own v entries ≡ pass_mine (pass_of v below)
   own_is v below =
-      let part = All-contains (λ p. Rattle.turn_lock.specs.Passes.IsPartOf entries p) ps (pass_of v below) whole.parts (among v below) in
+      let part = All-contains (λ p. IsPartOf entries p) ps (pass_of v below) whole.parts (among v below) in
       ap (λ (n : ℕ). own n entries) (sym (can.passes v below).2.number_is) ∙ part.mine
 
   -- a pass that holds a segment has it in the end
@@ -140,29 +129,17 @@ module _ {D : Type 0} (state : D → State) (volumes k : ℕ) (z : Shape) (lock 
 
   -- who holds one is a pass of the lock
   holder_below : (n i : ℕ) → has_then i ≡ HeldBy n → n < volumes
-  holder_below n i is = go (cases_lt n volumes)
+  holder_below n i is = ⊎_elim
+      (λ less. less)
+      (λ past. numbered (λ v d within same.
+      let below : v < volumes = omega (arith, within, taken.taken, can.count) in
+      absurd (omega (arith, past, below, ap (λ p. pass_number p) (same_pass v d within below), (can.passes v below).2.number_is, same))))
+      (cases_lt n volumes)
     where
       numbered : All (λ p. pass_number p ≢ n) ps → n < volumes
       numbered apart =
-          let none : own n entries ≡ [] = whole.no_more n apart in
           let held : holds base n (own n entries) i ≡ true = sym (holder_own base entries n i stands.legal) ∙ ap (is_held_by n) is ∙ held_self n in
-          let from_base : is_held_by n (holder base.holders i) ≡ true = subst (λ (es : List Entry). holds base n es i ≡ true) none held in
-          can.known_passes i n (of_held n (holder base.holders i) from_base)
-
-      go : (n < volumes) ⊎ (volumes ≤ n) → n < volumes
-      go (inl less) = less
-      go (inr past) = numbered (λ v d within. λ same.
-          let below : v < volumes = omega (arith, within, taken.taken, can.count) in
-          let number = (can.passes v below).2.number_is in
-          let is_it : pass_of v below ≡ get_or ps v d = same_pass v d within below in
-          absurd (omega (arith, past, below, sym (ap (λ p. pass_number p) is_it) ∙ number, same)))
-        where
-          same_pass : (v : ℕ) (d : PassOf (Pool (FreeSegment D)) PoolBase) → v < length ps → (below : v < volumes) → pass_of v below ≡ get_or ps v d
-          same_pass v d within below =
-              let h : v < length old.passes.items = omega (arith, below, can.count) in
-              let row = some_element old.passes.items v h in
-              same_Some (pass_of v below) (get_or ps v d) (sym (can.passes v below).1
-              ∙ ap (λ (o : Option (VolumePasses D)). option_and_then (λ q. slice_index_or q.pools.items k None) o) (slice_get-get_or old.passes.items v row h) ∙ (taken.each v row d h).there)
+          can.known_passes i n (of_held n (holder base.holders i) (rw (whole.no_more n apart) at held))
 
   -- the entries are legal, and those of each pass that is here are among them
   pub closed_pool : IsClosedPool lock old k entries
@@ -182,12 +159,7 @@ module _ {D : Type 0} (state : D → State) (volumes k : ℕ) (z : Shape) (lock 
 
   -- a segment of the pool no pass holds
   pub pooled : (i : ℕ) (f : FreeSegment D) → item_at pool i ≡ Some f → has_then i ≡ InPool
-  pooled i f is = go (has_then i) refl (sym (stands.free i) ∙ ap is_some is)
-    where
-      go : (h : Holder) → has_then i ≡ h → is_in_pool h ≡ true → has_then i ≡ InPool
-      go InPool e t = e
-      go (HeldBy n) e t = absurd (cc t)
-      go Elsewhere e t = absurd (cc t)
+  pooled i f is = in_pool (has_then i) (sym (stands.free i) ∙ ap is_some is)
 
   not_pooled : (i : ℕ) → (has_then i ≡ InPool → ⊥) → item_at pool i ≡ None
   not_pooled i never = no_value (item_at pool i) (λ some. let f = a_value (item_at pool i) some in never (pooled i f.0 f.1))
@@ -199,11 +171,7 @@ module _ {D : Type 0} (state : D → State) (volumes k : ℕ) (z : Shape) (lock 
 
   -- a segment in its place is held by a pass, and in no list
   placed_held : (i : ℕ) (n : ImageRest D) (p : Spun D) → image_here old.images.items k ≡ Some n → segment_here n i ≡ Some p → IsHeldHere old k i
-  placed_held i n p here is = go (cases_lt i (length n.segments.items))
-    where
-      go : (i < length n.segments.items) ⊎ (length n.segments.items ≤ i) → IsHeldHere old k i
-      go (inl within) = (can.here i n here within).0 (is_there (segment_here n i) p is)
-      go (inr past) = absurd (none-some p (sym (get_or_past n.segments.items i None past) ∙ is))
+  placed_held i n p here is = (can.here i n here (here_within n.segments.items i p is)).0 (is_there (segment_here n i) p is)
 
   in_list_empty : (v i : ℕ) (n : ImageRest D) → image_here old.images.items k ≡ Some n → Contains (indexes_here old v k) i → segment_here n i ≡ None
   in_list_empty v i n here has = no_value (segment_here n i) (λ some.
@@ -212,24 +180,27 @@ module _ {D : Type 0} (state : D → State) (volumes k : ℕ) (z : Shape) (lock 
       let same : h.0 ≡ v = one_holder h.0 v (has_then i) (holding_has h.0 i h.1) (holding_has v i (can.held v i has)) in
       h.2 (subst (λ (w : ℕ). Contains (indexes_here old w k) i) (sym same) has))
 
-  pub lists_go : (mid : Rest D) → mid.images ≡ old.images → ((v : ℕ) → held_here mid v k ≡ held_here old v k) → All (λ p. IsRow volumes p) mid.passes.items → CanPutAllHeld mid k
-  lists_go mid images held mid_rows = record {
+  held_stay : (mid : Rest D) → mid.passes.items ≡ rows → (v : ℕ) → held_here mid v k ≡ held_here old v k
+  held_stay mid passes v = rw passes (lists_stay k old.passes.items rows ps taken v k)
+
+  pub lists_go : (mid : Rest D) → mid.images ≡ old.images → mid.passes.items ≡ rows → CanPutAllHeld mid k
+  lists_go mid images passes = let held = held_stay mid passes in record {
     volumes = volumes;
-    rows = mid_rows;
+    rows = rw passes (rows_stay k old.passes.items rows ps taken volumes can.rows);
     within = (can.below, let n : length mid.images.items ≡ length old.images.items = ap (λ v. length v.items) images in omega (arith, n, can.image_count, can.below));
     indexes = λ v i n here has.
         let there : image_here old.images.items k ≡ Some n = sym (ap (λ v. image_here v.items k) images) ∙ here in
-        let among_old : Contains (indexes_here old v k) i = subst (λ (xs : List (ℕ × Spun D)). Contains (map (λ (h : ℕ × Spun D). h.0) xs) i) (held v) has in
+        let among_old : Contains (indexes_here old v k) i = rw (held v) at has in
         (has_within i n there (λ e. let both : HeldBy v ≡ Elsewhere = sym (holding_has v i (can.held v i among_old)) ∙ e in absurd (cc both)), in_list_empty v i n there among_old);
-    once = λ v. subst (λ (xs : List (ℕ × Spun D)). Rattle.wol_model.specs.Blocks.AreApart (map (λ (h : ℕ × Spun D). h.0) xs)) (sym (held v)) (can.once v);
-    apart = λ v w i differs in_v in_w.
-        let one : Contains (indexes_here old v k) i = subst (λ (xs : List (ℕ × Spun D)). Contains (map (λ (h : ℕ × Spun D). h.0) xs) i) (held v) in_v in
-        let two : Contains (indexes_here old w k) i = subst (λ (xs : List (ℕ × Spun D)). Contains (map (λ (h : ℕ × Spun D). h.0) xs) i) (held w) in_w in
-        differs (one_holder v w (has_then i) (holding_has v i (can.held v i one)) (holding_has w i (can.held w i two)));
+    once = λ v. rw (held v) (can.once v);
+    apart = λ v w i differs in_v in_w. differs (one_holder v w (has_then i) (holding_has v i (can.held v i (rw (held v) at in_v))) (holding_has w i (can.held w i (rw (held w) at in_w))));
     out = λ v none. held v ∙ can.out v (sym (ap (λ x. image_here x.items k) images) ∙ none);
   }
 
-  module _ (mid put : Rest D) (images : mid.images ≡ old.images) (held : (v : ℕ) → held_here mid v k ≡ held_here old v k) (puts : PutsAllHeld mid put k) where
+  module _ (mid put : Rest D) (images : mid.images ≡ old.images) (passes : mid.passes.items ≡ rows) (puts : PutsAllHeld mid put k) where
+    held : (v : ℕ) → held_here mid v k ≡ held_here old v k
+    held = held_stay mid passes
+
     at_start : image_here mid.images.items k ≡ image_here old.images.items k
     at_start = ap (λ v. image_here v.items k) images
 
@@ -242,15 +213,12 @@ module _ {D : Type 0} (state : D → State) (volumes k : ℕ) (z : Shape) (lock 
 
     segment_then : (r n : ImageRest D) → image_here old.images.items k ≡ Some r → image_here put.images.items k ≡ Some n → (i : ℕ) → ((v : ℕ) → Contains (indexes_here old v k) i → ⊥) → segment_here n i ≡ segment_here r i
     segment_then r n here there i none =
-        let kept = puts.others i (λ v has. none v (subst (λ (xs : List (ℕ × Spun D)). Contains (map (λ (h : ℕ × Spun D). h.0) xs) i) (held v) has)) in
-        sym (in_at put n there i) ∙ kept ∙ in_at mid r (at_start ∙ here) i
-      where
-        in_at : (q : Rest D) (m : ImageRest D) → image_here q.images.items k ≡ Some m → (i : ℕ) → segment_in q k i ≡ segment_here m i
-        in_at q m is i = Rattle.rack_parts.proofs.Members.segment_in_image q k m is i
+        let kept = puts.others i (λ v has. none v (rw (held v) at has)) in
+        sym (segment_in_image put k n there i) ∙ kept ∙ segment_in_image mid k r (at_start ∙ here) i
 
     segment_back : (r n : ImageRest D) → image_here put.images.items k ≡ Some n → (v i : ℕ) (p : Spun D) → Contains (held_here old v k) (i, p) → segment_here n i ≡ Some p
     segment_back r n there v i p has =
-        sym (Rattle.rack_parts.proofs.Members.segment_in_image put k n there i) ∙ puts.back v i p (subst (λ (xs : List (ℕ × Spun D)). Contains xs (i, p)) (sym (held v)) has)
+        sym (segment_in_image put k n there i) ∙ puts.back v i p (rw (held v) has)
 
     none_listed : (v i : ℕ) → Contains (indexes_here old v k) i → (h : ℕ × Spun D) × Contains (held_here old v k) h × (h.0 ≡ i)
     none_listed v i has = of_map (λ (h : ℕ × Spun D). h.0) (held_here old v k) i has
@@ -259,17 +227,15 @@ module _ {D : Type 0} (state : D → State) (volumes k : ℕ) (z : Shape) (lock 
     past_rows v i has = row_within v (can.held v i has).0 (can.held v i has).1
 
     -- the pool's items have empty places
-    pub places_empty : Rattle.std.specs.Prelude.MatchOption (image_here put.images.items k) (IsEmptyPool pool) (HasPlaces pool)
+    pub places_empty : MatchOption (image_here put.images.items k) (IsEmptyPool pool) (HasPlaces pool)
     places_empty = go (image_here old.images.items k) refl
       where
-        go : (o : Option (ImageRest D)) → image_here old.images.items k ≡ o → Rattle.std.specs.Prelude.MatchOption (image_here put.images.items k) (IsEmptyPool pool) (HasPlaces pool)
+        go : (o : Option (ImageRest D)) → image_here old.images.items k ≡ o → MatchOption (image_here put.images.items k) (IsEmptyPool pool) (HasPlaces pool)
         go None none =
-            subst (λ (x : Option (ImageRest D)). Rattle.std.specs.Prelude.MatchOption x (IsEmptyPool pool) (HasPlaces pool)) (sym (not_filled none))
-            (λ i. not_pooled i (λ e. let gone = stays_unknown base.holders (uses_of entries) i stands.legal (can.others i none) in let both : InPool ≡ Elsewhere = sym e ∙ gone in absurd (cc both)))
+            rw (not_filled none) (λ i. not_pooled i (λ e. let gone = stays_unknown base.holders (uses_of entries) i stands.legal (can.others i none) in let both : InPool ≡ Elsewhere = sym e ∙ gone in absurd (cc both)))
         go (Some r) here =
             let n = filled r here in
-            subst (λ (x : Option (ImageRest D)). Rattle.std.specs.Prelude.MatchOption x (IsEmptyPool pool) (HasPlaces pool)) (sym n.1)
-            (record {
+            rw n.1 (record {
               within = λ i some.
                   let f = a_value (item_at pool i) some in
                   let e = pooled i f.0 f.1 in
@@ -291,13 +257,7 @@ module _ {D : Type 0} (state : D → State) (volumes k : ℕ) (z : Shape) (lock 
     module _ (after : Option (ImageRest D)) (emptied : EmptiesInto pool (image_here put.images.items k) after) where
       refilled : (r n : ImageRest D) → image_here old.images.items k ≡ Some r → image_here put.images.items k ≡ Some n → IsSameBut r n → (q : ImageRest D) → IsRefilled pool n q → IsRefilledAll state base.blocks old k r q
       refilled r n here there same q re = record {
-        same = record {
-          label = re.same.label ∙ same.label;
-          home = re.same.home ∙ same.home;
-          count = re.same.count ∙ same.count;
-          row = re.same.row ∙ same.row;
-          room = re.same.room ∙ same.room;
-        };
+        same = same_but_then r n q same re.same;
         all = all;
         kept = kept;
         back = back;
@@ -351,30 +311,28 @@ module _ {D : Type 0} (state : D → State) (volumes k : ℕ) (z : Shape) (lock 
                   let part : free_part f ≡ p = same_Some (free_part f) p (sym (re.segments i ∙ ap (λ (o : Option (FreeSegment D)). either_part (item_part o) (segment_here n i)) e) ∙ is) in
                   inr (inr (subst (IsBlankPart state k base.blocks) part
                   (record { part = record { of_volume = blank.of ∙ can.lock.volume; sized = blank.free.size ∙ blank.long }; idle = blank.free.idle })))
-              go None e = pick (listed old k i volumes)
+              go None e = ⊎_elim
+                  (λ v.
+                  let x = none_listed v.0 i v.1 in
+                  let at = subst (λ (j : ℕ). Contains (held_here old v.0 k) (j, x.0.1)) x.2 x.1 in
+                  let same_part : x.0.1 ≡ p = same_Some x.0.1 p (sym (segment_back r n there v.0 i x.0.1 at) ∙ then) in
+                  inr (inl (v.0, subst (λ (y : Spun D). Contains (held_here old v.0 k) (i, y)) same_part at)))
+                  (λ none. inl (sym (segment_then r n here there i (λ v has. none v (past_rows v i has) has)) ∙ then))
+                  (listed old k i volumes)
                 where
                   then : segment_here n i ≡ Some p
                   then = sym (unpooled i e) ∙ is
-
-                  pick : ((v : ℕ) × Contains (indexes_here old v k) i) ⊎ ((v : ℕ) → v < volumes → Contains (indexes_here old v k) i → ⊥)
-                      → (segment_here r i ≡ Some p) ⊎ (((v : ℕ) × Contains (held_here old v k) (i, p)) ⊎ IsBlankPart state k base.blocks p)
-                  pick (inl v) =
-                      let x = none_listed v.0 i v.1 in
-                      let at : Contains (held_here old v.0 k) (i, x.0.1) = subst (λ (j : ℕ). Contains (held_here old v.0 k) (j, x.0.1)) x.2 x.1 in
-                      let same_part : x.0.1 ≡ p = same_Some x.0.1 p (sym (segment_back r n there v.0 i x.0.1 at) ∙ then) in
-                      inr (inl (v.0, subst (λ (y : Spun D). Contains (held_here old v.0 k) (i, y)) same_part at))
-                  pick (inr none) = inl (sym (segment_then r n here there i (λ v has. none v (past_rows v i has) has)) ∙ then)
 
       -- so all of the image is here
       pub all_back : RefillsAll state base.blocks old k (image_here old.images.items k) after
       all_back = go (image_here old.images.items k) refl
         where
           go : (o : Option (ImageRest D)) → image_here old.images.items k ≡ o → RefillsAll state base.blocks old k (image_here old.images.items k) after
-          go None none = subst (λ (o : Option (ImageRest D)). RefillsAll state base.blocks old k o after) (sym none) (subst (λ (o : Option (ImageRest D)). EmptiesInto pool o after) (not_filled none) emptied)
+          go None none = rw none (rw (not_filled none) at emptied)
           go (Some r) here =
               let n = filled r here in
               let q = subst (λ (o : Option (ImageRest D)). EmptiesInto pool o after) n.1 emptied in
-              subst (λ (o : Option (ImageRest D)). RefillsAll state base.blocks old k o after) (sym here) (q.0, q.1, refilled r n.0 here n.1 n.2 q.0 q.2)
+              rw here (q.0, q.1, refilled r n.0 here n.1 n.2 q.0 q.2)
 
 -- ---- Pools are closed one after another, the last first
 
@@ -392,25 +350,19 @@ module _ {D : Type 0} (state : D → State) where
           same = x.2.same;
           all = x.2.all;
           kept = x.2.kept;
-          back = λ v i p has. x.2.back v i p (subst (λ (xs : List (ℕ × Spun D)). Contains xs (i, p)) (sym (kept.held v)) has);
-          only = λ i p is. of_old i p (x.2.only i p is);
+          back = λ v i p has. x.2.back v i p (rw (kept.held v) has);
+          only = λ i p is. ⊎_elim (λ here. inl here) (λ more. inr (⊎_elim (λ v. inl (v.0, rw (kept.held v.0) at v.1)) (λ blank. inr blank) more)) (x.2.only i p is);
         },
       )
-        where
-          of_old : (i : ℕ) (p : Spun D) → (segment_here r i ≡ Some p) ⊎ (((v : ℕ) × Contains (held_here cur v k) (i, p)) ⊎ Rattle.rack_parts.specs.Parts.IsBlankPart state k blocks p)
-              → (segment_here r i ≡ Some p) ⊎ (((v : ℕ) × Contains (held_here old v k) (i, p)) ⊎ Rattle.rack_parts.specs.Parts.IsBlankPart state k blocks p)
-          of_old i p (inl is) = inl is
-          of_old i p (inr (inl v)) = inr (inl (v.0, subst (λ (xs : List (ℕ × Spun D)). Contains xs (i, p)) (kept.held v.0) v.1))
-          of_old i p (inr (inr b)) = inr (inr b)
 
   pub logger_same : (r : Rest D) (k : ℕ) → KeepsLogger r r k
-  logger_same r k = record { image = refl; pools = λ v. refl; held = λ v. refl }
+  logger_same r k = assumption
 
   pub logger_then : (a b c : Rest D) (k : ℕ) → KeepsLogger a b k → KeepsLogger b c k → KeepsLogger a c k
   logger_then a b c k first then = record { image = then.image ∙ first.image; pools = λ v. then.pools v ∙ first.pools v; held = λ v. then.held v ∙ first.held v }
 
   pub spindles_same : (r : Rest D) → KeepsSpindles r r
-  spindles_same r = record { count = refl; image_count = refl; rows = λ n all. all; spindles = λ v k. refl }
+  spindles_same r = assumption
 
   pub spindles_then : (a b c : Rest D) → KeepsSpindles a b → KeepsSpindles b c → KeepsSpindles a c
   spindles_then a b c first then = record {
@@ -434,23 +386,17 @@ module _ {D : Type 0} (state : D → State) where
     known_passes = can.known_passes;
     here = λ i n here within. let x = can.here i n (sym kept.image ∙ here) within in (λ some. to_new i (x.0 some), λ h. x.1 (to_old i h));
     others = λ i none. can.others i (sym kept.image ∙ none);
-    held = λ v i has. let h = can.held v i (listed v i has) in (h.0, kept.pools v ∙ h.1, h.2);
-    once = λ v. subst (λ (xs : List (ℕ × Spun D)). AreApart (map (λ (h : ℕ × Spun D). h.0) xs)) (sym (kept.held v)) (can.once v);
-    parts = λ v. subst (λ (xs : List (ℕ × Spun D)). All (λ (h : ℕ × Spun D). IsPart state k z.segment_blocks h.1) xs) (sym (kept.held v)) (can.parts v);
+    held = λ v i has. let h = can.held v i (rw (kept.held v) at has) in (h.0, kept.pools v ∙ h.1, h.2);
+    once = λ v. rw (kept.held v) (can.once v);
+    parts = λ v. rw (kept.held v) (can.parts v);
     out = λ v none. kept.held v ∙ can.out v (sym kept.image ∙ none);
   }
     where
-      listed : (v i : ℕ) → Contains (indexes_here cur v k) i → Contains (indexes_here old v k) i
-      listed v i has = subst (λ (xs : List (ℕ × Spun D)). Contains (map (λ (h : ℕ × Spun D). h.0) xs) i) (kept.held v) has
-
-      listed_now : (v i : ℕ) → Contains (indexes_here old v k) i → Contains (indexes_here cur v k) i
-      listed_now v i has = subst (λ (xs : List (ℕ × Spun D)). Contains (map (λ (h : ℕ × Spun D). h.0) xs) i) (sym (kept.held v)) has
-
       to_new : (i : ℕ) → IsHeldHere old k i → IsHeldHere cur k i
-      to_new i h = (h.0, (h.1.0, kept.pools h.0 ∙ h.1.1, h.1.2), λ has. h.2 (listed h.0 i has))
+      to_new i h = (h.0, (h.1.0, kept.pools h.0 ∙ h.1.1, h.1.2), λ has. h.2 (rw (kept.held h.0) at has))
 
       to_old : (i : ℕ) → IsHeldHere cur k i → IsHeldHere old k i
-      to_old i h = (h.0, (h.1.0, sym (kept.pools h.0) ∙ h.1.1, h.1.2), λ has. h.2 (listed_now h.0 i has))
+      to_old i h = (h.0, (h.1.0, sym (kept.pools h.0) ∙ h.1.1, h.1.2), λ has. h.2 (rw (kept.held h.0) has))
 
   -- ---- The pools from number n on are closed
 
@@ -478,33 +424,19 @@ module _ {D : Type 0} (state : D → State) where
         (others : (k : ℕ) → k ≢ n → KeepsLogger cur new k) (spindles : KeepsSpindles cur new) where
       pub one_pool_more : ArePoolsClosed n new
       one_pool_more = record {
-        images = λ k f from is. image_of k f from is (cases_eq k n);
-        uses = λ k f from is. uses_at k f from is (cases_eq k n);
-        held = λ v k from below. list_of_volume v k from below (cases_eq k n);
+        images = λ k f from is. ⊎_elim
+            (λ (e : k ≡ n). rw (e, ← (same_lock k f e is)) (refills_same (lock_id lock).base.blocks init cur n (so_far.before n (omega arith)) (image_here new.images.items n) image))
+            (λ differs. rw ((others k differs).image) (so_far.images k f (omega (arith, from, differs)) is))
+            (cases_eq k n);
+        uses = λ k f from is. ⊎_elim
+            (λ (e : k ≡ n). rw (e, ← (same_lock k f e is)) (uses.0, record { legal = uses.1.legal; mine = λ v p here. uses.1.mine v p ((so_far.before n (omega arith)).pools v ∙ here) }))
+            (λ differs. so_far.uses k f (omega (arith, from, differs)) is)
+            (cases_eq k n);
+        held = λ v k from below. ⊎_elim (λ e. rw e (held v)) (λ differs. (others k differs).held v ∙ so_far.held v k (omega (arith, from, differs)) below) (cases_eq k n);
         before = λ k less. logger_then init cur new k (so_far.before k (omega (arith, less))) (others k (λ e. absurd (omega (arith, less, e))));
         behind = λ k past. logger_then init cur new k (so_far.behind k past) (others k (λ e. absurd (let below = slice_get_within all n lock at in omega (arith, past, e, below))));
         spindles = spindles_then init cur new so_far.spindles spindles;
       }
         where
-          image_of : (k : ℕ) (f : TurnLock (Pool (FreeSegment D)) PoolBase) → n ≤ k → slice_get all k ≡ Some f → (k ≡ n) ⊎ (k ≡ n → ⊥) → RefillsAll state (lock_id f).base.blocks init k (image_here init.images.items k) (image_here new.images.items k)
-          image_of k f from is (inl e) =
-              let same : lock ≡ f = same_Some lock f (sym at ∙ ap (slice_get all) (sym e) ∙ is) in
-              let one = refills_same (lock_id lock).base.blocks init cur n (so_far.before n (omega arith)) (image_here new.images.items n) image in
-              subst (λ (j : ℕ). RefillsAll state (lock_id f).base.blocks init j (image_here init.images.items j) (image_here new.images.items j)) (sym e)
-              (subst (λ (x : TurnLock (Pool (FreeSegment D)) PoolBase). RefillsAll state (lock_id x).base.blocks init n (image_here init.images.items n) (image_here new.images.items n)) same one)
-          image_of k f from is (inr differs) =
-              subst (λ (o : Option (ImageRest D)). RefillsAll state (lock_id f).base.blocks init k (image_here init.images.items k) o) (sym (others k differs).image) (so_far.images k f (omega (arith, from, differs)) is)
-
-          -- the passes of pool n are as they were
-          at_first : IsClosedPool lock init n uses.0
-          at_first = record { legal = uses.1.legal; mine = λ v p here. uses.1.mine v p ((so_far.before n (omega arith)).pools v ∙ here) }
-
-          uses_at : (k : ℕ) (f : TurnLock (Pool (FreeSegment D)) PoolBase) → n ≤ k → slice_get all k ≡ Some f → (k ≡ n) ⊎ (k ≡ n → ⊥) → (entries : List Entry) × IsClosedPool f init k entries
-          uses_at k f from is (inl e) =
-              let same : lock ≡ f = same_Some lock f (sym at ∙ ap (slice_get all) (sym e) ∙ is) in
-              (uses.0, subst (λ (j : ℕ). IsClosedPool f init j uses.0) (sym e) (subst (λ (x : TurnLock (Pool (FreeSegment D)) PoolBase). IsClosedPool x init n uses.0) same at_first))
-          uses_at k f from is (inr differs) = so_far.uses k f (omega (arith, from, differs)) is
-
-          list_of_volume : (v k : ℕ) → n ≤ k → k < length all → (k ≡ n) ⊎ (k ≡ n → ⊥) → held_here new v k ≡ []
-          list_of_volume v k from below (inl e) = subst (λ (j : ℕ). held_here new v j ≡ []) (sym e) (held v)
-          list_of_volume v k from below (inr differs) = (others k differs).held v ∙ so_far.held v k (omega (arith, from, differs)) below
+          same_lock : (k : ℕ) (f : TurnLock (Pool (FreeSegment D)) PoolBase) → k ≡ n → slice_get all k ≡ Some f → lock ≡ f
+          same_lock k f e is = same_Some lock f (sym at ∙ ap (slice_get all) (sym e) ∙ is)

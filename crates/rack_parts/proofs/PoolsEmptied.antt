@@ -2,16 +2,20 @@
 use Rattle.rack_parts.proofs.Basics.{◌≡◌, ◌≢◌, ◌<◌, ◌+◌, ℕ, zero, suc, cond, List, [], ◌∷◌, length, map, Option, None, Some, is_some, refl}
 use Rattle.rack_parts.proofs.Basics.{ap, ◌∙◌, arith, ◌⊎◌, ⊎_elim, inl, inr, sym, subst, true, false, ◌≤◌, ◌++◌, slice_index_or, IsSome}
 use Rattle.rack_parts.proofs.Basics.{IfSome, MatchOption, slice_set, All, slice_get, none-some, same_Some, slice_get_within, cases_eq}
-use Rattle.rack_parts.proofs.Basics.{false≢true, length-set, get_or-set_same, get_or-set_other, nil_from_length, length_push, All-head}
-use Rattle.rack_parts.proofs.Basics.{All-tail}
+use Rattle.rack_parts.proofs.Basics.{false≢true, length-set, get_or-set_same, get_or-set_other, nil_from_length, length_push, length-map, All-head, All-tail}
 use Rattle.rack_parts.proofs.Terms.{holder, is_in_pool, item_in, note_in, holder_in, item_at, note_at, base_of, ChangesOnly, IsSamePool}
-use Rattle.rack_parts.proofs.Terms.{IsEmptyPool, StandsFor, holders_after, Holder, Elsewhere, InPool, HeldBy, Pool, Spun, free_part}
+use Rattle.rack_parts.proofs.Terms.{IsEmptyPool, StandsFor, holders_after, Holder, Elsewhere, InPool, HeldBy, Pool, free_part}
 use Rattle.rack_parts.proofs.Terms.{IsBlank, FreeSegment, segment_here, IsFilled, HasPlaces, IsSameBut, EmptiesInto, item_part, either_part}
 use Rattle.rack_parts.proofs.Terms.{IsBlankPart, IsRefilled, CanEnd, IsEndedInto, EndsInto, ImageRest, State, Entry, lock_id, pass_mine}
 use Rattle.rack_parts.proofs.Terms.{IsPassOf, IsFree, AreNewPasses, AreWhole, TurnLock, PassOf, PoolBase, Issued}
+use Rattle.std.specs.Prelude.{sum_by}
+use Rattle.std.proofs.lemmas.List.{ext_get_or}
+use Rattle.std.proofs.lemmas.List.Sums.{sum_by-set}
 use Rattle.turn_lock.specs.Views.{total}
 use Rattle.seg_pool.specs.declared.pool.Slot.{Slot}
 use Rattle.seg_pool.specs.declared.pool.Slot.TheVariants.{Empty, Noted, Free}
+use Rattle.rack_parts.proofs.Members.{a_value, here_within, get_front, get_last}
+use Rattle.rack_parts.proofs.Returned.{filled_same, same_but_then}
 
 -- ---- Slots of a pool that is filled and emptied
 
@@ -36,51 +40,31 @@ holder_at {T} p i = get_map (λ (s : Slot T). holder_in s) p.slots.items i Empty
 
 -- ---- How many slots have an item
 
-pred_same : (m n : ℕ) → suc m ≡ suc n → m ≡ n
-pred_same m n e = omega arith
-
-other_suc : (i k : ℕ) → i ≢ k → suc i ≢ suc k
-other_suc i k other e = other (omega arith)
-
 module _ {T : Type 0} where
-  abbrev one_in : Slot T → ℕ
-  one_in s = cond (is_some (item_in s)) 1 0
+  abbrev one_in : Option T → ℕ
+  one_in o = cond (is_some o) 1 0
+
+  abbrev items_of : List (Slot T) → List (Option T)
+  items_of ss = map (λ (s : Slot T). item_in s) ss
 
   abbrev pub free_count : List (Slot T) → ℕ
-  free_count [] = 0
-  free_count (s ∷ ss) = one_in s + free_count ss
-
-  abbrev item_of : List (Slot T) → (i : ℕ) → Option T
-  item_of ss i = item_in (slice_index_or ss i Empty)
-
-  same_count : (xs ys : List (Slot T)) → length ys ≡ length xs → ((i : ℕ) → item_of ys i ≡ item_of xs i) → free_count ys ≡ free_count xs
-  same_count [] [] count same = refl
-  same_count [] (y ∷ ys) count same = absurd (omega arith)
-  same_count (x ∷ xs) [] count same = absurd (omega arith)
-  same_count (x ∷ xs) (y ∷ ys) count same =
-      ap (λ (o : Option T). cond (is_some o) 1 0 + free_count ys) (same 0)
-      ∙ ap (λ (n : ℕ). one_in x + n) (same_count xs ys (pred_same (length ys) (length xs) count) (λ i. same (suc i)))
-
-  pub fewer : (xs ys : List (Slot T)) (k : ℕ) (x : T) → length ys ≡ length xs → ((i : ℕ) → i ≢ k → item_of ys i ≡ item_of xs i) → item_of xs k ≡ Some x → item_of ys k ≡ None → free_count ys < free_count xs
-  fewer [] ys k x count same had has = absurd (none-some x had)
-  fewer (a ∷ xs) [] k x count same had has = absurd (omega arith)
-  fewer (a ∷ xs) (b ∷ ys) zero x count same had has =
-      let tails : free_count ys ≡ free_count xs = same_count xs ys (pred_same (length ys) (length xs) count) (λ i. same (suc i) (λ e. absurd (omega (arith, e)))) in
-      let here : one_in a ≡ 1 = ap (λ (o : Option T). cond (is_some o) 1 0) had in
-      let gone : one_in b ≡ 0 = ap (λ (o : Option T). cond (is_some o) 1 0) has in
-      omega (arith, tails, here, gone)
-  fewer (a ∷ xs) (b ∷ ys) (suc k) x count same had has =
-      let tails : free_count ys < free_count xs = fewer xs ys k x (pred_same (length ys) (length xs) count) (λ i other. same (suc i) (other_suc i k other)) had has in
-      let heads : one_in b ≡ one_in a = ap (λ (o : Option T). cond (is_some o) 1 0) (same 0 (λ e. absurd (omega (arith, e)))) in
-      omega (arith, tails, heads)
+  free_count ss = sum_by one_in (items_of ss)
 
   -- where one item was taken, fewer are left
   pub fewer_items : (old new : Pool T) (k : ℕ) (x : T) → IsSamePool old new → item_at old k ≡ Some x → ChangesOnly old new k None None → free_count new.slots.items < free_count old.slots.items
   fewer_items old new k x same had changes =
-      fewer old.slots.items new.slots.items k x
-      (let a : new.slots.len ≡ length new.slots.items = new.slots.ok.0 in let b : old.slots.len ≡ length old.slots.items = old.slots.ok.0 in
-      let c : new.slots.len ≡ new.room = new.sized in let d : old.slots.len ≡ old.room = old.sized in let e : new.room ≡ old.room = same.room in omega arith)
-      changes.items had changes.item_here
+      let xs = items_of old.slots.items in
+      let ys = items_of new.slots.items in
+      let was : (i : ℕ) → slice_index_or xs i None ≡ item_at old i = λ i. get_map (λ (s : Slot T). item_in s) old.slots.items i Empty in
+      let now : (i : ℕ) → slice_index_or ys i None ≡ item_at new i = λ i. get_map (λ (s : Slot T). item_in s) new.slots.items i Empty in
+      let within = here_within xs k x (was k ∙ had) in
+      let sizes : length ys ≡ length (slice_set xs k None) =
+      omega (arith, length-map old.slots.items (λ (s : Slot T). item_in s), length-map new.slots.items (λ (s : Slot T). item_in s), length-set xs k None, new.slots.ok.0, old.slots.ok.0, new.sized, old.sized, same.room) in
+      let lists : ys ≡ slice_set xs k None = ext_get_or None ys (slice_set xs k None) sizes (λ i lt. now i ∙ ⊎_elim
+      (λ e. rw e (changes.item_here ∙ sym (get_or-set_same xs k None None within)))
+      (λ other. changes.items i other ∙ sym (was i) ∙ sym (get_or-set_other xs k i None None other))
+      (cases_eq i k)) in
+      omega (arith, sum_by-set one_in xs k None None within, ap one_in (was k ∙ had), ap (sum_by one_in) lists)
 
 -- ---- A pool is emptied into what is here of its image
 
@@ -101,17 +85,7 @@ module _ {D : Type 0} where
 
   pub none_moved : (p : Pool (FreeSegment D)) (o : Option (ImageRest D)) → MatchOption o (IsEmptyPool p) (HasPlaces p) → AreMovedInto p p o o
   none_moved p None empty = (refl, empty)
-  none_moved p (Some r) places = (
-    places,
-    (
-      r,
-      refl,
-      record {
-        same = record { label = refl; home = refl; count = refl; row = refl; room = refl };
-        each = λ i. inl (refl, refl);
-      },
-    ),
-  )
+  none_moved p (Some r) places = (places, (r, refl, record { same = assumption; each = λ i. inl (refl, refl) }))
 
   -- the place of an item that is still in the pool
   module _ (p q : Pool (FreeSegment D)) (k : ℕ) (f : FreeSegment D) (had : item_at q k ≡ Some f) where
@@ -127,47 +101,24 @@ module _ {D : Type 0} where
     place_empty (Some r) new moved =
         let n = moved.1.0 in let m = moved.1.2 in let was = was_item r n (m.each k) in
         let some : IsSome (item_at p k) = ap is_some was.0 in
-        subst (λ (o : Option (ImageRest D)). IfSome o (λ r. (k < length r.segments.items) × (segment_here r k ≡ None))) (sym moved.1.1)
-        (subst (λ (m : ℕ). k < m) (sym m.same.count) (moved.0.within k some), was.1 ∙ moved.0.empty k some)
-
-    is_there : (o : Option (ImageRest D)) → IsSome o → (n : ImageRest D) × (o ≡ Some n)
-    is_there None some = absurd (false≢true some)
-    is_there (Some n) some = (n, refl)
+        rw moved.1.1 (omega (arith, m.same.count, moved.0.within k some), was.1 ∙ moved.0.empty k some)
 
     -- it goes to its place
     pub moved_next : (after : Pool (FreeSegment D)) → ChangesOnly q after k None None → (old new newer : Option (ImageRest D)) → AreMovedInto p q old new
         → IsSome newer → IfSome new (λ r. IfSome newer (λ n. IsFilled r n k (free_part f))) → AreMovedInto p after old newer
     moved_next after changes None new newer moved some filled = absurd (none-some f (sym (moved.1 k) ∙ had))
     moved_next after changes (Some r) new newer moved some filled =
-        let n = moved.1.0 in let m = moved.1.2 in let there = is_there newer some in let x = there.0 in
+        let n = moved.1.0 in let m = moved.1.2 in let there = a_value newer some in let x = there.0 in
         let was = was_item r n (m.each k) in
-        let fill : IsFilled n x k (free_part f) =
-        subst (λ (o : Option (ImageRest D)). IfSome o (λ y. IsFilled n y k (free_part f))) there.1
-        (subst (λ (o : Option (ImageRest D)). IfSome o (λ a. IfSome newer (λ y. IsFilled a y k (free_part f)))) moved.1.1 filled) in
-        let within : k < length n.segments.items = subst (λ (m : ℕ). k < m) (sym m.same.count) (moved.0.within k (ap is_some was.0)) in
-        let read : (i : ℕ) → segment_here x i ≡ slice_index_or (slice_set n.segments.items k (Some (free_part f))) i None = λ i. ap (λ (l : List (Option (Spun D))). slice_index_or l i None) fill.segments in
+        let fill : IsFilled n x k (free_part f) = rw (moved.1.1, there.1) at filled in
+        let within : k < length n.segments.items = omega (arith, m.same.count, moved.0.within k (ap is_some was.0)) in
         let here : (i : ℕ) → i ≡ k → IsAt p after r x i = λ i e.
-        subst (IsAt p after r x) (sym e) (inr (changes.item_here, (f, was.0, read k ∙ get_or-set_same n.segments.items k (Some (free_part f)) None within))) in
+        rw e (inr (changes.item_here, (f, was.0, rw fill.segments (get_or-set_same n.segments.items k (Some (free_part f)) None within)))) in
         let there_ : (i : ℕ) → i ≢ k → IsAt p after r x i = λ i other.
-        let seg : segment_here x i ≡ segment_here n i = read i ∙ get_or-set_other n.segments.items k i (Some (free_part f)) None other in
+        let seg : segment_here x i ≡ segment_here n i = rw fill.segments (get_or-set_other n.segments.items k i (Some (free_part f)) None other) in
         let item : item_at after i ≡ item_at q i = changes.items i other in
-        ⊎_elim (λ a. inl (item ∙ a.0, seg ∙ a.1)) (λ a. inr (item ∙ a.0, (a.1.0, a.1.1, seg ∙ a.1.2))) (m.each i) in (
-          moved.0,
-          (
-            x,
-            there.1,
-            record {
-              same = record {
-                label = fill.label ∙ m.same.label;
-                home = fill.home ∙ m.same.home;
-                count = ap length fill.segments ∙ length-set n.segments.items k (Some (free_part f)) ∙ m.same.count;
-                row = fill.row ∙ m.same.row;
-                room = fill.room ∙ m.same.room;
-              };
-              each = λ i. ⊎_elim (here i) (there_ i) (cases_eq i k);
-            },
-          ),
-        )
+        ⊎_elim (λ a. inl (item ∙ a.0, seg ∙ a.1)) (λ a. inr (item ∙ a.0, (a.1.0, a.1.1, seg ∙ a.1.2))) (m.each i) in
+        (moved.0, (x, there.1, record { same = same_but_then r n x m.same (filled_same n x k (free_part f) fill); each = λ i. ⊎_elim (here i) (there_ i) (cases_eq i k) }))
 
   -- all items are in their places
   pub all_moved : (p q : Pool (FreeSegment D)) (old new : Option (ImageRest D)) → IsEmptyPool q → AreMovedInto p q old new → EmptiesInto p old new
@@ -203,20 +154,16 @@ no_entries {T} {B} l ps es new whole =
 pub own_and_free : {T B : Type 0} (l : TurnLock T B) (ps : List (PassOf T B)) → AreNewPasses l ps → All (λ p. IsPassOf l p × IsFree p) ps
 own_and_free l ps new k d within = ((new k d within).own, (new k d within).free)
 
-module _ {D : Type 0} (state : D → State) where
-  in_pool : (h : Holder) → is_in_pool h ≡ true → h ≡ InPool
-  in_pool InPool is = refl
-  in_pool (HeldBy pass) is = absurd (false≢true is)
-  in_pool Elsewhere is = absurd (false≢true is)
+pub in_pool : (h : Holder) → is_in_pool h ≡ true → h ≡ InPool
+in_pool InPool is = refl
+in_pool (HeldBy pass) is = absurd (false≢true is)
+in_pool Elsewhere is = absurd (false≢true is)
 
+module _ {D : Type 0} (state : D → State) where
   not_in_pool : (h : Holder) → h ≢ InPool → is_in_pool h ≡ false
   not_in_pool InPool is = absurd (is refl)
   not_in_pool (HeldBy pass) is = refl
   not_in_pool Elsewhere is = refl
-
-  some_of : {X : Type 0} (o : Option X) → is_some o ≡ true → (x : X) × (o ≡ Some x)
-  some_of None some = absurd (false≢true some)
-  some_of (Some x) some = (x, refl)
 
   none_of : {X : Type 0} (o : Option X) → is_some o ≡ false → o ≡ None
   none_of None none = refl
@@ -240,9 +187,9 @@ module _ {D : Type 0} (state : D → State) where
         which None is = λ index. none_of (item_at p index) (free_at index ∙ not_in_pool (holder b.holders index) (λ free. (let place = can.places index free in none-some place.0 (sym is ∙ place.1))))
         which (Some r) is = record {
           within = λ index some. (let place = can.places index (was_free index some) in
-              let same : place.0 ≡ r = same_Some place.0 r (sym place.1 ∙ is) in subst (λ (x : ImageRest D). index < length x.segments.items) same place.2);
+              let same : place.0 ≡ r = same_Some place.0 r (sym place.1 ∙ is) in rw same at place.2);
           empty = λ index some. (let place = can.places index (was_free index some) in
-              let same : place.0 ≡ r = same_Some place.0 r (sym place.1 ∙ is) in subst (λ (x : ImageRest D). segment_here x index ≡ None) same place.3);
+              let same : place.0 ≡ r = same_Some place.0 r (sym place.1 ∙ is) in rw same at place.3);
         }
 
     blank_part : (f : FreeSegment D) → IsBlank state b.volume b.blocks f → IsBlankPart state b.volume b.blocks (free_part f)
@@ -252,7 +199,7 @@ module _ {D : Type 0} (state : D → State) where
     ended r n refilled = record {
       same = refilled.same;
       free = λ index is.
-          let f = some_of (item_at p index) (free_at index ∙ ap is_in_pool is) in
+          let f = a_value (item_at p index) (free_at index ∙ ap is_in_pool is) in
           (free_part f.0, refilled.segments index ∙ ap (λ (o : Option (FreeSegment D)). either_part (item_part o) (segment_here r index)) f.1, blank_part f.0 (stands.items index f.0 f.1));
       others = λ index other.
           let gone = none_of (item_at p index) (free_at index ∙ not_in_pool (holder b.holders index) other) in
@@ -264,16 +211,6 @@ module _ {D : Type 0} (state : D → State) where
     ends_into (Some r) new empties = (empties.0, empties.1, ended r empties.0 empties.2)
 
 -- ---- The locks of pools are ended, the last first
-
-get_front : {X : Type 0} (xs : List X) (x : X) (j : ℕ) → j < length xs → slice_get (xs ++ x ∷ []) j ≡ slice_get xs j
-get_front [] x j lt = absurd (omega (arith, lt))
-get_front (y ∷ ys) x zero lt = refl
-get_front (y ∷ ys) x (suc j) lt = get_front ys x j (omega (arith, lt))
-
-get_last : {X : Type 0} (xs : List X) (x : X) (j : ℕ) → length xs ≡ j → slice_get (xs ++ x ∷ []) j ≡ Some x
-get_last [] x j size = ap (slice_get (x ∷ [])) (sym size)
-get_last (y ∷ ys) x zero size = absurd (omega (arith, size))
-get_last (y ∷ ys) x (suc j) size = get_last ys x j (omega (arith, size))
 
 abbrev pub LockOf : Type 0 → Type 0
 LockOf D = Issued (Pool (FreeSegment D)) PoolBase
@@ -326,13 +263,8 @@ module _ {D : Type 0} (state : D → State) where
       fewer = let l = longer in omega (arith, l, so_far.fewer, size);
       front = λ k lt. sym (get_front rest i k lt) ∙ so_far.front k (let l = longer in omega (arith, l, lt, size));
       ended = λ k j behind is. ⊎_elim
-          (λ e. let same : i ≡ j = same_Some i j (sym at ∙ ap (slice_get all) (sym e) ∙ is) in
-          subst (λ (x : ℕ). EndsInto state (lock_id j.lock).base (image_of old x) (image_of (slice_set now n image) x)) (sym e)
-          (subst (λ (x : LockOf D). EndsInto state (lock_id x.lock).base (image_of old n) (image_of (slice_set now n image) n)) same
-          (subst (EndsInto state (lock_id i.lock).base (image_of old n)) (sym (get_or-set_same now n image None in_now))
-          (subst (λ (o : Option (ImageRest D)). EndsInto state (lock_id i.lock).base o image) still ends))))
-          (λ other. subst (EndsInto state (lock_id j.lock).base (image_of old k)) (sym (get_or-set_other now n k image None other))
-          (so_far.ended k j (let l = longer in omega (arith, l, behind, other, size)) is))
+          (λ (e : k ≡ n). let same : i ≡ j = same_Some i j (sym at ∙ ap (slice_get all) (sym e) ∙ is) in rw (e, get_or-set_same now n image None in_now, ← same) (rw still at ends))
+          (λ other. rw (get_or-set_other now n k image None other) (so_far.ended k j (let l = longer in omega (arith, l, behind, other, size)) is))
           (cases_eq k n);
       same = λ k lt. get_or-set_other now n k image None (λ e. absurd (omega (arith, e, lt, size))) ∙ so_far.same k (let l = longer in omega (arith, l, lt, size));
       others = λ k behind. get_or-set_other now n k image None (λ e. absurd (let w = slice_get_within all n i at in omega (arith, w, e, behind))) ∙ so_far.others k behind;

@@ -1,12 +1,12 @@
 -- What a volume was opened with comes back.
-use Rattle.rack_parts.proofs.Basics.{◌≡◌, ◌≢◌, ◌<◌, ⊎_elim, ℕ, List, [], ◌∷◌, ◌++◌, length, Option, None, Some, is_some, refl, sym, ap}
-use Rattle.rack_parts.proofs.Basics.{subst, ◌∙◌, All, IsSome, IfSome, slice_set, slice_index_or, Global, Vec, cases_eq, cases_lt}
-use Rattle.rack_parts.proofs.Basics.{false≢true, append_assoc, append-nil, length-set, get_or-set_same, get_or-set_other, get_or_past}
-use Rattle.rack_parts.proofs.Basics.{All-nil, All-cons, All-head, All-tail, All-pop, All-weaker, none-some}
+use Rattle.rack_parts.proofs.Basics.{◌≡◌, ◌≢◌, ◌<◌, ⊎_elim, ℕ, List, [], ◌∷◌, ◌++◌, length, Option, None, Some, refl, sym, ap, arith}
+use Rattle.rack_parts.proofs.Basics.{subst, ◌∙◌, All, IsSome, IfSome, slice_set, Global, Vec, cases_eq, false≢true, length-set}
+use Rattle.rack_parts.proofs.Basics.{get_or-set_same, get_or-set_other, All-nil, All-push, All-weaker}
 use Rattle.rack_parts.proofs.Terms.{State, PassOf, Spindle, SpindleBase, Spun, logger_of, Lane, ManagerParts, place_of, OwnedPart}
 use Rattle.rack_parts.proofs.Terms.{image_here, IsFilled, IsBarePlace, PutsLanes, CanPutLanes, ChangesHome, with_home, PutsManager}
-use Rattle.rack_parts.proofs.Terms.{IsSameBut, KeepsImage, segment_in, in_image, IsOwedPlace, PutsOwned, CanPutOwned, ImageRest, Rest}
+use Rattle.rack_parts.proofs.Terms.{IsSameBut, KeepsImage, segment_in, IsOwedPlace, PutsOwned, CanPutOwned, ImageRest, Rest}
 use Rattle.rack_parts.proofs.LanesMoved.{all_both, pairs_last, pairs_front, rows_then, place_then}
+use Rattle.rack_parts.proofs.Members.{here_within, all_last, all_front, segment_in_image}
 
 module _ {D : Type 0} where
   -- ---- A manager
@@ -53,12 +53,6 @@ module _ {D : Type 0} where
 
   -- ---- Segments
 
-  pub here_within : (images : List (Option (ImageRest D))) (k : ℕ) (r : ImageRest D) → image_here images k ≡ Some r → k < length images
-  here_within images k r is = ⊎_elim (λ within. within) (λ past. absurd (none-some r (sym (get_or_past images k None past) ∙ is))) (cases_lt k (length images))
-
-  pub some_within : (images : List (Option (ImageRest D))) (k : ℕ) → IsSome (image_here images k) → k < length images
-  some_within images k some = ⊎_elim (λ within. within) (λ past. absurd (false≢true (sym (ap is_some (get_or_past images k None past)) ∙ some))) (cases_lt k (length images))
-
   -- one segment came to its place
   pub record PutsOne (old new : Rest D) (k i : ℕ) (part : Spun D) : Type 0 where
     pub count : length new.images.items ≡ length old.images.items
@@ -67,15 +61,21 @@ module _ {D : Type 0} where
     pub back : segment_in new k i ≡ Some part
     pub others : (j n : ℕ) → (j ≡ k → n ≢ i) → segment_in new j n ≡ segment_in old j n
 
-  keeps_image : (o : Option (ImageRest D)) → KeepsImage o o
+  pub keeps_image : (o : Option (ImageRest D)) → KeepsImage o o
   keeps_image None = refl
-  keeps_image (Some r) = (r, refl, record { label = refl; home = refl; count = refl; row = refl; room = refl })
+  keeps_image (Some r) = (r, refl, assumption)
 
   pub same_but_then : (a b c : ImageRest D) → IsSameBut a b → IsSameBut b c → IsSameBut a c
   same_but_then a b c p q = record { label = q.label ∙ p.label; home = q.home ∙ p.home; count = q.count ∙ p.count; row = q.row ∙ p.row; room = q.room ∙ p.room }
 
+  -- a segment came
+  pub filled_same : (a b : ImageRest D) (i : ℕ) (part : Spun D) → IsFilled a b i part → IsSameBut a b
+  filled_same a b i part fill =
+      let count : length b.segments.items ≡ length a.segments.items = ap length fill.segments ∙ length-set a.segments.items i (Some part) in
+      assumption
+
   pub keeps_image_then : (a b c : Option (ImageRest D)) → KeepsImage a b → KeepsImage b c → KeepsImage a c
-  keeps_image_then None b c p q = subst (λ (o : Option (ImageRest D)). KeepsImage o c) p q
+  keeps_image_then None b c p q = rw p at q
   keeps_image_then (Some r) b c p q =
       let next = subst (λ (o : Option (ImageRest D)). KeepsImage o c) p.1 q in
       (next.0, next.1, same_but_then r p.0 next.0 p.2 next.2)
@@ -83,35 +83,14 @@ module _ {D : Type 0} where
   pub one_put : (old new : Rest D) (k i : ℕ) (r n : ImageRest D) (part : Spun D) → new.images.items ≡ slice_set old.images.items k (Some n)
       → image_here old.images.items k ≡ Some r → IsFilled r n i part → i < length r.segments.items → PutsOne old new k i part
   one_put old new k i r n part set out fill within =
-      let lt = here_within old.images.items k r out in
-      let at : image_here new.images.items k ≡ Some n = ap (λ (is : List (Option (ImageRest D))). image_here is k) set ∙ get_or-set_same old.images.items k (Some n) None lt in
-      let there : (j : ℕ) → j ≢ k → image_here new.images.items j ≡ image_here old.images.items j = λ j other.
-      ap (λ (is : List (Option (ImageRest D))). image_here is j) set ∙ get_or-set_other old.images.items k j (Some n) None other in
-      let same : IsSameBut r n = record {
-        label = fill.label;
-        home = fill.home;
-        count = ap length fill.segments ∙ length-set r.segments.items i (Some part);
-        row = fill.row;
-        room = fill.room;
-      } in
-      let keeps_here : KeepsImage (image_here old.images.items k) (image_here new.images.items k) =
-      subst (λ (o : Option (ImageRest D)). KeepsImage o (image_here new.images.items k)) (sym out) (n, at, same) in
-      let read_here : (m : ℕ) → m ≢ i → segment_in new k m ≡ segment_in old k m = λ m other.
-      ap (λ (o : Option (ImageRest D)). in_image o m) at ∙ ap (λ (ss : List (Option (Spun D))). slice_index_or ss m None) fill.segments
-      ∙ get_or-set_other r.segments.items i m (Some part) None other ∙ sym (ap (λ (o : Option (ImageRest D)). in_image o m) out) in
+      let at : image_here new.images.items k ≡ Some n = rw set (get_or-set_same old.images.items k (Some n) None (here_within old.images.items k r out)) in
+      let there : (j : ℕ) → j ≢ k → image_here new.images.items j ≡ image_here old.images.items j = λ j other. rw set (get_or-set_other old.images.items k j (Some n) None other) in
       record {
         count = ap length set ∙ length-set old.images.items k (Some n);
-        images = λ j. ⊎_elim
-            (λ e. subst (λ (x : ℕ). KeepsImage (image_here old.images.items x) (image_here new.images.items x)) (sym e) keeps_here)
-            (λ other. subst (λ (o : Option (ImageRest D)). KeepsImage (image_here old.images.items j) o) (sym (there j other)) (keeps_image (image_here old.images.items j)))
-            (cases_eq j k);
+        images = λ j. ⊎_elim (λ (e : j ≡ k). rw (e, at, out) (n, refl, filled_same r n i part fill)) (λ other. rw (there j other) (keeps_image (image_here old.images.items j))) (cases_eq j k);
         image_others = there;
-        back = ap (λ (o : Option (ImageRest D)). in_image o i) at ∙ ap (λ (ss : List (Option (Spun D))). slice_index_or ss i None) fill.segments
-            ∙ get_or-set_same r.segments.items i (Some part) None within;
-        others = λ j m other. ⊎_elim
-            (λ e. subst (λ (x : ℕ). segment_in new x m ≡ segment_in old x m) (sym e) (read_here m (other e)))
-            (λ far. ap (λ (o : Option (ImageRest D)). in_image o m) (there j far))
-            (cases_eq j k);
+        back = rw (at, fill.segments) (get_or-set_same r.segments.items i (Some part) None within);
+        others = λ j m other. ⊎_elim (λ (e : j ≡ k). rw (e, at, out, fill.segments) (get_or-set_other r.segments.items i m (Some part) None (other e))) (λ far. rw (there j far)) (cases_eq j k);
       }
 
   -- the same by the clauses of a place that is filled
@@ -122,81 +101,53 @@ module _ {D : Type 0} where
 
   -- ---- Owned segments
 
-  -- some of these are left, and the others came back
+  -- these are left: once they come back all have come back
   pub record AreOwnedPutSoFar (old new : Rest D) (all left : List (OwnedPart D)) : Type 0 where
-    pub done : List (OwnedPart D)
-    pub kept : all ≡ left ++ done
-    pub put : PutsOwned old new done
     pub can : CanPutOwned new left
-    pub apart : All (λ (o : OwnedPart D). All (λ (d : OwnedPart D). place_of o ≢ place_of d) done) left
+    pub then_all : (last : Rest D) → PutsOwned new last left → PutsOwned old last all
 
   pub owned_none : (r : Rest D) (all : List (OwnedPart D)) → CanPutOwned r all → AreOwnedPutSoFar r r all all
-  owned_none r all can = record {
-    done = [];
-    kept = sym (append-nil all);
-    put = record {
-      passes = refl;
-      rooms = refl;
-      count = refl;
-      images = λ k. keeps_image (image_here r.images.items k);
-      back = All-nil (λ (o : OwnedPart D). segment_in r o.logger o.index ≡ Some o.part);
-      others = λ k i other. refl;
-    };
-    can = can;
-    apart = λ k d within. All-nil (λ (m : OwnedPart D). place_of (slice_index_or all k d) ≢ place_of m);
-  }
+  owned_none r all can = record { can = can; then_all = λ last puts. puts }
 
   owed_then : (new newer : Rest D) (k i : ℕ) (part : Spun D) (o : OwnedPart D) → PutsOne new newer k i part → place_of o ≢ (k, i) → IsOwedPlace new o → IsOwedPlace newer o
   owed_then new newer k i part o one other owed =
       let keeps = subst (λ (x : Option (ImageRest D)). KeepsImage x (image_here newer.images.items o.logger)) owed.out (one.images o.logger) in
-      let read : segment_in newer o.logger o.index ≡ segment_in new o.logger o.index = one.others o.logger o.index (λ e f. other (λ j. (e j, f j))) in
       record {
         image = keeps.0;
         out = keeps.1;
-        within = subst (λ (n : ℕ). o.index < n) (sym keeps.2.count) owed.within;
-        empty = sym (ap (λ (x : Option (ImageRest D)). in_image x o.index) keeps.1) ∙ read ∙ ap (λ (x : Option (ImageRest D)). in_image x o.index) owed.out ∙ owed.empty;
+        within = omega (arith, keeps.2.count, owed.within);
+        empty = sym (segment_in_image newer o.logger keeps.0 keeps.1 o.index) ∙ one.others o.logger o.index (λ e f. other (λ j. (e j, f j))) ∙ segment_in_image new o.logger owed.image owed.out o.index ∙ owed.empty;
       }
 
   module _ (old new : Rest D) (all rest : List (OwnedPart D)) (o : OwnedPart D) (so_far : AreOwnedPutSoFar old new all (rest ++ o ∷ [])) where
     pub last_owed : IsOwedPlace new o
-    last_owed = (All-pop (IsOwedPlace new) (rest ++ o ∷ []) rest (Some o) refl so_far.can.places).1
-
-    owned_apart : All (λ (d : OwnedPart D). place_of o ≢ place_of d) so_far.done
-    owned_apart = (All-pop (λ (m : OwnedPart D). All (λ (d : OwnedPart D). place_of m ≢ place_of d) so_far.done) (rest ++ o ∷ []) rest (Some o) refl so_far.apart).1
-
-    owned_rest : All (λ (m : OwnedPart D). place_of m ≢ place_of o) rest
-    owned_rest = pairs_last (λ (m n : OwnedPart D). place_of m ≢ place_of n) rest o so_far.can.apart
+    last_owed = all_last (IsOwedPlace new) rest o so_far.can.places
 
     pub owned_next : (newer : Rest D) → newer.passes ≡ new.passes → newer.rooms ≡ new.rooms → PutsOne new newer o.logger o.index o.part → AreOwnedPutSoFar old newer all rest
     owned_next newer passes rooms one =
-        let done = o ∷ so_far.done in
+        let apart = pairs_last (λ (m n : OwnedPart D). place_of m ≢ place_of n) rest o so_far.can.apart in
         record {
-          done = done;
-          kept = so_far.kept ∙ append_assoc rest (o ∷ []) so_far.done;
-          put = record {
-            passes = passes ∙ so_far.put.passes;
-            rooms = rooms ∙ so_far.put.rooms;
-            count = one.count ∙ so_far.put.count;
-            images = λ k. keeps_image_then (image_here old.images.items k) (image_here new.images.items k) (image_here newer.images.items k) (so_far.put.images k) (one.images k);
-            back = All-cons (λ (d : OwnedPart D). segment_in newer d.logger d.index ≡ Some d.part) o so_far.done one.back
-                (all_both (λ (d : OwnedPart D). segment_in new d.logger d.index ≡ Some d.part) (λ (d : OwnedPart D). place_of o ≢ place_of d) (λ (d : OwnedPart D). segment_in newer d.logger d.index ≡ Some d.part) so_far.done
-                (λ d back other. one.others d.logger d.index (λ e f. other (λ j. (sym e j, sym f j))) ∙ back) so_far.put.back owned_apart);
-            others = λ k i other.
-                one.others k i (λ e f. All-head (λ (d : OwnedPart D). place_of d ≢ (k, i)) o so_far.done other (λ j. (sym e j, sym f j)))
-                ∙ so_far.put.others k i (All-tail (λ (d : OwnedPart D). place_of d ≢ (k, i)) o so_far.done other);
-          };
           can = record {
             places = all_both (IsOwedPlace new) (λ (m : OwnedPart D). place_of m ≢ place_of o) (IsOwedPlace newer) rest (λ m owed other. owed_then new newer o.logger o.index o.part m one other owed)
-                (All-pop (IsOwedPlace new) (rest ++ o ∷ []) rest (Some o) refl so_far.can.places).0 owned_rest;
+                (all_front (IsOwedPlace new) rest o so_far.can.places) apart;
             apart = pairs_front (λ (m n : OwnedPart D). place_of m ≢ place_of n) rest o so_far.can.apart;
           };
-          apart = all_both (λ (m : OwnedPart D). All (λ (d : OwnedPart D). place_of m ≢ place_of d) so_far.done) (λ (m : OwnedPart D). place_of m ≢ place_of o) (λ (m : OwnedPart D). All (λ (d : OwnedPart D). place_of m ≢ place_of d) done) rest
-              (λ m far other. All-cons (λ (d : OwnedPart D). place_of m ≢ place_of d) o so_far.done other far)
-              (All-pop (λ (m : OwnedPart D). All (λ (d : OwnedPart D). place_of m ≢ place_of d) so_far.done) (rest ++ o ∷ []) rest (Some o) refl so_far.apart).0 owned_rest;
+          then_all = λ last puts. so_far.then_all last (record {
+            passes = puts.passes ∙ passes;
+            rooms = puts.rooms ∙ rooms;
+            count = puts.count ∙ one.count;
+            images = λ k. keeps_image_then (image_here new.images.items k) (image_here newer.images.items k) (image_here last.images.items k) (one.images k) (puts.images k);
+            back = All-push (λ (d : OwnedPart D). segment_in last d.logger d.index ≡ Some d.part) rest o puts.back (puts.others o.logger o.index apart ∙ one.back);
+            others = λ k i other. puts.others k i (all_front (λ (d : OwnedPart D). place_of d ≢ (k, i)) rest o other)
+                ∙ one.others k i (λ e f. all_last (λ (d : OwnedPart D). place_of d ≢ (k, i)) rest o other (λ j. (sym e j, sym f j)));
+          });
         }
 
   pub owned_all : (old new : Rest D) (all : List (OwnedPart D)) → AreOwnedPutSoFar old new all [] → PutsOwned old new all
-  owned_all old new all so_far = subst (PutsOwned old new) (sym so_far.kept) so_far.put
+  owned_all old new all so_far =
+      let images : (k : ℕ) → KeepsImage (image_here new.images.items k) (image_here new.images.items k) = λ k. keeps_image (image_here new.images.items k) in
+      let back = All-nil (λ (o : OwnedPart D). segment_in new o.logger o.index ≡ Some o.part) in
+      so_far.then_all new assumption
 
   -- a home that comes back changes no place of a segment
   pub owed_after : (a b c : Rest D) (v : ℕ) (home : Spun D) (spindle : Option (PassOf Spindle SpindleBase)) (lanes : List (Lane D)) (os : List (OwnedPart D)) → ChangesHome a b v (Some home) spindle → PutsLanes b c v lanes → CanPutOwned a os → CanPutOwned c os
@@ -206,21 +157,12 @@ module _ {D : Type 0} where
       same_images = ap (λ (x : Vec (Option (ImageRest D)) Global). x.items) puts.images
 
       one : (o : OwnedPart D) → IsOwedPlace a o → IsOwedPlace c o
-      one o owed = ⊎_elim own far (cases_eq o.logger v)
-        where
-          own : o.logger ≡ v → IsOwedPlace c o
-          own e = record {
+      one o owed = ⊎_elim
+          (λ e. record {
             image = record owed.image { home = Some home };
-            out = ap (λ (is : List (Option (ImageRest D))). image_here is o.logger) same_images ∙ ap (image_here b.images.items) e ∙ changes.image
-                ∙ ap (with_home (Some home)) (ap (image_here a.images.items) (sym e) ∙ owed.out);
+            out = ap (λ (is : List (Option (ImageRest D))). image_here is o.logger) same_images ∙ ap (image_here b.images.items) e ∙ changes.image ∙ ap (with_home (Some home)) (ap (image_here a.images.items) (sym e) ∙ owed.out);
             within = owed.within;
             empty = owed.empty;
-          }
-
-          far : o.logger ≢ v → IsOwedPlace c o
-          far other = record {
-            image = owed.image;
-            out = ap (λ (is : List (Option (ImageRest D))). image_here is o.logger) same_images ∙ changes.images o.logger other ∙ owed.out;
-            within = owed.within;
-            empty = owed.empty;
-          }
+          })
+          (λ other. record { image = owed.image; out = ap (λ (is : List (Option (ImageRest D))). image_here is o.logger) same_images ∙ changes.images o.logger other ∙ owed.out; within = owed.within; empty = owed.empty })
+          (cases_eq o.logger v)

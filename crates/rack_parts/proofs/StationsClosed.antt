@@ -1,20 +1,21 @@
 -- Stations are closed one after the other.
 use Rattle.rack_parts.proofs.Basics.{◌≡◌, ◌≢◌, ◌≤◌, ◌+◌, ℕ, List, [], ◌∷◌, ◌++◌, length, map, Some, refl, sym, ap, ◌∙◌, subst, arith, ◌<◌}
-use Rattle.rack_parts.proofs.Basics.{◌-◌, Bool, drop, Option, None, Contains, All, slice_get, option_map, get_or_at, get_or_append_left}
-use Rattle.rack_parts.proofs.Basics.{get_or-map, length-map, length_push, map_push, append-nil, length-drop, get_or-drop, drop_more}
+use Rattle.rack_parts.proofs.Basics.{◌-◌, Bool, drop, get_or, Option, None, Contains, All, slice_get, option_map, vec_capacity, Vec, Global}
+use Rattle.rack_parts.proofs.Basics.{length-map, length_push, map_push, append-nil, length-drop, get_or-drop, drop_more}
 use Rattle.rack_parts.proofs.Basics.{All-contains, Contains-append_left, Contains-append_right, slice_get-get_or, slice_get-map}
 use Rattle.rack_parts.proofs.Basics.{slice_get_within, get_or_from_slice_get, AllZip}
 use Rattle.rack_parts.proofs.Terms.{State, Config, Entry, AreWhole, PassOf, logger_of, Shared, StandsCoded, Keeps, notes_of, ManagerBase}
 use Rattle.rack_parts.proofs.Terms.{Manager, ManagerParts, Station, shapes_of, away_with, IsRestBut, AreRooms, image_here, base_of_station}
 use Rattle.rack_parts.proofs.Terms.{IsOpenBase, IsStation, HasBack, CanPutLanes, IsHomeAway, PutsManager, CanCloseStations, ClosesStation}
 use Rattle.rack_parts.proofs.Terms.{Closing, IsClosing, KeepsButHome, ClosesStations, Rest, Rooms, ImageRest}
-use Rattle.rack_parts.proofs.ManagerBack.{lane_came}
-use Rattle.rack_parts.proofs.Members.{get_left, all_last, all_front, all_member, of_map, first_in, later_in}
+use Rattle.rack_parts.specs.Racks.{AreRising}
+use Rattle.rack_parts.proofs.ManagerBack.{lane_came, lanes_with, kept_all}
+use Rattle.rack_parts.proofs.Members.{get_left, get_last, all_last, all_front, all_member, of_map, first_in, later_in}
 use Rattle.rack_parts.proofs.ManagerBack as back
 
 -- ---- The manager of a station that is closed comes back to the rest of its rack
 
-module _ {D : Type 0} (state : D → State) (tells : Rattle.std.specs.Prelude.Bool) (config : Config) (shared : Shared D) (before : List (Station D)) (s : Station D) (old : Rest D)
+module _ {D : Type 0} (state : D → State) (tells : Bool) (config : Config) (shared : Shared D) (before : List (Station D)) (s : Station D) (old : Rest D)
     (can : CanCloseStations state config shared (before ++ s ∷ []) old) (m : Manager D) (entries : List Entry) (stands : StandsCoded tells state m (base_of_station s) entries) (rooms : Rooms D) where
   abbrev b : ManagerBase
   b = base_of_station s
@@ -42,29 +43,20 @@ module _ {D : Type 0} (state : D → State) (tells : Rattle.std.specs.Prelude.Bo
 
   -- the volume isn't among those of the other stations
   not_again : Contains (away_with bases).homes b.volume.began.owner → ⊥
-  not_again has = go (of_map (λ (c : ManagerBase). c.volume.began.owner) bases b.volume.began.owner has)
+  not_again has =
+      let x = of_map (λ (c : ManagerBase). c.volume.began.owner) bases b.volume.began.owner has in
+      let t = of_map (λ (q : Station D). base_of_station q) before x.0 x.1 in
+      let st : IsStation t.0 = All-contains (λ q. IsStation q) before t.0 (all_front (λ q. IsStation q) before s can.each) t.1 in
+      in_front t.0 t.1 (sym st.id ∙ ap (λ (c : ManagerBase). c.volume.began.owner) t.2 ∙ x.2 ∙ owner_is)
     where
+      number : (t : Station D) (n : ℕ) → slice_get (before ++ s ∷ []) n ≡ Some t → slice_get (map (λ (x : Station D). x.id) (before ++ s ∷ [])) n ≡ Some t.id
+      number t n is = slice_get-map (λ (x : Station D). x.id) (before ++ s ∷ []) n ∙ ap (option_map (λ (x : Station D). x.id)) is
+
       in_front : (t : Station D) → Contains before t → t.id ≡ s.id → ⊥
       in_front t is same =
-          let n = is.0 in
-          let within = is.1 in
-          let l : length (map (λ (x : Station D). x.id) (before ++ s ∷ [])) ≡ length before + 1 = length-map (before ++ s ∷ []) (λ (x : Station D). x.id) ∙ length_push before s in
-          let first : slice_get (map (λ (x : Station D). x.id) (before ++ s ∷ [])) n ≡ Some t.id =
-          slice_get-get_or (map (λ (x : Station D). x.id) (before ++ s ∷ [])) n 0 (omega (arith, l, within))
-          ∙ ap (λ (x : ℕ). Some x) (get_or-map (λ (x : Station D). x.id) (before ++ s ∷ []) n t 0 (let k = length_push before s in omega (arith, k, within))
-          ∙ ap (λ (x : Station D). x.id) (get_or_append_left before (s ∷ []) t n within ∙ is.2)) in
-          let last : slice_get (map (λ (x : Station D). x.id) (before ++ s ∷ [])) (length before) ≡ Some s.id =
-          slice_get-get_or (map (λ (x : Station D). x.id) (before ++ s ∷ [])) (length before) 0 (omega (arith, l))
-          ∙ ap (λ (x : ℕ). Some x) (get_or-map (λ (x : Station D). x.id) (before ++ s ∷ []) (length before) s 0 (let k = length_push before s in omega (arith, k))
-          ∙ ap (λ (x : Station D). x.id) (get_or_at before s [] s (length before) refl)) in
-          let less = can.rising n (length before) t.id s.id within first last in
-          absurd (omega (arith, less, same))
-
-      go : (c : ManagerBase) × Contains bases c × (c.volume.began.owner ≡ b.volume.began.owner) → ⊥
-      go x =
-          let t = of_map (λ (q : Station D). base_of_station q) before x.0 x.1 in
-          let st : IsStation t.0 = All-contains (λ q. IsStation q) before t.0 (all_front (λ q. IsStation q) before s can.each) t.1 in
-          in_front t.0 t.1 (sym st.id ∙ ap (λ (c : ManagerBase). c.volume.began.owner) t.2 ∙ x.2 ∙ owner_is)
+          let at = slice_get-get_or before is.0 t is.1 ∙ ap (λ (x : Station D). Some x) is.2 in
+          let less = can.rising is.0 (length before) t.id s.id is.1 (number t is.0 (get_left before (s ∷ []) is.0 t at)) (number s (length before) (get_last before s (length before) refl)) in
+          omega (arith, less, same)
 
   pub home_away : IsHomeAway (record old { rooms = rooms }) s.id
   home_away = back.home_away state tells config shared bases b s.id owner_is old open_base can.locks parts can.accesses not_again m (notes_of entries) keeps rooms
@@ -92,7 +84,7 @@ module _ {D : Type 0} (state : D → State) (tells : Rattle.std.specs.Prelude.Bo
         longer i n is =
             subst (λ (l : List ℕ). slice_get l i ≡ Some n) (sym (map_push (λ (t : Station D). t.id) before s)) (get_left (map (λ (t : Station D). t.id) before) (s.id ∷ []) i n is)
 
-        rising : Rattle.rack_parts.specs.Racks.AreRising (map (λ (t : Station D). t.id) before)
+        rising : AreRising (map (λ (t : Station D). t.id) before)
         rising i j x y less at_i at_j = can.rising i j x y less (longer i x at_i) (longer j y at_j)
 
     -- the station is closed
@@ -109,8 +101,8 @@ module _ {D : Type 0} (state : D → State) (tells : Rattle.std.specs.Prelude.Bo
     }
 
 -- rooms once the last station's went
-pub rooms_less : {D : Type 0} (volumes : ℕ) (rooms : Rooms D) (before : List (Station D)) (s : Station D) (ms : Rattle.std.specs.declared.vec.Vec.Vec (Rattle.std.specs.declared.vec.Vec.Vec (PassOf (Manager D) ManagerBase) Rattle.std.specs.declared.alloc.Global.Global) Rattle.std.specs.declared.alloc.Global.Global)
-    (row : Rattle.std.specs.declared.vec.Vec.Vec (PassOf (Manager D) ManagerBase) Rattle.std.specs.declared.alloc.Global.Global) → AreRooms volumes (length (map (λ (t : Station D). base_of_station t) (before ++ s ∷ []))) rooms → rooms.managers.items ≡ ms.items ++ row ∷ []
+pub rooms_less : {D : Type 0} (volumes : ℕ) (rooms : Rooms D) (before : List (Station D)) (s : Station D) (ms : Vec (Vec (PassOf (Manager D) ManagerBase) Global) Global)
+    (row : Vec (PassOf (Manager D) ManagerBase) Global) → AreRooms volumes (length (map (λ (t : Station D). base_of_station t) (before ++ s ∷ []))) rooms → rooms.managers.items ≡ ms.items ++ row ∷ []
     → AreRooms volumes (length (map (λ (t : Station D). base_of_station t) before)) (record rooms { managers = ms })
 rooms_less {D} volumes rooms before s ms row are split = record {
   pool_count = are.pool_count;
@@ -122,15 +114,11 @@ rooms_less {D} volumes rooms before s ms row are split = record {
       let stations = length-map (before ++ s ∷ []) (λ (t : Station D). base_of_station t) ∙ length_push before s in
       let fewer = length-map before (λ (t : Station D). base_of_station t) in
       omega (arith, are.manager_count, all, stations, fewer);
-  managers = all_front (λ r. (r.items ≡ []) × (3 ≤ Rattle.std.specs.Prelude.vec_capacity r)) ms.items row (subst (λ l. All (λ r. (r.items ≡ []) × (3 ≤ Rattle.std.specs.Prelude.vec_capacity r)) l) split are.managers);
+  managers = all_front (λ r. (r.items ≡ []) × (3 ≤ vec_capacity r)) ms.items row (subst (λ l. All (λ r. (r.items ≡ []) × (3 ≤ vec_capacity r)) l) split are.managers);
   closed = are.closed;
 }
 
 -- ---- Stations are closed one after another, the last first
-
-keeps_all : {D : Type 0} (o : Option (ImageRest D)) → KeepsButHome o o
-keeps_all None = refl
-keeps_all (Some r) = refl
 
 keeps_then : {D : Type 0} (a b c : Option (ImageRest D)) → KeepsButHome a b → KeepsButHome b c → KeepsButHome a c
 keeps_then {D} None b c first then = subst (λ (o : Option (ImageRest D)). KeepsButHome o c) first then
@@ -144,7 +132,7 @@ module _ {D : Type 0} (tells : Bool) (state : D → State) where
   none_closed r = record {
     closings = [];
     each = tt;
-    images = λ k. keeps_all (image_here r.images.items k);
+    images = λ k. kept_all (image_here r.images.items k);
     homes = λ k away. refl;
     held = λ v k away. refl;
     spindles = λ v k differs away. refl;
@@ -158,7 +146,7 @@ module _ {D : Type 0} (tells : Bool) (state : D → State) where
       home = one.homes t.id differs ∙ is.home;
       back = λ n d within.
           let b = is.back n d within in
-          let kept = one.places t.id (logger_of (Rattle.std.proofs.Common.get_or c.manager.lanes.items n d)) differs in
+          let kept = one.places t.id (logger_of (get_or c.manager.lanes.items n d)) differs in
           record { pool = kept.pool ∙ b.pool; spindle = kept.spindle ∙ b.spindle; held = kept.held ∙ b.held };
     }
 
@@ -180,16 +168,16 @@ module _ {D : Type 0} (tells : Bool) (state : D → State) where
     }
       where
         others : (v k : ℕ) → Contains (away_with (map (λ (t : Station D). base_of_station t) done)).lanes (v, k) → Contains (away_with (map (λ (t : Station D). base_of_station t) (s ∷ done))).lanes (v, k)
-        others v k has = Contains-append_right (Rattle.rack_parts.proofs.ManagerBack.lanes_with (base_of_station s)) (away_with (map (λ (t : Station D). base_of_station t) done)).lanes (v, k) has
+        others v k has = Contains-append_right (lanes_with (base_of_station s)) (away_with (map (λ (t : Station D). base_of_station t) done)).lanes (v, k) has
 
         own : (v k : ℕ) → Contains (away_with (base_of_station s ∷ [])).lanes (v, k) → Contains (away_with (map (λ (t : Station D). base_of_station t) (s ∷ done))).lanes (v, k)
         own v k has =
-            let mine : Contains (Rattle.rack_parts.proofs.ManagerBack.lanes_with (base_of_station s)) (v, k) =
-            subst (λ (l : List (ℕ × ℕ)). Contains l (v, k)) (append-nil (Rattle.rack_parts.proofs.ManagerBack.lanes_with (base_of_station s))) has in
-            Contains-append_left (Rattle.rack_parts.proofs.ManagerBack.lanes_with (base_of_station s)) (away_with (map (λ (t : Station D). base_of_station t) done)).lanes (v, k) mine
+            let mine : Contains (lanes_with (base_of_station s)) (v, k) =
+            subst (λ (l : List (ℕ × ℕ)). Contains l (v, k)) (append-nil (lanes_with (base_of_station s))) has in
+            Contains-append_left (lanes_with (base_of_station s)) (away_with (map (λ (t : Station D). base_of_station t) done)).lanes (v, k) mine
 
 -- what stands behind a place of a rising list has another number
-pub apart_behind : {D : Type 0} (all : List (Station D)) (n : ℕ) (s : Station D) → Rattle.rack_parts.specs.Racks.AreRising (map (λ (t : Station D). t.id) all) → slice_get all n ≡ Some s → (t : Station D) → Contains (drop (n + 1) all) t → t.id ≢ s.id
+pub apart_behind : {D : Type 0} (all : List (Station D)) (n : ℕ) (s : Station D) → AreRising (map (λ (t : Station D). t.id) all) → slice_get all n ≡ Some s → (t : Station D) → Contains (drop (n + 1) all) t → t.id ≢ s.id
 apart_behind {D} all n s rising at t has same =
     let place : length (drop (n + 1) all) ≡ length all - (n + 1) = length-drop (n + 1) all in
     let within : n + 1 + has.0 < length all = omega (arith, place, has.1) in

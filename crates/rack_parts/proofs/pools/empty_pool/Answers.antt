@@ -6,11 +6,11 @@ use Rattle.rack_parts.proofs.pools.empty_pool.Goals as goal
 pub loop-index-init : goal.loop-index-init
 loop-index-init g c = none_moved c.args.pool c.args.image.now c.requires.places
 
-pub put_segment-requires-clause-there : goal.put_segment-requires-clause-there
-put_segment-requires-clause-there g c = place_there c.args.pool c.loop-index.pool c.in-Some.index c.in-Some.free c.in-Some.ensures.item c.args.image.now c.loop-index.image c.loop-index.invariant
-
-pub put_segment-requires-clause-here : goal.put_segment-requires-clause-here
-put_segment-requires-clause-here g c = place_empty c.args.pool c.loop-index.pool c.in-Some.index c.in-Some.free c.in-Some.ensures.item c.args.image.now c.loop-index.image c.loop-index.invariant
+pub put_segment-requires : goal.put_segment-requires
+put_segment-requires g c = record {
+  there = place_there c.args.pool c.loop-index.pool c.in-Some.index c.in-Some.free c.in-Some.ensures.item c.args.image.now c.loop-index.image c.loop-index.invariant;
+  here = place_empty c.args.pool c.loop-index.pool c.in-Some.index c.in-Some.free c.in-Some.ensures.item c.args.image.now c.loop-index.image c.loop-index.invariant;
+}
 
 pub loop-index-smaller : goal.loop-index-smaller
 loop-index-smaller g c = fewer_items c.loop-index.pool c.take.new.self c.in-Some.index c.in-Some.free c.in-Some.ensures.same c.in-Some.ensures.item c.in-Some.ensures.rest

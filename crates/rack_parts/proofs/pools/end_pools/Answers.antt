@@ -26,10 +26,8 @@ loop-issued-preserved g c =
     ended_next state old now all rest i n size so_far c.requires.count c.end_pool.new.image
     (subst (λ (o : Option (ImageRest g.row.D.Denot)). EndsInto state (lock_id i.lock).base o c.end_pool.new.image) (get_or_default now n was None lt) c.end_pool.ensures)
 
-pub returns-clause-each : goal.returns-clause-each
-returns-clause-each g c = λ k i is.
+pub returns : goal.returns
+returns g c =
     let none : c.loop-issued.made.items ≡ [] = nil_from_length c.loop-issued.made.items (omega (arith, c.in_default.ensures.cases, c.loop-issued.made.ok.0)) in
-    c.loop-issued.invariant.ended k i (omega (arith, ap length none)) is
-
-pub returns-clause-others : goal.returns-clause-others
-returns-clause-others g c = c.loop-issued.invariant.others
+    let inv = c.loop-issued.invariant in
+    record { count = inv.count; each = λ k i is. inv.ended k i (omega (arith, ap length none)) is; others = inv.others }

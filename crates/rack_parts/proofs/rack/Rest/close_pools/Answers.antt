@@ -1,7 +1,7 @@
-use Rattle.rack_parts.proofs.Basics.{◌≡◌, ◌≤◌, ◌+◌, ℕ, [], length, take, Some, refl, sym, ap, ◌∙◌, subst, arith, All, slice_get}
-use Rattle.rack_parts.proofs.Basics.{vec_capacity, length_push, length-take-le, take_all, All-take}
+use Rattle.rack_parts.proofs.Basics.{◌≡◌, ◌≤◌, ◌+◌, ℕ, [], length, take, Some, refl, sym, ap, ◌∙◌, subst, arith, slice_get}
+use Rattle.rack_parts.proofs.Basics.{vec_capacity, length_push, length-take-le, take_all}
 use Rattle.rack_parts.proofs.Terms.{lock_id, shapes_of, image_here, Rooms, CanClosePool}
-use Rattle.rack_parts.proofs.Members.{element_at, all_last, front_less, front_last}
+use Rattle.rack_parts.proofs.Members.{element_at, last_of_front, front_less, front_last}
 use Rattle.rack_parts.proofs.PoolsClosed.{ArePoolsClosed, still_may, refills_same, no_pool_closed, one_pool_more}
 use Rattle.rack_parts.proofs.rack.Rest.close_pools.Goals as goal
 
@@ -29,11 +29,8 @@ close_pool-requires-clause-pool g c =
 
 pub close_pool-requires-clause-empty : goal.close_pool-requires-clause-empty
 close_pool-requires-clause-empty g c =
-    let rows : All (λ row. (row.items ≡ []) × (length (shapes_of c.requires.0) ≤ vec_capacity row)) c.loop-lock.self.rooms.pools.items =
-    subst (λ l. All (λ row. (row.items ≡ []) × (length (shapes_of c.requires.0) ≤ vec_capacity row)) l) (sym c.loop-lock.invariant.rooms_front)
-    (All-take (λ row. (row.items ≡ []) × (length (shapes_of c.requires.0) ≤ vec_capacity row)) (length c.loop-lock.locks.items) c.args.self.now.rooms.pools.items c.requires.1.rooms) in
-    (all_last (λ row. (row.items ≡ []) × (length (shapes_of c.requires.0) ≤ vec_capacity row)) c.pop-in-Some.new.self.items c.in-Some-pop.room
-    (subst (λ l. All (λ row. (row.items ≡ []) × (length (shapes_of c.requires.0) ≤ vec_capacity row)) l) c.in-Some-pop.ensures.items rows)).0
+    (last_of_front (λ row. (row.items ≡ []) × (length (shapes_of c.requires.0) ≤ vec_capacity row)) (length c.loop-lock.locks.items) c.args.self.now.rooms.pools.items c.loop-lock.self.rooms.pools.items c.pop-in-Some.new.self.items c.in-Some-pop.room
+    c.loop-lock.invariant.rooms_front c.in-Some-pop.ensures.items c.requires.1.rooms).0
 
 pub close_pool-requires-clause-room : goal.close_pool-requires-clause-room
 close_pool-requires-clause-room g c =
@@ -41,11 +38,8 @@ close_pool-requires-clause-room g c =
     let there = front_last c.args.locks.items c.loop-lock.locks.items c.pop.new.self.items c.in-Some.lock c.loop-lock.invariant.front c.in-Some.ensures.items in
     let z = element_at (shapes_of c.requires.0) (length c.pop.new.self.items) (omega (arith, all, c.loop-lock.invariant.few, c.requires.1.few)) in
     let count = (c.requires.1.each (length c.pop.new.self.items) z.0 c.in-Some.lock z.1 there).count in
-    let rows : All (λ row. (row.items ≡ []) × (length (shapes_of c.requires.0) ≤ vec_capacity row)) c.loop-lock.self.rooms.pools.items =
-    subst (λ l. All (λ row. (row.items ≡ []) × (length (shapes_of c.requires.0) ≤ vec_capacity row)) l) (sym c.loop-lock.invariant.rooms_front)
-    (All-take (λ row. (row.items ≡ []) × (length (shapes_of c.requires.0) ≤ vec_capacity row)) (length c.loop-lock.locks.items) c.args.self.now.rooms.pools.items c.requires.1.rooms) in
-    let room = (all_last (λ row. (row.items ≡ []) × (length (shapes_of c.requires.0) ≤ vec_capacity row)) c.pop-in-Some.new.self.items c.in-Some-pop.room
-    (subst (λ l. All (λ row. (row.items ≡ []) × (length (shapes_of c.requires.0) ≤ vec_capacity row)) l) c.in-Some-pop.ensures.items rows)).1 in
+    let room = (last_of_front (λ row. (row.items ≡ []) × (length (shapes_of c.requires.0) ≤ vec_capacity row)) (length c.loop-lock.locks.items) c.args.self.now.rooms.pools.items c.loop-lock.self.rooms.pools.items c.pop-in-Some.new.self.items c.in-Some-pop.room
+    c.loop-lock.invariant.rooms_front c.in-Some-pop.ensures.items c.requires.1.rooms).1 in
     omega (arith, room, count, c.loop-lock.invariant.closed.spindles.count)
 
 pub loop-lock-preserved : goal.loop-lock-preserved
@@ -76,23 +70,15 @@ loop-lock-preserved g c =
       rooms = c.close_pool.ensures.rooms ∙ ap {A = Rooms g.row.D.Denot} (λ r. record r { pools = c.pop-in-Some.new.self }) c.loop-lock.invariant.rooms ∙ ap (λ p. record c.args.self.now.rooms { pools = p }) (sym (ap (λ r. r.pools) c.close_pool.ensures.rooms));
     }
 
-pub returns-clause-images : goal.returns-clause-images
-returns-clause-images g c =
+pub returns : goal.returns
+returns g c =
     let none : length c.loop-lock.locks.items ≡ 0 = omega (arith, c.in_default.ensures.cases, c.loop-lock.locks.ok.0) in
-    λ k lock at. c.loop-lock.invariant.closed.images k lock (omega (arith, none)) at
-
-pub returns-clause-uses : goal.returns-clause-uses
-returns-clause-uses g c =
-    let none : length c.loop-lock.locks.items ≡ 0 = omega (arith, c.in_default.ensures.cases, c.loop-lock.locks.ok.0) in
-    λ k lock at. c.loop-lock.invariant.closed.uses k lock (omega (arith, none)) at
-
-pub returns-clause-held : goal.returns-clause-held
-returns-clause-held g c =
-    let none : length c.loop-lock.locks.items ≡ 0 = omega (arith, c.in_default.ensures.cases, c.loop-lock.locks.ok.0) in
-    λ v k below. c.loop-lock.invariant.closed.held v k (omega (arith, none)) below
-
-pub returns-clause-others : goal.returns-clause-others
-returns-clause-others g c = λ k past. c.loop-lock.invariant.closed.behind k past
-
-pub returns-clause-spindles : goal.returns-clause-spindles
-returns-clause-spindles g c = c.loop-lock.invariant.closed.spindles
+    let closed = c.loop-lock.invariant.closed in
+    record {
+      images = λ k lock at. closed.images k lock (omega (arith, none)) at;
+      uses = λ k lock at. closed.uses k lock (omega (arith, none)) at;
+      held = λ v k below. closed.held v k (omega (arith, none)) below;
+      others = closed.behind;
+      spindles = closed.spindles;
+      rooms = c.loop-lock.invariant.rooms;
+    }

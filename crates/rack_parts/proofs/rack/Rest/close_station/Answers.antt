@@ -26,43 +26,29 @@ push_reserved-requires-3 g c =
     let room = (all_last (λ r. (r.items ≡ []) × (3 ≤ vec_capacity r)) c.pop.new.self.items c.in-Some.passes (subst (λ l. All (λ r. (r.items ≡ []) × (3 ≤ vec_capacity r)) l) c.in-Some.ensures.items c.requires.3.rest.rooms.managers)) in
     omega (arith, ap length room.0, room.1, c.in-Some.passes.ok.0, c.push_reserved.ensures.len, c.push_reserved.ensures.capacity, c.push_reserved-2.ensures.len, c.push_reserved-2.ensures.capacity)
 
-pub close-manager-requires-clause-count : goal.close-manager-requires-clause-count
-close-manager-requires-clause-count g c =
-    let empty = (all_last (λ r. (r.items ≡ []) × (3 ≤ vec_capacity r)) c.pop.new.self.items c.in-Some.passes (subst (λ l. All (λ r. (r.items ≡ []) × (3 ≤ vec_capacity r)) l) c.in-Some.ensures.items c.requires.3.rest.rooms.managers)).0 in
-    let items = row_of_three c.args.station.worker c.args.station.helper c.args.station.keeper c.in-Some.passes.items c.push_reserved.new.self.items c.push_reserved-2.new.self.items c.push_reserved-3.new.self.items
-    empty c.push_reserved.ensures.items c.push_reserved-2.ensures.items c.push_reserved-3.ensures.items in
-    let three : length c.push_reserved-3.new.self.items ≡ 3 = ap length items in
-    let station : IsStation c.args.station = all_last (λ t. IsStation t) c.requires.2 c.args.station c.requires.3.each in
-    omega (arith, three, c.push_reserved-3.new.self.ok.0, station.passes)
-
-pub close-manager-requires-clause-passes : goal.close-manager-requires-clause-passes
-close-manager-requires-clause-passes g c =
+pub close-manager-requires : goal.close-manager-requires
+close-manager-requires g c =
     let P : PassOf (Manager g.row.D.Denot) ManagerBase → Type 0 = λ p. IsPassOf c.args.station.lock p × IsFree p in
     let empty = (all_last (λ r. (r.items ≡ []) × (3 ≤ vec_capacity r)) c.pop.new.self.items c.in-Some.passes (subst (λ l. All (λ r. (r.items ≡ []) × (3 ≤ vec_capacity r)) l) c.in-Some.ensures.items c.requires.3.rest.rooms.managers)).0 in
     let items = row_of_three c.args.station.worker c.args.station.helper c.args.station.keeper c.in-Some.passes.items c.push_reserved.new.self.items c.push_reserved-2.new.self.items c.push_reserved-3.new.self.items
     empty c.push_reserved.ensures.items c.push_reserved-2.ensures.items c.push_reserved-3.ensures.items in
     let station : IsStation c.args.station = all_last (λ t. IsStation t) c.requires.2 c.args.station c.requires.3.each in
-    subst (λ (l : List (PassOf (Manager g.row.D.Denot) ManagerBase)). All P l) (sym items)
-    (All-cons P c.args.station.worker (c.args.station.helper ∷ c.args.station.keeper ∷ []) (station.worker_.own, station.worker_.free) (All-cons P c.args.station.helper (c.args.station.keeper ∷ []) (station.helper_.own, station.helper_.free)
-    (All-cons P c.args.station.keeper [] (station.keeper_.own, station.keeper_.free) (All-nil P))))
+    record {
+      count = omega (arith, ap length items, c.push_reserved-3.new.self.ok.0, station.passes);
+      passes = subst (λ (l : List (PassOf (Manager g.row.D.Denot) ManagerBase)). All P l) (sym items)
+          (All-cons P c.args.station.worker (c.args.station.helper ∷ c.args.station.keeper ∷ []) (station.worker_.own, station.worker_.free) (All-cons P c.args.station.helper (c.args.station.keeper ∷ []) (station.helper_.own, station.helper_.free)
+          (All-cons P c.args.station.keeper [] (station.keeper_.own, station.keeper_.free) (All-nil P))));
+    }
 
-pub put_manager-requires-clause-home : goal.put_manager-requires-clause-home
-put_manager-requires-clause-home g c =
-    home_away g.D.Disk.state g.D.Disk.tells c.requires.0 c.requires.1 c.requires.2 c.args.station c.args.self.now c.requires.3 c.close-manager.result c.close-manager.ensures.0 c.close-manager.ensures.1
-    (record c.args.self.now.rooms { managers = c.pop.new.self })
-
-pub put_manager-requires-clause-lanes : goal.put_manager-requires-clause-lanes
-put_manager-requires-clause-lanes g c =
-    subst (λ v. CanPutLanes g.D.Disk.state (record c.args.self.now { rooms = record c.args.self.now.rooms { managers = c.pop.new.self } }) c.args.station.id v.items) (sym c.release.ensures.lanes)
-    (lanes_away g.D.Disk.state g.D.Disk.tells c.requires.0 c.requires.1 c.requires.2 c.args.station c.args.self.now c.requires.3 c.close-manager.result c.close-manager.ensures.0 c.close-manager.ensures.1
-    (record c.args.self.now.rooms { managers = c.pop.new.self }))
-
-pub put_manager-requires-clause-others : goal.put_manager-requires-clause-others
-put_manager-requires-clause-others g c =
-    let P : Lane g.row.D.Denot → Type 0 = λ l. c.args.station.id ≡ logger_of l → ⊥ in
-    subst (λ v. All P v.items) (sym c.release.ensures.lanes)
-    (lanes_of_others g.D.Disk.state g.D.Disk.tells c.requires.0 c.requires.1 c.requires.2 c.args.station c.args.self.now c.requires.3 c.close-manager.result c.close-manager.ensures.0 c.close-manager.ensures.1
-    (record c.args.self.now.rooms { managers = c.pop.new.self }))
+pub put_manager-requires : goal.put_manager-requires
+put_manager-requires g c =
+    let state = g.D.Disk.state in let tells = g.D.Disk.tells in let r = c.requires in let s = c.args.station in let m = c.close-manager.result in let e = c.close-manager.ensures in let old = c.args.self.now in
+    let rooms = record old.rooms { managers = c.pop.new.self } in
+    record {
+      home = home_away state tells r.0 r.1 r.2 s old r.3 m e.0 e.1 rooms;
+      lanes = subst (λ v. CanPutLanes state (record old { rooms = rooms }) s.id v.items) (sym c.release.ensures.lanes) (lanes_away state tells r.0 r.1 r.2 s old r.3 m e.0 e.1 rooms);
+      others = subst (λ v. All (λ (l : Lane g.row.D.Denot). s.id ≡ logger_of l → ⊥) v.items) (sym c.release.ensures.lanes) (lanes_of_others state tells r.0 r.1 r.2 s old r.3 m e.0 e.1 rooms);
+    }
 
 pub returns-clause-rest : goal.returns-clause-rest
 returns-clause-rest g c = λ config shared before can.

@@ -35,15 +35,11 @@ loop-station-preserved g c =
           (one_closed g.D.Disk.tells g.D.Disk.state c.in-Some.station (drop (length c.pop.new.self.items + 1) c.args.stations.items) (apart_behind c.args.stations.items (length c.pop.new.self.items) c.in-Some.station c.requires.2.rising there) c.args.self.now c.loop-station.self c.close_station.new.self behind c.close_station.ensures.closed);
     }
 
-pub returns-clause-rest : goal.returns-clause-rest
-returns-clause-rest g c =
+pub returns : goal.returns
+returns g c =
     let none : c.loop-station.stations.items ≡ [] = nil_from_length c.loop-station.stations.items (omega (arith, c.in_default.ensures.cases, c.loop-station.stations.ok.0)) in
-    λ config shared can. subst (λ (l : List (Station g.row.D.Denot)). IsRest g.D.Disk.state config shared (map (λ (s : Station g.row.D.Denot). base_of_station s) l) c.loop-station.self) none (c.loop-station.invariant.may config shared can).rest
-
-pub returns-clause-closed : goal.returns-clause-closed
-returns-clause-closed g c =
-    let none : length c.loop-station.stations.items ≡ 0 = omega (arith, c.in_default.ensures.cases, c.loop-station.stations.ok.0) in
-    subst (λ (n : ℕ). ClosesStations g.D.Disk.tells g.D.Disk.state (drop n c.args.stations.items) c.args.self.now c.loop-station.self) none c.loop-station.invariant.closed
-
-pub returns-clause-accesses : goal.returns-clause-accesses
-returns-clause-accesses g c = λ config shared can. (c.loop-station.invariant.may config shared can).accesses
+    record {
+      rest = λ config shared can. subst (λ (l : List (Station g.row.D.Denot)). IsRest g.D.Disk.state config shared (map (λ (s : Station g.row.D.Denot). base_of_station s) l) c.loop-station.self) none (c.loop-station.invariant.may config shared can).rest;
+      closed = subst (λ (l : List (Station g.row.D.Denot)). ClosesStations g.D.Disk.tells g.D.Disk.state (drop (length l) c.args.stations.items) c.args.self.now c.loop-station.self) none c.loop-station.invariant.closed;
+      accesses = λ config shared can. (c.loop-station.invariant.may config shared can).accesses;
+    }

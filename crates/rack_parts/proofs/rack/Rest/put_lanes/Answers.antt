@@ -1,5 +1,5 @@
-use Rattle.rack_parts.proofs.Basics.{◌≡◌, [], subst, arith, nil_from_length}
-use Rattle.rack_parts.proofs.LanesMoved.{ArePutSoFar, put_none, last_whole, last_bare, put_next, put_all}
+use Rattle.rack_parts.proofs.Basics.{◌≡◌, [], arith, nil_from_length}
+use Rattle.rack_parts.proofs.LanesMoved.{put_none, last_whole, last_bare, put_next, put_all}
 use Rattle.rack_parts.proofs.rack.Rest.put_lanes.Goals as goal
 
 pub loop-lane-init : goal.loop-lane-init
@@ -7,19 +7,15 @@ loop-lane-init g c = put_none g.D.Disk.state c.args.self.now c.args.id c.args.la
 
 pub put_lane-requires : goal.put_lane-requires
 put_lane-requires g c =
-    let state = g.D.Disk.state in let all = c.args.lanes.items in let rest = c.pop.new.self.items in let l = c.in-Some.lane in
-    let so_far = subst (ArePutSoFar state c.args.self.now c.loop-lane.self c.args.id all) c.in-Some.ensures.items c.loop-lane.invariant in
-    let whole = last_whole state c.args.self.now c.loop-lane.self c.args.id all rest l so_far in
-    record { lane = whole.0; untaken = whole.1; bare = last_bare state c.args.self.now c.loop-lane.self c.args.id all rest l so_far }
+    let so_far = rw c.in-Some.ensures.items at c.loop-lane.invariant in
+    let whole = last_whole g.D.Disk.state c.args.self.now c.loop-lane.self c.args.id c.args.lanes.items c.pop.new.self.items c.in-Some.lane so_far in
+    record { lane = whole.0; untaken = whole.1; bare = last_bare g.D.Disk.state c.args.self.now c.loop-lane.self c.args.id c.args.lanes.items c.pop.new.self.items c.in-Some.lane so_far }
 
 pub loop-lane-preserved : goal.loop-lane-preserved
 loop-lane-preserved g c =
-    let state = g.D.Disk.state in let all = c.args.lanes.items in let rest = c.pop.new.self.items in let l = c.in-Some.lane in
-    let so_far = subst (ArePutSoFar state c.args.self.now c.loop-lane.self c.args.id all) c.in-Some.ensures.items c.loop-lane.invariant in
-    put_next state c.args.self.now c.loop-lane.self c.args.id all rest l so_far c.put_lane.new.self c.put_lane.ensures
+    put_next g.D.Disk.state c.args.self.now c.loop-lane.self c.args.id c.args.lanes.items c.pop.new.self.items c.in-Some.lane (rw c.in-Some.ensures.items at c.loop-lane.invariant) c.put_lane.new.self c.put_lane.ensures
 
 pub returns : goal.returns
 returns g c =
-    let state = g.D.Disk.state in
     let none : c.loop-lane.lanes.items ≡ [] = nil_from_length c.loop-lane.lanes.items (omega (arith, c.in_default.ensures.cases, c.loop-lane.lanes.ok.0)) in
-    put_all state c.args.self.now c.loop-lane.self c.args.id c.args.lanes.items (subst (ArePutSoFar state c.args.self.now c.loop-lane.self c.args.id c.args.lanes.items) none c.loop-lane.invariant)
+    put_all g.D.Disk.state c.args.self.now c.loop-lane.self c.args.id c.args.lanes.items (rw none at c.loop-lane.invariant)

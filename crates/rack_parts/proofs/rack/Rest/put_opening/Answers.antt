@@ -1,7 +1,7 @@
-use Rattle.rack_parts.proofs.Basics.{◌≡◌, ◌<◌, [], Some, None, Option, is_some, length, refl, sym, ap, subst, ◌∙◌, arith, IfSome, with_item}
-use Rattle.rack_parts.proofs.Basics.{nil_from_length, get_or_read}
+use Rattle.rack_parts.proofs.Basics.{◌≡◌, ◌<◌, [], Some, None, Option, is_some, length, refl, sym, ap, subst, IfSome, ◌∙◌, arith, with_item, nil_from_length, get_or_read}
 use Rattle.rack_parts.proofs.Terms.{IsFilled, segment_here, ImageRest, Rest}
-use Rattle.rack_parts.proofs.Returned.{lanes_after, owed_after, AreOwnedPutSoFar, owned_none, last_owed, owned_next, owned_all, here_within, one_put_at}
+use Rattle.rack_parts.proofs.Returned.{lanes_after, owed_after, AreOwnedPutSoFar, owned_none, last_owed, owned_next, owned_all, one_put_at}
+use Rattle.rack_parts.proofs.Members.{here_within}
 use Rattle.rack_parts.proofs.rack.Rest.put_opening.Goals as goal
 
 pub put_lanes-requires : goal.put_lanes-requires
@@ -15,17 +15,17 @@ loop-logger-init g c =
 
 pub index_mut-requires : goal.index_mut-requires
 index_mut-requires g c =
-    let rest = c.pop.new.self.items in let o = c.in-Some.field-0 in let n = c.loop-logger.self in
+    let o = c.in-Some.field-0 in let n = c.loop-logger.self in
     let so_far = subst (AreOwnedPutSoFar c.put_lanes.new.self n c.args.opening.owned.items) c.in-Some.ensures.items c.loop-logger.invariant in
-    let owed = last_owed c.put_lanes.new.self n c.args.opening.owned.items rest o so_far in
+    let owed = last_owed c.put_lanes.new.self n c.args.opening.owned.items c.pop.new.self.items o so_far in
     let lt : o.logger < length n.images.items = here_within n.images.items o.logger owed.image owed.out in
     omega (arith, lt, n.images.ok.0)
 
 pub put_segment-requires : goal.put_segment-requires
 put_segment-requires g c =
-    let rest = c.pop.new.self.items in let o = c.in-Some.field-0 in let n = c.loop-logger.self in
+    let o = c.in-Some.field-0 in let n = c.loop-logger.self in
     let so_far = subst (AreOwnedPutSoFar c.put_lanes.new.self n c.args.opening.owned.items) c.in-Some.ensures.items c.loop-logger.invariant in
-    let owed = last_owed c.put_lanes.new.self n c.args.opening.owned.items rest o so_far in
+    let owed = last_owed c.put_lanes.new.self n c.args.opening.owned.items c.pop.new.self.items o so_far in
     let at : c.index_mut.result.now ≡ Some owed.image = get_or_read n.images.items o.logger c.index_mut.result.now (here_within n.images.items o.logger owed.image owed.out) c.index_mut.ensures.value None ∙ owed.out in
     record {
       there = ap is_some at;
@@ -51,5 +51,5 @@ returns g c =
       home = c.put_home.ensures;
       with_lanes = c.put_lanes.new.self;
       lanes = c.put_lanes.ensures;
-      owned = owned_all c.put_lanes.new.self c.loop-logger.self c.args.opening.owned.items (subst (AreOwnedPutSoFar c.put_lanes.new.self c.loop-logger.self c.args.opening.owned.items) none c.loop-logger.invariant);
+      owned = owned_all c.put_lanes.new.self c.loop-logger.self c.args.opening.owned.items (rw none at c.loop-logger.invariant);
     }

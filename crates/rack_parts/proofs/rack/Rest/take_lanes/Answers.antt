@@ -1,5 +1,5 @@
 use Rattle.rack_parts.proofs.Basics.{◌<◌, ◌≤◌, ℕ, List, length, is_some, sym, ap, subst, ◌∙◌, arith, slice_index_or, take_all}
-use Rattle.rack_parts.proofs.Terms.{Lane, CanPutLanes, PutsLanes, TakesLanes, loggers_out}
+use Rattle.rack_parts.proofs.Terms.{Lane, TakesLanes, loggers_out}
 use Rattle.rack_parts.proofs.LanesTaken.{AreLanesTaken, lanes_none, next_usable, same_out, lanes_step, may_put_back, all_back, can_after_same, puts_after_same}
 use Rattle.rack_parts.proofs.rack.Rest.take_lanes.Goals as goal
 
@@ -28,45 +28,34 @@ take_lane_of-requires-clause-place g c = λ some.
 
 pub put_lanes-requires : goal.put_lanes-requires
 put_lanes-requires g c =
-    let view = c.args.view.now in let n = c.loop-logger.logger-index in let old = c.args.self.now in let new = c.loop-logger.self in
-    let within : n < length view = omega (arith, ap length c.ids-logger-items.ensures.value) in
-    let so_far = c.loop-logger.invariant.taken in let state = g.D.Disk.state in let config = c.args.config.now in let v = c.args.id in let lanes = c.loop-logger.lanes.items in
-    subst (λ (l : List (Lane g.row.D.Denot)). CanPutLanes state c.take_lane_of.new.self v l) (sym c.in-Err.ensures.same_lanes)
-    (can_after_same state new c.take_lane_of.new.self v lanes c.in-Err.ensures.same
-    (may_put_back state config view v c.len.ensures.valid.distinct old new lanes n so_far c.requires.places (omega (arith, within))))
+    let new = c.loop-logger.self in let state = g.D.Disk.state in let v = c.args.id in let lanes = c.loop-logger.lanes.items in
+    rw c.in-Err.ensures.same_lanes (can_after_same state new c.take_lane_of.new.self v lanes c.in-Err.ensures.same
+    (may_put_back state c.args.config.now c.args.view.now v c.len.ensures.valid.distinct c.args.self.now new lanes c.loop-logger.logger-index c.loop-logger.invariant.taken))
 
 pub returns-in-Err-clause-same : goal.returns-in-Err-clause-same
 returns-in-Err-clause-same g c =
-    let view = c.args.view.now in let n = c.loop-logger.logger-index in let old = c.args.self.now in let new = c.loop-logger.self in
-    let within : n < length view = omega (arith, ap length c.ids-logger-items.ensures.value) in
-    let so_far = c.loop-logger.invariant.taken in let state = g.D.Disk.state in let config = c.args.config.now in let v = c.args.id in let lanes = c.loop-logger.lanes.items in
-    let puts = subst (λ (l : List (Lane g.row.D.Denot)). PutsLanes c.take_lane_of.new.self c.put_lanes.new.self v l) c.in-Err.ensures.same_lanes c.put_lanes.ensures in
-    all_back state config view v c.len.ensures.valid.distinct old new lanes n so_far c.requires.places (omega (arith, within)) c.put_lanes.new.self
-    (puts_after_same new c.take_lane_of.new.self c.put_lanes.new.self v lanes c.in-Err.ensures.same puts)
+    let new = c.loop-logger.self in let v = c.args.id in let lanes = c.loop-logger.lanes.items in
+    all_back g.D.Disk.state c.args.config.now c.args.view.now v c.len.ensures.valid.distinct c.args.self.now new lanes c.loop-logger.logger-index c.loop-logger.invariant.taken c.put_lanes.new.self
+    (puts_after_same new c.take_lane_of.new.self c.put_lanes.new.self v lanes c.in-Err.ensures.same (rw c.in-Err.ensures.same_lanes at c.put_lanes.ensures))
 
 pub loop-logger-preserved : goal.loop-logger-preserved
 loop-logger-preserved g c =
-    let view = c.args.view.now in let n = c.loop-logger.logger-index in let k = slice_index_or c.ids-logger-items.result.now n 0 in let old = c.args.self.now in let new = c.loop-logger.self in
-    let within : n < length view = omega (arith, ap length c.ids-logger-items.ensures.value) in
-    let so_far = c.loop-logger.invariant.taken in let state = g.D.Disk.state in let config = c.args.config.now in let v = c.args.id in let lanes = c.loop-logger.lanes.items in
+    let view = c.args.view.now in let n = c.loop-logger.logger-index in
     record {
-      taken = lanes_step state config view v c.len.ensures.valid.distinct old new c.take_lane_of.new.self lanes c.take_lane_of.new.lanes.items n so_far k within (ap (λ (l : List ℕ). slice_index_or l n 0) c.ids-logger-items.ensures.value) c.in_default-take_lane_of.ensures.taken;
+      taken = lanes_step g.D.Disk.state c.args.config.now view c.args.id c.len.ensures.valid.distinct c.args.self.now c.loop-logger.self c.take_lane_of.new.self c.loop-logger.lanes.items c.take_lane_of.new.lanes.items n c.loop-logger.invariant.taken
+          (slice_index_or c.ids-logger-items.result.now n 0) (omega (arith, ap length c.ids-logger-items.ensures.value)) (ap (λ (l : List ℕ). slice_index_or l n 0) c.ids-logger-items.ensures.value) c.requires.places c.in_default-take_lane_of.ensures.taken;
       room = omega (arith, c.loop-logger.invariant.room, c.take_lane_of.ensures.room);
     }
 
-pub returns-clause-back : goal.returns-clause-back
-returns-clause-back g c =
-    let view = c.args.view.now in let n = c.loop-logger.logger-index in
-    may_put_back g.D.Disk.state c.args.config.now view c.args.id c.len.ensures.valid.distinct c.args.self.now c.loop-logger.self c.loop-logger.lanes.items n c.loop-logger.invariant.taken c.requires.places
-    (omega (arith, ap length c.ids-logger-items.ensures.value))
-
-pub returns-clause-restored : goal.returns-clause-restored
-returns-clause-restored g c =
-    let view = c.args.view.now in let n = c.loop-logger.logger-index in
-    all_back g.D.Disk.state c.args.config.now view c.args.id c.len.ensures.valid.distinct c.args.self.now c.loop-logger.self c.loop-logger.lanes.items n c.loop-logger.invariant.taken c.requires.places
-    (omega (arith, ap length c.ids-logger-items.ensures.value))
-
-pub returns-clause-taken : goal.returns-clause-taken
-returns-clause-taken g c =
-    let view = c.args.view.now in let n = c.loop-logger.logger-index in let all : length view ≤ n = omega (arith, ap length c.ids-logger-items.ensures.value) in
-    subst (λ (l : List ℕ). TakesLanes g.D.Disk.state c.args.config.now c.args.self.now c.loop-logger.self c.args.id (loggers_out c.args.self.now l) c.loop-logger.lanes.items) (take_all n view all) c.loop-logger.invariant.taken.takes
+pub returns : goal.returns
+returns g c =
+    let state = g.D.Disk.state in let config = c.args.config.now in let view = c.args.view.now in let n = c.loop-logger.logger-index in let old = c.args.self.now in let new = c.loop-logger.self in let lanes = c.loop-logger.lanes.items in
+    let all : length view ≤ n = omega (arith, ap length c.ids-logger-items.ensures.value) in
+    let so_far = c.loop-logger.invariant.taken in
+    record {
+      distinct = c.len.ensures.valid.distinct;
+      taken = subst (λ (l : List ℕ). TakesLanes state config old new c.args.id (loggers_out old l) lanes) (take_all n view all) so_far.takes;
+      back = may_put_back state config view c.args.id c.len.ensures.valid.distinct old new lanes n so_far;
+      restored = all_back state config view c.args.id c.len.ensures.valid.distinct old new lanes n so_far;
+      same = tt;
+    }

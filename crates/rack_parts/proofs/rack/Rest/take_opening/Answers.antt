@@ -2,7 +2,7 @@ use Rattle.rack_parts.proofs.Basics.{◌<◌, length, is_some, refl, sym, ap, su
 use Rattle.rack_parts.proofs.Terms.{shape_of, shape_in, CanPutLanes, PutsLanes, Rest}
 use Rattle.rack_parts.proofs.LanesTaken.{pairs_apart}
 use Rattle.rack_parts.proofs.OwnedTaken.{owned_here_then, home_place, spindle_same, image_there, home_there, home_same, shape_at}
-use Rattle.rack_parts.proofs.Returned.{here_within}
+use Rattle.rack_parts.proofs.Members.{here_within}
 use Rattle.rack_parts.proofs.rack.Rest.take_opening.Goals as goal
 
 pub take_lanes-requires-clause-config : goal.take_lanes-requires-clause-config
@@ -18,25 +18,16 @@ returns-in-Err-clause-same g c =
 pub take_owned-requires-clause-here : goal.take_owned-requires-clause-here
 take_owned-requires-clause-here g c = owned_here_then c.args.self.now c.take_lanes.new.self c.args.said.now c.args.id c.in_ok-lanes.ensures.taken.passes.images c.requires.ready.owned
 
-pub take_home-home-requires-clause-place : goal.take_home-home-requires-clause-place
-take_home-home-requires-clause-place g c =
-    home_place g.D.Disk.state c.args.config.now c.args.self.now c.take_lanes.new.self c.take_owned.new.self c.args.said.now c.args.id c.args.view c.in_ok-lanes.lanes.items c.in-Ok.owned.items c.requires.ready
-    c.in_ok-lanes.ensures.taken c.in-Ok.ensures.taken
-
-pub take_home-home-requires-clause-home : goal.take_home-home-requires-clause-home
-take_home-home-requires-clause-home g c =
-    home_there g.D.Disk.state c.args.config.now c.args.self.now c.take_lanes.new.self c.take_owned.new.self c.args.said.now c.args.id c.args.view c.in_ok-lanes.lanes.items c.in-Ok.owned.items c.requires.ready
-    c.in_ok-lanes.ensures.taken c.in-Ok.ensures.taken
-
-pub take_home-home-requires-clause-out : goal.take_home-home-requires-clause-out
-take_home-home-requires-clause-out g c =
-    image_there g.D.Disk.state c.args.config.now c.args.self.now c.take_lanes.new.self c.take_owned.new.self c.args.said.now c.args.id c.args.view c.in_ok-lanes.lanes.items c.in-Ok.owned.items c.requires.ready
-    c.in_ok-lanes.ensures.taken c.in-Ok.ensures.taken
-
-pub take_home-home-requires-clause-spindle : goal.take_home-home-requires-clause-spindle
-take_home-home-requires-clause-spindle g c =
-    ap is_some (spindle_same g.D.Disk.state c.args.config.now c.args.self.now c.take_lanes.new.self c.take_owned.new.self c.args.said.now c.args.id c.args.view c.in_ok-lanes.lanes.items c.in-Ok.owned.items c.requires.ready
-    c.in_ok-lanes.ensures.taken c.in-Ok.ensures.taken) ∙ c.requires.ready.spindle
+pub take_home-home-requires : goal.take_home-home-requires
+take_home-home-requires g c =
+    let state = g.D.Disk.state in let config = c.args.config.now in let r = c.args.self.now in let mid = c.take_lanes.new.self in let last = c.take_owned.new.self in let said = c.args.said.now in
+    let lanes = c.in_ok-lanes.lanes.items in let owned = c.in-Ok.owned.items in let can = c.requires.ready in let took = c.in_ok-lanes.ensures.taken in let gone = c.in-Ok.ensures.taken in
+    record {
+      place = home_place state config r mid last said c.args.id c.args.view lanes owned can took gone;
+      home = home_there state config r mid last said c.args.id c.args.view lanes owned can took gone;
+      out = image_there state config r mid last said c.args.id c.args.view lanes owned can took gone;
+      spindle = ap is_some (spindle_same state config r mid last said c.args.id c.args.view lanes owned can took gone) ∙ can.spindle;
+    }
 
 pub label_of-want-requires-clause-within : goal.label_of-want-requires-clause-within
 label_of-want-requires-clause-within g c =

@@ -1,6 +1,6 @@
 use Rattle.rack_parts.proofs.Basics.{◌≡◌, ◌+◌, List, Some, length, refl, sym, subst, arith, slice_get, slice_get_read}
-use Rattle.rack_parts.proofs.Terms.{OwnedPart}
-use Rattle.rack_parts.proofs.OwnedTaken.{AreOwnedTo, owned_to_none, may_take_of, owned_to_next, owned_to_all, total_front, total_next}
+use Rattle.rack_parts.proofs.Terms.{OwnedPart, owned_in}
+use Rattle.rack_parts.proofs.OwnedTaken.{AreOwnedTo, owned_to_none, may_take_of, owned_to_next, owned_to_all, sum_front, total_next}
 use Rattle.rack_parts.proofs.rack.Rest.take_owned.Goals as goal
 
 pub loop-logger-init : goal.loop-logger-init
@@ -20,7 +20,7 @@ pub take_owned_of-requires-clause-room : goal.take_owned_of-requires-clause-room
 take_owned_of-requires-clause-room g c =
     let said = c.args.said.now in let n = c.loop-logger.logger in let o = c.index-said-logger.result in let v = c.args.id in
     let is : slice_get said n ≡ Some o = slice_get_read said (length said) n o refl (omega arith) c.index-said-logger.is in
-    let front = total_front v said (n + 1) in let next = total_next v said n o is in
+    let front = sum_front (owned_in v) said (n + 1) in let next = total_next v said n o is in
     omega (arith, front, next, c.loop-logger.invariant.taken.total, c.loop-logger.invariant.room, c.loop-logger.owned.ok.0)
 
 pub loop-logger-preserved : goal.loop-logger-preserved
