@@ -12,7 +12,7 @@ use Rattle.redirect_map.specs.Masks.{IsMask}
 use Rattle.redirect_map.specs.declared.record.Rec.{Rec}
 use Rattle.redirect_map.proofs.Bits.{has_bit-above}
 use Rattle.redirect_map.proofs.Versions.{entry_at-own}
-use Rattle.manager.proofs.GivenUp.{same_mask}
+use Rattle.manager.proofs.Entries.{same_mask}
 use Rattle.log_cleaner.specs.Chunks.{NoneHomed}
 use Rattle.inspection.proofs.Unhelped.{there_is}
 

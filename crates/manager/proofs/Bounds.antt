@@ -1,11 +1,9 @@
 -- Sums and answers that a goal over a whole call needs, stated apart from all that is known there.
-use Rattle.std.proofs.Common.{◌≡◌, ◌≤◌, ◌+◌, ℕ, List, length, take, arith}
+use Rattle.std.proofs.Common.{◌≤◌, ◌+◌, ℕ, List, length, take, arith}
 use Rattle.std.proofs.lemmas.List.{length-take-le}
 use Rattle.std.proofs.lemmas.List.Sums.{sum_by-take-le}
 use Rattle.log_segment.specs.Records.{count_of}
 use Rattle.log_segment.specs.declared.item.Item.{Item}
-use Rattle.manager.specs.declared.part.Part.{Part}
-use Rattle.manager.specs.declared.run.Taken.TheVariants.{NoRoom, Written, Failed}
 
 -- ---- The first ones of a list
 
@@ -44,17 +42,3 @@ two_more a b c le room = omega arith
 
 pub at_most : (a b c : ℕ) → a ≤ b → b ≤ c → a ≤ c
 at_most a b c le more = omega arith
-
--- ---- What a lane answered
-
-pub written_none : (n : ℕ) → Written n ≡ NoRoom → ⊥
-written_none n is = cc
-
-pub failed_none : (n : ℕ) (p : Part) → Failed n p ≡ NoRoom → ⊥
-failed_none n p is = cc
-
-pub written_same : (n m : ℕ) → Written n ≡ Written m → n ≡ m
-written_same n m is = cc
-
-pub failed_same : (n m : ℕ) (p q : Part) → Failed n p ≡ Failed m q → p ≡ q
-failed_same n m p q is = cc

@@ -46,8 +46,8 @@ use Rattle.manager.proofs.DropKeeps.{none_valid, named_trimmed}
 use Rattle.manager.proofs.DropPiece.{Piece, piece, was_held as its_held, was_lane as its_lane, set_mid, GoneLanes, gone_lanes}
 use Rattle.listed_records.proofs.Entries.{At, among, kept_marks, keep_within}
 use Rattle.listed_records.proofs.Elements.{all_at, get_set}
-use Rattle.volume_parts.proofs.Lanes.{held_as, InLanes, in_lanes, untaken_set}
-use Rattle.volume_parts.proofs.Held.{one_of_place, IsMoved}
+use Rattle.volume_parts.proofs.Lanes.{held_as, InLanes, in_lanes, same_place, untaken_set}
+use Rattle.volume_parts.proofs.Held.{IsMoved}
 use Rattle.manager.proofs.Moments.{stops_so}
 use Rattle.manager.proofs.Putting.{Pieces}
 use Rattle.manager.proofs.ReadContent.{unbroken, upholds_up}
@@ -321,7 +321,7 @@ module _ {D : Type 0} (tells : Bool) (state : D → State) (sound : (d : D) → 
     image_left : (c : List Block) → HeldSince state (all_held 0 was.lanes.items kw.logs) None (held_as k n split_then.records) c → LeftThen c
     image_left c (was_held x has place image) =
         let from = partner (IsMoved state b.volume.began.owner) olds split_then.front (held_as k o split_then.records) split_then.back (subst (AllZip (IsMoved state b.volume.began.owner) olds) split_then.is moved_then) in
-        let same_one : x ≡ from.0 = one_of_place olds x from.0 kw.upholds.places.apart has from.1 (place ∙ (λ j. (k, same_index j)) ∙ from.2.place) in
+        let same_one : x ≡ from.0 = same_place olds x from.0 kw.upholds.places.apart has from.1 (place ∙ (λ j. (k, same_index j)) ∙ from.2.place) in
         let its = p tells state m b notes kw.logs ready u_then up k old lane i o there version e at lane_is index_is r rec split_then.front split_then.records split_then.back split_then.is split_then.here few given fits bits owned_then in
         (then_leaves {P = LeftThen} (widened from.2.leaves (λ d log. inl (subst (IsLog d b.volume.began.owner) (its.records_are told) log))) leaves (λ d l. l)).each c
         (subst (λ (q : Spun D). ImageSince state q (part_of n.segment) c) (ap (λ (v : Held (Spun D)). v.part) same_one) image)

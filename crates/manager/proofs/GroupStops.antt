@@ -32,9 +32,8 @@ use Rattle.manager.specs.Stands.{Keeps}
 use Rattle.manager.specs.Stops.{ImageSince, HeldSince, was_held, was_free, Stops}
 use Rattle.manager.specs.declared.base.ManagerBase.{ManagerBase}
 use Rattle.manager.specs.declared.manager.Manager.{Manager}
-use Rattle.volume_parts.proofs.Lanes.{InLanes, AtEnd, held_as}
+use Rattle.volume_parts.proofs.Lanes.{InLanes, AtEnd, held_as, same_place}
 use Rattle.manager.proofs.Moments.{still_logs, home_holds, stops_so}
-use Rattle.volume_parts.proofs.Held.{one_of_place}
 use Rattle.manager.proofs.Putting.{owner}
 use Rattle.manager.specs.Groups.{AreItemsOf, log_writes}
 use Rattle.listed_records.proofs.Groups.{group_stops, AreNew, extents_of_new, in_a_row, map_front, map_long}
@@ -106,7 +105,7 @@ module _ {D : Type 0} (tells : Bool) (state : D → State) (sound : (d : D) → 
 
     image_of : (bs : List Block) → HeldSince state (all_held 0 m.lanes.items kp.logs) None (held_as k n split.records) bs → (IsIdle bs × (split.records ≡ [])) ⊎ ((c : ℕ) × (c ≤ length news) × IsLog bs b.volume.began.owner (split.records ++ take c news))
     image_of bs (was_held v has place image) = inr (first
-        (subst (λ (p : Spun D). ImageSince state p (part_of n.segment) bs) (ap (λ (w : Held (Spun D)). w.part) (one_of_place (all_held 0 m.lanes.items kp.logs) v was kp.upholds.places.apart has is_held (place ∙ (λ j. (k, index j))))) image))
+        (subst (λ (p : Spun D). ImageSince state p (part_of n.segment) bs) (ap (λ (w : Held (Spun D)). w.part) (same_place (all_held 0 m.lanes.items kp.logs) v was kp.upholds.places.apart has is_held (place ∙ (λ j. (k, index j))))) image))
       where
         owner_was : owner_of o.segment ≡ b.volume.began.owner
         owner_was = (group_held.was_held tells state m b notes kp up k old new lane is_lane same i o n at held index).owned ∙ owner tells state m b notes kp k old lane

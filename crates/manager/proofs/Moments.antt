@@ -22,7 +22,8 @@ use Rattle.manager.specs.Stops.{ImageSince, HeldSince, was_held, was_free}
 use Rattle.manager.specs.declared.base.ManagerBase.{ManagerBase}
 use Rattle.manager.specs.declared.manager.Manager.{Manager}
 use Rattle.manager.proofs.ReadContent.{unbroken, upholds_up}
-use Rattle.volume_parts.proofs.Held.{IsSameHeld, same_held, same_member, zip_back, rezip, one_of_place, each_member}
+use Rattle.volume_parts.proofs.Held.{IsSameHeld, same_held, same_member, zip_back, rezip, each_member}
+use Rattle.volume_parts.proofs.Lanes.{same_place}
 use Rattle.log_segment.specs.Segment as segment
 
 -- ---- A call of a manager that is up and whose disks tell their content
@@ -39,7 +40,7 @@ module _ {D : Type 0} (tells : Bool) (state : D → State) (sound : (d : D) → 
 
   -- an image since the beginning of the call of a segment that is as it was
   pub still_log : (v : Held (Spun D)) → Contains held v → (bs : List Block) → Since v bs → IsLog bs b.volume.began.owner v.records
-  still_log v has bs (was_held o was same image) = is_log v has bs (subst (λ (p : Spun D). ImageSince state p v.part bs) (ap (λ (w : Held (Spun D)). w.part) (one_of_place held o v kp.upholds.places.apart was has same)) image)
+  still_log v has bs (was_held o was same image) = is_log v has bs (subst (λ (p : Spun D). ImageSince state p v.part bs) (ap (λ (w : Held (Spun D)). w.part) (same_place held o v kp.upholds.places.apart was has same)) image)
     where
       is_log : (v : Held (Spun D)) → Contains held v → (bs : List Block) → ImageSince state v.part v.part bs → IsLog bs b.volume.began.owner v.records
       is_log v has bs image = all_member (λ (w : Held (Spun D)). (bs : List Block) → (parts_of tells state).may_be w.part bs → IsLog bs b.volume.began.owner w.records) held v whole_now.logs has bs (told, (sound v.part.inner).only_now bs image)

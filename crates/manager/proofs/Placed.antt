@@ -5,14 +5,14 @@ use Rattle.std.specs.declared.alloc.Global.{Global}
 use Rattle.std.specs.declared.vec.Vec.{Vec}
 use Rattle.wol_disk.specs.Disk.{State, IsDisk, Block, Rose}
 use Rattle.wol_model.specs.Blocks.{Write}
-use Rattle.wol_model.specs.History.{writes, flight_of, IsCut}
+use Rattle.wol_model.specs.History.{writes, flight_of}
 use Rattle.wol_model.specs.Log.{Record}
 use Rattle.spin_model.specs.declared.spun.Spun.{Spun}
 use Rattle.turn_lock.specs.Passes.{pass_mine, pass_number}
 use Rattle.log_segment.specs.Segment.{Holds}
-use Rattle.wol_promise.specs.Manager.{ManagerSeen, AreInUse, Held, Recovers, is_homed_in}
+use Rattle.wol_promise.specs.Manager.{ManagerSeen, AreInUse, Held, is_homed_in}
 use Rattle.wol_promise.specs.Ruled.{Noted, entries_of, HasPassed}
-use Rattle.wol_promise.specs.Stands.{Upholds, StopsSafely}
+use Rattle.wol_promise.specs.Stands.{Upholds}
 use Rattle.wol_promise.proofs.Lists.{all_map}
 use Rattle.logger.specs.Lanes.{IsLane, HoldsAll, IsSameLane, AreWhole, held_in, taken_in, pool_of, logger_of}
 use Rattle.logger.specs.declared.lane.HeldSegment.{HeldSegment}
@@ -108,33 +108,6 @@ module _ {D : Type 0} (state : D → State) (m : Manager D) (k : ℕ) (old new :
 
         seen_is : seen m kp.logs ≡ seen (record m { lanes = v }) kp.logs
         seen_is = λ j. record { home = m.home; held = held_is j; taken = (untaken_set state m.id m.most m.lanes.items k new kp.ready.ready.each untaken ∙ ap (λ (l : List (Lane D)). all_taken 0 l) (sym lanes)) j; indexed = m.index.entries; next = m.next; home_up = m.home_up; ups = m.ups.items; down = down_of m.down }
-
--- ---- Stopped at any moment
-
-module _ {D : Type 0} (tells : Bool) (state : D → State) (sound : (d : D) → IsDisk (state d)) (told : IsTrue tells) (m : Manager D) (b : ManagerBase) (notes : List Noted) (kp : Keeps tells state m b notes) (up : m.down ≡ None)
-    (k : ℕ) (old new : Lane D) (lane : slice_get m.lanes.items k ≡ Some old) (m' : Manager D) (lanes : m'.lanes.items ≡ slice_set m.lanes.items k new) (home : m'.home ≡ m.home) (flight : List Write) where
-  abbrev Up : HeldSegment D → List Record → Type 0
-  Up h rs = IsTrue tells → m.down ≡ None → Holds state h.segment rs
-
-  abbrev At : (claimed : Option (Spun D)) → Spun D → List (Lane D) → Type 0
-  At claimed now lanes' = (before after : Logs) → AllLanesHold (λ h rs. ⊤) m.lanes.items before → AllLanesHold (λ h rs. ⊤) lanes' after
-      → StopsSafely (ImageSince state m.home now) (HeldSince state (all_held 0 m.lanes.items before) claimed) b.volume.began (entries_of notes) (all_held 0 lanes' after) flight
-
-  -- what recovers with the records that the manager would have stops so
-  stops_then : (claimed : Option (Spun D)) (logs : Logs) (S : HeldSegment D → List Record → Type 0) → AllLanesHold S (slice_set m.lanes.items k new) logs
-      → Recovers (ImageSince state m.home m.home) (HeldSince state (all_held 0 m.lanes.items kp.logs) claimed) b.volume.began.owner (all_held 0 (slice_set m.lanes.items k new) logs) (IsCut b.volume.began.array (writes (entries_of notes)) flight)
-      → Stops state m m' claimed b notes flight
-  stops_then claimed logs S shape recovers = subst (At claimed m'.home) (sym lanes) (subst (λ (p : Spun D). At claimed p (slice_set m.lanes.items k new)) (sym home)
-      (stops_so tells state sound told m b notes kp up claimed (ImageSince state m.home m.home) (slice_set m.lanes.items k new) logs flight S shape recovers))
-
-  -- the lane's held segments are as they were
-  pub quiet_stops : held_in new ≡ held_in old → Stops state m m' None b notes flight
-  quiet_stops same =
-      let is = quiet_held old new same 0 m.lanes.items kp.logs k lane in
-      stops_then None kp.logs Up (quiet_all old new same Up m.lanes.items kp.logs k lane kp.held)
-      (subst (λ (l : List (Held (Spun D))). Recovers (ImageSince state m.home m.home) (HeldSince state (all_held 0 m.lanes.items kp.logs) None) b.volume.began.owner l (IsCut b.volume.began.array (writes (entries_of notes)) flight)) (sym is)
-      (still_stops (ImageSince state m.home m.home) (HeldSince state (all_held 0 m.lanes.items kp.logs) None) b.volume.began.owner b.volume.began.array (writes (entries_of notes)) m.next (is_homed_in m.index.entries)
-      (all_held 0 m.lanes.items kp.logs) flight (still_logs tells state sound told m b notes kp up None) (home_holds tells state sound told m b notes kp up None)))
 
 -- ---- Answers
 

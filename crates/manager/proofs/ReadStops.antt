@@ -26,7 +26,8 @@ use Rattle.manager.specs.Stops.{ImageSince, HeldSince, was_held, was_free, Stops
 use Rattle.manager.specs.declared.base.ManagerBase.{ManagerBase}
 use Rattle.manager.specs.declared.manager.Manager.{Manager}
 use Rattle.manager.specs.declared.part.Part.{Part}
-use Rattle.volume_parts.proofs.Held.{IsSameHeld, same_held, same_member, rezip, one_of_place, each_member, IsMoved, moved_lanes, moved_extents}
+use Rattle.volume_parts.proofs.Held.{IsSameHeld, same_held, same_member, rezip, each_member, IsMoved, moved_lanes, moved_extents}
+use Rattle.volume_parts.proofs.Lanes.{same_place}
 use Rattle.manager.proofs.Moments.{stops_so, whole_now}
 use Rattle.manager.proofs.ReadKeeps.{held_read}
 use Rattle.listed_records.proofs.Elements.{zip_all}
@@ -51,7 +52,7 @@ module _ {D : Type 0} (tells : Bool) (state : D → State) (sound : (d : D) → 
       where
         of_moved : (s t : Held (Spun D)) → IsMoved state b.volume.began.owner s t → Contains held s → (bs : List Block) → HeldSince state held None t bs → IsLog bs b.volume.began.owner t.records
         of_moved s t is has bs (was_held o was same image) = is.leaves.each bs
-            (subst (λ (p : Spun D). ImageSince state p t.part bs) (ap (λ (w : Held (Spun D)). w.part) (one_of_place held o s k.upholds.places.apart was has (same ∙ is.place))) image)
+            (subst (λ (p : Spun D). ImageSince state p t.part bs) (ap (λ (w : Held (Spun D)). w.part) (same_place held o s k.upholds.places.apart was has (same ∙ is.place))) image)
         of_moved s t is has bs (was_free p none other image) = absurd (let no : None ≡ Some p = none in cc)
 
     home_kept : (home : List Block) → ImageSince state old.home new.home home → HoldsArray b.volume.began.array (writes (entries_of notes)) old.next home (extents_held held') (is_homed_in old.index.entries)
@@ -87,7 +88,7 @@ module _ {D : Type 0} (tells : Bool) (state : D → State) (sound : (d : D) → 
       (zip_with (Contains at_rest) Begun (λ s bs. (parts_of tells state).may_be s.part bs) each at_rest segments (each_member at_rest) choice)
     where
       each : (s : Held (Spun D)) (bs : List Block) → Contains at_rest s → Begun s bs → (parts_of tells state).may_be s.part bs
-      each s bs has (was_held o was same image) = (told, image_now state sound o.part s.part bs (ap (λ (w : Held (Spun D)). w.part) (one_of_place at_rest o s k.upholds.places.apart was has same)) image)
+      each s bs has (was_held o was same image) = (told, image_now state sound o.part s.part bs (ap (λ (w : Held (Spun D)). w.part) (same_place at_rest o s k.upholds.places.apart was has same)) image)
       each s bs has (was_free q none other image) = absurd (let no : None ≡ Some q = none in cc)
 
   pub stops_down : Stops state m m None b notes []

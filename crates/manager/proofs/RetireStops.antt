@@ -43,8 +43,8 @@ use Rattle.manager.specs.declared.manager.Manager.{Manager}
 use Rattle.manager.proofs.DropPiece.{GoneLanes, gone_lanes}
 use Rattle.manager.proofs.DropStops.{partner, says_free}
 use Rattle.listed_records.proofs.Elements.{all_at, get_set}
-use Rattle.volume_parts.proofs.Lanes.{held_as, InLanes, in_lanes, untaken_set}
-use Rattle.volume_parts.proofs.Held.{one_of_place, IsMoved}
+use Rattle.volume_parts.proofs.Lanes.{held_as, InLanes, in_lanes, same_place, untaken_set}
+use Rattle.volume_parts.proofs.Held.{IsMoved}
 use Rattle.manager.proofs.Moments.{stops_so}
 use Rattle.manager.proofs.Putting.{Pieces}
 use Rattle.manager.proofs.ReadContent.{unbroken, upholds_up}
@@ -254,7 +254,7 @@ module _ {D : Type 0} (tells : Bool) (state : D → State) (sound : (d : D) → 
     image_left : (c : List Block) → HeldSince state (all_held 0 was.lanes.items kw.logs) None (held_as k n split_then.records) c → LeftThen c
     image_left c (was_held x has place image) =
         let from = partner (IsMoved state b.volume.began.owner) olds split_then.front (held_as k o split_then.records) split_then.back (subst (AllZip (IsMoved state b.volume.began.owner) olds) split_then.is moved_then) in
-        let same_one : x ≡ from.0 = one_of_place olds x from.0 kw.upholds.places.apart has from.1 (place ∙ (λ j. (k, not_freed.index j)) ∙ from.2.place) in
+        let same_one : x ≡ from.0 = same_place olds x from.0 kw.upholds.places.apart has from.1 (place ∙ (λ j. (k, not_freed.index j)) ∙ from.2.place) in
         (then_leaves {P = LeftThen} (widened from.2.leaves (λ d log. inl log)) leaves (λ d l. l)).each c
         (subst (λ (q : Spun D). ImageSince state q (part_of n.segment) c) (ap (λ (v : Held (Spun D)). v.part) same_one) image)
     image_left c (was_free q is other image) = absurd (let wrong : None ≡ Some q = is in cc)

@@ -1,16 +1,15 @@
 -- What a run of writes leaves, by its answer: a group in a log, a write home, or none; and a run of one item.
 use Rattle.std.proofs.Common.{◌≡◌, ◌⊎◌, inl, inr, ⊎_elim, ◌≤◌, ◌+◌, ℕ, Bool, true, false, List, [], ◌∷◌, ◌++◌, map, length, take, Option, None, Some, Result, Ok, Err, refl, sym, ap, subst, ◌∙◌, arith, zero, suc, get_or}
-use Rattle.std.specs.Prelude.{slice_get, IsTrue, IsOk, OnOk, replicate}
+use Rattle.std.specs.Prelude.{slice_get, IsOk, OnOk, replicate}
 use Rattle.std.proofs.lemmas.Option.{none-some, same_Some}
 use Rattle.std.proofs.lemmas.List.Sums.{sum_by-take-le}
 use Rattle.wol_disk.specs.Disk.{State, Block, IsDisk}
-use Rattle.spin_model.specs.declared.spun.Spun.{Spun}
 use Rattle.wol_model.specs.Blocks.{Write}
 use Rattle.wol_model.specs.History.{Operation, Kept, worker, Wrote, Broke}
 use Rattle.wol_model.specs.Index.{listed_in, Indexed}
 use Rattle.wol_model.specs.Placing.{Home as AtHome, Log as InLog, Full as Nowhere}
 use Rattle.wol_promise.specs.Policy.{Look, place_of, placed, version_at, AreWrites}
-use Rattle.wol_promise.specs.Ruled.{Noted, HasPassed, last_look}
+use Rattle.wol_promise.specs.Ruled.{HasPassed, last_look}
 use Rattle.log_segment.specs.Records.{count_of}
 use Rattle.log_segment.specs.declared.item.Item.{Item}
 use Rattle.offload_policy.specs.declared.Room.{Room}
@@ -18,22 +17,22 @@ use Rattle.offload_policy.specs.declared.Room.TheVariants.{Unknown}
 use Rattle.logger.specs.Lanes.{logger_of, first_count}
 use Rattle.logger.specs.declared.shared.Shared.{Shared}
 use Rattle.manager.specs.Answers.{home_write, log_write, written, IsPlaceOf}
-use Rattle.manager.specs.Offers.{HasTakenWrite, ChangesLane, IsOn}
 use Rattle.manager.specs.Seen.{down_of, look_of_manager}
-use Rattle.manager.specs.Stands.{Keeps, Stands, Leaves, IsNote, nones_at, passed_in}
-use Rattle.manager.specs.Stops.{Stops, TellsClaim}
+use Rattle.manager.specs.Stands.{Leaves, LeavesPassing, IsNote, nones_at, passed_in}
+use Rattle.manager.specs.Stops.{Stops, StopsWith, StopsClaiming, TellsClaim}
 use Rattle.manager.specs.Writing.{TellsFault, IsHomeAnswer, IsLogAnswer, in_flight, ruled_place, HaveAnswered, NeedsHome, IsAsBefore, IsPlacedAnswer, takes_at, was_tried, HasLook, NeedsLogs}
-use Rattle.manager.specs.declared.base.ManagerBase.{ManagerBase}
 use Rattle.manager.specs.declared.manager.Manager.{Manager}
 use Rattle.manager.specs.declared.part.Part.{Part}
 use Rattle.manager.specs.declared.part.Place.{Place}
 use Rattle.manager.specs.declared.part.WriteRefusal.{WriteRefusal}
 use Rattle.manager.specs.declared.part.WriteRefusal.TheVariants.{Full, DiskFault, Down, VersionsSpent, NoMemory}
 use Rattle.manager.proofs.Answered.{Asking}
+use Rattle.manager.proofs.Bounds.{of_front, at_most}
 use Rattle.volume_parts.proofs.Claims.{no_more_same}
 use Rattle.manager.proofs.Placed.{look_same, claimed_before, stops_before, passed_log, passed_unplaced}
 use Rattle.manager.specs.Joining.{GoTogether}
-use Rattle.manager.specs.Groups.{first_lbn, first_blocks, writes_to_home, run_writes, run_written, ruled_run, HasRun, IsGroup, AreItemsOf, given_out, log_writes, placed_all, place_told}
+use Rattle.manager.specs.declared.run.Ran.{Ran}
+use Rattle.manager.specs.Groups.{HasTakenRun, first_lbn, first_blocks, writes_to_home, run_writes, run_written, ruled_run, HasRun, IsGroup, AreItemsOf, given_out, log_writes, placed_all, place_told}
 use Rattle.volume_parts.proofs.Places.{group_writes, group_group}
 use Rattle.volume_parts.proofs.Records.{first_long, first_of_take, take_front}
 use Rattle.std.proofs.lemmas.Bool.{false≢true}
@@ -45,6 +44,35 @@ use Rattle.manager.specs.declared.part.Part.TheVariants as part
 use Rattle.manager.specs.declared.part.Place.TheVariants as place
 
 -- ---- To a log
+
+-- what a lane takes of a front, it takes of the whole
+pub taken_of_front : {D : Type 0} (tells : Bool) (state : D → State) (lane : ℕ) (items : List Item) (from : List Block) (k : ℕ) (ran : Ran) (old new : Manager D) → k ≤ length items
+    → HasTakenRun tells state lane (take k items) from ran old new → HasTakenRun tells state lane items from ran old new
+taken_of_front tells state lane items from k ran old new le t =
+    let few = of_front ran.items k items le t.tried.1 in
+    let same : take ran.items (take k items) ≡ take ran.items items = take_front ran.items k items few in record {
+      tried = (t.tried.0, at_most ran.items k (length items) few le);
+      answer = t.answer;
+      rest = t.rest;
+      lanes = t.lanes;
+      stands = subst (λ (gs : List Item). LeavesPassing tells state old new (run_written (log_writes old.next gs from) ran.answer) worker) same t.stands;
+      look = subst (λ (gs : List Item). OnOk ran.answer (look_of_manager new ≡ placed_all (InLog lane) (look_of_manager old) (log_writes old.next gs from))) same t.look;
+      next = t.next;
+      fault = t.fault;
+      calm = t.calm;
+      any_moment = subst (λ (gs : List Item). StopsClaiming tells state (IsOk ran.answer) old new (log_writes old.next gs from)) same t.any_moment;
+    }
+
+-- the writes of an answer that tells of a log
+log_run : (view : List ℕ) (lane next : ℕ) (gs : List Item) (from : List Block) (r : Result Place WriteRefusal) → IsLogAnswer view lane r → log_writes next gs from ≡ run_writes next gs from r
+log_run view lane next gs from (Ok place.Home) is = absurd is
+log_run view lane next gs from (Ok (place.Log logger)) is = refl
+log_run view lane next gs from (Err (DiskFault (part.Home volume))) is = absurd is
+log_run view lane next gs from (Err (DiskFault (part.Segment volume index))) is = refl
+log_run view lane next gs from (Err Full) is = absurd is
+log_run view lane next gs from (Err (Down p)) is = absurd is
+log_run view lane next gs from (Err VersionsSpent) is = absurd is
+log_run view lane next gs from (Err NoMemory) is = absurd is
 
 not_home : (view : List ℕ) (lane : ℕ) (r : Result Place WriteRefusal) → IsLogAnswer view lane r → (r ≡ Ok place.Home) ⊎ ((v : ℕ) × (r ≡ Err (DiskFault (part.Home v)))) → ⊥
 not_home view lane r answer (inl home) = subst (IsLogAnswer view lane) home answer
@@ -58,10 +86,16 @@ module _ {D : Type 0} (tells : Bool) (state : D → State) (shared : Shared D) (
   next_same : now.next ≡ old.next
   next_same = ap (λ (m : Manager D). m.next) a.rest
 
-  module _ (n : ℕ) (answer : Result Place WriteRefusal) (rooms : new.rooms.items ≡ now.rooms.items) (lane : ℕ) (unknown : slice_get now.rooms.items lane ≡ Some Unknown)
-      (is : IsLogAnswer (map logger_of now.lanes.items) lane answer) (in_log : ruled_place old now (first_lbn items) (first_blocks items from) ≡ InLog lane) (change : ChangesLane HasTakenWrite lane now.lanes.items new.lanes.items)
-      (one : 1 ≤ n) (le : n ≤ length items) (most size : ℕ) (are : AreItemsOf most size items) (enough : count_of items ≤ length from)
-      (joins : GoTogether now.home_up (listed_in now.index.entries) (passed_in now.rooms.items) items n) where
+  module _ (ran : Ran) (rooms : new.rooms.items ≡ now.rooms.items) (lane : ℕ) (unknown : slice_get now.rooms.items lane ≡ Some Unknown)
+      (in_log : ruled_place old now (first_lbn items) (first_blocks items from) ≡ InLog lane) (t : HasTakenRun tells state lane items from ran now new)
+      (most size : ℕ) (are : AreItemsOf most size items) (enough : count_of items ≤ length from)
+      (joins : GoTogether now.home_up (listed_in now.index.entries) (passed_in now.rooms.items) items ran.items) where
+    abbrev n : ℕ
+    n = ran.items
+
+    abbrev answer : Result Place WriteRefusal
+    answer = ran.answer
+
     abbrev gs : List Item
     gs = take n items
 
@@ -82,59 +116,41 @@ module _ {D : Type 0} (tells : Bool) (state : D → State) (shared : Shared D) (
     first_goes i at = let f = first_is items from i at in (λ t. place_of passed (look_of_manager old) (home_write (sym f.0 t) (sym f.1 t))) ∙ rule_is
 
     writes_are : AreWrites passed (look_of_manager old) (log_writes old.next gs from) (placed_all (InLog lane) (look_of_manager old) (log_writes old.next gs from))
-    writes_are = group_writes passed lane most size (look_of_manager old) items n from one le are enough_gs joins_old first_goes
+    writes_are = group_writes passed lane most size (look_of_manager old) items n from t.tried.0 t.tried.1 are enough_gs joins_old first_goes
 
     group_is : IsGroup passed (log_writes old.next gs from)
-    group_is = group_group old.home_up (listed_in old.index.entries) passed old.next items n from one le enough_gs joins_old
+    group_is = group_group old.home_up (listed_in old.index.entries) passed old.next items n from t.tried.0 t.tried.1 enough_gs joins_old
 
-    look_is : (l : Look) → l ≡ placed_all (InLog lane) (look_of_manager now) (log_writes now.next gs from) → l ≡ placed_all (InLog lane) (look_of_manager old) (log_writes old.next gs from)
-    look_is l look = look ∙ (λ t. placed_all (InLog lane) (look_same tells state shared (first_lbn items) (first_blocks items from) old now a t) (log_writes (next_same t) gs from))
+    look_is : look_of_manager new ≡ placed_all (InLog lane) (look_of_manager now) (log_writes now.next gs from) → look_of_manager new ≡ placed_all (ruled_run old new items from) (look_of_manager old) (log_writes old.next gs from)
+    look_is look = look ∙ (λ i. placed_all (sym rule_is i) (look_same tells state shared (first_lbn items) (first_blocks items from) old now a i) (log_writes (next_same i) gs from))
 
-    rule_on : (r : Result Place WriteRefusal) → IsLogAnswer (map logger_of now.lanes.items) lane r → AreWrites passed (look_of_manager old) (run_writes old.next gs from r) (placed_all (InLog lane) (look_of_manager old) (run_writes old.next gs from r))
-    rule_on (Ok place.Home) is_log = absurd is_log
-    rule_on (Ok (place.Log logger)) is_log = writes_are
-    rule_on (Err (DiskFault (part.Home volume))) is_log = absurd is_log
-    rule_on (Err (DiskFault (part.Segment volume index))) is_log = writes_are
-    rule_on (Err Full) is_log = absurd is_log
-    rule_on (Err (Down p)) is_log = absurd is_log
-    rule_on (Err VersionsSpent) is_log = absurd is_log
-    rule_on (Err NoMemory) is_log = absurd is_log
+    look_on : (r : Result Place WriteRefusal) → OnOk r (look_of_manager new ≡ placed_all (InLog lane) (look_of_manager now) (log_writes now.next gs from))
+        → OnOk r (look_of_manager new ≡ placed_all (ruled_run old new items from) (look_of_manager old) (log_writes old.next gs from))
+    look_on (Ok p) look = look_is look
+    look_on (Err refusal) look = tt
 
-    look_on : (r : Result Place WriteRefusal) → IsLogAnswer (map logger_of now.lanes.items) lane r → OnOk r (look_of_manager new ≡ placed_all (InLog lane) (look_of_manager now) (log_writes now.next gs from))
-        → OnOk r (look_of_manager new ≡ placed_all (ruled_run old new items from) (look_of_manager old) (run_writes old.next gs from r))
-    look_on (Ok place.Home) is_log look = absurd is_log
-    look_on (Ok (place.Log logger)) is_log look = look_is (look_of_manager new) look ∙ ap (λ (p : placing.Place). placed_all p (look_of_manager old) (log_writes old.next gs from)) (sym rule_is)
-    look_on (Err refusal) is_log look = tt
+    -- the writes that the answer tells
+    are_told : log_writes old.next gs from ≡ run_writes old.next gs from answer
+    are_told = log_run (map logger_of now.lanes.items) lane old.next gs from answer t.answer
 
-    group_on : (r : Result Place WriteRefusal) → IsLogAnswer (map logger_of now.lanes.items) lane r → IsGroup passed (run_writes old.next gs from r)
-    group_on (Ok place.Home) is_log = absurd is_log
-    group_on (Ok (place.Log logger)) is_log = group_is
-    group_on (Err (DiskFault (part.Home volume))) is_log = absurd is_log
-    group_on (Err (DiskFault (part.Segment volume index))) is_log = group_is
-    group_on (Err Full) is_log = absurd is_log
-    group_on (Err (Down p)) is_log = absurd is_log
-    group_on (Err VersionsSpent) is_log = absurd is_log
-    group_on (Err NoMemory) is_log = absurd is_log
+    are_told_now : log_writes now.next gs from ≡ run_writes old.next gs from answer
+    are_told_now = (λ i. log_writes (next_same i) gs from) ∙ are_told
 
-    pub run_logged : ((b : ManagerBase) (notes : List Noted) (ps : List ℕ) (nt : Noted) → nt.entry.pass ≡ worker → IsNote (last_look b.volume.began.look notes) (run_written (run_writes now.next gs from answer) answer) ps (look_of_manager new) nt
-        → HasPassed (nones_at new.lanes.items b.lanes) (notes ++ nt ∷ []) → Keeps tells state now b notes → Stands tells state new b (notes ++ nt ∷ []))
-        → OnOk answer (look_of_manager new ≡ placed_all (InLog lane) (look_of_manager now) (log_writes now.next gs from)) → new.next ≡ now.next + given_out answer n
-        → (claimed : Option (Spun D)) → TellsClaim tells state (IsOk answer) now.lanes.items new.lanes.items claimed
-        → (IsTrue tells → (b : ManagerBase) (notes : List Noted) → Keeps tells state now b notes → Stops state now new claimed b notes (run_writes now.next gs from answer))
-        → HasRun tells state items from n answer (ruled_run old new items from) old new
-    run_logged stands look next claimed claims moments = record {
-      are = record { within = le; some = λ _. one; home = λ home. absurd (not_home (map logger_of now.lanes.items) lane answer is home) };
-      stands = λ b notes nt client note k. stands b notes passed nt client
-          (subst (λ (v : ℕ). IsNote (last_look b.volume.began.look notes) (run_written (run_writes v gs from answer) answer) passed (look_of_manager new) nt) (sym next_same) note)
-          (passed_log tells state shared (first_lbn items) (first_blocks items from) old now a new answer rooms lane unknown is in_log change b notes nt note.passed_is k) (a.keeps b notes k);
-      rule = subst (λ (p : placing.Place). AreWrites passed (look_of_manager old) (run_writes old.next gs from answer) (placed_all p (look_of_manager old) (run_writes old.next gs from answer))) (sym rule_is) (rule_on answer is);
-      look = look_on answer is look;
-      group = group_on answer is;
-      next = next ∙ ap (λ (v : ℕ). v + given_out answer n) next_same;
-      claimed = claimed;
-      claims = claimed_before tells state shared (first_lbn items) (first_blocks items from) old now a (IsOk answer) new claimed claims;
-      any_moment = λ told b notes k. subst (λ (v : ℕ). Stops state old new claimed b notes (run_writes v gs from answer)) next_same
-          (stops_before tells state shared (first_lbn items) (first_blocks items from) old now a new claimed b notes (run_writes now.next gs from answer) (moments told b notes (a.keeps b notes k)));
+    pub run_logged : HasRun tells state items from n answer (ruled_run old new items from) old new
+    run_logged = record {
+      are = record { within = t.tried.1; some = λ _. t.tried.0; home = λ home. absurd (not_home (map logger_of now.lanes.items) lane answer t.answer home) };
+      stands = λ b notes nt client note k. t.stands b notes passed nt client
+          (subst (λ (ws : List Write). IsNote (last_look b.volume.began.look notes) (run_written ws answer) passed (look_of_manager new) nt) (sym are_told_now) note)
+          (passed_log tells state shared (first_lbn items) (first_blocks items from) old now a new answer rooms lane unknown t.answer in_log t.lanes b notes nt note.passed_is k) (a.keeps b notes k);
+      rule = subst (λ (ws : List Write). AreWrites passed (look_of_manager old) ws (placed_all (ruled_run old new items from) (look_of_manager old) ws)) are_told
+          (subst (λ (p : placing.Place). AreWrites passed (look_of_manager old) (log_writes old.next gs from) (placed_all p (look_of_manager old) (log_writes old.next gs from))) (sym rule_is) writes_are);
+      look = subst (λ (ws : List Write). OnOk answer (look_of_manager new ≡ placed_all (ruled_run old new items from) (look_of_manager old) ws)) are_told (look_on answer t.look);
+      group = subst (IsGroup passed) are_told group_is;
+      next = t.next ∙ ap (λ (v : ℕ). v + given_out answer n) next_same;
+      claimed = t.any_moment.0;
+      claims = claimed_before tells state shared (first_lbn items) (first_blocks items from) old now a (IsOk answer) new t.any_moment.0 t.any_moment.1;
+      any_moment = λ told b notes k. subst (Stops state old new t.any_moment.0 b notes) are_told_now
+          (stops_before tells state shared (first_lbn items) (first_blocks items from) old now a new t.any_moment.0 b notes (log_writes now.next gs from) (t.any_moment.2 told b notes (a.keeps b notes k)));
     }
 
   -- ---- Home
@@ -188,7 +204,7 @@ module _ {D : Type 0} (tells : Bool) (state : D → State) (shared : Shared D) (
         (subst (λ (gs : List Item). IsGroup (passed_in new.rooms.items) (writes_to_home gs from)) (sym alone) (inr tt))
 
     pub run_home : Leaves tells state old new (written old.next i.lbn blocks answer) (passed_in new.rooms.items) worker → (answer ≡ Ok place.Home → look_of_manager new ≡ placed AtHome (look_of_manager old) w) → new.next ≡ old.next
-        → TellsClaim tells state (IsOk answer) old.lanes.items new.lanes.items None → (IsTrue tells → (b : ManagerBase) (notes : List Noted) → Keeps tells state old b notes → Stops state old new None b notes (in_flight old.next i.lbn blocks answer))
+        → TellsClaim tells state (IsOk answer) old.lanes.items new.lanes.items None → StopsWith tells state old new None (in_flight old.next i.lbn blocks answer)
         → HasRun tells state items from 1 answer (ruled_run old new items from) old new
     run_home stands look next claims moments = record {
       are = record { within = subst (λ (xs : List Item). 1 ≤ length xs) (sym first) (omega arith); some = λ _. omega arith; home = λ _. refl };
@@ -204,9 +220,7 @@ module _ {D : Type 0} (tells : Bool) (state : D → State) (shared : Shared D) (
 
     -- what `write_home` leaves of the manager as it was asked is what the run leaves
     pub home_run : new ≡ record now { home = new.home; spindle = new.spindle; home_up = true; down = new.down } → TellsFault state answer now new
-        → ((b : ManagerBase) (notes : List Noted) (ps : List ℕ) (n : Noted) → n.entry.pass ≡ worker → IsNote (last_look b.volume.began.look notes) (written now.next i.lbn blocks answer) ps (look_of_manager new) n
-        → HasPassed (nones_at new.lanes.items b.lanes) (notes ++ n ∷ []) → Keeps tells state now b notes → Stands tells state new b (notes ++ n ∷ []))
-        → (IsTrue tells → (b : ManagerBase) (notes : List Noted) → Keeps tells state now b notes → Stops state now new None b notes (in_flight now.next i.lbn blocks answer))
+        → LeavesPassing tells state now new (written now.next i.lbn blocks answer) worker → StopsWith tells state now new None (in_flight now.next i.lbn blocks answer)
         → HasRun tells state items from 1 answer (ruled_run old new items from) old new
     home_run u fault leaves moments = run_home
         (λ b notes n client note k. leaves b notes (passed_in new.rooms.items) n client
@@ -226,7 +240,7 @@ module _ {D : Type 0} (tells : Bool) (state : D → State) (shared : Shared D) (
 
 module _ {D : Type 0} (tells : Bool) (state : D → State) (items : List Item) (from : List Block) (old new : Manager D) where
   pub run_full : Leaves tells state old new Kept (passed_in new.rooms.items) worker → new.next ≡ old.next → TellsClaim tells state (IsOk {T = Place} {E = WriteRefusal} (Err Full)) old.lanes.items new.lanes.items None
-      → (IsTrue tells → (b : ManagerBase) (notes : List Noted) → Keeps tells state old b notes → Stops state old new None b notes [])
+      → StopsWith tells state old new None []
       → HasRun tells state items from 0 (Err Full) (ruled_run old new items from) old new
   run_full stands next claims moments = record {
     are = record { within = omega arith; some = λ tried. absurd (let no : false ≡ true = tried in cc); home = λ home. ⊎_elim (λ e. let no : Err Full ≡ Ok place.Home = e in cc) (λ f. let no : Err Full ≡ Err (DiskFault (part.Home f.0)) = f.1 in cc) home };
@@ -244,11 +258,6 @@ module _ {D : Type 0} (tells : Bool) (state : D → State) (items : List Item) (
 pub first_blocks_long : (items : List Item) (from : List Block) → count_of items ≤ length from → length (first_blocks items from) ≡ first_count items
 first_blocks_long [] from enough = refl
 first_blocks_long (i ∷ items) from enough = first_long i items from enough
-
--- what failed on a segment were writes to a log
-pub failed_run : (view : List ℕ) (k next : ℕ) (items : List Item) (from : List Block) (p : Part) → IsOn view k p → run_writes next items from (Err (DiskFault p)) ≡ log_writes next items from
-failed_run view k next items from (part.Home volume) on = absurd on
-failed_run view k next items from (part.Segment logger index) on = refl
 
 -- the first item is the first of each front
 first_front : (m : ℕ) (items : List Item) (from : List Block) → 1 ≤ m → (first_lbn (take m items) ≡ first_lbn items) × (first_blocks (take m items) from ≡ first_blocks items from)
@@ -419,8 +428,7 @@ module _ {D : Type 0} (tells : Bool) (state : D → State) (lbn : ℕ) (from : L
   pub one_stands : Leaves tells state old new (written old.next lbn from answer) (passed_in new.rooms.items) worker
   one_stands = subst (λ (o : Operation). Leaves tells state old new o (passed_in new.rooms.items) worker) (entry old.next lbn from (take n (one lbn from)) answer the_one) run.stands
 
-  pub one_moments : (claimed : Option (Spun D)) × TellsClaim tells state (IsOk answer) old.lanes.items new.lanes.items claimed
-      × (IsTrue tells → (b : ManagerBase) (notes : List Noted) → Keeps tells state old b notes → Stops state old new claimed b notes (in_flight old.next lbn from answer))
+  pub one_moments : StopsClaiming tells state (IsOk answer) old new (in_flight old.next lbn from answer)
   one_moments = (
     run.claimed,
     run.claims,

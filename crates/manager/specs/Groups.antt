@@ -1,20 +1,27 @@
 -- Runs of writes: what their items stand for, and what becomes of them.
-use Rattle.std.specs.Prelude.{⊤, ◌≡◌, ◌⊎◌, ◌≤◌, ◌+◌, ℕ, Bool, true, List, [], Result, Ok, Err, OnOk, IsOk, length, take, IsTrue, Option}
+use Rattle.std.specs.Prelude.{◌≡◌, ◌⊎◌, ◌≤◌, ◌+◌, ◌^◌, ℕ, Bool, true, List, [], Result, Ok, Err, OnOk, IsOk, length, map, take, Option}
 use Rattle.wol_disk.specs.Disk.{Block, State}
+use Rattle.spin_model.specs.Spun.{state_of}
 use Rattle.spin_model.specs.declared.spun.Spun.{Spun}
 use Rattle.wol_model.specs.Blocks.{Write}
 use Rattle.wol_model.specs.History.{Operation, Wrote, Kept, Broke, worker}
+use Rattle.wol_model.specs.Placing.{Log as InLog}
 use Rattle.wol_promise.specs.Policy.{AreWrites}
 use Rattle.wol_promise.specs.Ruled.{Noted}
+use Rattle.log_segment.specs.Records.{count_of}
 use Rattle.log_segment.specs.declared.item.Item.{Item}
+use Rattle.offload_policy.specs.declared.Room.{Room}
+use Rattle.logger.specs.Lanes.{logger_of}
+use Rattle.logger.specs.declared.shared.Shared.{Shared}
+use Rattle.manager.specs.Causes.{NoneRose}
+use Rattle.manager.specs.Offers.{IsTurnedAway, HasTakenWrite, ChangesLane}
 use Rattle.manager.specs.Seen.{look_of_manager}
-use Rattle.manager.specs.Stands.{Keeps, Leaves, passed_in}
-use Rattle.manager.specs.Stops.{Stops, TellsClaim}
+use Rattle.manager.specs.Stands.{Keeps, CanServe, Leaves, LeavesPassing, passed_in}
+use Rattle.manager.specs.Stops.{StopsWith, StopsClaiming, TellsClaim}
 use Rattle.manager.specs.declared.base.ManagerBase.{ManagerBase}
 use Rattle.manager.specs.declared.manager.Manager.{Manager}
-use Rattle.manager.specs.Writing.{ruled_place, was_tried}
-use Rattle.manager.specs.declared.run.Taken.{Taken}
-use Rattle.manager.specs.declared.run.Taken.TheVariants.{NoRoom, Written, Failed}
+use Rattle.manager.specs.Writing.{ruled_place, was_tried, TellsFault, IsLogAnswer}
+use Rattle.manager.specs.declared.run.Ran.{Ran}
 use Rattle.manager.specs.declared.part.Place.{Place}
 use Rattle.manager.specs.declared.part.WriteRefusal.{WriteRefusal}
 use Rattle.manager.specs.declared.part.WriteRefusal.TheVariants.{Full, DiskFault, Down, VersionsSpent, NoMemory}
@@ -58,37 +65,60 @@ place_told (Err refusal) = Err refusal
 abbrev pub ruled_run : {D : Type 0} → (old new : Manager D) → List Item → List Block → placing.Place
 ruled_run old new items from = ruled_place old new (first_lbn items) (first_blocks items from)
 
--- how many items a lane was to take
-abbrev pub tried_by : Taken → ℕ
-tried_by NoRoom = 0
-tried_by (Written count) = count
-tried_by (Failed count p) = count
-
--- how many of them are in the log
-abbrev pub entered_by : Taken → ℕ
-entered_by NoRoom = 0
-entered_by (Written count) = count
-entered_by (Failed count p) = 0
-
--- what a lane leaves in the history that was offered these items
-abbrev pub offered_group : (next : ℕ) → List Item → List Block → Taken → Operation
-offered_group next items from NoRoom = Kept
-offered_group next items from (Written count) = Wrote (log_writes next (take count items) from)
-offered_group next items from (Failed count p) = Broke (log_writes next (take count items) from)
-
--- they are in the log
-abbrev pub told_of : Taken → Type 0
-told_of NoRoom = ⊥
-told_of (Written count) = ⊤
-told_of (Failed count p) = ⊥
-
--- ---- The whole
-
 -- how many versions were given out: one for each item that is in a log
 abbrev pub given_out : Result Place WriteRefusal → (tried : ℕ) → ℕ
 given_out (Ok place.Home) tried = 0
 given_out (Ok (place.Log logger)) tried = tried
 given_out (Err refusal) tried = 0
+
+-- ---- A lane that is asked
+
+-- what a run of items needs of the manager, with a version and a place in the index for each, and
+-- of their blocks
+pub record CanRun {D : Type 0} (state : D → State) (shared : Shared D) (m : Manager D)
+    (items : List Item) (from : List Block) : Type 0 where
+  pub serves : CanServe state shared m
+  pub some : 1 ≤ length items
+  pub each : AreItemsOf m.most (state_of state m.home).size items
+  pub blocks : count_of items ≤ length from
+  pub next : m.next + length items ≤ 2 ^ 63
+  pub reserved : length items ≤ m.index.reserved
+
+-- The lane at this place had no room for so many blocks, and this is noted of rooms. Nothing else
+-- changed.
+pub record WasTurnedAway {D : Type 0} (tells : Bool) (state : D → State) (lane count : ℕ)
+    (rooms : List Room) (old new : Manager D) : Type 0 where
+  pub rest : new ≡ record old { lanes = new.lanes; rooms = record { items = rooms } }
+  pub lanes : ChangesLane (IsTurnedAway count) lane old.lanes.items new.lanes.items
+  pub keeps : (b : ManagerBase) (notes : List Noted) → Keeps tells state old b notes
+      → Keeps tells state new b notes
+
+-- The lane at this place took some first items as one group, or a segment of it failed at them;
+-- then no version is given out. Wherever the call is stopped, each choice of images recovers to a
+-- cut by some first ones of their writes.
+pub record HasTakenRun {D : Type 0} (tells : Bool) (state : D → State) (lane : ℕ)
+    (items : List Item) (from : List Block) (ran : Ran) (old new : Manager D) : Type 0 where
+  pub tried : (1 ≤ ran.items) × (ran.items ≤ length items)
+  pub answer : IsLogAnswer (map logger_of old.lanes.items) lane ran.answer
+  pub rest : new ≡ record old {
+    lanes = new.lanes;
+    index = new.index;
+    next = new.next;
+    ups = new.ups;
+    down = new.down;
+  }
+  pub lanes : ChangesLane HasTakenWrite lane old.lanes.items new.lanes.items
+  pub stands : LeavesPassing tells state old new
+      (run_written (log_writes old.next (take ran.items items) from) ran.answer) worker
+  pub look : OnOk ran.answer (look_of_manager new ≡ placed_all (InLog lane) (look_of_manager old)
+      (log_writes old.next (take ran.items items) from))
+  pub next : new.next ≡ old.next + given_out ran.answer ran.items
+  pub fault : TellsFault state ran.answer old new
+  pub calm : OnOk ran.answer (NoneRose state old new)
+  pub any_moment : StopsClaiming tells state (IsOk ran.answer) old new
+      (log_writes old.next (take ran.items items) from)
+
+-- ---- The whole
 
 -- So many first items were tried: at least one where a disk was to take them, and one alone where
 -- that is home.
@@ -121,6 +151,5 @@ pub record HasRun {D : Type 0} (tells : Bool) (state : D → State) (items : Lis
   pub next : new.next ≡ old.next + given_out answer tried
   pub claimed : Option (Spun D)
   pub claims : TellsClaim tells state (IsOk answer) old.lanes.items new.lanes.items claimed
-  pub any_moment : IsTrue tells → (b : ManagerBase) (notes : List Noted)
-      → Keeps tells state old b notes
-      → Stops state old new claimed b notes (run_writes old.next (take tried items) from answer)
+  pub any_moment : StopsWith tells state old new claimed
+      (run_writes old.next (take tried items) from answer)

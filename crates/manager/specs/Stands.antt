@@ -62,6 +62,13 @@ opened {D} id home spindle lanes index next most = record {
 abbrev pub IsHome : {D : Type 0} → Shared D → Manager D → Type 0
 IsHome shared m = At shared m.id m.spindle m.lanes.items
 
+-- what a call needs that asks disks: it is ready, at these locks, and not down
+pub record CanServe {D : Type 0} (state : D → State) (shared : Shared D) (m : Manager D) :
+    Type 0 where
+  pub ready : IsReady state m
+  pub at : IsHome shared m
+  pub up : m.down ≡ None
+
 -- a lane's passes are those that the base names
 pub record IsNamed {D : Type 0} (l : Lane D) (b : LaneBase) : Type 0 where
   pub logger : logger_of l ≡ b.logger
@@ -185,6 +192,16 @@ abbrev pub Leaves : {D : Type 0} → (tells : Bool) → (D → State) → (old n
 Leaves tells state old new operation passed pass =
     (b : ManagerBase) (notes : List Noted) (n : Noted) → n.entry.pass ≡ pass
     → IsNote (last_look b.volume.began.look notes) operation passed (look_of_manager new) n
+    → Keeps tells state old b notes → Stands tells state new b (notes ++ n ∷ [])
+
+-- so it does with whatever pools the entry notes as passed over, none of which it says to be empty
+-- more often than it was found so
+abbrev pub LeavesPassing : {D : Type 0} → (tells : Bool) → (D → State) → (old new : Manager D)
+    → Operation → (pass : ℕ) → Type 0
+LeavesPassing tells state old new operation pass = (b : ManagerBase) (notes : List Noted)
+    (passed : List ℕ) (n : Noted) → n.entry.pass ≡ pass
+    → IsNote (last_look b.volume.began.look notes) operation passed (look_of_manager new) n
+    → HasPassed (nones_at new.lanes.items b.lanes) (notes ++ n ∷ [])
     → Keeps tells state old b notes → Stands tells state new b (notes ++ n ∷ [])
 
 -- what no call of a manager changes

@@ -1,12 +1,13 @@
 -- A call that is stopped at any moment of it: each part may be any of its images since the call
 -- began.
-use Rattle.std.specs.Prelude.{⊤, List, Option}
+use Rattle.std.specs.Prelude.{⊤, List, Option, Bool, IsTrue}
 use Rattle.wol_disk.specs.Disk.{State}
 use Rattle.spin_model.specs.declared.spun.Spun.{Spun}
 use Rattle.wol_model.specs.Blocks.{Write}
 use Rattle.wol_promise.specs.Ruled.{Noted, entries_of}
 use Rattle.wol_promise.specs.Stands.{StopsSafely}
 use Rattle.manager.specs.Seen.{Logs, AllLanesHold, all_held}
+use Rattle.manager.specs.Stands.{Keeps}
 use Rattle.manager.specs.declared.base.ManagerBase.{ManagerBase}
 use Rattle.manager.specs.declared.manager.Manager.{Manager}
 pub use Rattle.volume_parts.specs.Held.{ImageSince, HeldSince, was_held, was_free}
@@ -22,3 +23,16 @@ Stops state old new claimed b notes flight =
     → StopsSafely (ImageSince state old.home new.home)
     (HeldSince state (all_held 0 old.lanes.items before) claimed) b.volume.began
     (entries_of notes) (all_held 0 new.lanes.items after) flight
+
+-- so it does for whatever the manager keeps up when the call begins
+abbrev pub StopsWith : {D : Type 0} → (tells : Bool) → (D → State) → (old new : Manager D)
+    → (claimed : Option (Spun D)) → (flight : List Write) → Type 0
+StopsWith tells state old new claimed flight = IsTrue tells → (b : ManagerBase)
+    (notes : List Noted) → Keeps tells state old b notes → Stops state old new claimed b notes flight
+
+-- and of the segment that the call claimed, where it claimed one, the images since it was free
+abbrev pub StopsClaiming : {D : Type 0} → (tells : Bool) → (D → State) → (done : Type 0)
+    → (old new : Manager D) → (flight : List Write) → Type 0
+StopsClaiming {D} tells state done old new flight = (claimed : Option (Spun D))
+    × TellsClaim tells state done old.lanes.items new.lanes.items claimed
+    × StopsWith tells state old new claimed flight

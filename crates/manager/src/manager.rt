@@ -1,14 +1,12 @@
 // The manager of a volume: how it is made and taken apart, what it tells, and which disks it counts as awake.
-ghost use Rattle.std.specs.Prelude.{◌≡◌, ◌<◌, ◌≤◌, [], ℕ, true, List, None, length, replicate, slice_get, IfSome, IsTrue};
+ghost use Rattle.std.specs.Prelude.{◌≡◌, ◌<◌, ◌≤◌, [], ℕ, true, None, length, replicate, slice_get, IfSome};
 ghost use Rattle.wol_model.specs.History.{Kept};
-ghost use Rattle.wol_promise.specs.Ruled.{Noted};
 ghost use Rattle.logger.specs.Lanes.{logger_of};
 ghost use Rattle.manager.specs.Accesses.{HasUsedOnce};
 ghost use Rattle.manager.specs.Reading.{IsReadThrough};
 ghost use Rattle.manager.specs.Seen.{look_of_manager};
-ghost use Rattle.manager.specs.Stands.{Keeps, IsReady, IsHome, Leaves, opened};
-ghost use Rattle.manager.specs.Stops.{Stops};
-ghost use Rattle.manager.specs.declared.base.ManagerBase.{ManagerBase};
+ghost use Rattle.manager.specs.Stands.{IsReady, IsHome, Leaves, opened};
+ghost use Rattle.manager.specs.Stops.{StopsWith};
 
 use crate::Part;
 use arrayvec::ArrayVec;
@@ -102,9 +100,7 @@ impl<D: Disk> Manager<D> {
         ensures stands { (pass : ℕ) → Leaves D.tells D.state self.old self.new Kept [] pass }
         ensures unchanged { self.new
             ≡ record self.old { home_up = home; ups = record { items = ups.now } } }
-        ensures any_moment { IsTrue D.tells → (b : ManagerBase) (notes : List Noted)
-            → Keeps D.tells D.state self.old b notes
-            → Stops D.state self.old self.new None b notes [] }
+        ensures any_moment { StopsWith D.tells D.state self.old self.new None [] }
     {
         self.home_up = home;
         self.ups.copy_from_slice(ups);
@@ -121,9 +117,7 @@ impl<D: Disk> Manager<D> {
             ≡ record self.old { home_up = true; spindle = self.new.spindle } }
         ensures read { IsReadThrough D.state self.old self.new }
         ensures waking { HasUsedOnce self.old.spindle self.new.spindle }
-        ensures any_moment { IsTrue D.tells → (b : ManagerBase) (notes : List Noted)
-            → Keeps D.tells D.state self.old b notes
-            → Stops D.state self.old self.new None b notes [] }
+        ensures any_moment { StopsWith D.tells D.state self.old self.new None [] }
     {
         let lock = &shared.spindles[self.id as usize];
         let token = take_token(rt, lock, &mut self.spindle);

@@ -11,8 +11,8 @@ ghost use Rattle.manager.specs.Answers.{was_read};
 ghost use Rattle.manager.specs.Causes.{PartRose, NoneRose};
 ghost use Rattle.manager.specs.Reading.{IsSource, IsReadThrough, HasOnlyRead, NeedsSources, NeedsFirstOf};
 ghost use Rattle.manager.specs.Seen.{look_of_manager};
-ghost use Rattle.manager.specs.Stands.{Keeps, IsReady, IsHome, IsSameManager, Leaves};
-ghost use Rattle.manager.specs.Stops.{Stops};
+ghost use Rattle.manager.specs.Stands.{Keeps, CanServe, IsReady, IsHome, IsSameManager, Leaves};
+ghost use Rattle.manager.specs.Stops.{StopsWith};
 ghost use Rattle.manager.specs.declared.base.ManagerBase.{ManagerBase};
 ghost use Rattle.manager.specs.declared.part.Part.{Part};
 
@@ -76,9 +76,7 @@ impl<D: Disk> Manager<D> {
         // Where it is answered no disk call failed in it.
         ensures calm { OnOk result (NoneRose D.state self.old self.new) }
 
-        ensures any_moment { IsTrue D.tells → (b : ManagerBase) (notes : List Noted)
-            → Keeps D.tells D.state self.old b notes
-            → Stops D.state self.old self.new None b notes [] }
+        ensures any_moment { StopsWith D.tells D.state self.old self.new None [] }
     {
         if let Some(part) = self.down {
             return Err(ReadRefusal::Down(part));
@@ -100,9 +98,7 @@ impl<D: Disk> Manager<D> {
         lbn: u64,
         out: &mut [Block],
     ) -> Result<(), Part>
-        requires ready { IsReady D.state self.old }
-        requires at { IsHome shared.now self.old }
-        requires up { self.old.down ≡ None }
+        requires serves { CanServe D.state shared.now self.old }
         requires some { 1 ≤ length out.old }
         requires fits { lbn + length out.old ≤ (state_of D.state self.old.home).size }
         requires source { IsSource self.old.index.entries lbn (length out.old) None }
@@ -135,9 +131,7 @@ impl<D: Disk> Manager<D> {
         lbn: u64,
         out: &mut [Block],
     ) -> Result<(), Part>
-        requires ready { IsReady D.state self.old }
-        requires at { IsHome shared.now self.old }
-        requires up { self.old.down ≡ None }
+        requires serves { CanServe D.state shared.now self.old }
         requires some { 1 ≤ length out.old }
         requires fits { lbn + length out.old ≤ (state_of D.state self.old.home).size }
         requires source { IsSource self.old.index.entries lbn (length out.old) (Some «record».now) }
@@ -179,9 +173,7 @@ impl<D: Disk> Manager<D> {
         lbn: u64,
         out: &mut [Block],
     ) -> Result<Sources, Part>
-        requires ready { IsReady D.state self.old }
-        requires at { IsHome shared.now self.old }
-        requires up { self.old.down ≡ None }
+        requires serves { CanServe D.state shared.now self.old }
         requires some { (1 ≤ length out.old) × (length out.old ≤ 128) }
         requires fits { lbn + length out.old ≤ (state_of D.state self.old.home).size }
         requires source { IsSource self.old.index.entries lbn (length out.old) source }
@@ -229,9 +221,7 @@ impl<D: Disk> Manager<D> {
         lbn: u64,
         out: &mut [Block],
     ) -> Result<Sources, Part>
-        requires ready { IsReady D.state self.old }
-        requires at { IsHome shared.now self.old }
-        requires up { self.old.down ≡ None }
+        requires serves { CanServe D.state shared.now self.old }
         requires most { length out.old ≤ 128 }
         requires fits { lbn + length out.old ≤ (state_of D.state self.old.home).size }
         ensures ready { IsReady D.state self.new }

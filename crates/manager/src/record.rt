@@ -1,11 +1,11 @@
 // All blocks of one record are read.
-ghost use Rattle.std.specs.Prelude.{◌≡◌, List, None, Some, IfErr, OnOk, length};
+ghost use Rattle.std.specs.Prelude.{◌≡◌, List, Some, IfErr, OnOk, length};
 ghost use Rattle.wol_promise.specs.Ruled.{Noted};
 ghost use Rattle.redirect_map.specs.Index.{entry_at, IsAnswer, IsIndex};
 ghost use Rattle.manager.specs.Causes.{PartRose, NoneRose};
 ghost use Rattle.manager.specs.Reading.{IsReadThrough};
 ghost use Rattle.manager.specs.Reclaim.{AreOf, HasFetched};
-ghost use Rattle.manager.specs.Stands.{Keeps, IsReady, IsHome};
+ghost use Rattle.manager.specs.Stands.{Keeps, CanServe, IsReady, IsHome};
 ghost use Rattle.manager.specs.declared.base.ManagerBase.{ManagerBase};
 
 use crate::read::at_part;
@@ -24,9 +24,7 @@ impl<D: Disk> Manager<D> {
         record: &Rec,
         out: &mut [Block],
     ) -> Result<(), Part>
-        requires ready { IsReady D.state self.old }
-        requires at { IsHome shared.now self.old }
-        requires up { self.old.down ≡ None }
+        requires serves { CanServe D.state shared.now self.old }
         requires index { IsIndex self.old.index.entries }
         requires there { IsAnswer (entry_at self.old.index.entries «record».now.version)
             (Some «record».now) }

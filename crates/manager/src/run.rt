@@ -1,24 +1,16 @@
 // Runs of writes: consecutive writes of which some first ones go to one segment together.
-ghost use Rattle.std.specs.Prelude.{◌≡◌, ◌≢◌, ◌↔◌, ◌+◌, ◌≤◌, ◌<◌, ◌^◌, ◌∷◌, [], ◌++◌, ℕ, List, Option, None, Some, Ok, Err, IsNone, IsSome, IsOk, IfOk, IfSome, IsTrue, OnOk, length, map, take, slice_set, replicate};
+ghost use Rattle.std.specs.Prelude.{◌≡◌, ◌↔◌, ◌+◌, ◌≤◌, ◌<◌, ◌^◌, ℕ, None, Some, Err, IsNone, IfOk, IfSome, OnOk, length, map, replicate, slice_set};
 ghost use Rattle.std.specs.List.{list_any, range_with_len};
 ghost use Rattle.spin_model.specs.Spun.{state_of};
-ghost use Rattle.spin_model.specs.declared.spun.Spun.{Spun};
-ghost use Rattle.wol_model.specs.History.{worker};
 ghost use Rattle.wol_model.specs.Index.{listed_in, is_covered};
-ghost use Rattle.wol_model.specs.Placing.{Log as InLog};
-ghost use Rattle.wol_promise.specs.Ruled.{Noted, HasPassed, last_look};
 ghost use Rattle.log_segment.specs.Records.{count_of};
 ghost use Rattle.logger.specs.Lanes.{logger_of, first_count};
 ghost use Rattle.manager.specs.Answers.{IsPlaceOf};
-ghost use Rattle.manager.specs.Causes.{PartRoseOrClaimed, NoneRose};
-ghost use Rattle.manager.specs.Groups.{AreItemsOf, HasRun, log_writes, first_lbn, first_blocks, offered_group, run_writes, run_written, placed_all, place_told, ruled_run, tried_by, told_of, given_out, entered_by};
+ghost use Rattle.manager.specs.Causes.{NoneRose};
+ghost use Rattle.manager.specs.Groups.{AreItemsOf, CanRun, WasTurnedAway, HasTakenRun, HasRun, first_lbn, first_blocks, place_told, ruled_run};
 ghost use Rattle.manager.specs.Joining.{GoTogether};
-ghost use Rattle.manager.specs.Offers.{IsTurnedAway, HasTakenWrite, ChangesLane, IsOn};
-ghost use Rattle.manager.specs.Seen.{look_of_manager};
-ghost use Rattle.manager.specs.Stands.{Keeps, Stands, IsReady, IsHome, IsNote, IsSameManager, nones_at, passed_in};
-ghost use Rattle.manager.specs.Stops.{Stops, TellsClaim};
-ghost use Rattle.manager.specs.Writing.{HaveAnswered, NeedsHome, NeedsLogs, TellsFault, IsAsBefore, IsLogAnswer, IsPlacedAnswer, takes_at};
-ghost use Rattle.manager.specs.declared.base.ManagerBase.{ManagerBase};
+ghost use Rattle.manager.specs.Stands.{IsReady, IsHome, IsSameManager, passed_in};
+ghost use Rattle.manager.specs.Writing.{HaveAnswered, NeedsHome, NeedsLogs, TellsFault, IsAsBefore, IsPlacedAnswer, takes_at};
 ghost use Rattle.manager.specs.declared.part.Part.{Part};
 
 use crate::manager::unasked;
@@ -37,16 +29,6 @@ const SPENT: u64 = 1 << 63;
 /// The most items that one call looks at.
 const MOST_ITEMS: usize = 128;
 
-/// What became of a run that was offered to a lane.
-pub(crate) enum Taken {
-    /// No held segment has room for the first item, and the pool was empty.
-    NoRoom,
-    /// So many first items are in the log.
-    Written(usize),
-    /// A call of this part failed while so many first items were written. The manager is down from now on.
-    Failed(usize, Part),
-}
-
 /// How many first items of a run a disk was to take, and where they went, or why not.
 #[derive(Clone, Copy, Debug)]
 pub struct Ran {
@@ -55,7 +37,8 @@ pub struct Ran {
 }
 
 impl<D: Disk> Manager<D> {
-    // Asks the lane at this place of the view for room for the first item, and writes it there with others behind it that have room too.
+    // Asks the lane at this place of the view for room for the first item, and writes it there with others behind it that
+    // have room too. `None` comes where it has no room.
     fn offer_group<R: Wait>(
         &mut self,
         rt: &R,
@@ -63,69 +46,21 @@ impl<D: Disk> Manager<D> {
         lane: usize,
         items: &[Item],
         from: &[Block],
-    ) -> Taken
-        requires ready { IsReady D.state self.old }
-        requires at { IsHome shared.now self.old }
-        requires up { self.old.down ≡ None }
+    ) -> Option<Ran>
+        requires run { CanRun D.state shared.now self.old items.now from.now }
         requires lane { lane < length self.old.lanes.items }
-        requires some { 1 ≤ length items.now }
-        requires items { AreItemsOf self.old.most (state_of D.state self.old.home).size items.now }
-        requires blocks { count_of items.now ≤ length from.now }
-        requires next { self.old.next + length items.now ≤ 2 ^ 63 }
-        requires reserved { length items.now ≤ self.old.index.reserved }
         ensures ready { IsReady D.state self.new }
         ensures at { IsHome shared.now self.new }
-        ensures no_room { result ≡ Taken.NoRoom
-            → (self.new ≡ record self.old { lanes = self.new.lanes })
-            × ChangesLane (IsTurnedAway (first_count items.now)) lane self.old.lanes.items
-            self.new.lanes.items }
-        ensures keeps { result ≡ Taken.NoRoom → (b : ManagerBase) (notes : List Noted)
-            → Keeps D.tells D.state self.old b notes → Keeps D.tells D.state self.new b notes }
-        ensures taken { result ≢ Taken.NoRoom
-            → (self.new ≡ record self.old {
-              lanes = self.new.lanes;
-              index = self.new.index;
-              next = self.new.next;
-              ups = self.new.ups;
-              down = self.new.down;
-            })
-            × ChangesLane HasTakenWrite lane self.old.lanes.items self.new.lanes.items }
-        ensures tried { result ≢ Taken.NoRoom
-            → (1 ≤ tried_by result) × (tried_by result ≤ length items.now) }
-        ensures stands { result ≢ Taken.NoRoom
-            → (b : ManagerBase) (notes : List Noted) (passed : List ℕ) (n : Noted)
-            → n.entry.pass ≡ worker
-            → IsNote (last_look b.volume.began.look notes)
-            (offered_group self.old.next items.now from.now result) passed
-            (look_of_manager self.new) n
-            → HasPassed (nones_at self.new.lanes.items b.lanes) (notes ++ n ∷ [])
-            → Keeps D.tells D.state self.old b notes
-            → Stands D.tells D.state self.new b (notes ++ n ∷ []) }
-        ensures look { (count : ℕ) → result ≡ Taken.Written count
-            → look_of_manager self.new ≡ placed_all (InLog lane) (look_of_manager self.old)
-            (log_writes self.old.next (take count items.now) from.now) }
-        ensures up { (count : ℕ) → result ≡ Taken.Written count → self.new.down ≡ None }
-        ensures next { self.new.next ≡ self.old.next + entered_by result }
-        ensures down { (count : ℕ) (p : Part) → result ≡ Taken.Failed count p
-            → self.new.down ≡ Some p }
-        ensures named { (count : ℕ) (p : Part) → result ≡ Taken.Failed count p
-            → IsOn (map logger_of self.old.lanes.items) lane p }
-        ensures cause { (count : ℕ) (p : Part) → result ≡ Taken.Failed count p
-            → PartRoseOrClaimed D.state self.old self.new p }
-        ensures calm { (count : ℕ) → result ≡ Taken.Written count
-            → NoneRose D.state self.old self.new }
-        ensures any_moment { (claimed : Option (Spun _))
-            × TellsClaim D.tells D.state (told_of result) self.old.lanes.items self.new.lanes.items
-            claimed
-            × (IsTrue D.tells → (b : ManagerBase) (notes : List Noted)
-            → Keeps D.tells D.state self.old b notes
-            → Stops D.state self.old self.new claimed b notes
-            (log_writes self.old.next (take (tried_by result) items.now) from.now)) }
+        ensures turned_away { IsNone result
+            → WasTurnedAway D.tells D.state lane (first_count items.now) self.old.rooms.items
+            self.old self.new }
+        ensures taken { IfSome result
+            (λ r. HasTakenRun D.tells D.state lane items.now from.now r self.old self.new) }
     {
         let reached = &mut self.lanes[lane];
         let logger = reached.logger();
         let Some((count, written)) = put_group(rt, shared, reached, self.next, items, from) else {
-            return Taken::NoRoom;
+            return None;
         };
         match written {
             Ok(spot) => {
@@ -138,7 +73,10 @@ impl<D: Disk> Manager<D> {
                 );
                 self.next += count as u64;
                 self.ups[lane] = true;
-                Taken::Written(count)
+                Some(Ran {
+                    items: count,
+                    answer: Ok(Place::Log { logger }),
+                })
             }
             Err((index, Failed)) => {
                 let part = Part::Segment {
@@ -146,12 +84,16 @@ impl<D: Disk> Manager<D> {
                     index,
                 };
                 self.down = Some(part);
-                Taken::Failed(count, part)
+                Some(Ran {
+                    items: count,
+                    answer: Err(WriteRefusal::DiskFault(part)),
+                })
             }
         }
     }
 
-    // Offers the run to the lane at this place of the view. `None` comes where it has no room, and that is noted.
+    // Offers the lane at this place of the view the items that may go to a log together. `None` comes where it has no
+    // room, and that is noted.
     fn try_run<R: Wait>(
         &mut self,
         rt: &R,
@@ -160,85 +102,26 @@ impl<D: Disk> Manager<D> {
         items: &[Item],
         from: &[Block],
     ) -> Option<Ran>
-        requires ready { IsReady D.state self.old }
-        requires at { IsHome shared.now self.old }
-        requires up { self.old.down ≡ None }
+        requires run { CanRun D.state shared.now self.old items.now from.now }
         requires lane { lane < length self.old.lanes.items }
-        requires some { 1 ≤ length items.now }
-        requires items { AreItemsOf self.old.most (state_of D.state self.old.home).size items.now }
-        requires blocks { count_of items.now ≤ length from.now }
-        requires next { self.old.next + length items.now ≤ 2 ^ 63 }
-        requires reserved { length items.now ≤ self.old.index.reserved }
         ensures ready { IsReady D.state self.new }
         ensures at { IsHome shared.now self.new }
         ensures turned_away { IsNone result
-            → (self.new ≡ record self.old {
-              lanes = self.new.lanes;
-              rooms = record { items = slice_set self.old.rooms.items lane Room.No };
-            })
-            × ChangesLane (IsTurnedAway (first_count items.now)) lane self.old.lanes.items
-            self.new.lanes.items }
-        ensures keeps { IsNone result → (b : ManagerBase) (notes : List Noted)
-            → Keeps D.tells D.state self.old b notes → Keeps D.tells D.state self.new b notes }
-        ensures taken { IsSome result → (self.new
-            ≡ record self.old {
-              lanes = self.new.lanes;
-              index = self.new.index;
-              next = self.new.next;
-              ups = self.new.ups;
-              down = self.new.down;
-            })
-            × ChangesLane HasTakenWrite lane self.old.lanes.items self.new.lanes.items }
-        ensures tried { IfSome result (λ r. (1 ≤ r.items) × (r.items ≤ length items.now)) }
+            → WasTurnedAway D.tells D.state lane (first_count items.now)
+            (slice_set self.old.rooms.items lane Room.No) self.old self.new }
+        ensures taken { IfSome result
+            (λ r. HasTakenRun D.tells D.state lane items.now from.now r self.old self.new) }
         ensures joins { IfSome result (λ r.
             GoTogether self.old.home_up (listed_in self.old.index.entries)
             (passed_in self.old.rooms.items) items.now r.items) }
-        ensures answer { IfSome result
-            (λ r. IsLogAnswer (map logger_of self.old.lanes.items) lane r.answer) }
-        ensures stands { IfSome result (λ r.
-            (b : ManagerBase) (notes : List Noted) (passed : List ℕ) (n : Noted)
-            → n.entry.pass ≡ worker
-            → IsNote (last_look b.volume.began.look notes)
-            (run_written (run_writes self.old.next (take r.items items.now) from.now r.answer)
-            r.answer) passed (look_of_manager self.new) n
-            → HasPassed (nones_at self.new.lanes.items b.lanes) (notes ++ n ∷ [])
-            → Keeps D.tells D.state self.old b notes
-            → Stands D.tells D.state self.new b (notes ++ n ∷ [])) }
-        ensures look { IfSome result (λ r.
-            OnOk r.answer (look_of_manager self.new
-            ≡ placed_all (InLog lane) (look_of_manager self.old)
-            (log_writes self.old.next (take r.items items.now) from.now))) }
-        ensures next { IfSome result
-            (λ r. self.new.next ≡ self.old.next + given_out r.answer r.items) }
-        ensures fault { IfSome result (λ r. TellsFault D.state r.answer self.old self.new) }
-        ensures calm { IfSome result (λ r. OnOk r.answer (NoneRose D.state self.old self.new)) }
-        ensures any_moment { IfSome result
-            (λ r. (claimed : Option (Spun _))
-            × TellsClaim D.tells D.state (IsOk r.answer) self.old.lanes.items
-            self.new.lanes.items claimed
-            × (IsTrue D.tells → (b : ManagerBase) (notes : List Noted)
-            → Keeps D.tells D.state self.old b notes
-            → Stops D.state self.old self.new claimed b notes
-            (run_writes self.old.next (take r.items items.now) from.now r.answer))) }
     {
         let joining = together(&self.index, self.home_up, &self.rooms, items);
         let front = &items[..joining];
-        match self.offer_group(rt, shared, lane as usize, front, from) {
-            Taken::NoRoom => {
-                self.rooms[lane as usize] = Room::No;
-                None
-            }
-            Taken::Written(count) => Some(Ran {
-                items: count,
-                answer: Ok(Place::Log {
-                    logger: self.logger(lane),
-                }),
-            }),
-            Taken::Failed(count, part) => Some(Ran {
-                items: count,
-                answer: Err(WriteRefusal::DiskFault(part)),
-            }),
-        }
+        let Some(ran) = self.offer_group(rt, shared, lane as usize, front, from) else {
+            self.rooms[lane as usize] = Room::No;
+            return None;
+        };
+        Some(ran)
     }
 }
 
@@ -252,18 +135,11 @@ impl<D: Disk> Manager<D> {
         items: &[Item],
         from: &[Block],
     ) -> Ran
-        requires ready { IsReady D.state self.old }
-        requires at { IsHome shared.now self.old }
-        requires up { self.old.down ≡ None }
+        requires run { CanRun D.state shared.now self.old items.now from.now }
         requires unasked { self.old.rooms.items
             ≡ replicate (length self.old.lanes.items) Room.Unknown }
-        requires some { 1 ≤ length items.now }
-        requires items { AreItemsOf self.old.most (state_of D.state self.old.home).size items.now }
-        requires blocks { count_of items.now ≤ length from.now }
         requires covered { covered ≡ list_any (is_covered (listed_in self.old.index.entries))
             (range_with_len (first_lbn items.now) (length (first_blocks items.now from.now))) }
-        requires next { self.old.next + length items.now ≤ 2 ^ 63 }
-        requires reserved { length items.now ≤ self.old.index.reserved }
         ensures ready { IsReady D.state self.new }
         ensures at { IsHome shared.now self.new }
         ensures same { IsSameManager self.old self.new }

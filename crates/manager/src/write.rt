@@ -1,20 +1,17 @@
 // A write of some blocks, which is a run of one item, and those that go home.
-ghost use Rattle.std.specs.Prelude.{◌≡◌, ◌↔◌, ◌+◌, ◌≤◌, ◌<◌, ◌^◌, ◌∷◌, [], ◌++◌, ℕ, List, Option, true, false, None, Some, Err, IsOk, IsTrue, OnOk, length, map};
+ghost use Rattle.std.specs.Prelude.{◌≡◌, ◌↔◌, ◌+◌, ◌≤◌, ◌<◌, ◌^◌, true, false, None, Some, Err, IsOk, OnOk, length, map};
 ghost use Rattle.std.specs.List.{list_any, range_with_len};
 ghost use Rattle.spin_model.specs.Spun.{state_of};
-ghost use Rattle.spin_model.specs.declared.spun.Spun.{Spun};
 ghost use Rattle.wol_model.specs.History.{worker};
 ghost use Rattle.wol_model.specs.Index.{listed_in, is_covered};
-ghost use Rattle.wol_promise.specs.Ruled.{Noted, HasPassed, last_look};
 ghost use Rattle.logger.specs.Lanes.{logger_of};
 ghost use Rattle.manager.specs.Accesses.{HasUsedOnce};
 ghost use Rattle.manager.specs.Causes.{NoneRose};
 ghost use Rattle.manager.specs.Answers.{home_write, written, IsPlaceOf};
 ghost use Rattle.manager.specs.Seen.{look_of_manager};
-ghost use Rattle.manager.specs.Stands.{Keeps, Stands, IsReady, IsHome, IsNote, IsSameManager, Leaves, nones_at, passed_in};
-ghost use Rattle.manager.specs.Stops.{Stops, TellsClaim};
+ghost use Rattle.manager.specs.Stands.{CanServe, IsReady, IsHome, IsSameManager, Leaves, LeavesPassing, passed_in};
+ghost use Rattle.manager.specs.Stops.{StopsWith, StopsClaiming};
 ghost use Rattle.manager.specs.Writing.{HaveAnswered, HasLook, NeedsHome, NeedsLogs, TellsFault, IsAsBefore, IsHomeAnswer, ruled_place, takes_at, in_flight};
-ghost use Rattle.manager.specs.declared.base.ManagerBase.{ManagerBase};
 ghost use Rattle.manager.specs.declared.part.Part.{Part};
 
 use crate::{Manager, Part, Place, WriteRefusal};
@@ -33,9 +30,7 @@ impl<D: Disk> Manager<D> {
         lbn: u64,
         from: &[Block],
     ) -> Result<Place, WriteRefusal>
-        requires ready { IsReady D.state self.old }
-        requires at { IsHome shared.now self.old }
-        requires up { self.old.down ≡ None }
+        requires serves { CanServe D.state shared.now self.old }
         requires fits { lbn + length from.now ≤ (state_of D.state self.old.home).size }
         requires bare { list_any (is_covered (listed_in self.old.index.entries))
             (range_with_len lbn (length from.now)) ≡ false }
@@ -48,19 +43,12 @@ impl<D: Disk> Manager<D> {
           home_up = true;
           down = self.new.down;
         } }
-        ensures stands { (b : ManagerBase) (notes : List Noted) (passed : List ℕ) (n : Noted)
-            → n.entry.pass ≡ worker
-            → IsNote (last_look b.volume.began.look notes)
-            (written self.old.next lbn from.now result) passed (look_of_manager self.new) n
-            → HasPassed (nones_at self.new.lanes.items b.lanes) (notes ++ n ∷ [])
-            → Keeps D.tells D.state self.old b notes
-            → Stands D.tells D.state self.new b (notes ++ n ∷ []) }
+        ensures stands { LeavesPassing D.tells D.state self.old self.new
+            (written self.old.next lbn from.now result) worker }
         ensures waking { HasUsedOnce self.old.spindle self.new.spindle }
         ensures fault { TellsFault D.state result self.old self.new }
         ensures calm { OnOk result (NoneRose D.state self.old self.new) }
-        ensures any_moment { IsTrue D.tells → (b : ManagerBase) (notes : List Noted)
-            → Keeps D.tells D.state self.old b notes
-            → Stops D.state self.old self.new None b notes
+        ensures any_moment { StopsWith D.tells D.state self.old self.new None
             (in_flight self.old.next lbn from.now result) }
     {
         let lock = &shared.spindles[self.id as usize];
@@ -127,13 +115,8 @@ impl<D: Disk> Manager<D> {
 
         // Wherever the call is stopped, each choice of images recovers to a cut by this call's write; of a segment that it claimed, the images
         // since it was free.
-        ensures any_moment { (claimed : Option (Spun _))
-            × TellsClaim D.tells D.state (IsOk result) self.old.lanes.items self.new.lanes.items
-            claimed
-            × (IsTrue D.tells → (b : ManagerBase) (notes : List Noted)
-            → Keeps D.tells D.state self.old b notes
-            → Stops D.state self.old self.new claimed b notes
-            (in_flight self.old.next lbn from.now result)) }
+        ensures any_moment { StopsClaiming D.tells D.state (IsOk result) self.old self.new
+            (in_flight self.old.next lbn from.now result) }
     {
         let item = Item {
             lbn,

@@ -31,7 +31,7 @@ use Rattle.manager.specs.Stands.{Stands, StandsAt, AreNamed, nones_in, takes_in,
 use Rattle.manager.specs.declared.base.LaneBase.{LaneBase}
 use Rattle.manager.specs.declared.base.ManagerBase.{ManagerBase}
 use Rattle.manager.proofs.Lanes.{all_at, none_taken}
-use Rattle.manager.proofs.Still.{same_place}
+use Rattle.manager.proofs.Entries.{same_place}
 use Rattle.manager_recovery.specs.Opening.{IsOpeningLane, IsHeldIn}
 use Rattle.manager_recovery.specs.Scanned.{lane_of, keeps_some}
 use Rattle.manager_recovery.specs.declared.opening.Opening.{Opening}

@@ -53,23 +53,6 @@ module _ {D : Type 0} where
           calm = c.calm;
         }
 
-    -- of another answer
-    pub claim_like : (done also : Type 0) (old new : List (Lane D)) (claimed : Option (Spun D)) → (also → done) → TellsClaim tells state done old new claimed → TellsClaim tells state also old new claimed
-    claim_like done also old new None so none = none
-    claim_like done also old new (Some part) so c = record {
-      place = c.place;
-      before = c.before;
-      after = c.after;
-      segment = c.segment;
-      was_lane = c.was_lane;
-      is_lane = c.is_lane;
-      held = c.held;
-      free = c.free;
-      volume = c.volume;
-      earlier = c.earlier;
-      calm = λ d. c.calm (so d);
-    }
-
 done_so : {T E P : Type 0} (r : Result T E) → OnOk r P → IsOk r → P
 done_so (Ok x) p done = p
 done_so (Err e) p done = absurd (false≢true done)

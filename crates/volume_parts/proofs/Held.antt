@@ -1,12 +1,12 @@
 -- Lists of held segments that differ in their records or parts alone.
-use Rattle.std.proofs.Common.{◌≡◌, ◌+◌, ℕ, zero, suc, sym, subst, ◌∙◌, arith, List, [], ◌∷◌, ◌++◌, map, refl, ap, Bool}
+use Rattle.std.proofs.Common.{◌≡◌, ◌+◌, ℕ, zero, suc, sym, subst, arith, List, [], ◌∷◌, ◌++◌, map, refl, Bool}
 use Rattle.std.specs.Prelude.{Contains, IsTrue}
 use Rattle.std.specs.List.{AllByRecursion, AllZip}
 use Rattle.wol_disk.specs.Disk.{Block, State, LeavesOnly}
 use Rattle.wol_model.specs.Log.{Record, IsLog, extent_of}
 use Rattle.spin_model.specs.declared.spun.Spun.{Spun}
 use Rattle.wol_promise.specs.Manager.{Held, extents_held}
-use Rattle.wol_promise.specs.Stands.{place_in, ApartFrom, AreApartPlaces}
+use Rattle.wol_promise.specs.Stands.{place_in}
 use Rattle.wol_promise.proofs.Lists.{all_map, member_behind, member_of}
 use Rattle.logger.specs.Lanes.{held_in}
 use Rattle.logger.specs.declared.lane.HeldSegment.{HeldSegment}
@@ -66,19 +66,6 @@ module _ {D : Type 0} where
   rezip P Q so (x ∷ xs) [] images zip all = absurd zip
   rezip P Q so (x ∷ xs) (y ∷ ys) [] zip all = absurd all
   rezip P Q so (x ∷ xs) (y ∷ ys) (bs ∷ images) zip all = (so x y bs zip.0 all.0, rezip P Q so xs ys images zip.1 all.1)
-
-  -- of segments at places apart two of one place are one
-  from_apart : (v : Held (Spun D)) (xs : List (Held (Spun D))) (w : Held (Spun D)) → ApartFrom (place_in v) (map place_in xs) → Contains xs w → place_in v ≡ place_in w → ⊥
-  from_apart v [] w apart (k, lt, is) e = omega arith
-  from_apart v (x ∷ xs) w apart (zero, lt, is) e = apart.0 (e ∙ ap (λ (u : Held (Spun D)). place_in u) (sym is))
-  from_apart v (x ∷ xs) w apart (suc k, lt, is) e = from_apart v xs w apart.1 (k, omega arith, is) e
-
-  pub one_of_place : (xs : List (Held (Spun D))) (v w : Held (Spun D)) → AreApartPlaces (map place_in xs) → Contains xs v → Contains xs w → place_in v ≡ place_in w → v ≡ w
-  one_of_place [] v w apart (k, lt, is) other e = absurd (omega arith)
-  one_of_place (x ∷ xs) v w apart (zero, lt, is) (zero, lt', is') e = sym is ∙ is'
-  one_of_place (x ∷ xs) v w apart (zero, lt, is) (suc j, lt', is') e = absurd (from_apart x xs w apart.0 (j, omega arith, is') (ap (λ (u : Held (Spun D)). place_in u) is ∙ e))
-  one_of_place (x ∷ xs) v w apart (suc k, lt, is) (zero, lt', is') e = absurd (from_apart x xs v apart.0 (k, omega arith, is) (ap (λ (u : Held (Spun D)). place_in u) is' ∙ sym e))
-  one_of_place (x ∷ xs) v w apart (suc k, lt, is) (suc j, lt', is') e = one_of_place xs v w apart.1 (k, omega arith, is) (j, omega arith, is') e
 
   pub each_member : (xs : List (Held (Spun D))) → AllByRecursion (Contains xs) xs
   each_member [] = tt

@@ -9,6 +9,9 @@ use Rattle.volume_parts.proofs.PartReads.{never_some}
 use Rattle.manager.proofs.ReadThrough.{rose_down, through_then}
 use Rattle.manager.proofs.manager.Manager.fetch_rec.Goals as goal
 
+pub read_record-requires-clause-serves : goal.read_record-requires-clause-serves
+read_record-requires-clause-serves g c = record { ready = c.requires.ready; at = c.requires.at; up = never_some c.args.self.now.down c.in_default.not-Some }
+
 pub read_record-requires-clause-there : goal.read_record-requires-clause-there
 read_record-requires-clause-there g c =
     let es = c.args.self.now.index.entries in let r = c.in-Some-find.record in let e = c.in-Some-find.ensures in

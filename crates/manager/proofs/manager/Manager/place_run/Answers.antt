@@ -1,4 +1,4 @@
-use Rattle.std.proofs.Common.{◌≡◌, ⊎_elim, ◌<◌, ◌≤◌, ℕ, Bool, false, List, [], ◌∷◌, length, take, drop, get_or, None, Some, refl, sym, ap, subst, ◌∙◌, arith}
+use Rattle.std.proofs.Common.{◌≡◌, ⊎_elim, ◌<◌, ◌≤◌, ◌+◌, ◌^◌, ℕ, Bool, false, List, [], ◌∷◌, length, take, drop, get_or, None, Some, refl, sym, ap, subst, ◌∙◌, arith}
 use Rattle.std.specs.Prelude.{slice_get, is_some}
 use Rattle.std.specs.List.{AllByRecursion, list_any, range_with_len}
 use Rattle.wol_disk.specs.Disk.{Block}
@@ -26,7 +26,7 @@ use Rattle.volume_parts.proofs.Placing.{led_by, open_in, fewer_open, ask_unknown
 use Rattle.manager.proofs.manager.Manager.place_run.Goals as goal
 
 pub asking-init : goal.asking-init
-asking-init g c = asking_none g.D.Disk.tells g.D.Disk.state c.args.shared.now _ c.args.self.now c.requires.ready c.requires.at c.requires.unasked
+asking-init g c = asking_none g.D.Disk.tells g.D.Disk.state c.args.shared.now _ c.args.self.now c.requires.run.serves.ready c.requires.run.serves.at c.requires.unasked
 
 -- the step of the rule, over what the manager has
 unknown_at : (home_up covered : Bool) (ups lent_ups : List Bool) (rooms lent : List Room) (lane : ℕ) → Ask lane ≡ step_of home_up covered lent_ups lent → lent ≡ rooms → slice_get rooms lane ≡ Some Unknown
@@ -37,61 +37,66 @@ asking-preserved g c =
     let now = c.asking.self in let turned = c.try_run.ensures.turned_away (ap is_some c.in_default.is) in
     asking_more g.D.Disk.tells g.D.Disk.state c.args.shared.now _ c.args.self.now now c.try_run.new.self c.in-Ask.lane c.asking.invariant
     (unknown_at now.home_up c.args.covered now.ups.items c.deref.result.now now.rooms.items c.deref-in-asking.result.now c.in-Ask.lane c.in-Ask.ensures.value c.deref-in-asking.ensures.0)
-    turned.0 (subst (λ (k : ℕ). ChangesLane (IsTurnedAway k) c.in-Ask.lane now.lanes.items c.try_run.new.self.lanes.items) (sym (first_blocks_long c.args.items.now c.args.from.now c.requires.blocks)) turned.1)
-    c.try_run.ensures.ready c.try_run.ensures.at (c.try_run.ensures.keeps (ap is_some c.in_default.is))
+    turned.rest (subst (λ (k : ℕ). ChangesLane (IsTurnedAway k) c.in-Ask.lane now.lanes.items c.try_run.new.self.lanes.items) (sym (first_blocks_long c.args.items.now c.args.from.now c.requires.run.blocks)) turned.lanes)
+    c.try_run.ensures.ready c.try_run.ensures.at turned.keeps
 
 pub asking-smaller : goal.asking-smaller
 asking-smaller g c =
     let now = c.asking.self in let turned = c.try_run.ensures.turned_away (ap is_some c.in_default.is) in
-    subst (λ (rs : List Room). open_in rs < open_in now.rooms.items) (sym (ap (λ (m : Manager g.row.D.Denot). m.rooms.items) turned.0))
+    subst (λ (rs : List Room). open_in rs < open_in now.rooms.items) (sym (ap (λ (m : Manager g.row.D.Denot). m.rooms.items) turned.rest))
     (fewer_open now.rooms.items c.in-Ask.lane (unknown_at now.home_up c.args.covered now.ups.items c.deref.result.now now.rooms.items c.deref-in-asking.result.now c.in-Ask.lane c.in-Ask.ensures.value c.deref-in-asking.ensures.0))
 
 -- ---- A lane took some
 
-pub try_run-requires-clause-items : goal.try_run-requires-clause-items
-try_run-requires-clause-items g c =
-    subst (λ (m : Manager g.row.D.Denot). AreItemsOf m.most (state_of g.D.Disk.state m.home).size c.args.items.now) (sym c.asking.invariant.rest) c.requires.items
+pub try_run-requires-clause-run : goal.try_run-requires-clause-run
+try_run-requires-clause-run g c = let a = c.asking.invariant in let r = c.requires.run in let items = c.args.items.now in record {
+  serves = record { ready = a.ready; at = a.at; up = ap (λ (m : Manager g.row.D.Denot). m.down) a.rest ∙ r.serves.up };
+  some = r.some;
+  each = subst (λ (m : Manager g.row.D.Denot). AreItemsOf m.most (state_of g.D.Disk.state m.home).size items) (sym a.rest) r.each;
+  blocks = r.blocks;
+  next = subst (λ (m : Manager g.row.D.Denot). m.next + length items ≤ 2 ^ 63) (sym a.rest) r.next;
+  reserved = subst (λ (m : Manager g.row.D.Denot). length items ≤ m.index.reserved) (sym a.rest) r.reserved;
+}
 
 pub returns-in-Some-clause-answer : goal.returns-in-Some-clause-answer
-returns-in-Some-clause-answer g c = log_only _ c.in-Ask.lane c.in-Some.ran.answer c.in-Some.ensures.answer
+returns-in-Some-clause-answer g c = log_only _ c.in-Ask.lane c.in-Some.ran.answer c.in-Some.ensures.taken.answer
 
 pub returns-in-Some-clause-run : goal.returns-in-Some-clause-run
 returns-in-Some-clause-run g c =
-    let old = c.args.self.now in let now = c.asking.self in let a = c.asking.invariant in let new = c.try_run.new.self in let t = c.in-Some.ensures.taken refl in let r = c.in-Some.ran in let m = c.in-Some.ensures.any_moment in
-    run_logged g.D.Disk.tells g.D.Disk.state c.args.shared.now c.args.items.now c.args.from.now old now a new r.items r.answer (ap (λ (m : Manager g.row.D.Denot). m.rooms.items) t.0) c.in-Ask.lane
-    (unknown_at now.home_up c.args.covered now.ups.items c.deref.result.now now.rooms.items c.deref-in-asking.result.now c.in-Ask.lane c.in-Ask.ensures.value c.deref-in-asking.ensures.0) c.in-Some.ensures.answer
+    let old = c.args.self.now in let now = c.asking.self in let a = c.asking.invariant in let new = c.try_run.new.self in let t = c.in-Some.ensures.taken in
+    run_logged g.D.Disk.tells g.D.Disk.state c.args.shared.now c.args.items.now c.args.from.now old now a new c.in-Some.ran (ap (λ (m : Manager g.row.D.Denot). m.rooms.items) t.rest) c.in-Ask.lane
+    (unknown_at now.home_up c.args.covered now.ups.items c.deref.result.now now.rooms.items c.deref-in-asking.result.now c.in-Ask.lane c.in-Ask.ensures.value c.deref-in-asking.ensures.0)
     (place_led g.D.Disk.tells g.D.Disk.state c.args.shared.now (first_lbn c.args.items.now) (first_blocks c.args.items.now c.args.from.now) old now a (Ask c.in-Ask.lane) c.args.covered c.deref.result.now c.deref-in-asking.result.now c.in-Ask.ensures.value c.deref.ensures.0 c.deref-in-asking.ensures.0 c.requires.covered)
-    t.1 c.in-Some.ensures.tried.0 c.in-Some.ensures.tried.1 old.most (state_of g.D.Disk.state old.home).size c.requires.items c.requires.blocks c.in-Some.ensures.joins
-    c.in-Some.ensures.stands c.in-Some.ensures.look c.in-Some.ensures.next m.0 m.1 m.2
+    t old.most (state_of g.D.Disk.state old.home).size c.requires.run.each c.requires.run.blocks c.in-Some.ensures.joins
 
 pub returns-in-Some-clause-placed : goal.returns-in-Some-clause-placed
 returns-in-Some-clause-placed g c =
-    let now = c.asking.self in let a = c.asking.invariant in let new = c.try_run.new.self in let t = c.in-Some.ensures.taken refl in
-    placed_log g.D.Disk.tells g.D.Disk.state c.args.shared.now (first_lbn c.args.items.now) (first_blocks c.args.items.now c.args.from.now) c.args.self.now now a new c.in-Some.ran.answer (ap (λ (m : Manager g.row.D.Denot). m.rooms.items) t.0) c.in-Ask.lane
-    (unknown_at now.home_up c.args.covered now.ups.items c.deref.result.now now.rooms.items c.deref-in-asking.result.now c.in-Ask.lane c.in-Ask.ensures.value c.deref-in-asking.ensures.0) c.in-Some.ensures.answer
-    (place_led g.D.Disk.tells g.D.Disk.state c.args.shared.now (first_lbn c.args.items.now) (first_blocks c.args.items.now c.args.from.now) c.args.self.now now a (Ask c.in-Ask.lane) c.args.covered c.deref.result.now c.deref-in-asking.result.now c.in-Ask.ensures.value c.deref.ensures.0 c.deref-in-asking.ensures.0 c.requires.covered) t.1
+    let now = c.asking.self in let a = c.asking.invariant in let new = c.try_run.new.self in let t = c.in-Some.ensures.taken in
+    placed_log g.D.Disk.tells g.D.Disk.state c.args.shared.now (first_lbn c.args.items.now) (first_blocks c.args.items.now c.args.from.now) c.args.self.now now a new c.in-Some.ran.answer (ap (λ (m : Manager g.row.D.Denot). m.rooms.items) t.rest) c.in-Ask.lane
+    (unknown_at now.home_up c.args.covered now.ups.items c.deref.result.now now.rooms.items c.deref-in-asking.result.now c.in-Ask.lane c.in-Ask.ensures.value c.deref-in-asking.ensures.0) c.in-Some.ensures.taken.answer
+    (place_led g.D.Disk.tells g.D.Disk.state c.args.shared.now (first_lbn c.args.items.now) (first_blocks c.args.items.now c.args.from.now) c.args.self.now now a (Ask c.in-Ask.lane) c.args.covered c.deref.result.now c.deref-in-asking.result.now c.in-Ask.ensures.value c.deref.ensures.0 c.deref-in-asking.ensures.0 c.requires.covered) t.lanes
 
 pub returns-in-Some-clause-answered : goal.returns-in-Some-clause-answered
 returns-in-Some-clause-answered g c =
-    let now = c.asking.self in let a = c.asking.invariant in let new = c.try_run.new.self in let t = c.in-Some.ensures.taken refl in
-    subst (λ (k : ℕ). HaveAnswered k (takes_at (ruled_run c.args.self.now new c.args.items.now c.args.from.now) c.in-Some.ran.answer) new.rooms.items c.args.self.now.lanes.items new.lanes.items) (first_blocks_long c.args.items.now c.args.from.now c.requires.blocks)
-    (answered_log g.D.Disk.tells g.D.Disk.state c.args.shared.now (first_lbn c.args.items.now) (first_blocks c.args.items.now c.args.from.now) c.args.self.now now a new c.in-Some.ran.answer (ap (λ (m : Manager g.row.D.Denot). m.rooms.items) t.0) c.in-Ask.lane
-    (unknown_at now.home_up c.args.covered now.ups.items c.deref.result.now now.rooms.items c.deref-in-asking.result.now c.in-Ask.lane c.in-Ask.ensures.value c.deref-in-asking.ensures.0) c.in-Some.ensures.answer
-    (place_led g.D.Disk.tells g.D.Disk.state c.args.shared.now (first_lbn c.args.items.now) (first_blocks c.args.items.now c.args.from.now) c.args.self.now now a (Ask c.in-Ask.lane) c.args.covered c.deref.result.now c.deref-in-asking.result.now c.in-Ask.ensures.value c.deref.ensures.0 c.deref-in-asking.ensures.0 c.requires.covered) t.1)
+    let now = c.asking.self in let a = c.asking.invariant in let new = c.try_run.new.self in let t = c.in-Some.ensures.taken in
+    subst (λ (k : ℕ). HaveAnswered k (takes_at (ruled_run c.args.self.now new c.args.items.now c.args.from.now) c.in-Some.ran.answer) new.rooms.items c.args.self.now.lanes.items new.lanes.items) (first_blocks_long c.args.items.now c.args.from.now c.requires.run.blocks)
+    (answered_log g.D.Disk.tells g.D.Disk.state c.args.shared.now (first_lbn c.args.items.now) (first_blocks c.args.items.now c.args.from.now) c.args.self.now now a new c.in-Some.ran.answer (ap (λ (m : Manager g.row.D.Denot). m.rooms.items) t.rest) c.in-Ask.lane
+    (unknown_at now.home_up c.args.covered now.ups.items c.deref.result.now now.rooms.items c.deref-in-asking.result.now c.in-Ask.lane c.in-Ask.ensures.value c.deref-in-asking.ensures.0) c.in-Some.ensures.taken.answer
+    (place_led g.D.Disk.tells g.D.Disk.state c.args.shared.now (first_lbn c.args.items.now) (first_blocks c.args.items.now c.args.from.now) c.args.self.now now a (Ask c.in-Ask.lane) c.args.covered c.deref.result.now c.deref-in-asking.result.now c.in-Ask.ensures.value c.deref.ensures.0 c.deref-in-asking.ensures.0 c.requires.covered) t.lanes)
 
 pub returns-in-Some-clause-waking : goal.returns-in-Some-clause-waking
 returns-in-Some-clause-waking g c =
-    let now = c.asking.self in let a = c.asking.invariant in let new = c.try_run.new.self in let t = c.in-Some.ensures.taken refl in
-    waking_log g.D.Disk.tells g.D.Disk.state c.args.shared.now (first_lbn c.args.items.now) (first_blocks c.args.items.now c.args.from.now) c.args.self.now now a new c.in-Some.ran.answer (ap (λ (m : Manager g.row.D.Denot). m.rooms.items) t.0) c.in-Ask.lane
-    (unknown_at now.home_up c.args.covered now.ups.items c.deref.result.now now.rooms.items c.deref-in-asking.result.now c.in-Ask.lane c.in-Ask.ensures.value c.deref-in-asking.ensures.0) c.in-Some.ensures.answer
-    (place_led g.D.Disk.tells g.D.Disk.state c.args.shared.now (first_lbn c.args.items.now) (first_blocks c.args.items.now c.args.from.now) c.args.self.now now a (Ask c.in-Ask.lane) c.args.covered c.deref.result.now c.deref-in-asking.result.now c.in-Ask.ensures.value c.deref.ensures.0 c.deref-in-asking.ensures.0 c.requires.covered) t.1
-    (ap (λ (m : Manager g.row.D.Denot). m.spindle) t.0)
+    let now = c.asking.self in let a = c.asking.invariant in let new = c.try_run.new.self in let t = c.in-Some.ensures.taken in
+    waking_log g.D.Disk.tells g.D.Disk.state c.args.shared.now (first_lbn c.args.items.now) (first_blocks c.args.items.now c.args.from.now) c.args.self.now now a new c.in-Some.ran.answer (ap (λ (m : Manager g.row.D.Denot). m.rooms.items) t.rest) c.in-Ask.lane
+    (unknown_at now.home_up c.args.covered now.ups.items c.deref.result.now now.rooms.items c.deref-in-asking.result.now c.in-Ask.lane c.in-Ask.ensures.value c.deref-in-asking.ensures.0) c.in-Some.ensures.taken.answer
+    (place_led g.D.Disk.tells g.D.Disk.state c.args.shared.now (first_lbn c.args.items.now) (first_blocks c.args.items.now c.args.from.now) c.args.self.now now a (Ask c.in-Ask.lane) c.args.covered c.deref.result.now c.deref-in-asking.result.now c.in-Ask.ensures.value c.deref.ensures.0 c.deref-in-asking.ensures.0 c.requires.covered) t.lanes
+    (ap (λ (m : Manager g.row.D.Denot). m.spindle) t.rest)
 
 pub returns-in-Some-clause-fault : goal.returns-in-Some-clause-fault
-returns-in-Some-clause-fault g c = fault_before g.D.Disk.tells g.D.Disk.state c.args.shared.now (first_lbn c.args.items.now) (first_blocks c.args.items.now c.args.from.now) c.args.self.now c.asking.self c.asking.invariant c.try_run.new.self c.in-Some.ran.answer c.in-Some.ensures.fault
+returns-in-Some-clause-fault g c = fault_before g.D.Disk.tells g.D.Disk.state c.args.shared.now (first_lbn c.args.items.now) (first_blocks c.args.items.now c.args.from.now) c.args.self.now c.asking.self c.asking.invariant c.try_run.new.self c.in-Some.ran.answer c.in-Some.ensures.taken.fault
 
 pub returns-in-Some-clause-calm : goal.returns-in-Some-clause-calm
-returns-in-Some-clause-calm g c = calm_before g.D.Disk.tells g.D.Disk.state c.args.shared.now (first_lbn c.args.items.now) (first_blocks c.args.items.now c.args.from.now) c.args.self.now c.asking.self c.asking.invariant c.try_run.new.self c.in-Some.ran.answer c.in-Some.ensures.calm
+returns-in-Some-clause-calm g c = calm_before g.D.Disk.tells g.D.Disk.state c.args.shared.now (first_lbn c.args.items.now) (first_blocks c.args.items.now c.args.from.now) c.args.self.now c.asking.self c.asking.invariant c.try_run.new.self c.in-Some.ran.answer c.in-Some.ensures.taken.calm
 
 -- ---- It went home
 
@@ -105,11 +110,14 @@ first_range : (items : List Item) (from : List Block) (d : Item) (q : ℕ → Bo
 first_range [] from d q some = absurd (omega arith)
 first_range (i ∷ items) from d q some = refl
 
+pub write_home-requires-clause-serves : goal.write_home-requires-clause-serves
+write_home-requires-clause-serves g c = let a = c.asking.invariant in record { ready = a.ready; at = a.at; up = ap (λ (m : Manager g.row.D.Denot). m.down) a.rest ∙ c.requires.run.serves.up }
+
 -- the first item goes home only where no record covers a block of it
 pub write_home-requires-clause-bare : goal.write_home-requires-clause-bare
 write_home-requires-clause-bare g c =
     let now = c.asking.self in let a = c.asking.invariant in
-    first_range c.args.items.now c.args.from.now (record { lbn = 0; count = 0 }) (is_covered (listed_in now.index.entries)) c.requires.some
+    first_range c.args.items.now c.args.from.now (record { lbn = 0; count = 0 }) (is_covered (listed_in now.index.entries)) c.requires.run.some
     ∙ ap (λ (m : Manager g.row.D.Denot). list_any (is_covered (listed_in m.index.entries)) (range_with_len (first_lbn c.args.items.now) (length (first_blocks c.args.items.now c.args.from.now)))) a.rest
     ∙ (sym c.requires.covered
     ∙ ⊎_elim (λ e. home_is_bare now.home_up c.args.covered c.deref.result.now c.deref-in-asking.result.now (sym c.place.ensures.value ∙ e)) (λ e. woken_home_is_bare now.home_up c.args.covered c.deref.result.now c.deref-in-asking.result.now (sym c.place.ensures.value ∙ e)) c.in-Home.is)
@@ -120,11 +128,11 @@ returns-in-Home-clause-answer g c = home_only c.asking.self.id c.write_home.resu
 pub returns-in-Home-clause-run : goal.returns-in-Home-clause-run
 returns-in-Home-clause-run g c =
     let now = c.asking.self in let a = c.asking.invariant in let new = c.write_home.new.self in let u = c.write_home.ensures.unchanged in let other : Item = record { lbn = 0; count = 0 } in
-    home_run g.D.Disk.tells g.D.Disk.state c.args.shared.now c.args.items.now c.args.from.now c.args.self.now now a new (get_or c.args.items.now 0 other) (drop 1 c.args.items.now) (first_of c.args.items.now other c.requires.some)
+    home_run g.D.Disk.tells g.D.Disk.state c.args.shared.now c.args.items.now c.args.from.now c.args.self.now now a new (get_or c.args.items.now 0 other) (drop 1 c.args.items.now) (first_of c.args.items.now other c.requires.run.some)
     now.id c.write_home.result c.write_home.ensures.answer
     (ap (λ (rs : List Room). place_of (passed_in rs) (look_of_manager c.args.self.now) (home_write (first_lbn c.args.items.now) (first_blocks c.args.items.now c.args.from.now))) (ap (λ (m : Manager g.row.D.Denot). m.rooms.items) u)
     ∙ (place_led g.D.Disk.tells g.D.Disk.state c.args.shared.now (first_lbn c.args.items.now) (first_blocks c.args.items.now c.args.from.now) c.args.self.now now a c.place.result c.args.covered c.deref.result.now c.deref-in-asking.result.now c.place.ensures.value c.deref.ensures.0 c.deref-in-asking.ensures.0 c.requires.covered ∙ ⊎_elim (λ e. ap led_by e) (λ e. ap led_by e) c.in-Home.is))
-    u c.write_home.ensures.fault (λ b notes ps n client note passed k. c.write_home.ensures.stands b notes ps n client note passed k) (λ told b notes k. c.write_home.ensures.any_moment told b notes k)
+    u c.write_home.ensures.fault c.write_home.ensures.stands c.write_home.ensures.any_moment
 
 pub returns-in-Home-clause-placed : goal.returns-in-Home-clause-placed
 returns-in-Home-clause-placed g c =
@@ -135,7 +143,7 @@ returns-in-Home-clause-placed g c =
 pub returns-in-Home-clause-answered : goal.returns-in-Home-clause-answered
 returns-in-Home-clause-answered g c =
     let now = c.asking.self in let a = c.asking.invariant in let new = c.write_home.new.self in let u = c.write_home.ensures.unchanged in
-    subst (λ (k : ℕ). HaveAnswered k (takes_at (ruled_run c.args.self.now new c.args.items.now c.args.from.now) c.write_home.result) new.rooms.items c.args.self.now.lanes.items new.lanes.items) (first_blocks_long c.args.items.now c.args.from.now c.requires.blocks)
+    subst (λ (k : ℕ). HaveAnswered k (takes_at (ruled_run c.args.self.now new c.args.items.now c.args.from.now) c.write_home.result) new.rooms.items c.args.self.now.lanes.items new.lanes.items) (first_blocks_long c.args.items.now c.args.from.now c.requires.run.blocks)
     (answered_home g.D.Disk.tells g.D.Disk.state c.args.shared.now (first_lbn c.args.items.now) (first_blocks c.args.items.now c.args.from.now) c.args.self.now now a new c.write_home.result (ap (λ (m : Manager g.row.D.Denot). m.rooms.items) u) now.id c.write_home.ensures.answer
     (place_led g.D.Disk.tells g.D.Disk.state c.args.shared.now (first_lbn c.args.items.now) (first_blocks c.args.items.now c.args.from.now) c.args.self.now now a c.place.result c.args.covered c.deref.result.now c.deref-in-asking.result.now c.place.ensures.value c.deref.ensures.0 c.deref-in-asking.ensures.0 c.requires.covered ∙ ⊎_elim (λ e. ap led_by e) (λ e. ap led_by e) c.in-Home.is)
     (ap (λ (m : Manager g.row.D.Denot). m.lanes.items) u))
@@ -161,7 +169,7 @@ returns-in-Full-clause-run g c =
     run_full g.D.Disk.tells g.D.Disk.state c.args.items.now c.args.from.now c.args.self.now now
     (λ b notes n client note k. stands_kept g.D.Disk.tells g.D.Disk.state now b notes n (passed_in now.rooms.items) note (passed_unplaced g.D.Disk.tells g.D.Disk.state c.args.shared.now (first_lbn c.args.items.now) (first_blocks c.args.items.now c.args.from.now) c.args.self.now now a b notes n note.passed_is k) (a.keeps b notes k)) (ap (λ (m : Manager g.row.D.Denot). m.next) a.rest)
     (claimed_before g.D.Disk.tells g.D.Disk.state c.args.shared.now (first_lbn c.args.items.now) (first_blocks c.args.items.now c.args.from.now) c.args.self.now now a Unit now None (no_more_same now.lanes.items now.lanes.items refl))
-    (λ told b notes k. stops_unplaced g.D.Disk.tells g.D.Disk.state c.args.shared.now (first_lbn c.args.items.now) (first_blocks c.args.items.now c.args.from.now) c.args.self.now now a g.met.D.Disk.sound told b notes c.requires.up k)
+    (λ told b notes k. stops_unplaced g.D.Disk.tells g.D.Disk.state c.args.shared.now (first_lbn c.args.items.now) (first_blocks c.args.items.now c.args.from.now) c.args.self.now now a g.met.D.Disk.sound told b notes c.requires.run.serves.up k)
 
 pub returns-in-Full-clause-placed : goal.returns-in-Full-clause-placed
 returns-in-Full-clause-placed g c =
@@ -171,7 +179,7 @@ returns-in-Full-clause-placed g c =
 pub returns-in-Full-clause-answered : goal.returns-in-Full-clause-answered
 returns-in-Full-clause-answered g c =
     let now = c.asking.self in
-    subst (λ (k : ℕ). HaveAnswered k (λ j. false) now.rooms.items c.args.self.now.lanes.items now.lanes.items) (first_blocks_long c.args.items.now c.args.from.now c.requires.blocks) c.asking.invariant.lanes
+    subst (λ (k : ℕ). HaveAnswered k (λ j. false) now.rooms.items c.args.self.now.lanes.items now.lanes.items) (first_blocks_long c.args.items.now c.args.from.now c.requires.run.blocks) c.asking.invariant.lanes
 
 pub unreachable-requires : goal.unreachable-requires
 unreachable-requires g c =

@@ -13,6 +13,9 @@ use Rattle.manager.proofs.ReadThrough.{rose_down, through_self, through_but_down
 use Rattle.manager.proofs.ReadStops.{stops_read, stops_down}
 use Rattle.manager.proofs.manager.Manager.read.Goals as goal
 
+pub read_runs-requires-clause-serves : goal.read_runs-requires-clause-serves
+read_runs-requires-clause-serves g c = record { ready = c.requires.ready; at = c.requires.at; up = never_some c.args.self.now.down c.in_default.not-Some }
+
 pub returns-in-Some-clause-stands : goal.returns-in-Some-clause-stands
 returns-in-Some-clause-stands g c b notes n client note k =
     stands_kept g.D.Disk.tells g.D.Disk.state c.args.self.now b notes n [] note (none_passed (nones_at c.args.self.now.lanes.items b.lanes) notes n note.passed_is k.passed) k

@@ -40,12 +40,12 @@ returns-clause-content g c told b notes keeps =
     let t = g.met.D.Disk.told told m.home.inner in
     let out : List Block = c.fetch_at-answer.new.out in
     on_ok_like c.fetch_at-answer.result c.at_part.result c.at_part.ensures.like
-    (λ is. is ∙ home_content g.D.Disk.tells g.D.Disk.state m b notes keeps c.requires.up told t.0 t.1 c.args.lbn (length c.args.out.now) c.requires.source)
+    (λ is. is ∙ home_content g.D.Disk.tells g.D.Disk.state m b notes keeps c.requires.serves.up told t.0 t.1 c.args.lbn (length c.args.out.now) c.requires.source)
     (let P : Option (List (Values Block)) → Type 0 = λ o. OnOk c.fetch_at-answer.result (IfSome o (λ vs. out ≡ take (length c.args.out.now) (drop c.args.lbn (reads vs)))) in subst P t.1 c.fetch_at-answer.ensures.content)
 
 pub returns-clause-ready : goal.returns-clause-ready
 returns-clause-ready g c = let e = c.fetch_at-answer.ensures in let m = c.args.self.now in
-    ready_homed g.D.Disk.state m c.fetch_at-answer.new.part c.fetch_at-answer.new.spindle m.down e.volume e.size e.same e.free e.settled e.used c.requires.up c.requires.ready
+    ready_homed g.D.Disk.state m c.fetch_at-answer.new.part c.fetch_at-answer.new.spindle m.down e.volume e.size e.same e.free e.settled e.used c.requires.serves.up c.requires.serves.ready
 
 pub returns-clause-calm : goal.returns-clause-calm
-returns-clause-calm g c = on_ok_like c.fetch_at-answer.result c.at_part.result c.at_part.ensures.like (λ same. none_home g.D.Disk.state c.args.self.now _ c.requires.ready same refl) c.fetch_at-answer.ensures.calm
+returns-clause-calm g c = on_ok_like c.fetch_at-answer.result c.at_part.result c.at_part.ensures.like (λ same. none_home g.D.Disk.state c.args.self.now _ c.requires.serves.ready same refl) c.fetch_at-answer.ensures.calm

@@ -1,12 +1,15 @@
 -- Run after run.
-use Rattle.std.proofs.Common.{◌+◌, ◌≤◌, length, sym, arith}
+use Rattle.std.proofs.Common.{◌+◌, ◌≤◌, length, sym, ◌∙◌, arith}
 use Rattle.std.proofs.lemmas.Result.{err_from_is_err_and}
 use Rattle.manager.proofs.ReadRuns.{nothing_read, part_length, needs_too, run_read}
 use Rattle.manager.proofs.ReadThrough.{through_then, rose_through}
 use Rattle.manager.proofs.manager.Manager.read_runs.Goals as goal
 
 pub runs-init : goal.runs-init
-runs-init g c = nothing_read g.D.Disk.tells g.D.Disk.state g.met.D.Disk.sound c.args.shared.now c.args.self.now c.args.lbn (length c.args.out.now) c.args.out.now c.requires.ready c.requires.at
+runs-init g c = nothing_read g.D.Disk.tells g.D.Disk.state g.met.D.Disk.sound c.args.shared.now c.args.self.now c.args.lbn (length c.args.out.now) c.args.out.now c.requires.serves.ready c.requires.serves.at
+
+pub read_run-requires-clause-serves : goal.read_run-requires-clause-serves
+read_run-requires-clause-serves g c = let h = c.runs.invariant in record { ready = h.ready; at = h.at_home; up = h.read.down ∙ c.requires.serves.up }
 
 pub returns-in_err-run-clause-read : goal.returns-in_err-run-clause-read
 returns-in_err-run-clause-read g c = through_then g.D.Disk.state g.met.D.Disk.sound c.args.self.now c.runs.self c.read_run.new.self c.runs.invariant.read c.read_run.ensures.read
@@ -20,7 +23,7 @@ returns-in_err-run-clause-needs g c =
       blocks = c.runs.done + count;
       within = within;
       needs = needs_too g.D.Disk.tells g.D.Disk.state g.met.D.Disk.sound c.args.shared.now c.args.self.now c.args.lbn (length c.args.out.now) c.runs.self c.read_run.new.self c.runs.done count _ long c.runs.out c.read_run.new.out c.runs.sources c.runs.sources
-          c.runs.invariant c.requires.up c.read_run.ensures.ready c.read_run.ensures.at c.read_run.ensures.read c.read_run.ensures.look c.read_run.ensures.needs;
+          c.runs.invariant c.requires.serves.up c.read_run.ensures.ready c.read_run.ensures.at c.read_run.ensures.read c.read_run.ensures.look c.read_run.ensures.needs;
     }
 
 pub returns-in_err-run-clause-cause : goal.returns-in_err-run-clause-cause
@@ -34,5 +37,5 @@ runs-preserved g c =
     let within : c.runs.done + count ≤ length c.args.out.now = omega (arith, c.newest_run-source.ensures.most) in
     let long = part_length c.runs.done count c.runs.out (omega arith) in
     run_read g.D.Disk.tells g.D.Disk.state g.met.D.Disk.sound c.args.shared.now c.args.self.now c.args.lbn (length c.args.out.now) c.runs.self c.read_run.new.self c.runs.done count _ long c.runs.out c.read_run.new.out c.runs.sources c.in_ok-run.run'
-    c.runs.invariant c.requires.up c.read_run.ensures.ready c.read_run.ensures.at c.read_run.ensures.read c.read_run.ensures.look c.read_run.ensures.needs c.in_ok-run.ensures.content c.in_ok-run.ensures.logged c.in_ok-run.ensures.all c.in_ok-run.ensures.calm
+    c.runs.invariant c.requires.serves.up c.read_run.ensures.ready c.read_run.ensures.at c.read_run.ensures.read c.read_run.ensures.look c.read_run.ensures.needs c.in_ok-run.ensures.content c.in_ok-run.ensures.logged c.in_ok-run.ensures.all c.in_ok-run.ensures.calm
     within (sym c.runs.auto.out) c.read_run.auto.out

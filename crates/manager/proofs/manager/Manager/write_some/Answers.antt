@@ -13,7 +13,8 @@ use Rattle.manager.proofs.Answered.{none_asked}
 use Rattle.manager.proofs.Bounds.{take_some, take_within, take_after, of_front, count_below, at_most}
 use Rattle.manager.proofs.GroupOffering.{all_taken_front}
 use Rattle.manager.proofs.Runs.{run_front, run_then, run_kept, placed_then, answered_run, home_then, as_before, first_given}
-use Rattle.manager.proofs.Refused.{needs_logs, untouched, fault_then, calm_then}
+use Rattle.manager.proofs.Refused.{needs_logs, ready_then, untouched, fault_then, calm_then}
+use Rattle.volume_parts.proofs.PartReads.{never_some}
 use Rattle.manager.proofs.manager.Manager.write_some.Goals as goal
 
 pub returns-in-Some-clause-run : goal.returns-in-Some-clause-run
@@ -51,25 +52,28 @@ returns-in_default-reserve_places-clause-unchanged g c = untouched g.D.Disk.tell
 
 -- ---- It was asked of lanes
 
-pub place_run-requires-clause-some : goal.place_run-requires-clause-some
-place_run-requires-clause-some g c = take_some c.versioned-most.result c.args.items.now c.versioned-most.ensures.some (at_most _ _ _ c.versioned-most.ensures.most (at_most _ _ _ c.in-Some-reserve_places.ensures.some.1 c.looked_at-asked.ensures.within))
-
-pub place_run-requires-clause-items : goal.place_run-requires-clause-items
-place_run-requires-clause-items g c = all_taken_front (IsItemOf c.args.self.now.most (state_of g.D.Disk.state c.args.self.now.home).size) c.versioned-most.result c.args.items.now c.requires.items
-
-pub place_run-requires-clause-blocks : goal.place_run-requires-clause-blocks
-place_run-requires-clause-blocks g c = count_below c.versioned-most.result c.args.items.now (length c.args.from.now) c.requires.blocks
+pub place_run-requires-clause-run : goal.place_run-requires-clause-run
+place_run-requires-clause-run g c =
+    let m = c.args.self.now in let items = c.args.items.now in let n = c.versioned-most.result in
+    let is = c.unasked-self.ensures ∙ (λ i. replicate ((c.len.ensures ∙ c.args.self.now.lanes.ok.0) i) Unknown) in
+    let few = at_most _ _ _ c.versioned-most.ensures.most (at_most _ _ _ c.in-Some-reserve_places.ensures.some.1 c.looked_at-asked.ensures.within) in
+    record {
+      serves = record {
+        ready = ready_then g.D.Disk.tells g.D.Disk.state m c.unasked-self.result.items is c.reserve_places.new.index c.reserve_places.ensures.entries c.requires.ready;
+        at = c.requires.at;
+        up = never_some m.down c.in_default.not-Some;
+      };
+      some = take_some n items c.versioned-most.ensures.some few;
+      each = all_taken_front (IsItemOf m.most (state_of g.D.Disk.state m.home).size) n items c.requires.items;
+      blocks = count_below n items (length c.args.from.now) c.requires.blocks;
+      next = take_after n items m.next _ few c.versioned-most.ensures.left;
+      reserved = take_within n items _ few (at_most _ _ _ c.versioned-most.ensures.most c.in-Some-reserve_places.ensures.some.2);
+    }
 
 pub place_run-requires-clause-covered : goal.place_run-requires-clause-covered
 place_run-requires-clause-covered g c =
     let other : Item = record { lbn = 0; count = 0 } in let f = first_given c.args.items.now c.versioned-most.result c.args.from.now other c.requires.some c.versioned-most.ensures.some c.requires.blocks in
     c.covered-covered.ensures ∙ (λ t. list_any (is_covered (listed_in c.reserve_places.new.index.entries)) (range_with_len (sym f.0 t) (sym f.1 t)))
-
-pub place_run-requires-clause-next : goal.place_run-requires-clause-next
-place_run-requires-clause-next g c = take_after c.versioned-most.result c.args.items.now c.args.self.now.next _ (at_most _ _ _ c.versioned-most.ensures.most (at_most _ _ _ c.in-Some-reserve_places.ensures.some.1 c.looked_at-asked.ensures.within)) c.versioned-most.ensures.left
-
-pub place_run-requires-clause-reserved : goal.place_run-requires-clause-reserved
-place_run-requires-clause-reserved g c = take_within c.versioned-most.result c.args.items.now _ (at_most _ _ _ c.versioned-most.ensures.most (at_most _ _ _ c.in-Some-reserve_places.ensures.some.1 c.looked_at-asked.ensures.within)) (at_most _ _ _ c.versioned-most.ensures.most c.in-Some-reserve_places.ensures.some.2)
 
 pub returns-clause-run : goal.returns-clause-run
 returns-clause-run g c =
