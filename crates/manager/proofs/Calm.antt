@@ -1,16 +1,17 @@
--- Calls in which no count of faults rose.
+-- Calls in which no count of faults rose, and in which a segment's did.
 use Rattle.std.proofs.Common.{◌≡◌, ⊎_elim, ℕ, List, Some, sym, ap, subst, ◌∙◌}
 use Rattle.std.specs.Prelude.{slice_get, slice_set}
 use Rattle.std.specs.List.{AllZip}
 use Rattle.std.proofs.lemmas.Option.{same_Some}
-use Rattle.wol_disk.specs.Disk.{State}
+use Rattle.wol_disk.specs.Disk.{State, Rose}
 use Rattle.wol_promise.proofs.Lists.{member_of}
 use Rattle.spin_model.specs.Spun.{state_of}
 use Rattle.spin_model.specs.declared.spun.Spun.{Spun}
-use Rattle.logger.specs.Lanes.{IsLane, held_in}
+use Rattle.log_segment.specs.Segment.{disk_of}
+use Rattle.logger.specs.Lanes.{IsLane, held_in, logger_of}
 use Rattle.logger.specs.declared.lane.HeldSegment.{HeldSegment}
 use Rattle.logger.specs.declared.lane.Lane.{Lane}
-use Rattle.manager.specs.Causes.{AreCalm, NoneRose}
+use Rattle.manager.specs.Causes.{AreCalm, NoneRose, SegmentRose}
 use Rattle.manager.specs.Reading.{LaneRead, SegmentRead, IsReadThrough}
 use Rattle.manager.specs.Stands.{IsReady, IsReadyLane}
 use Rattle.manager.specs.declared.manager.Manager.{Manager}
@@ -67,3 +68,23 @@ module _ {D : Type 0} (state : D → State) where
         let mid = zip_get (λ (a : Lane D) (b : Lane D). held_in b ≡ held_in a) old.lanes.items now.lanes.items j o lanes was in
         subst (λ (hs : List (HeldSegment D)). AreCalm state hs (held_in n)) mid.2 (none.held j mid.0 n mid.1 is);
   }
+
+-- ---- Where one rose
+
+-- a segment of one lane took the place of another, and its count rose
+pub segment_rose : {D : Type 0} (state : D → State) (m m' : Manager D) (k i : ℕ) (old new : Lane D) (o n : HeldSegment D) → slice_get m.lanes.items k ≡ Some old → m'.lanes.items ≡ slice_set m.lanes.items k new → slice_get (held_in old) i ≡ Some o → held_in new ≡ slice_set (held_in old) i n
+    → (volume index : ℕ) → volume ≡ logger_of old → index ≡ o.index → Rose (disk_of state o.segment).faults (disk_of state n.segment).faults → SegmentRose state m m' volume index
+segment_rose state m m' k i old new o n lane lanes there held volume index volume_is index_is rose = record {
+  lane = k;
+  place = i;
+  old_lane = old;
+  new_lane = new;
+  old_segment = o;
+  new_segment = n;
+  was_lane = lane;
+  is_lane = ap (λ ls. slice_get ls k) lanes ∙ get_set m.lanes.items k old new lane;
+  was_there = there;
+  is_there = ap (λ hs. slice_get hs i) held ∙ get_set (held_in old) i o n there;
+  named = (volume_is, index_is);
+  rose = rose;
+}

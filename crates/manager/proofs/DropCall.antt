@@ -1,12 +1,12 @@
 -- A lane gave up blocks of one record: what the manager is then, clause by clause.
-use Rattle.std.proofs.Common.{◌≡◌, ◌+◌, ◌≢◌, ◌<◌, ◌≤◌, ◌^◌, ℕ, zero, suc, Bool, true, false, cond, not, ◌&&◌, List, [], ◌∷◌, ◌++◌, map, length, Option, None, Some, Ok, Err, refl, sym, ap, subst, ◌∙◌, arith, eqb, bit_and, get_or}
-use Rattle.std.specs.Prelude.{IsTrue, Contains, slice_get, slice_set, remove, filter, is_none, IfSome, is_some}
+use Rattle.std.proofs.Common.{◌≡◌, ◌+◌, ◌≢◌, ◌<◌, ◌≤◌, ◌^◌, ℕ, zero, suc, Bool, true, false, cond, not, ◌&&◌, List, [], ◌∷◌, ◌++◌, map, length, Option, None, Some, Ok, Err, refl, sym, ap, subst, ◌∙◌, arith, eqb, bit_and}
+use Rattle.std.specs.Prelude.{IsTrue, slice_get, slice_set, remove, filter, is_none, IfSome, is_some}
 use Rattle.std.specs.Int.{bit_not, w128}
 use Rattle.std.specs.List.{AllByRecursion, list_any, range_with_len}
 use Rattle.std.specs.Option.{option_to_list}
 use Rattle.std.specs.Vec.{with_item}
 use Rattle.std.proofs.lemmas.Bool.{false≢true, eq-eqb, ne_eqb}
-use Rattle.std.proofs.lemmas.Option.{none-some, same_Some, slice_get_read, slice_get_within}
+use Rattle.std.proofs.lemmas.Option.{none-some, same_Some}
 use Rattle.turn_lock.specs.Passes.{pass_mine, pass_number}
 use Rattle.seg_pool.specs.Holders.{Gave}
 use Rattle.seg_pool.specs.Operations.{operation_of}
@@ -19,7 +19,6 @@ use Rattle.wol_promise.proofs.Lists.{all_front, all_member, all_mapped}
 use Rattle.wol_promise.proofs.OneMore.{last_more}
 use Rattle.spin_model.specs.Spun.{state_of}
 use Rattle.log_segment.specs.Records.{IsProperPart}
-use Rattle.log_segment.specs.Segment.{IsWhole}
 use Rattle.log_segment.specs.declared.free.FreeSegment.{FreeSegment}
 use Rattle.redirect_map.specs.Index.{Contents, IsIndex, IsEntry, entry_at, changed, given_up, has_version}
 use Rattle.redirect_map.specs.Masks.{IsMask}
@@ -33,18 +32,20 @@ use Rattle.logger.proofs.Indexes.{lacks_removed}
 use Rattle.manager.specs.Causes.{PartRose}
 use Rattle.manager.specs.Offers.{ChangesLane}
 use Rattle.manager.specs.Reclaim.{given_of, with_kept, IsTrimmedLane, HasDropped, KeepsOn, BreaksOff, StopsSince, Always}
-use Rattle.manager.specs.Stands.{Keeps, IsReady, IsReadyLane, IsPlacedIn, IsInVolume, entries_at, nones_in, nones_at, takes_in, AreStill}
+use Rattle.manager.specs.Stands.{Keeps, IsReady, IsReadyLane, IsInVolume, entries_at, nones_in, nones_at, takes_in, AreStill}
 use Rattle.manager.specs.Stops.{Stops}
 use Rattle.manager.specs.declared.base.ManagerBase.{ManagerBase}
 use Rattle.manager.specs.declared.manager.Manager.{Manager}
 use Rattle.manager.specs.declared.part.Part.{Part}
 use Rattle.manager.specs.declared.part.StepFault.{StepFault}
 use Rattle.listed_records.proofs.Entries.{one_there, lies_there, At, Found, among, entry_in, entry_of_version, some_of, given_is, given_list, keeps_is, none_of_version, one_of_version, proper, still_changed, still_filter}
+use Rattle.manager.proofs.Calm.{segment_rose}
 use Rattle.manager.proofs.DropKeeps.{stays, leaves}
 use Rattle.manager.proofs.DropReady.{up_in_place, up_less, valid_now, none_left, ready_given, ready_broken}
 use Rattle.manager.proofs.DropStops.{cut_now, freed_now, cut_then, freed_then, failed_pieces, in_place_stops, less_stops_so}
+use Rattle.manager.proofs.FetchRec.{spot_at}
 use Rattle.manager.proofs.Frames.{none_passed}
-use Rattle.listed_records.proofs.Elements.{all_at, get_set, map_set, get_of}
+use Rattle.listed_records.proofs.Elements.{all_at, map_set}
 use Rattle.manager.proofs.Putting.{Pieces}
 use Rattle.manager.proofs.ReadyLanes.{locks_set, nones_at_set, takes_of_set, down_counts}
 use Rattle.volume_parts.proofs.Lanes.{nones_more, takes_gave}
@@ -119,16 +120,6 @@ module _ {D : Type 0} (state : D → State) (m : Manager D) (ready : IsReady sta
   lane_is : f.entry.listed.lane ≡ r.lane
   lane_is = sym f.record_.lane
 
-  pub placed : IsPlacedIn m.lanes.items f.entry
-  placed = all_member (IsPlacedIn m.lanes.items) m.index.entries f.entry (ready.up up).placed (among at)
-
-  -- the lane that the code reaches is there
-  pub there_is : slice_get m.lanes.items r.lane ≡ Some placed.lane
-  there_is = ap (slice_get m.lanes.items) f.record_.lane ∙ placed.lane_is
-
-  pub lane_of : (l : Lane D) → l ≡ get_or m.lanes.items r.lane l → slice_get m.lanes.items r.lane ≡ Some l
-  lane_of l is = slice_get_read m.lanes.items (length m.lanes.items) r.lane l refl (slice_get_within m.lanes.items r.lane placed.lane there_is) is
-
   in_volume : IsInVolume (state_of state m.home).size f.entry
   in_volume = all_member (IsInVolume (state_of state m.home).size) m.index.entries f.entry ready.ranges (among at)
 
@@ -178,16 +169,7 @@ module _ {D : Type 0} (state : D → State) (m : Manager D) (ready : IsReady sta
 
     -- its segment is held and whole
     pub spot_ready : IsTrimmable old (record { segment = r.segment; pos = r.pos })
-    spot_ready =
-        let is_old : placed.lane ≡ old = same_Some placed.lane old (sym there_is ∙ lane) in
-        let found = get_of (held_in old) placed.segment (subst (λ (l : Lane D). Contains (held_in l) placed.segment) is_old placed.held) in record {
-          place = found.0;
-          segment = placed.segment;
-          there = found.1;
-          named = placed.index ∙ sym f.record_.segment;
-          whole = all_at (λ (h : HeldSegment D). IsWhole h.segment) (held_in old) found.0 placed.segment found.1 (all_at (λ (l : Lane D). AllByRecursion (λ (h : HeldSegment D). IsWhole h.segment) (held_in l)) m.lanes.items r.lane old lane (ready.up up).whole);
-          fits = let w = placed.within in let p = f.record_.pos in omega arith;
-        }
+    spot_ready = let s = spot_at state m ready up version r index f old lane in record { place = s.place; segment = s.segment; there = s.there; named = s.index; whole = s.segment_whole; fits = let w = s.fits in omega arith }
 
     module _ (new : Lane D) (is_lane : IsLane state new) (same : IsSameLane old new) (all : HoldsAll old → HoldsAll new) (taken : taken_in new ≡ taken_in old) (used : HasUsed old new) where
       untaken : taken_in new ≡ None
@@ -341,35 +323,9 @@ module _ {D : Type 0} (state : D → State) (m : Manager D) (ready : IsReady sta
           where
             by : Trimmed {T = T} {E = E} state old new (record { segment = r.segment; pos = r.pos }) (record { form = 2; owner = m.id; version = version; first = r.lbn; count = r.count; mask = r.keep }) (bit_and r.keep (bit_not w128 given)) (Err x)
                 → PartRose state m (record m { lanes = with_item m.lanes r.lane new; ups = record { items = ups }; down = Some (part.Segment volume r.segment) }) (part.Segment volume r.segment)
-            by (in_place i o n there named held pool cut) = record {
-              lane = r.lane;
-              place = i;
-              old_lane = old;
-              new_lane = new;
-              old_segment = o;
-              new_segment = n;
-              was_lane = lane;
-              is_lane = get_set m.lanes.items r.lane old new lane;
-              was_there = there;
-              is_there = ap (λ (hs : List (HeldSegment D)). slice_get hs i) held ∙ get_set (held_in old) i o n there;
-              named = (volume_is, sym named);
-              rose = cut.cause;
-            }
+            by (in_place i o n there named held pool cut) = segment_rose state m _ r.lane i old new o n lane refl there held _ _ volume_is (sym named) cut.cause
             by (to_pool i o free there named held pool ok gave) = absurd (false≢true ok)
-            by (not_freed i o n there named held pool err stayed) = record {
-              lane = r.lane;
-              place = i;
-              old_lane = old;
-              new_lane = new;
-              old_segment = o;
-              new_segment = n;
-              was_lane = lane;
-              is_lane = get_set m.lanes.items r.lane old new lane;
-              was_there = there;
-              is_there = ap (λ (hs : List (HeldSegment D)). slice_get hs i) held ∙ get_set (held_in old) i o n there;
-              named = (volume_is, sym named);
-              rose = stayed.cause;
-            }
+            by (not_freed i o n there named held pool err stayed) = segment_rose state m _ r.lane i old new o n lane refl there held _ _ volume_is (sym named) stayed.cause
 
         pub stands_broke : (tells : Bool) (sound : (d : D) → IsDisk (state d)) → BreaksOff tells state m (record m { lanes = with_item m.lanes r.lane new; ups = record { items = ups }; down = Some (part.Segment volume r.segment) }) Always
         stands_broke tells sound b notes nt any note kp = record {

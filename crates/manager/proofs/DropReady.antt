@@ -6,8 +6,7 @@ use Rattle.std.specs.List.{AllByRecursion, count_by}
 use Rattle.std.specs.Option.{option_to_list}
 use Rattle.std.specs.Vec.{with_item}
 use Rattle.std.proofs.Math.ListN.{length-set}
-use Rattle.std.proofs.lemmas.Bool.{false≢true, eq-eqb, ne_eqb, cases_eq}
-use Rattle.std.proofs.lemmas.Option.{same_Some}
+use Rattle.std.proofs.lemmas.Bool.{eq-eqb, ne_eqb, cases_eq}
 use Rattle.turn_lock.specs.LockIds.{LockId}
 use Rattle.seg_pool.specs.declared.base.PoolBase.{PoolBase}
 use Rattle.wol_disk.specs.Disk.{State}
@@ -22,14 +21,15 @@ use Rattle.redirect_map.specs.declared.record.Rec.{Rec}
 use Rattle.logger.specs.Lanes.{IsLane, HoldsAll, IsHeld, IsSameLane, AreWhole, held_in, taken_in, lane_owner, logger_of, segments_in, pool_of}
 use Rattle.logger.specs.declared.lane.HeldSegment.{HeldSegment}
 use Rattle.logger.specs.declared.lane.Lane.{Lane}
-use Rattle.logger.proofs.Indexes.{same_place, lacks_removed}
+use Rattle.logger.proofs.Indexes.{same_place}
 use Rattle.manager.specs.Reclaim.{given_of, with_kept}
 use Rattle.manager.specs.Stands.{IsReady, IsReadyLane, IsUp, IsPlacedIn, IsInVolume, entries_at}
 use Rattle.manager.specs.declared.manager.Manager.{Manager}
 use Rattle.manager.specs.declared.part.Part.{Part}
 use Rattle.listed_records.proofs.Entries.{count_mid, one_there, lies_there, not_there as lies_elsewhere, At, among, keeps_is, given_list, none_here, all_given, long_kept, nothing_of}
+use Rattle.manager.proofs.GoneSegment.{up_without}
 use Rattle.volume_parts.proofs.Lanes.{counted_set, held_set, ready_set, placed_set, stays_set}
-use Rattle.listed_records.proofs.Elements.{all_at, all_set, get_set, get_other, same_or_not, all_removed, member_removed, all_both}
+use Rattle.listed_records.proofs.Elements.{all_at, all_set, get_set}
 
 -- ---- the call
 
@@ -147,45 +147,10 @@ module _ {D : Type 0} (state : D → State) (m : Manager D) (ready : IsReady sta
           let z : cond (eqb (bit_and r.keep (bit_not w128 given)) 0) 1 0 ≡ 1 = ap (λ (t : Bool). cond {A = ℕ} t 1 0) (eq-eqb (bit_and r.keep (bit_not w128 given)) 0 nothing_kept) in
           let h = counts_here in let w = was_valid in let f = fewer in omega (arith, z, h, w, f)
 
-      others_indexed : AllByRecursion (λ (h : HeldSegment D). h.index ≢ o.index) (remove (held_in old) i)
-      others_indexed = (lacks_removed (λ (g : HeldSegment D). g.index) (held_in old) (map (λ (t : ℕ × FreeSegment D). t.0) (option_to_list (taken_in old))) i o was_lane.lane.apart there).0
-
-      counted_less : AllByRecursion (λ (h : HeldSegment D). valid_of h.segment ≡ entries_at k h.index (given_of version m.index.entries)) (held_in new)
-      counted_less = subst (AllByRecursion (λ (h : HeldSegment D). valid_of h.segment ≡ entries_at k h.index (given_of version m.index.entries))) (sym held)
-          (all_both (λ (h : HeldSegment D). h.index ≢ o.index) (λ (h : HeldSegment D). valid_of h.segment ≡ entries_at k h.index m.index.entries) (λ (h : HeldSegment D). valid_of h.segment ≡ entries_at k h.index (given_of version m.index.entries))
-          (λ h other was. was ∙ sym (counts_elsewhere k h.index (inr (λ (x : e.index ≡ h.index). other (sym x ∙ index_is))))) (remove (held_in old) i) others_indexed
-          (all_removed (λ (h : HeldSegment D). valid_of h.segment ≡ entries_at k h.index m.index.entries) (held_in old) i was_counted))
-
-      -- an entry that lies elsewhere has its place still
-      placed_less : (d : Indexed) → IsPlacedIn m.lanes.items d → (eqb d.listed.lane k && eqb d.index o.index) ≡ false → IsPlacedIn (slice_set m.lanes.items k new) d
-      placed_less d p not_there = ⊎_elim
-          (λ (here : d.listed.lane ≡ k). moved here)
-          (λ (other : d.listed.lane ≡ k → ⊥). record { lane = p.lane; segment = p.segment; lane_is = get_other m.lanes.items k d.listed.lane new other ∙ p.lane_is; held = p.held; index = p.index; behind = p.behind; within = p.within })
-          (same_or_not d.listed.lane k)
-        where
-          moved : d.listed.lane ≡ k → IsPlacedIn (slice_set m.lanes.items k new) d
-          moved here =
-              let is_old : p.lane ≡ old = same_Some p.lane old (sym p.lane_is ∙ ap (slice_get m.lanes.items) here ∙ lane) in
-              record {
-                lane = new;
-                segment = p.segment;
-                lane_is = ap (slice_get (slice_set m.lanes.items k new)) here ∙ get_set m.lanes.items k old new lane;
-                held = ⊎_elim
-                    (λ stays. subst (λ (hs : List (HeldSegment D)). Contains hs p.segment) (sym held) stays)
-                    (λ (is_o : o ≡ p.segment). absurd (false≢true (sym not_there ∙ lies_there k o.index d here (sym p.index ∙ ap (λ (h : HeldSegment D). h.index) (sym is_o)))))
-                    (member_removed (held_in old) i o p.segment there (subst (λ (l : Lane D). Contains (held_in l) p.segment) is_old p.held));
-                index = p.index;
-                behind = p.behind;
-                within = p.within;
-              }
-
       pub up_less : IsUp (slice_set m.lanes.items k new) (given_of version m.index.entries)
-      up_less = record {
-        whole = all_set (λ (l : Lane D). AreWhole (held_in l)) m.lanes.items k new (ready.up up).whole (subst AreWhole (sym held) (all_removed (λ (h : HeldSegment D). IsWhole h.segment) (held_in old) i was_whole));
-        placed = all_both (IsPlacedIn m.lanes.items) (λ (d : Indexed). (eqb d.listed.lane k && eqb d.index o.index) ≡ false) (IsPlacedIn (slice_set m.lanes.items k new)) placed_less (given_of version m.index.entries)
-            (all_given (IsPlacedIn m.lanes.items) version m.index.entries (placed_as m.lanes.items) (ready.up up).placed) (none_here (λ (d : Indexed). eqb d.listed.lane k && eqb d.index o.index) (given_of version m.index.entries) none_left);
-        counted = counted_set m.lanes.items k old new m.index.entries (given_of version m.index.entries) lane (λ j x other. counts_elsewhere j x (inl (λ (is : e.listed.lane ≡ j). other (sym is ∙ lane_is)))) counted_less (ready.up up).counted;
-      }
+      up_less = up_without state m ready up k old new lane i o there held (given_of version m.index.entries)
+          (λ j x other. counts_elsewhere j x (⊎_elim (λ lane'. inl (λ is. lane' (sym is ∙ lane_is))) (λ index'. inr (λ is. index' (sym is ∙ index_is))) other))
+          (all_given (IsPlacedIn m.lanes.items) version m.index.entries (placed_as m.lanes.items) (ready.up up).placed) (none_here (λ (d : Indexed). eqb d.listed.lane k && eqb d.index o.index) (given_of version m.index.entries) none_left)
 
 -- ---- ready again
 

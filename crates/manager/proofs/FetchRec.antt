@@ -74,12 +74,12 @@ module _ {D : Type 0} (state : D → State) (m : Manager D) (ready : IsReady sta
       whole : AreWhole (held_in placed.lane)
       whole = all_at (λ (l : Lane D). AreWhole (held_in l)) m.lanes.items found.entry.listed.lane placed.lane placed.lane_is (ready.up up).whole
 
-  -- in the lane that the code reaches
+  -- in the lane at its place, which the code reaches
+  pub spot_at : (l : Lane D) → slice_get m.lanes.items r.lane ≡ Some l → RecordSpot m r l
+  spot_at l is = subst (RecordSpot m r) (same_Some spot_of.0 l (sym spot_of.1.lane_is ∙ is)) spot_of.1
+
   pub spot_in : (l : Lane D) → l ≡ get_or m.lanes.items r.lane l → RecordSpot m r l
-  spot_in l is =
-      let s = spot_of in
-      let lt = slice_get_within m.lanes.items r.lane s.0 s.1.lane_is in
-      subst (RecordSpot m r) (same_Some s.0 l (sym s.1.lane_is ∙ slice_get_read m.lanes.items (length m.lanes.items) r.lane l refl lt is)) s.1
+  spot_in l is = spot_at l (slice_get_read m.lanes.items (length m.lanes.items) r.lane l refl (slice_get_within m.lanes.items r.lane spot_of.0 spot_of.1.lane_is) is)
 
   -- ---- what it has
 

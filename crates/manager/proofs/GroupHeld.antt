@@ -1,6 +1,6 @@
 -- A group of writes to a held segment: what the manager keeps up with its entry, and where it failed.
 use Rattle.std.proofs.Common.{◌≡◌, ◌≤◌, ◌+◌, ◌-◌, ◌^◌, ℕ, zero, suc, Bool, true, false, sym, subst, ◌∙◌, arith, List, [], ◌∷◌, ◌++◌, length, take, None, Some, refl, ap, replicate}
-use Rattle.std.specs.Prelude.{Contains, slice_get, slice_set, IsTrue}
+use Rattle.std.specs.Prelude.{⊤, Contains, slice_get, slice_set, IsTrue}
 use Rattle.std.specs.List.{flat_map}
 use Rattle.std.proofs.lemmas.List.{append-nil, length-replicate}
 use Rattle.std.proofs.lemmas.List.Elements.{Contains-append_right}
@@ -34,7 +34,7 @@ use Rattle.manager.specs.declared.manager.Manager.{Manager}
 use Rattle.listed_records.proofs.Elements.{all_at, get_set}
 use Rattle.volume_parts.proofs.Lanes.{held_as, InLanes, in_lanes, image_is_log, untaken_set}
 use Rattle.listed_records.proofs.Groups.{other_records, AreNew, indexed_by, some_valid, group_more, group_breaks}
-use Rattle.manager.proofs.Putting.{parts, base, ws, is_up, old_lane, owner, logger, Pieces}
+use Rattle.manager.proofs.Putting.{parts, base, ws, is_up, old_lane, owner, logger, Pieces, pieces_failed}
 use Rattle.manager.proofs.ReadContent.{unbroken, upholds_up}
 use Rattle.manager.proofs.WentHome.{risen}
 use Rattle.manager.specs.Listing.{recs_at, entered_all}
@@ -197,17 +197,6 @@ module _ {D : Type 0} (tells : Bool) (state : D → State) (m : Manager D) (b : 
           (λ bs is. let first = now_leaves (any_moment split.records (split.here is.0 up)) (sound n.segment.part.inner) bs is.1 in (first.count, first.within, subst (λ (v : ℕ). IsLog bs v (split.records ++ take first.count rs)) owner_was first.log))
           (logger_of old) (logger tells state m b notes kp k old lane) (broke ∙ ap Broke (sym (group_written (lane_owner old) m.next items from))) unruled (risen (disk_of state o.segment).faults (disk_of state n.segment).faults cause)
 
-      abbrev then_seen : ManagerSeen (Spun D)
-      then_seen = record { home = m.home; held = all_held 0 (slice_set m.lanes.items k new) (split.lists split.records); taken = all_taken 0 (slice_set m.lanes.items k new); indexed = m.index.entries; next = m.next; home_up = m.home_up; ups = m.ups.items; down = Some (SegmentPart (logger_of old) o.index) }
-
-      then_is : failed_one ≡ then_seen
-      then_is = λ t. record { home = m.home; held = sym now_is t; taken = untaken_set state m.id m.most m.lanes.items k new kp.ready.ready.each untaken_now t; indexed = m.index.entries; next = m.next; home_up = m.home_up; ups = m.ups.items; down = Some (SegmentPart (logger_of old) o.index) }
-
       pub group_put_failed : Pieces tells state m b (notes ++ nt ∷ []) (slice_set m.lanes.items k new) m.index.entries m.next m.ups.items (Some (part.Segment (logger_of old) o.index))
-      group_put_failed = record {
-        logs = split.lists split.records;
-        held = split.then_all (λ h qs. IsTrue tells → Some (part.Segment (logger_of old) o.index) ≡ None → Holds state h.segment qs) (λ h qs holds told is. absurd (let no : Some (part.Segment (logger_of old) o.index) ≡ None = is in cc)) new n split.records held
-            (λ told is. absurd (let no : Some (part.Segment (logger_of old) o.index) ≡ None = is in cc));
-        upholds = subst (λ (q : ManagerSeen (Spun D)). Upholds (parts_of tells state) b.volume.began q (notes ++ nt ∷ []) (writes (entries_of (notes ++ nt ∷ []))) (flight_of (entries_of (notes ++ nt ∷ [])))) then_is fell.upholds;
-        in_use = λ told is. absurd (let no : Some (part.Segment (logger_of old) o.index) ≡ None = is in cc);
-      }
+      group_put_failed = pieces_failed tells state m b notes (notes ++ nt ∷ []) kp k new untaken_now (split.lists split.records) (split.front ++ then_ ∷ split.back) m.ups.items (part.Segment (logger_of old) o.index)
+          (split.then_all (λ h qs. ⊤) (λ h qs holds. tt) new n split.records held tt) now_is fell.upholds

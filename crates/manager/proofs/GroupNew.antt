@@ -1,6 +1,6 @@
 -- A group of writes to a segment that was claimed for it: what the manager keeps up with its entry, and where it failed.
 use Rattle.std.proofs.Common.{◌≡◌, ◌≢◌, ◌⊎◌, inl, inr, ⊎_elim, ◌<◌, ◌≤◌, ◌+◌, ◌-◌, ◌^◌, ℕ, Bool, true, false, sym, subst, ◌∙◌, arith, List, [], ◌∷◌, ◌++◌, length, map, take, None, Some, refl, ap, zero, suc}
-use Rattle.std.specs.Prelude.{Contains, slice_get, slice_set, IsTrue}
+use Rattle.std.specs.Prelude.{⊤, Contains, slice_get, slice_set, IsTrue}
 use Rattle.std.specs.List.{AllByRecursion}
 use Rattle.std.specs.Option.{option_to_list}
 use Rattle.std.proofs.Math.ListN.{length-set}
@@ -45,7 +45,7 @@ use Rattle.manager.specs.Stands.{Keeps}
 use Rattle.manager.specs.declared.base.ManagerBase.{ManagerBase}
 use Rattle.manager.specs.declared.manager.Manager.{Manager}
 use Rattle.volume_parts.proofs.Lanes.{AtEnd, at_end, image_is_log, untaken_set}
-use Rattle.manager.proofs.Putting.{is_up, old_lane, owner, logger, Pieces}
+use Rattle.manager.proofs.Putting.{is_up, old_lane, owner, logger, Pieces, pieces_failed}
 use Rattle.manager.proofs.ReadContent.{unbroken, upholds_up}
 use Rattle.manager.proofs.WentHome.{risen}
 use Rattle.manager.specs.Listing.{recs_at, entered_all}
@@ -325,17 +325,6 @@ module _ {D : Type 0} (tells : Bool) (state : D → State) (m : Manager D) (b : 
           (part_of n.segment) (by true (part_of n.segment) refl refl (λ bs is. ⊎_elim (says_free b.volume.began.owner bs) (λ first. says_owner b.volume.began.owner bs (take first.0 rs) first.2) (images bs is))) images
           (broke ∙ ap Broke (sym (group_written (lane_owner old) m.next items from))) unruled (logger_of old) (logger tells state m b notes kp k old lane) (risen (free_disk state f).faults (disk_of state n.segment).faults cause)
 
-      abbrev then_failed : ManagerSeen (Spun D)
-      then_failed = record { home = m.home; held = all_held 0 (slice_set m.lanes.items k new) (ends.lists []); taken = all_taken 0 (slice_set m.lanes.items k new); indexed = m.index.entries; next = m.next; home_up = m.home_up; ups = m.ups.items; down = Some (SegmentPart (logger_of old) n.index) }
-
-      then_is : failed_one ≡ then_failed
-      then_is = λ i. record { home = m.home; held = sym broken_is i; taken = untaken_set state m.id m.most m.lanes.items k new kp.ready.ready.each untaken_now i; indexed = m.index.entries; next = m.next; home_up = m.home_up; ups = m.ups.items; down = Some (SegmentPart (logger_of old) n.index) }
-
       pub group_claim_failed : Pieces tells state m b (notes ++ nt ∷ []) (slice_set m.lanes.items k new) m.index.entries m.next m.ups.items (Some (part.Segment (logger_of old) n.index))
-      group_claim_failed = record {
-        logs = ends.lists [];
-        held = ends.then_all (λ h qs. IsTrue tells → Some (part.Segment (logger_of old) n.index) ≡ None → Holds state h.segment qs) (λ h qs holds told is. absurd (let no : Some (part.Segment (logger_of old) n.index) ≡ None = is in cc)) new n [] held
-            (λ told is. absurd (let no : Some (part.Segment (logger_of old) n.index) ≡ None = is in cc));
-        upholds = subst (λ (q : ManagerSeen (Spun D)). Upholds (parts_of tells state) b.volume.began q (notes ++ nt ∷ []) (writes (entries_of (notes ++ nt ∷ []))) (flight_of (entries_of (notes ++ nt ∷ [])))) then_is fell.upholds;
-        in_use = λ told is. absurd (let no : Some (part.Segment (logger_of old) n.index) ≡ None = is in cc);
-      }
+      group_claim_failed = pieces_failed tells state m b notes (notes ++ nt ∷ []) kp k new untaken_now (ends.lists []) (ends.front ++ fallen ∷ ends.back) m.ups.items (part.Segment (logger_of old) n.index)
+          (ends.then_all (λ h qs. ⊤) (λ h qs holds. tt) new n [] held tt) broken_is fell.upholds

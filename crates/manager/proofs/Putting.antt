@@ -1,6 +1,6 @@
 -- What is known of a manager that is up when a write is put into one of its lanes.
-use Rattle.std.proofs.Common.{◌≡◌, ℕ, sym, ◌∙◌, List, Bool, Option, None, Some, ap}
-use Rattle.std.specs.Prelude.{slice_get, IsTrue}
+use Rattle.std.proofs.Common.{◌≡◌, ℕ, sym, subst, ◌∙◌, List, Bool, Option, None, Some, ap}
+use Rattle.std.specs.Prelude.{⊤, slice_get, slice_set, IsTrue}
 use Rattle.std.specs.Option.{option_map}
 use Rattle.std.proofs.lemmas.Option.{slice_get-map}
 use Rattle.wol_disk.specs.Disk.{State}
@@ -9,17 +9,18 @@ use Rattle.wol_model.specs.History.{writes, flight_of}
 use Rattle.wol_model.specs.Index.{Indexed}
 use Rattle.spin_model.specs.declared.spun.Spun.{Spun}
 use Rattle.log_segment.specs.Segment.{Holds}
-use Rattle.wol_promise.specs.Manager.{Parts, Base, AreInUse}
+use Rattle.wol_promise.specs.Manager.{Parts, Base, Held, ManagerSeen, AreInUse}
 use Rattle.wol_promise.specs.Ruled.{Noted, entries_of}
 use Rattle.wol_promise.specs.Stands.{Upholds}
-use Rattle.logger.specs.Lanes.{logger_of, lane_owner}
+use Rattle.logger.specs.Lanes.{logger_of, lane_owner, taken_in}
 use Rattle.logger.specs.declared.lane.Lane.{Lane}
-use Rattle.manager.specs.Seen.{Logs, AllLanesHold, parts_of, all_held, all_taken, down_of}
+use Rattle.manager.specs.Seen.{Logs, AllLanesHold, parts_of, seen, all_held, all_taken, name_of, down_of}
 use Rattle.manager.specs.Stands.{Keeps, IsReadyLane}
 use Rattle.manager.specs.declared.base.ManagerBase.{ManagerBase}
 use Rattle.manager.specs.declared.manager.Manager.{Manager}
 use Rattle.manager.specs.declared.part.Part.{Part}
 use Rattle.listed_records.proofs.Elements.{all_at}
+use Rattle.volume_parts.proofs.Lanes.{lanes_map, untaken_set}
 
 module _ {D : Type 0} (tells : Bool) (state : D → State) (m : Manager D) (b : ManagerBase) (notes : List Noted) (kp : Keeps tells state m b notes) where
   abbrev pub parts : Parts (Spun D)
@@ -52,3 +53,16 @@ pub record Pieces {D : Type 0} (tells : Bool) (state : D → State) (m : Manager
   pub held : AllLanesHold (λ h rs. IsTrue tells → down ≡ None → Holds state h.segment rs) lanes logs
   pub upholds : Upholds (parts_of tells state) b.volume.began (record { home = m.home; held = all_held 0 lanes logs; taken = all_taken 0 lanes; indexed = indexed; next = next; home_up = m.home_up; ups = ups; down = down_of down }) notes (writes (entries_of notes)) (flight_of (entries_of notes))
   pub in_use : IsTrue tells → down ≡ None → AreInUse (all_held 0 lanes logs)
+
+-- What is left where a call of a part failed: which segments the lanes hold then, and the part.
+pub pieces_failed : {D : Type 0} (tells : Bool) (state : D → State) (m : Manager D) (b : ManagerBase) (notes then_ : List Noted) (kp : Keeps tells state m b notes) (k : ℕ) (new : Lane D) → taken_in new ≡ None
+    → (logs : Logs) (held : List (Held (Spun D))) (ups : List Bool) (p : Part) → AllLanesHold (λ h rs. ⊤) (slice_set m.lanes.items k new) logs → all_held 0 (slice_set m.lanes.items k new) logs ≡ held
+    → Upholds (parts_of tells state) b.volume.began (record (seen m kp.logs) { held = held; ups = ups; down = Some (name_of p) }) then_ (writes (entries_of then_)) (flight_of (entries_of then_))
+    → Pieces tells state m b then_ (slice_set m.lanes.items k new) m.index.entries m.next ups (Some p)
+pieces_failed {D} tells state m b notes then_ kp k new untaken logs held ups p shape held_is upheld = record {
+  logs = logs;
+  held = lanes_map (λ h rs. ⊤) (λ h rs. IsTrue tells → Some p ≡ None → Holds state h.segment rs) (λ h rs any told is. absurd (let no : Some p ≡ None = is in cc)) (slice_set m.lanes.items k new) logs shape;
+  upholds = subst (λ (q : ManagerSeen (Spun D)). Upholds (parts_of tells state) b.volume.began q then_ (writes (entries_of then_)) (flight_of (entries_of then_)))
+      (λ t. record { home = m.home; held = sym held_is t; taken = untaken_set state m.id m.most m.lanes.items k new kp.ready.ready.each untaken t; indexed = m.index.entries; next = m.next; home_up = m.home_up; ups = ups; down = Some (name_of p) }) upheld;
+  in_use = λ told is. absurd (let no : Some p ≡ None = is in cc);
+}

@@ -1,19 +1,18 @@
 -- A lane gave up a segment with all its records: what the manager is then, clause by clause.
-use Rattle.std.proofs.Common.{◌≡◌, ◌≤◌, ℕ, Bool, true, false, not, List, [], ◌∷◌, ◌++◌, map, length, None, Some, Ok, Err, refl, sym, ap, subst, ◌∙◌, arith, eqb, get_or}
-use Rattle.std.specs.Prelude.{IsTrue, Contains, filter, slice_get, slice_set}
-use Rattle.std.specs.List.{AllByRecursion}
+use Rattle.std.proofs.Common.{◌≡◌, ◌≤◌, ℕ, Bool, true, false, not, List, [], ◌∷◌, ◌++◌, map, None, Some, Ok, Err, refl, sym, ap, subst, ◌∙◌, arith, eqb}
+use Rattle.std.specs.Prelude.{IsTrue, filter, slice_get, slice_set}
 use Rattle.std.specs.Option.{option_to_list}
 use Rattle.std.specs.Vec.{with_item}
 use Rattle.std.proofs.lemmas.Bool.{false≢true}
-use Rattle.std.proofs.lemmas.Option.{same_Some, slice_get_read, slice_get_within}
+use Rattle.std.proofs.lemmas.Option.{same_Some}
 use Rattle.turn_lock.specs.Passes.{pass_mine, pass_number}
 use Rattle.seg_pool.specs.Holders.{Gave}
 use Rattle.seg_pool.specs.Operations.{operation_of}
 use Rattle.wol_disk.specs.Disk.{State, IsDisk}
 use Rattle.wol_model.specs.Index.{Indexed}
-use Rattle.wol_promise.proofs.Lists.{all_member, member_of}
+use Rattle.wol_promise.proofs.Lists.{member_of}
 use Rattle.wol_promise.proofs.OneMore.{last_more}
-use Rattle.log_segment.specs.Segment.{IsWhole, valid_of}
+use Rattle.log_segment.specs.Segment.{valid_of}
 use Rattle.log_segment.specs.declared.free.FreeSegment.{FreeSegment}
 use Rattle.redirect_map.specs.Index.{Contents, IsIndex, entry_at}
 use Rattle.redirect_map.specs.declared.record.Rec.{Rec}
@@ -24,16 +23,18 @@ use Rattle.logger.specs.declared.lane.Lane.{Lane}
 use Rattle.manager.specs.Causes.{AreCalm, PartRose}
 use Rattle.manager.specs.Offers.{ChangesLane}
 use Rattle.manager.specs.Reclaim.{IsTrimmedLane, HasDroppedSegment, KeepsOn, BreaksOff, NoneLiveIn, StopsSince, Always, lies_elsewhere}
-use Rattle.manager.specs.Stands.{Keeps, IsReady, IsReadyLane, IsPlacedIn, entries_at, nones_in, nones_at, takes_in}
+use Rattle.manager.specs.Stands.{Keeps, IsReady, IsReadyLane, entries_at, nones_in, nones_at, takes_in}
 use Rattle.manager.specs.Stops.{Stops}
 use Rattle.manager.specs.declared.manager.Manager.{Manager}
 use Rattle.manager.specs.declared.part.Part.{Part}
 use Rattle.manager.specs.declared.part.StepFault.{StepFault}
 use Rattle.volume_parts.proofs.Calm.{calm_among}
-use Rattle.listed_records.proofs.Elements.{get_removed, all_at, get_set, map_set, get_of}
+use Rattle.listed_records.proofs.Elements.{get_removed, all_at, map_set, get_of}
 use Rattle.manager.proofs.DropCall.{keeps_pieces, passed_still, removed_indexes}
 use Rattle.manager.proofs.DropReady.{ready_broken}
-use Rattle.listed_records.proofs.Entries.{At, Found, among, entry_of_version, still_filter}
+use Rattle.listed_records.proofs.Entries.{Found, still_filter}
+use Rattle.manager.proofs.Calm.{segment_rose}
+use Rattle.manager.proofs.FetchRec.{spot_at}
 use Rattle.manager.proofs.Frames.{none_passed}
 use Rattle.manager.proofs.Putting.{Pieces}
 use Rattle.volume_parts.proofs.Lanes.{nones_more, takes_gave}
@@ -44,19 +45,6 @@ use Rattle.manager.specs.declared.part.Part.TheVariants as part
 
 -- the record of the call, its entry and its lane
 module _ {D : Type 0} (state : D → State) (m : Manager D) (ready : IsReady state m) (up : m.down ≡ None) (version : ℕ) (r : Rec) (f : Found m.index.entries version r) (index : IsIndex m.index.entries) where
-  pub at : At m.index.entries version f.entry
-  at = entry_of_version m.index.entries version f.entry index.rising f.is
-
-  pub placed : IsPlacedIn m.lanes.items f.entry
-  placed = all_member (IsPlacedIn m.lanes.items) m.index.entries f.entry (ready.up up).placed (among at)
-
-  -- the lane that the code reaches is there
-  pub there_is : slice_get m.lanes.items r.lane ≡ Some placed.lane
-  there_is = ap (slice_get m.lanes.items) f.record_.lane ∙ placed.lane_is
-
-  pub lane_of : (l : Lane D) → l ≡ get_or m.lanes.items r.lane l → slice_get m.lanes.items r.lane ≡ Some l
-  lane_of l is = slice_get_read m.lanes.items (length m.lanes.items) r.lane l refl (slice_get_within m.lanes.items r.lane placed.lane there_is) is
-
   -- no record of the segment has a live block, by the record
   pub none_live : NoneLiveIn f.entry.listed.lane f.entry.index m.index.entries → NoneLiveIn r.lane r.segment m.index.entries
   none_live none = subst (λ (k : ℕ). NoneLiveIn k r.segment m.index.entries) (sym f.record_.lane) (subst (λ (s : ℕ). NoneLiveIn f.entry.listed.lane s m.index.entries) (sym f.record_.segment) none)
@@ -73,15 +61,7 @@ module _ {D : Type 0} (state : D → State) (m : Manager D) (ready : IsReady sta
 
     -- its segment is held and whole
     pub retirable : IsRetirable old r.segment
-    retirable =
-        let is_old : placed.lane ≡ old = same_Some placed.lane old (sym there_is ∙ lane) in
-        let found = get_of (held_in old) placed.segment (subst (λ (l : Lane D). Contains (held_in l) placed.segment) is_old placed.held) in record {
-          place = found.0;
-          segment = placed.segment;
-          there = found.1;
-          named = placed.index ∙ sym f.record_.segment;
-          whole = all_at (λ (h : HeldSegment D). IsWhole h.segment) (held_in old) found.0 placed.segment found.1 (all_at (λ (l : Lane D). AllByRecursion (λ (h : HeldSegment D). IsWhole h.segment) (held_in l)) m.lanes.items r.lane old lane (ready.up up).whole);
-        }
+    retirable = let s = spot_at state m ready up version r index f old lane in record { place = s.place; segment = s.segment; there = s.there; named = s.index; whole = s.segment_whole }
 
     module _ (new : Lane D) (is_lane : IsLane state new) (same : IsSameLane old new) (all : HoldsAll old → HoldsAll new) (taken : taken_in new ≡ taken_in old) (used : HasUsed old new) where
       untaken : taken_in new ≡ None
@@ -199,20 +179,7 @@ module _ {D : Type 0} (state : D → State) (m : Manager D) (ready : IsReady sta
           where
             by : Retired {T = T} {E = E} state old new r.segment (Err x) → PartRose state m (record m { lanes = with_item m.lanes r.lane new; ups = record { items = ups }; down = Some (part.Segment volume r.segment) }) (part.Segment volume r.segment)
             by (gone i o free there named held pool ok freed) = absurd (false≢true ok)
-            by (held_still i o n there named held pool err stayed) = record {
-              lane = r.lane;
-              place = i;
-              old_lane = old;
-              new_lane = new;
-              old_segment = o;
-              new_segment = n;
-              was_lane = lane;
-              is_lane = get_set m.lanes.items r.lane old new lane;
-              was_there = there;
-              is_there = ap (λ (hs : List (HeldSegment D)). slice_get hs i) held ∙ get_set (held_in old) i o n there;
-              named = (volume_is, sym named);
-              rose = stayed.cause;
-            }
+            by (held_still i o n there named held pool err stayed) = segment_rose state m _ r.lane i old new o n lane refl there held _ _ volume_is (sym named) stayed.cause
 
         module _ (none : NoneLiveIn r.lane r.segment m.index.entries) where
           none_still : (o : HeldSegment D) → o.index ≡ r.segment → NoneLiveIn r.lane o.index m.index.entries

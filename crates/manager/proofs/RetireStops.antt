@@ -10,7 +10,7 @@ use Rattle.wol_disk.specs.Disk.{State, Block, Values, IsDisk, IsImageOf, LeavesO
 use Rattle.wol_disk.proofs.Calls.{now_leaves}
 use Rattle.wol_disk.proofs.Moments.{then_leaves, widened}
 use Rattle.wol_model.specs.Extents.{Extent, AreDistinct, covers_of}
-use Rattle.wol_model.specs.History.{Broke, writes, flight_of, IsCut}
+use Rattle.wol_model.specs.History.{Broke, writes, IsCut}
 use Rattle.wol_model.specs.Holding.{Holds as HoldsArray}
 use Rattle.wol_model.specs.Index.{Indexed}
 use Rattle.wol_model.specs.Log.{Record, IsLog, IsIdle, extent_of}
@@ -23,7 +23,7 @@ use Rattle.logger.specs.Lanes.{IsLane, IsHeld, held_in, taken_in, logger_of, lan
 use Rattle.logger.specs.Trims.{NotFreed}
 use Rattle.logger.specs.declared.lane.HeldSegment.{HeldSegment}
 use Rattle.logger.specs.declared.lane.Lane.{Lane}
-use Rattle.wol_promise.specs.Manager.{Held, ManagerSeen, Recovers, SegmentPart, SaysOwnerOrFree, extents_held, is_homed_in}
+use Rattle.wol_promise.specs.Manager.{Held, Recovers, SegmentPart, SaysOwnerOrFree, extents_held, is_homed_in}
 use Rattle.wol_promise.specs.Ruled.{Noted, entries_of}
 use Rattle.wol_promise.specs.Stands.{LieInHome, Upholds, StandsFor, StopsSafely, IsWhole}
 use Rattle.wol_promise.proofs.Choices.{AreLogs}
@@ -35,7 +35,7 @@ use Rattle.wol_promise.proofs.Stops.{still_stops}
 use Rattle.wol_promise.proofs.Wholes.{member_unfilter}
 use Rattle.manager.specs.Reading.{IsReadThrough}
 use Rattle.manager.specs.Reclaim.{NoneLiveIn, lies_elsewhere}
-use Rattle.manager.specs.Seen.{Logs, AllLanesHold, parts_of, seen, all_held, all_taken}
+use Rattle.manager.specs.Seen.{Logs, AllLanesHold, parts_of, seen, all_held}
 use Rattle.manager.specs.Stands.{Keeps, IsReady, IsReadyLane}
 use Rattle.manager.specs.Stops.{ImageSince, HeldSince, was_held, was_free}
 use Rattle.manager.specs.declared.base.ManagerBase.{ManagerBase}
@@ -43,10 +43,10 @@ use Rattle.manager.specs.declared.manager.Manager.{Manager}
 use Rattle.manager.proofs.DropPiece.{GoneLanes, gone_lanes}
 use Rattle.manager.proofs.DropStops.{partner, says_free}
 use Rattle.listed_records.proofs.Elements.{all_at, get_set}
-use Rattle.volume_parts.proofs.Lanes.{held_as, InLanes, in_lanes, same_place, untaken_set}
+use Rattle.volume_parts.proofs.Lanes.{held_as, InLanes, in_lanes, same_place}
 use Rattle.volume_parts.proofs.Held.{IsMoved}
 use Rattle.manager.proofs.Moments.{stops_so}
-use Rattle.manager.proofs.Putting.{Pieces}
+use Rattle.manager.proofs.Putting.{Pieces, pieces_failed}
 use Rattle.manager.proofs.ReadContent.{unbroken, upholds_up}
 use Rattle.manager.proofs.ReadKeeps.{held_read, upholds_read}
 use Rattle.manager.proofs.ReadStops.{moved, logs as logs_read}
@@ -191,17 +191,8 @@ module _ {D : Type 0} (tells : Bool) (state : D → State) (sound : (d : D) → 
   now_is = split.then_is new n split.records held ∙ (λ j. split.front ++ record { part = part_of n.segment; lane = k; index = not_freed.index j; broken = not_freed.broken j; records = split.records } ∷ split.back)
 
   pub failed_pieces : Pieces tells state m b (notes ++ nt ∷ []) (slice_set m.lanes.items k new) m.index.entries m.next (slice_set m.ups.items k true) (Some (part.Segment (logger_of old) o.index))
-  failed_pieces = record {
-    logs = split.lists split.records;
-    held = split.then_all (λ h rs. IsTrue tells → Some (part.Segment (logger_of old) o.index) ≡ None → Holds state h.segment rs) (λ h rs holds told is. absurd (let no : Some (part.Segment (logger_of old) o.index) ≡ None = is in cc)) new n split.records held
-        (λ told is. absurd (let no : Some (part.Segment (logger_of old) o.index) ≡ None = is in cc));
-    upholds = subst (λ (q : ManagerSeen (Spun D)). Upholds (parts_of tells state) b.volume.began q (notes ++ nt ∷ []) (writes (entries_of (notes ++ nt ∷ []))) (flight_of (entries_of (notes ++ nt ∷ [])))) then_is fell.upholds;
-    in_use = λ told is. absurd (let no : Some (part.Segment (logger_of old) o.index) ≡ None = is in cc);
-  }
-    where
-      then_is : record (seen m kp.logs) { held = split.front ++ now ∷ split.back; ups = slice_set m.ups.items k true; down = Some (SegmentPart (logger_of old) o.index) }
-          ≡ record { home = m.home; held = all_held 0 (slice_set m.lanes.items k new) (split.lists split.records); taken = all_taken 0 (slice_set m.lanes.items k new); indexed = m.index.entries; next = m.next; home_up = m.home_up; ups = slice_set m.ups.items k true; down = Some (SegmentPart (logger_of old) o.index) }
-      then_is = λ j. record { home = m.home; held = sym now_is j; taken = untaken_set state m.id m.most m.lanes.items k new kp.ready.ready.each untaken j; indexed = m.index.entries; next = m.next; home_up = m.home_up; ups = slice_set m.ups.items k true; down = Some (SegmentPart (logger_of old) o.index) }
+  failed_pieces = pieces_failed tells state m b notes (notes ++ nt ∷ []) kp k new untaken (split.lists split.records) (split.front ++ now ∷ split.back) (slice_set m.ups.items k true) (part.Segment (logger_of old) o.index)
+      (split.then_all (λ h rs. ⊤) (λ h rs holds. tt) new n split.records held tt) now_is fell.upholds
 
 -- ---- at any moment since an earlier one, after which there were reads alone
 

@@ -11,8 +11,9 @@
 //! Of `specs/`: `Seen` leads from the struct to what `wol_promise` speaks of, `Stands` has what it keeps up
 //! (`Keeps`), what it stands for at the end of a turn (`Stands`), what holds of it between calls (`IsReady`) and
 //! which locks it uses (`IsHome`, `HasLocks`); `Answers`, `Offers`, `Reading`, `Causes` and `Writing` say what the
-//! answers mean, `Stops` what a stop leaves; `Groups` says what a run leaves (`HasRun`). They pass on the words of
-//! `volume_parts` for home and lanes, and those of `listed_records` for the index. In `proofs/`: `Putting`, `WentHome`,
+//! answers mean, `Stops` what a stop leaves; `Groups` says what a run needs (`CanRun`), what it leaves (`HasRun`), and in
+//! the lane that took it (`HasTakenRun`). They pass on the words of `volume_parts` for home and lanes, and those of
+//! `listed_records` for the index. In `proofs/`: `Putting`, `WentHome`,
 //! `Placed` and `Moments`; `GroupHeld`, `GroupNew`, `GroupStops` and `GroupOffering` for a group of writes, `Runs` for what
 //! a run leaves, also one of one item, `Answered` for the lanes that were asked. The steps on the model's side are lemmas of
 //! `wol_promise` and `listed_records`. To add a call: state it from `Keeps` to `Stands` with its entry (`Leaves`), or,
@@ -20,7 +21,7 @@
 //! (over `record.rt`), `store_home` (by `put_at`, which writes the runs of a mask and syncs) and `drop_rec`, and
 //! `retire.rt` has `drop_segment`, by which a segment goes with all its records; `specs/Reclaim` says what each leaves. In
 //! `proofs/`: `StoreHome` for blocks that go home, `DropCall`, `DropKeeps`, `DropPiece` and `DropStops` for blocks that are
-//! given up, `Retiring`, `RetireCall` and `RetireStops` for whole segments.
+//! given up, `Retiring`, `RetireCall` and `RetireStops` for whole segments, `GoneSegment` for a lane without one of them.
 #![tactic(auto)]
 
 mod base;

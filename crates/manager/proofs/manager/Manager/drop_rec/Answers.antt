@@ -8,7 +8,8 @@ use Rattle.logger.specs.Lanes.{IsAt}
 use Rattle.volume_parts.proofs.Calm.{calm_trim}
 use Rattle.manager.proofs.Calm.{none_lane}
 use Rattle.listed_records.proofs.Elements.{refill_set, all_at}
-use Rattle.manager.proofs.DropCall.{there_is, lane_of, old_lane, spot_ready, version_ready, count_ready, range_ready, its_head, its_owner, proper_keep, given_entries, gone_is, ready_then, ready_broke, dropped_then, keeps_then, stops_then, dropped_broke, cause_broke, stands_broke, stops_broke}
+use Rattle.manager.proofs.DropCall.{old_lane, spot_ready, version_ready, count_ready, range_ready, its_head, its_owner, proper_keep, given_entries, gone_is, ready_then, ready_broke, dropped_then, keeps_then, stops_then, dropped_broke, cause_broke, stands_broke, stops_broke}
+use Rattle.manager.proofs.FetchRec.{spot_of, spot_in}
 use Rattle.listed_records.proofs.Entries.{found_of, some_of}
 use Rattle.volume_parts.proofs.PartReads.{never_some}
 use Rattle.manager.proofs.manager.Manager.drop_rec.Goals as goal
@@ -18,21 +19,21 @@ bounds-deref_mut-place g c =
     let m = c.args.self.now in let state = g.D.Disk.state in let r = c.in-Some-find.record in let given = c.may_go-given.result in
     let up = never_some m.down c.in_default.not-Some in let f = found_of m.index.entries c.args.version r c.in-Some-find.ensures.value in let index = c.in-Some-find.ensures.index in
     let fits : given < 2 ^ 128 = omega arith in let mask = c.may_go-given.ensures.value in
-    let lt = slice_get_within m.lanes.items r.lane _ (there_is state m c.requires.ready up c.args.version r f index given fits mask) in let e = ap length c.deref_mut.ensures.value in omega (arith, lt, e, c.requires.ready.ready.flags)
+    let lt = slice_get_within m.lanes.items r.lane _ (spot_of state m c.requires.ready up c.args.version r index f).1.lane_is in let e = ap length c.deref_mut.ensures.value in omega (arith, lt, e, c.requires.ready.ready.flags)
 
 pub index_mut-lane-requires : goal.index_mut-lane-requires
 index_mut-lane-requires g c =
     let m = c.args.self.now in let state = g.D.Disk.state in let r = c.in-Some-find.record in let given = c.may_go-given.result in
     let up = never_some m.down c.in_default.not-Some in let f = found_of m.index.entries c.args.version r c.in-Some-find.ensures.value in let index = c.in-Some-find.ensures.index in
     let fits : given < 2 ^ 128 = omega arith in let mask = c.may_go-given.ensures.value in
-    let lt = slice_get_within m.lanes.items r.lane _ (there_is state m c.requires.ready up c.args.version r f index given fits mask) in omega (arith, lt, m.lanes.ok.0)
+    let lt = slice_get_within m.lanes.items r.lane _ (spot_of state m c.requires.ready up c.args.version r index f).1.lane_is in omega (arith, lt, m.lanes.ok.0)
 
 pub trim-requires-clause-lane : goal.trim-requires-clause-lane
 trim-requires-clause-lane g c =
     let m = c.args.self.now in let state = g.D.Disk.state in let r = c.in-Some-find.record in let given = c.may_go-given.result in
     let up = never_some m.down c.in_default.not-Some in let f = found_of m.index.entries c.args.version r c.in-Some-find.ensures.value in let index = c.in-Some-find.ensures.index in
     let fits : given < 2 ^ 128 = omega arith in let mask = c.may_go-given.ensures.value in
-    let l = c.index_mut-lane.result.now in let lane = lane_of state m c.requires.ready up c.args.version r f index given fits mask l c.index_mut-lane.ensures.value in
+    let l = c.index_mut-lane.result.now in let lane = (spot_in state m c.requires.ready up c.args.version r index f l c.index_mut-lane.ensures.value).lane_is in
     (old_lane state m c.requires.ready up c.args.version r f index given fits mask l lane).lane
 
 pub trim-requires-clause-at : goal.trim-requires-clause-at
@@ -40,7 +41,7 @@ trim-requires-clause-at g c =
     let m = c.args.self.now in let state = g.D.Disk.state in let r = c.in-Some-find.record in let given = c.may_go-given.result in
     let up = never_some m.down c.in_default.not-Some in let f = found_of m.index.entries c.args.version r c.in-Some-find.ensures.value in let index = c.in-Some-find.ensures.index in
     let fits : given < 2 ^ 128 = omega arith in let mask = c.may_go-given.ensures.value in
-    let l = c.index_mut-lane.result.now in let lane = lane_of state m c.requires.ready up c.args.version r f index given fits mask l c.index_mut-lane.ensures.value in
+    let l = c.index_mut-lane.result.now in let lane = (spot_in state m c.requires.ready up c.args.version r index f l c.index_mut-lane.ensures.value).lane_is in
     all_at (IsAt c.args.shared.now) m.lanes.items r.lane l lane c.requires.at.lanes_
 
 pub trim-requires-clause-spot : goal.trim-requires-clause-spot
@@ -48,7 +49,7 @@ trim-requires-clause-spot g c =
     let m = c.args.self.now in let state = g.D.Disk.state in let r = c.in-Some-find.record in let given = c.may_go-given.result in
     let up = never_some m.down c.in_default.not-Some in let f = found_of m.index.entries c.args.version r c.in-Some-find.ensures.value in let index = c.in-Some-find.ensures.index in
     let fits : given < 2 ^ 128 = omega arith in let mask = c.may_go-given.ensures.value in
-    let l = c.index_mut-lane.result.now in let lane = lane_of state m c.requires.ready up c.args.version r f index given fits mask l c.index_mut-lane.ensures.value in
+    let l = c.index_mut-lane.result.now in let lane = (spot_in state m c.requires.ready up c.args.version r index f l c.index_mut-lane.ensures.value).lane_is in
     spot_ready state m c.requires.ready up c.args.version r f index given fits mask l lane
 
 pub head_of-head-requires-clause-version : goal.head_of-head-requires-clause-version
@@ -84,7 +85,7 @@ trim-requires-clause-owner g c =
     let m = c.args.self.now in let state = g.D.Disk.state in let r = c.in-Some-find.record in let given = c.may_go-given.result in
     let up = never_some m.down c.in_default.not-Some in let f = found_of m.index.entries c.args.version r c.in-Some-find.ensures.value in let index = c.in-Some-find.ensures.index in
     let fits : given < 2 ^ 128 = omega arith in let mask = c.may_go-given.ensures.value in
-    let l = c.index_mut-lane.result.now in let lane = lane_of state m c.requires.ready up c.args.version r f index given fits mask l c.index_mut-lane.ensures.value in
+    let l = c.index_mut-lane.result.now in let lane = (spot_in state m c.requires.ready up c.args.version r index f l c.index_mut-lane.ensures.value).lane_is in
     its_owner state m c.requires.ready up c.args.version r f index given fits mask c.head_of-head.result c.head_of-head.ensures.value ∙ sym (old_lane state m c.requires.ready up c.args.version r f index given fits mask l lane).owner
 
 pub trim-requires-clause-keep : goal.trim-requires-clause-keep
@@ -99,7 +100,7 @@ returns-in-Ok-clause-ready g c =
     let m = c.args.self.now in let state = g.D.Disk.state in let r = c.in-Some-find.record in let given = c.may_go-given.result in
     let up = never_some m.down c.in_default.not-Some in let f = found_of m.index.entries c.args.version r c.in-Some-find.ensures.value in let index = c.in-Some-find.ensures.index in
     let fits : given < 2 ^ 128 = omega arith in let mask = c.may_go-given.ensures.value in
-    let l = c.index_mut-lane.result.now in let lane = lane_of state m c.requires.ready up c.args.version r f index given fits mask l c.index_mut-lane.ensures.value in
+    let l = c.index_mut-lane.result.now in let lane = (spot_in state m c.requires.ready up c.args.version r index f l c.index_mut-lane.ensures.value).lane_is in
     let l' = c.trim.new.self in let t = c.trim.ensures in
     let head_is = its_head state m c.requires.ready up c.args.version r f index given fits mask c.head_of-head.result c.head_of-head.ensures.value in
     let flags = refill_set m.ups.items c.deref_mut.result.now r.lane true c.deref_mut.ensures.value in
@@ -119,7 +120,7 @@ returns-in-Ok-clause-dropped g c =
     let m = c.args.self.now in let state = g.D.Disk.state in let r = c.in-Some-find.record in let given = c.may_go-given.result in
     let up = never_some m.down c.in_default.not-Some in let f = found_of m.index.entries c.args.version r c.in-Some-find.ensures.value in let index = c.in-Some-find.ensures.index in
     let fits : given < 2 ^ 128 = omega arith in let mask = c.may_go-given.ensures.value in
-    let l = c.index_mut-lane.result.now in let lane = lane_of state m c.requires.ready up c.args.version r f index given fits mask l c.index_mut-lane.ensures.value in
+    let l = c.index_mut-lane.result.now in let lane = (spot_in state m c.requires.ready up c.args.version r index f l c.index_mut-lane.ensures.value).lane_is in
     let l' = c.trim.new.self in let t = c.trim.ensures in
     let head_is = its_head state m c.requires.ready up c.args.version r f index given fits mask c.head_of-head.result c.head_of-head.ensures.value in
     let flags = refill_set m.ups.items c.deref_mut.result.now r.lane true c.deref_mut.ensures.value in
@@ -131,7 +132,7 @@ returns-in-Ok-clause-keeps g c =
     let m = c.args.self.now in let state = g.D.Disk.state in let r = c.in-Some-find.record in let given = c.may_go-given.result in
     let up = never_some m.down c.in_default.not-Some in let f = found_of m.index.entries c.args.version r c.in-Some-find.ensures.value in let index = c.in-Some-find.ensures.index in
     let fits : given < 2 ^ 128 = omega arith in let mask = c.may_go-given.ensures.value in
-    let l = c.index_mut-lane.result.now in let lane = lane_of state m c.requires.ready up c.args.version r f index given fits mask l c.index_mut-lane.ensures.value in
+    let l = c.index_mut-lane.result.now in let lane = (spot_in state m c.requires.ready up c.args.version r index f l c.index_mut-lane.ensures.value).lane_is in
     let l' = c.trim.new.self in let t = c.trim.ensures in
     let head_is = its_head state m c.requires.ready up c.args.version r f index given fits mask c.head_of-head.result c.head_of-head.ensures.value in
     let flags = refill_set m.ups.items c.deref_mut.result.now r.lane true c.deref_mut.ensures.value in
@@ -143,7 +144,7 @@ returns-in-Ok-clause-any_moment g c told =
     let m = c.args.self.now in let state = g.D.Disk.state in let r = c.in-Some-find.record in let given = c.may_go-given.result in
     let up = never_some m.down c.in_default.not-Some in let f = found_of m.index.entries c.args.version r c.in-Some-find.ensures.value in let index = c.in-Some-find.ensures.index in
     let fits : given < 2 ^ 128 = omega arith in let mask = c.may_go-given.ensures.value in
-    let l = c.index_mut-lane.result.now in let lane = lane_of state m c.requires.ready up c.args.version r f index given fits mask l c.index_mut-lane.ensures.value in
+    let l = c.index_mut-lane.result.now in let lane = (spot_in state m c.requires.ready up c.args.version r index f l c.index_mut-lane.ensures.value).lane_is in
     let l' = c.trim.new.self in let t = c.trim.ensures in
     let head_is = its_head state m c.requires.ready up c.args.version r f index given fits mask c.head_of-head.result c.head_of-head.ensures.value in
     let flags = refill_set m.ups.items c.deref_mut.result.now r.lane true c.deref_mut.ensures.value in
@@ -155,7 +156,7 @@ returns-in-Err-clause-ready g c =
     let m = c.args.self.now in let state = g.D.Disk.state in let r = c.in-Some-find.record in let given = c.may_go-given.result in
     let up = never_some m.down c.in_default.not-Some in let f = found_of m.index.entries c.args.version r c.in-Some-find.ensures.value in let index = c.in-Some-find.ensures.index in
     let fits : given < 2 ^ 128 = omega arith in let mask = c.may_go-given.ensures.value in
-    let l = c.index_mut-lane.result.now in let lane = lane_of state m c.requires.ready up c.args.version r f index given fits mask l c.index_mut-lane.ensures.value in
+    let l = c.index_mut-lane.result.now in let lane = (spot_in state m c.requires.ready up c.args.version r index f l c.index_mut-lane.ensures.value).lane_is in
     let l' = c.trim.new.self in let t = c.trim.ensures in
     let head_is = its_head state m c.requires.ready up c.args.version r f index given fits mask c.head_of-head.result c.head_of-head.ensures.value in
     let flags = refill_set m.ups.items c.deref_mut.result.now r.lane true c.deref_mut.ensures.value in
@@ -166,7 +167,7 @@ returns-in-Err-clause-fault g c =
     let m = c.args.self.now in let state = g.D.Disk.state in let r = c.in-Some-find.record in let given = c.may_go-given.result in
     let up = never_some m.down c.in_default.not-Some in let f = found_of m.index.entries c.args.version r c.in-Some-find.ensures.value in let index = c.in-Some-find.ensures.index in
     let fits : given < 2 ^ 128 = omega arith in let mask = c.may_go-given.ensures.value in
-    let l = c.index_mut-lane.result.now in let lane = lane_of state m c.requires.ready up c.args.version r f index given fits mask l c.index_mut-lane.ensures.value in
+    let l = c.index_mut-lane.result.now in let lane = (spot_in state m c.requires.ready up c.args.version r index f l c.index_mut-lane.ensures.value).lane_is in
     let l' = c.trim.new.self in let t = c.trim.ensures in
     let head_is = its_head state m c.requires.ready up c.args.version r f index given fits mask c.head_of-head.result c.head_of-head.ensures.value in
     let flags = refill_set m.ups.items c.deref_mut.result.now r.lane true c.deref_mut.ensures.value in
@@ -177,7 +178,7 @@ returns-in-Err-clause-dropped g c =
     let m = c.args.self.now in let state = g.D.Disk.state in let r = c.in-Some-find.record in let given = c.may_go-given.result in
     let up = never_some m.down c.in_default.not-Some in let f = found_of m.index.entries c.args.version r c.in-Some-find.ensures.value in let index = c.in-Some-find.ensures.index in
     let fits : given < 2 ^ 128 = omega arith in let mask = c.may_go-given.ensures.value in
-    let l = c.index_mut-lane.result.now in let lane = lane_of state m c.requires.ready up c.args.version r f index given fits mask l c.index_mut-lane.ensures.value in
+    let l = c.index_mut-lane.result.now in let lane = (spot_in state m c.requires.ready up c.args.version r index f l c.index_mut-lane.ensures.value).lane_is in
     let l' = c.trim.new.self in let t = c.trim.ensures in
     let head_is = its_head state m c.requires.ready up c.args.version r f index given fits mask c.head_of-head.result c.head_of-head.ensures.value in
     let flags = refill_set m.ups.items c.deref_mut.result.now r.lane true c.deref_mut.ensures.value in
@@ -188,7 +189,7 @@ returns-in-Err-clause-broke g c =
     let m = c.args.self.now in let state = g.D.Disk.state in let r = c.in-Some-find.record in let given = c.may_go-given.result in
     let up = never_some m.down c.in_default.not-Some in let f = found_of m.index.entries c.args.version r c.in-Some-find.ensures.value in let index = c.in-Some-find.ensures.index in
     let fits : given < 2 ^ 128 = omega arith in let mask = c.may_go-given.ensures.value in
-    let l = c.index_mut-lane.result.now in let lane = lane_of state m c.requires.ready up c.args.version r f index given fits mask l c.index_mut-lane.ensures.value in
+    let l = c.index_mut-lane.result.now in let lane = (spot_in state m c.requires.ready up c.args.version r index f l c.index_mut-lane.ensures.value).lane_is in
     let l' = c.trim.new.self in let t = c.trim.ensures in
     let head_is = its_head state m c.requires.ready up c.args.version r f index given fits mask c.head_of-head.result c.head_of-head.ensures.value in
     let flags = refill_set m.ups.items c.deref_mut.result.now r.lane true c.deref_mut.ensures.value in
@@ -199,7 +200,7 @@ returns-in-Err-clause-any_moment g c told =
     let m = c.args.self.now in let state = g.D.Disk.state in let r = c.in-Some-find.record in let given = c.may_go-given.result in
     let up = never_some m.down c.in_default.not-Some in let f = found_of m.index.entries c.args.version r c.in-Some-find.ensures.value in let index = c.in-Some-find.ensures.index in
     let fits : given < 2 ^ 128 = omega arith in let mask = c.may_go-given.ensures.value in
-    let l = c.index_mut-lane.result.now in let lane = lane_of state m c.requires.ready up c.args.version r f index given fits mask l c.index_mut-lane.ensures.value in
+    let l = c.index_mut-lane.result.now in let lane = (spot_in state m c.requires.ready up c.args.version r index f l c.index_mut-lane.ensures.value).lane_is in
     let l' = c.trim.new.self in let t = c.trim.ensures in
     let head_is = its_head state m c.requires.ready up c.args.version r f index given fits mask c.head_of-head.result c.head_of-head.ensures.value in
     let flags = refill_set m.ups.items c.deref_mut.result.now r.lane true c.deref_mut.ensures.value in
@@ -210,6 +211,6 @@ returns-in-Ok-clause-calm g c =
     let m = c.args.self.now in let state = g.D.Disk.state in let r = c.in-Some-find.record in let given = c.may_go-given.result in
     let up = never_some m.down c.in_default.not-Some in let f = found_of m.index.entries c.args.version r c.in-Some-find.ensures.value in let index = c.in-Some-find.ensures.index in
     let fits : given < 2 ^ 128 = omega arith in let mask = c.may_go-given.ensures.value in
-    let l = c.index_mut-lane.result.now in let lane = lane_of state m c.requires.ready up c.args.version r f index given fits mask l c.index_mut-lane.ensures.value in
+    let l = c.index_mut-lane.result.now in let lane = (spot_in state m c.requires.ready up c.args.version r index f l c.index_mut-lane.ensures.value).lane_is in
     none_lane state m _ c.requires.ready refl r.lane l c.trim.new.self lane refl
     (calm_trim state l c.trim.new.self _ _ _ c.in-Ok.field-0 (old_lane state m c.requires.ready up c.args.version r f index given fits mask l lane).lane c.in-Ok.ensures.moved)

@@ -1,14 +1,14 @@
 -- A record is read where the index has it.
-use Rattle.std.proofs.Common.{Bool, true, List, length, refl, sym, ap, subst, ◌∙◌, arith}
-use Rattle.std.specs.Prelude.{slice_get, slice_set}
+use Rattle.std.proofs.Common.{Bool, true, List, length, refl, sym, ap, subst, arith}
+use Rattle.std.specs.Prelude.{slice_set}
 use Rattle.std.specs.Vec.{with_item}
 use Rattle.std.proofs.Math.ListN.{length-set}
 use Rattle.std.proofs.lemmas.Option.{slice_get_within}
-use Rattle.logger.specs.Lanes.{IsAt, held_in}
+use Rattle.logger.specs.Lanes.{IsAt}
 use Rattle.manager.specs.Stands.{IsReady, IsReadyLane}
 use Rattle.volume_parts.proofs.Calm.{calm_read}
-use Rattle.manager.proofs.Calm.{none_lane}
-use Rattle.listed_records.proofs.Elements.{refill_set, all_at, get_set}
+use Rattle.manager.proofs.Calm.{none_lane, segment_rose}
+use Rattle.listed_records.proofs.Elements.{refill_set, all_at}
 use Rattle.listed_records.proofs.Entries.{found_of}
 use Rattle.manager.proofs.FetchRec.{spot_of, spot_in, data_blocks}
 use Rattle.volume_parts.proofs.PartReads.{lane_read, whole_after, counted_after, stays_after, home_self, lanes_set, on_ok_like, err_like}
@@ -94,20 +94,7 @@ pub returns-clause-cause : goal.returns-clause-cause
 returns-clause-cause g c =
     let m = c.args.self.now in let state = g.D.Disk.state in let r = c.args.record.now in let k = r.lane in let l = c.index_mut-lane.result.now in let l' = c.read-answer.new.self in let moved = c.read-answer.ensures.moved in
     let s = spot_in state m c.requires.serves.ready c.requires.serves.up r.version r c.requires.index (found_of m.index.entries r.version r c.requires.there) l c.index_mut-lane.ensures.value in
-    err_like _ c.read-answer.result c.at_part.result c.at_part.ensures.like c.at_part.ensures.part moved.cause (λ rose. record {
-      lane = k;
-      place = moved.place;
-      old_lane = l;
-      new_lane = l';
-      old_segment = moved.old_segment;
-      new_segment = moved.new_segment;
-      was_lane = s.lane_is;
-      is_lane = get_set m.lanes.items k l l' s.lane_is;
-      was_there = moved.there;
-      is_there = ap (λ hs. slice_get hs moved.place) moved.held ∙ get_set (held_in l) moved.place moved.old_segment moved.new_segment moved.there;
-      named = (c.logger.ensures, sym moved.named);
-      rose = rose;
-    })
+    err_like _ c.read-answer.result c.at_part.result c.at_part.ensures.like c.at_part.ensures.part moved.cause (λ rose. segment_rose state m _ k moved.place l l' moved.old_segment moved.new_segment s.lane_is refl moved.there moved.held _ _ c.logger.ensures (sym moved.named) rose)
 
 pub returns-clause-calm : goal.returns-clause-calm
 returns-clause-calm g c =
