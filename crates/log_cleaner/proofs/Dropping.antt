@@ -26,7 +26,7 @@ use Rattle.manager.specs.Stands.{Keeps}
 use Rattle.manager.specs.declared.manager.Manager.{Manager}
 use Rattle.manager.specs.declared.part.StepFault.{StepFault}
 use Rattle.manager.specs.declared.part.StepFault.TheVariants as step
-use Rattle.manager.proofs.Entries.{Found, among, entry_of_version, some_of}
+use Rattle.manager.proofs.Entries.{Found, among, entry_of_version, some_of, not_there}
 use Rattle.manager.proofs.Retiring.{covered_where}
 use Rattle.manager.proofs.RunSources.{same_version}
 use Rattle.reclaimer.specs.Steps.{StopsWithin}
@@ -208,11 +208,11 @@ module _ (es : List Indexed) (version : ℕ) (r : Rec) (f : Found es version r) 
   -- one that lies elsewhere
   pub other_lane : (lane segment : ℕ) → (r.lane ≡ lane → ⊥) → IfSome (entry_at es version) (HasNoneLiveIn lane segment es)
   other_lane lane segment ne = if_some (HasNoneLiveIn lane segment es) (λ here b. absurd (clash (lies_elsewhere lane segment f.entry)
-      (ap not (Rattle.manager.proofs.Entries.not_there lane segment f.entry (inl (λ (same : f.entry.listed.lane ≡ lane). ne (f.record_.lane ∙ same))))) here))
+      (ap not (not_there lane segment f.entry (inl (λ (same : f.entry.listed.lane ≡ lane). ne (f.record_.lane ∙ same))))) here))
 
   pub other_segment : (lane segment : ℕ) → (r.segment ≡ segment → ⊥) → IfSome (entry_at es version) (HasNoneLiveIn lane segment es)
   other_segment lane segment ne = if_some (HasNoneLiveIn lane segment es) (λ here b. absurd (clash (lies_elsewhere lane segment f.entry)
-      (ap not (Rattle.manager.proofs.Entries.not_there lane segment f.entry (inr (λ (same : f.entry.index ≡ segment). ne (f.record_.segment ∙ same))))) here))
+      (ap not (not_there lane segment f.entry (inr (λ (same : f.entry.index ≡ segment). ne (f.record_.segment ∙ same))))) here))
 
   -- one without a live block
   pub none_live : (lane segment live : ℕ) → live ≡ 0 → IfSome (entry_at es version) (λ e. IsMask e.listed.first (is_live (listed_in es) e.listed) live) → IfSome (entry_at es version) (HasNoneLiveIn lane segment es)

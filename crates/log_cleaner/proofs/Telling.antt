@@ -14,8 +14,7 @@ use Rattle.redirect_map.specs.Index.{IsAnswer, IsIndex, cover_at, entry_at, has_
 use Rattle.redirect_map.specs.Masks.{IsMask, in_mask}
 use Rattle.redirect_map.specs.declared.record.Rec.{Rec}
 use Rattle.redirect_map.proofs.Seen.{in_mask-bit, marked-marks_of}
-use Rattle.manager.proofs.Entries.{among, entry_of_version, some_of}
-use Rattle.manager.proofs.Entries.{same_mask}
+use Rattle.manager.proofs.Entries.{among, entry_of_version, same_mask, some_of}
 use Rattle.manager.proofs.RunContent.{IsNewest, newest_is, newest_listed}
 use Rattle.garbage_list.proofs.Nexts.{Answered, answered, unanswered}
 use Rattle.manager.proofs.RunSources.{same_version}
