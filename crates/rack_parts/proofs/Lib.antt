@@ -7,7 +7,6 @@ pub mod Members
 pub mod ManagerBack
 pub mod StationsClosed
 pub mod PoolsClosed
-pub mod HeldBack
 pub mod LanesMoved
 pub mod PoolsEmptied
 pub mod Returned

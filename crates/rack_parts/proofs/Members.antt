@@ -1,9 +1,9 @@
 -- Members of lists, and lists side by side.
-use Rattle.rack_parts.proofs.Basics.{◌≡◌, ◌<◌, ◌+◌, ◌⊎◌, inl, inr, ⊎_elim, ℕ, zero, suc, List, [], ◌∷◌, ◌++◌, length, take, get_or, map}
+use Rattle.rack_parts.proofs.Basics.{◌≡◌, ◌<◌, ◌≤◌, ◌+◌, ◌⊎◌, inl, inr, ⊎_elim, ℕ, zero, suc, List, [], ◌∷◌, ◌++◌, length, get_or, map}
 use Rattle.rack_parts.proofs.Basics.{Option, Some, None, is_some, refl, sym, ap, ◌∙◌, subst, arith, ◌-◌, reverse, Contains, All, IsSome}
-use Rattle.rack_parts.proofs.Basics.{slice_get, AllByRecursion, cases_eq, cases_lt, slice_get-get_or, take-take, take_at, length-take, get_or-take}
-use Rattle.rack_parts.proofs.Basics.{get_or_at, get_or_append_left, get_or_past, get_or_push, none-some, get_or-map, length-map, length_push}
-use Rattle.rack_parts.proofs.Basics.{append_assoc, map-append, reverse-append, length-reverse, get_or-reverse, All-contains, All-take, Contains-push, Contains-get_or}
+use Rattle.rack_parts.proofs.Basics.{slice_get, AllByRecursion, cases_eq, cases_lt, slice_get-get_or, get_or_at, get_or_append_left, get_or_past}
+use Rattle.rack_parts.proofs.Basics.{get_or_push, none-some, get_or-map, length-map, length_push, length-append, append-nil, append_assoc, map-append}
+use Rattle.rack_parts.proofs.Basics.{reverse-append, length-reverse, get_or-reverse, All-contains, Contains-push, Contains-get_or}
 
 -- ---- Members of lists, and options that are empty
 
@@ -106,25 +106,31 @@ get_last xs x j size = slice_get-get_or (xs ++ x ∷ []) j x (let n = length_pus
 pub get_front : {X : Type 0} (xs : List X) (x : X) (j : ℕ) → j < length xs → slice_get (xs ++ x ∷ []) j ≡ slice_get xs j
 get_front xs x j less = let y = element_at xs j less in get_left xs (x ∷ []) j y.0 y.1 ∙ sym y.1
 
--- the first elements of a list, when the last of them goes
-pub front_less : {X : Type 0} (all xs ys : List X) (y : X) → xs ≡ take (length xs) all → xs ≡ ys ++ y ∷ [] → ys ≡ take (length ys) all
-front_less all xs ys y front split =
-    let n : length xs ≡ length ys + 1 = ap length split ∙ length_push ys y in
-    let is : take (length ys) all ≡ take (length ys) xs = sym (take-take (length ys) (length xs) all (omega (arith, n))) ∙ ap (take (length ys)) (sym front) in
-    sym (is ∙ ap (take (length ys)) split ∙ take_at ys (y ∷ []) (length ys) refl)
+-- these are the first elements of a list
+pub record IsFrontOf {X : Type 0} (left all : List X) : Type 0 where
+  pub behind : List X
+  pub whole : all ≡ left ++ behind
 
--- and that one stands there
-pub front_last : {X : Type 0} (all xs ys : List X) (y : X) → xs ≡ take (length xs) all → xs ≡ ys ++ y ∷ [] → slice_get all (length ys) ≡ Some y
-front_last {X} all xs ys y front split =
-    let n : length xs ≡ length ys + 1 = ap length split ∙ length_push ys y in
-    let l = length-take (length xs) all in
-    let within : length ys < length all = omega (arith, n, l, ap length front) in
-    slice_get-get_or all (length ys) y within
-    ∙ ap (λ (x : X). Some x) (sym (get_or-take (length xs) all (length ys) y (omega (arith, n))) ∙ ap (λ (l : List X). get_or l (length ys) y) (sym front ∙ split) ∙ get_or_at ys y [] y (length ys) refl)
+-- the last of them went, which stands behind the others
+pub record IsPopped {X : Type 0} (left rest all : List X) (x : X) : Type 0 where
+  pub front : IsFrontOf rest all
+  pub there : slice_get all (length rest) ≡ Some x
+  pub count : length left ≡ length rest + 1
+  pub few : length left ≤ length all
 
--- what holds of all holds of that one
-pub last_of_front : {X : Type 0} (P : X → Type 0) (n : ℕ) (all xs ys : List X) (y : X) → xs ≡ take n all → xs ≡ ys ++ y ∷ [] → All P all → P y
-last_of_front P n all xs ys y front split each = all_last P ys y (subst (All P) (sym front ∙ split) (All-take P n all each))
+pub front_all : {X : Type 0} (all : List X) → IsFrontOf all all
+front_all all = record { behind = []; whole = sym (append-nil all) }
+
+pub pop_front : {X : Type 0} (left rest all : List X) (x : X) → left ≡ rest ++ x ∷ [] → IsFrontOf left all → IsPopped left rest all x
+pop_front {X} left rest all x split f =
+    let whole : all ≡ rest ++ x ∷ f.behind = f.whole ∙ ap (λ (l : List X). l ++ f.behind) split ∙ append_assoc rest (x ∷ []) f.behind in
+    record {
+      front = record { behind = x ∷ f.behind; whole = whole };
+      there = ap (λ (l : List X). slice_get l (length rest)) whole ∙ slice_get-get_or (rest ++ x ∷ f.behind) (length rest) x (omega (arith, length-append rest (x ∷ f.behind)))
+          ∙ ap (λ (y : X). Some y) (get_or_at rest x f.behind x (length rest) refl);
+      count = ap length split ∙ length_push rest x;
+      few = omega (arith, ap length f.whole, length-append left f.behind);
+    }
 
 -- ---- The parts of an image are put together
 

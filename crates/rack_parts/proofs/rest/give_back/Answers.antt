@@ -1,40 +1,37 @@
-use Rattle.rack_parts.proofs.Basics.{◌≡◌, ◌+◌, ℕ, suc, length, Some, None, sym, ap, ◌∙◌, subst, arith, slice_get, option_map, take_all}
-use Rattle.rack_parts.proofs.Basics.{length_push, get_or_from_slice_get, slice_get-map}
+use Rattle.rack_parts.proofs.Basics.{◌≡◌, ℕ, suc, length, Some, None, ap, ◌∙◌, subst, arith, slice_get, option_map}
+use Rattle.rack_parts.proofs.Basics.{get_or_from_slice_get, slice_get-map}
 use Rattle.rack_parts.proofs.Terms.{shape_in, image_here}
-use Rattle.rack_parts.proofs.Members.{element_at, front_less, front_last, is_there}
+use Rattle.rack_parts.proofs.Members.{element_at, front_all, pop_front, is_there}
 use Rattle.rack_parts.proofs.GivenBack.{IsBackFrom, none_so_far, one_more_back, all_are_back}
 use Rattle.rack_parts.proofs.rest.give_back.Goals as goal
 
 pub loop-image-init : goal.loop-image-init
 loop-image-init g c = record {
-  front = sym (take_all (length c.args.images.items) c.args.images.items (omega arith));
-  few = omega arith;
+  front = front_all c.args.images.items;
   back = none_so_far g.B.Part.Disk.state c.args.config.now c.args.images.items (g.B.Bay.state c.args.bay.now) c.requires.out;
 }
 
 pub give_image_back-requires-clause-image : goal.give_image_back-requires-clause-image
 give_image_back-requires-clause-image g c = λ v r at is.
     let number : length c.pop.new.self.items ≡ c.len.result = omega (arith, c.len.ensures, c.pop.new.self.ok.0) in
-    let there : slice_get c.args.images.items c.len.result ≡ Some c.in-Some.image = subst (λ (m : ℕ). slice_get c.args.images.items m ≡ Some c.in-Some.image) number (front_last c.args.images.items c.loop-image.images.items c.pop.new.self.items c.in-Some.image c.loop-image.invariant.front c.in-Some.ensures.items) in
-    let here : image_here c.args.images.items c.len.result ≡ Some r = get_or_from_slice_get c.args.images.items c.len.result c.in-Some.image None there ∙ is in
-    let count : length c.loop-image.images.items ≡ length c.pop.new.self.items + 1 = ap length c.in-Some.ensures.items ∙ length_push c.pop.new.self.items c.in-Some.image in (
+    let p = pop_front c.loop-image.images.items c.pop.new.self.items c.args.images.items c.in-Some.image c.in-Some.ensures.items c.loop-image.invariant.front in
+    let there : slice_get c.args.images.items c.len.result ≡ Some c.in-Some.image = subst (λ (m : ℕ). slice_get c.args.images.items m ≡ Some c.in-Some.image) number p.there in
+    let here : image_here c.args.images.items c.len.result ≡ Some r = get_or_from_slice_get c.args.images.items c.len.result c.in-Some.image None there ∙ is in (
       c.requires.images c.len.result (shape_in c.args.config.now v) r (slice_get-map (shape_in c.args.config.now) c.args.config.now.volumes.items c.len.result ∙ ap (option_map (shape_in c.args.config.now)) at) here,
       c.requires.whole c.len.result r here,
-      c.loop-image.invariant.back.out c.len.result v (omega (arith, number, count)) at (is_there (image_here c.args.images.items c.len.result) r here),
+      c.loop-image.invariant.back.out c.len.result v (omega (arith, number, p.count)) at (is_there (image_here c.args.images.items c.len.result) r here),
     )
 
 pub loop-image-preserved : goal.loop-image-preserved
 loop-image-preserved g c =
     let number : c.len.result ≡ length c.pop.new.self.items = omega (arith, c.len.ensures, c.pop.new.self.ok.0) in
-    let there = front_last c.args.images.items c.loop-image.images.items c.pop.new.self.items c.in-Some.image c.loop-image.invariant.front c.in-Some.ensures.items in
-    let count : length c.loop-image.images.items ≡ length c.pop.new.self.items + 1 = ap length c.in-Some.ensures.items ∙ length_push c.pop.new.self.items c.in-Some.image in
-    let v = element_at c.args.config.now.volumes.items (length c.pop.new.self.items) (omega (arith, count, c.loop-image.invariant.few, c.requires.count)) in
+    let p = pop_front c.loop-image.images.items c.pop.new.self.items c.args.images.items c.in-Some.image c.in-Some.ensures.items c.loop-image.invariant.front in
+    let v = element_at c.args.config.now.volumes.items (length c.pop.new.self.items) (omega (arith, p.count, p.few, c.requires.count)) in
     let at : slice_get c.args.config.now.volumes.items c.len.result ≡ Some v.0 = ap (slice_get c.args.config.now.volumes.items) number ∙ v.1 in
-    let next : length c.loop-image.images.items ≡ suc (length c.pop.new.self.items) = omega (arith, count) in
+    let next : length c.loop-image.images.items ≡ suc (length c.pop.new.self.items) = omega (arith, p.count) in
     record {
-      front = front_less c.args.images.items c.loop-image.images.items c.pop.new.self.items c.in-Some.image c.loop-image.invariant.front c.in-Some.ensures.items;
-      few = omega (arith, count, c.loop-image.invariant.few);
-      back = one_more_back g.B.Part.Disk.state c.args.config.now c.args.images.items c.requires.config (length c.pop.new.self.items) v.0 v.1 (g.B.Bay.state c.args.bay.now) (g.B.Bay.state c.loop-image.bay) (g.B.Bay.state c.give_image_back.new.bay) c.in-Some.image there (g.B.Bay.apart c.loop-image.bay)
+      front = p.front;
+      back = one_more_back g.B.Part.Disk.state c.args.config.now c.args.images.items c.requires.config (length c.pop.new.self.items) v.0 v.1 (g.B.Bay.state c.args.bay.now) (g.B.Bay.state c.loop-image.bay) (g.B.Bay.state c.give_image_back.new.bay) c.in-Some.image p.there (g.B.Bay.apart c.loop-image.bay)
           (subst (λ (m : ℕ). IsBackFrom g.B.Part.Disk.state c.args.config.now c.args.images.items m (g.B.Bay.state c.args.bay.now) (g.B.Bay.state c.loop-image.bay)) next c.loop-image.invariant.back) (c.give_image_back.ensures v.0 at);
     }
 

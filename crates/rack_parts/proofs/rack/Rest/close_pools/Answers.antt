@@ -1,73 +1,58 @@
-use Rattle.rack_parts.proofs.Basics.{◌≡◌, ◌≤◌, ◌+◌, ℕ, [], length, take, Some, refl, sym, ap, ◌∙◌, subst, arith, slice_get}
-use Rattle.rack_parts.proofs.Basics.{vec_capacity, length_push, length-take-le, take_all}
-use Rattle.rack_parts.proofs.Terms.{lock_id, shapes_of, image_here, Rooms, CanClosePool}
-use Rattle.rack_parts.proofs.Members.{element_at, last_of_front, front_less, front_last}
+use Rattle.rack_parts.proofs.Basics.{◌≡◌, ◌≤◌, ◌+◌, ℕ, [], length, Some, refl, sym, ap, ◌∙◌, subst, arith, slice_get, vec_capacity}
+use Rattle.rack_parts.proofs.Terms.{lock_id, shapes_of, image_here, Rest, Rooms, CanClosePool}
+use Rattle.rack_parts.proofs.Members.{IsFrontOf, element_at, front_all, pop_front}
+use Rattle.rack_parts.proofs.LanesMoved.{all_read}
 use Rattle.rack_parts.proofs.PoolsClosed.{ArePoolsClosed, still_may, refills_same, no_pool_closed, one_pool_more}
 use Rattle.rack_parts.proofs.rack.Rest.close_pools.Goals as goal
 
 pub loop-lock-init : goal.loop-lock-init
 loop-lock-init g c = record {
-  front = sym (take_all (length c.args.locks.items) c.args.locks.items (omega arith));
-  few = omega arith;
-  rooms_front = sym (take_all (length c.args.locks.items) c.args.self.now.rooms.pools.items (omega (arith, c.requires.1.room_count)));
+  front = front_all c.args.locks.items;
+  rooms_front = front_all c.args.self.now.rooms.pools.items;
+  rooms_count = c.requires.1.room_count;
   closed = no_pool_closed g.D.Disk.state c.args.locks.items c.args.self.now;
   rooms = refl;
 }
 
-pub close_pool-requires-clause-pool : goal.close_pool-requires-clause-pool
-close_pool-requires-clause-pool g c =
-    let all : length c.loop-lock.locks.items ≡ length c.pop.new.self.items + 1 = ap length c.in-Some.ensures.items ∙ length_push c.pop.new.self.items c.in-Some.lock in
-    let there = front_last c.args.locks.items c.loop-lock.locks.items c.pop.new.self.items c.in-Some.lock c.loop-lock.invariant.front c.in-Some.ensures.items in
-    let z = element_at (shapes_of c.requires.0) (length c.pop.new.self.items) (omega (arith, all, c.loop-lock.invariant.few, c.requires.1.few)) in
-    let number : length c.pop.new.self.items ≡ c.len.result = omega (arith, c.len.ensures, c.pop.new.self.ok.0) in
-    let first = c.requires.1.each (length c.pop.new.self.items) z.0 c.in-Some.lock z.1 there in
-    let now = still_may g.D.Disk.state (length (shapes_of c.requires.0)) (length c.pop.new.self.items) z.0 c.in-Some.lock c.args.self.now c.loop-lock.self (c.loop-lock.invariant.closed.before (length c.pop.new.self.items) (omega (arith, all))) c.loop-lock.invariant.closed.spindles first in
-    let popped = still_may g.D.Disk.state (length (shapes_of c.requires.0)) (length c.pop.new.self.items) z.0 c.in-Some.lock c.loop-lock.self
-    (record c.loop-lock.self { rooms = record c.loop-lock.self.rooms { pools = c.pop-in-Some.new.self } })
-    (record { image = refl; pools = λ v. refl; held = λ v. refl }) (record { count = refl; image_count = refl; rows = λ n rows. rows; spindles = λ v k. refl }) now in
-    (length (shapes_of c.requires.0), z.0, subst (λ (n : ℕ). CanClosePool g.D.Disk.state (length (shapes_of c.requires.0)) n z.0 c.in-Some.lock (record c.loop-lock.self { rooms = record c.loop-lock.self.rooms { pools = c.pop-in-Some.new.self } })) number popped)
-
-pub close_pool-requires-clause-empty : goal.close_pool-requires-clause-empty
-close_pool-requires-clause-empty g c =
-    (last_of_front (λ row. (row.items ≡ []) × (length (shapes_of c.requires.0) ≤ vec_capacity row)) (length c.loop-lock.locks.items) c.args.self.now.rooms.pools.items c.loop-lock.self.rooms.pools.items c.pop-in-Some.new.self.items c.in-Some-pop.room
-    c.loop-lock.invariant.rooms_front c.in-Some-pop.ensures.items c.requires.1.rooms).0
-
-pub close_pool-requires-clause-room : goal.close_pool-requires-clause-room
-close_pool-requires-clause-room g c =
-    let all : length c.loop-lock.locks.items ≡ length c.pop.new.self.items + 1 = ap length c.in-Some.ensures.items ∙ length_push c.pop.new.self.items c.in-Some.lock in
-    let there = front_last c.args.locks.items c.loop-lock.locks.items c.pop.new.self.items c.in-Some.lock c.loop-lock.invariant.front c.in-Some.ensures.items in
-    let z = element_at (shapes_of c.requires.0) (length c.pop.new.self.items) (omega (arith, all, c.loop-lock.invariant.few, c.requires.1.few)) in
-    let count = (c.requires.1.each (length c.pop.new.self.items) z.0 c.in-Some.lock z.1 there).count in
-    let room = (last_of_front (λ row. (row.items ≡ []) × (length (shapes_of c.requires.0) ≤ vec_capacity row)) (length c.loop-lock.locks.items) c.args.self.now.rooms.pools.items c.loop-lock.self.rooms.pools.items c.pop-in-Some.new.self.items c.in-Some-pop.room
-    c.loop-lock.invariant.rooms_front c.in-Some-pop.ensures.items c.requires.1.rooms).1 in
-    omega (arith, room, count, c.loop-lock.invariant.closed.spindles.count)
+pub close_pool-requires : goal.close_pool-requires
+close_pool-requires g c =
+    let state = g.D.Disk.state in let can = c.requires.1 in let volumes = length (shapes_of c.requires.0) in let rest = c.pop.new.self.items in let lock = c.in-Some.lock in
+    let init = c.args.self.now in let cur = c.loop-lock.self in let rooms = c.pop-in-Some.new.self in let inv = c.loop-lock.invariant in
+    let next : Rest g.row.D.Denot = record cur { rooms = record cur.rooms { pools = rooms } } in
+    let p = pop_front c.loop-lock.locks.items rest c.args.locks.items lock c.in-Some.ensures.items inv.front in
+    let q = pop_front cur.rooms.pools.items rooms.items init.rooms.pools.items c.in-Some-pop.room c.in-Some-pop.ensures.items inv.rooms_front in
+    let z = element_at (shapes_of c.requires.0) (length rest) (omega (arith, p.count, p.few, can.few)) in
+    let number : length rest ≡ c.len.result = omega (arith, c.len.ensures, c.pop.new.self.ok.0) in
+    let first = can.each (length rest) z.0 lock z.1 p.there in
+    let now = still_may state volumes (length rest) z.0 lock init cur (inv.closed.before (length rest) (omega (arith, p.count))) inv.closed.spindles first in
+    let popped = still_may state volumes (length rest) z.0 lock cur next (record { image = refl; pools = λ v. refl; held = λ v. refl }) (record { count = refl; image_count = refl; rows = λ n rows. rows; spindles = λ v k. refl }) now in
+    let room = all_read (λ row. (row.items ≡ []) × (volumes ≤ vec_capacity row)) init.rooms.pools.items (length rooms.items) c.in-Some-pop.room q.there can.rooms in
+    record {
+      pool = (volumes, z.0, subst (λ (n : ℕ). CanClosePool state volumes n z.0 lock next) number popped);
+      empty = room.0;
+      room = omega (arith, room.1, first.count, inv.closed.spindles.count);
+    }
 
 pub loop-lock-preserved : goal.loop-lock-preserved
 loop-lock-preserved g c =
-    let all : length c.loop-lock.locks.items ≡ length c.pop.new.self.items + 1 = ap length c.in-Some.ensures.items ∙ length_push c.pop.new.self.items c.in-Some.lock in
-    let there = front_last c.args.locks.items c.loop-lock.locks.items c.pop.new.self.items c.in-Some.lock c.loop-lock.invariant.front c.in-Some.ensures.items in
-    let number : length c.pop.new.self.items ≡ c.len.result = omega (arith, c.len.ensures, c.pop.new.self.ok.0) in
-    let rows_count : length c.loop-lock.self.rooms.pools.items ≡ length c.loop-lock.locks.items =
-    ap length c.loop-lock.invariant.rooms_front ∙ length-take-le (length c.loop-lock.locks.items) c.args.self.now.rooms.pools.items (omega (arith, c.requires.1.room_count, c.loop-lock.invariant.few)) in
-    let rows_all : length c.loop-lock.self.rooms.pools.items ≡ length c.pop-in-Some.new.self.items + 1 = ap length c.in-Some-pop.ensures.items ∙ length_push c.pop-in-Some.new.self.items c.in-Some-pop.room in
-    let rows_front : c.loop-lock.self.rooms.pools.items ≡ take (length c.loop-lock.self.rooms.pools.items) c.args.self.now.rooms.pools.items =
-    c.loop-lock.invariant.rooms_front ∙ ap (λ (n : ℕ). take n c.args.self.now.rooms.pools.items) (sym rows_count) in
-    let pools : c.close_pool.new.self.rooms.pools.items ≡ c.pop-in-Some.new.self.items = ap (λ r. r.pools.items) c.close_pool.ensures.rooms in
-    let so_far : ArePoolsClosed g.D.Disk.state c.args.locks.items c.args.self.now (c.len.result + 1) c.loop-lock.self =
-    subst (λ (n : ℕ). ArePoolsClosed g.D.Disk.state c.args.locks.items c.args.self.now n c.loop-lock.self) (omega (arith, all, number)) c.loop-lock.invariant.closed in
-    let now = one_pool_more g.D.Disk.state c.args.locks.items c.args.self.now c.len.result c.in-Some.lock (subst (λ (n : ℕ). slice_get c.args.locks.items n ≡ Some c.in-Some.lock) number there) c.loop-lock.self c.close_pool.new.self so_far
-    (refills_same g.D.Disk.state (lock_id c.in-Some.lock).base.blocks c.loop-lock.self (record c.loop-lock.self { rooms = record c.loop-lock.self.rooms { pools = c.pop-in-Some.new.self } }) c.len.result
-    (record { image = refl; pools = λ v. refl; held = λ v. refl }) (image_here c.close_pool.new.self.images.items c.len.result) c.close_pool.ensures.image)
-    (c.close_pool.ensures.uses.0, record { legal = c.close_pool.ensures.uses.1.legal; mine = c.close_pool.ensures.uses.1.mine }) c.close_pool.ensures.held
-    (λ k differs. let x = c.close_pool.ensures.others k differs in record { image = x.image; pools = x.pools; held = x.held })
-    (let x = c.close_pool.ensures.spindles in record { count = x.count; image_count = x.image_count; rows = x.rows; spindles = x.spindles }) in
+    let state = g.D.Disk.state in let rest = c.pop.new.self.items in let lock = c.in-Some.lock in let locks = c.args.locks.items in let n = c.len.result in
+    let init = c.args.self.now in let cur = c.loop-lock.self in let rooms = c.pop-in-Some.new.self in let inv = c.loop-lock.invariant in let new = c.close_pool.new.self in let e = c.close_pool.ensures in
+    let p = pop_front c.loop-lock.locks.items rest locks lock c.in-Some.ensures.items inv.front in
+    let q = pop_front cur.rooms.pools.items rooms.items init.rooms.pools.items c.in-Some-pop.room c.in-Some-pop.ensures.items inv.rooms_front in
+    let number : length rest ≡ n = omega (arith, c.len.ensures, c.pop.new.self.ok.0) in
+    let pools : new.rooms.pools.items ≡ rooms.items = ap (λ r. r.pools.items) e.rooms in
+    let so_far : ArePoolsClosed state locks init (n + 1) cur = subst (λ (m : ℕ). ArePoolsClosed state locks init m cur) (omega (arith, p.count, number)) inv.closed in
+    let now = one_pool_more state locks init n lock (subst (λ (m : ℕ). slice_get locks m ≡ Some lock) number p.there) cur new so_far
+    (refills_same state (lock_id lock).base.blocks cur (record cur { rooms = record cur.rooms { pools = rooms } }) n (record { image = refl; pools = λ v. refl; held = λ v. refl }) (image_here new.images.items n) e.image)
+    (e.uses.0, record { legal = e.uses.1.legal; mine = e.uses.1.mine }) e.held
+    (λ k differs. let x = e.others k differs in record { image = x.image; pools = x.pools; held = x.held })
+    (let x = e.spindles in record { count = x.count; image_count = x.image_count; rows = x.rows; spindles = x.spindles }) in
     record {
-      front = front_less c.args.locks.items c.loop-lock.locks.items c.pop.new.self.items c.in-Some.lock c.loop-lock.invariant.front c.in-Some.ensures.items;
-      few = omega (arith, all, c.loop-lock.invariant.few);
-      rooms_front = pools ∙ front_less c.args.self.now.rooms.pools.items c.loop-lock.self.rooms.pools.items c.pop-in-Some.new.self.items c.in-Some-pop.room rows_front c.in-Some-pop.ensures.items
-          ∙ ap (λ (n : ℕ). take n c.args.self.now.rooms.pools.items) (omega (arith, rows_count, rows_all, all));
-      closed = subst (λ (n : ℕ). ArePoolsClosed g.D.Disk.state c.args.locks.items c.args.self.now n c.close_pool.new.self) (sym number) now;
-      rooms = c.close_pool.ensures.rooms ∙ ap {A = Rooms g.row.D.Denot} (λ r. record r { pools = c.pop-in-Some.new.self }) c.loop-lock.invariant.rooms ∙ ap (λ p. record c.args.self.now.rooms { pools = p }) (sym (ap (λ r. r.pools) c.close_pool.ensures.rooms));
+      front = p.front;
+      rooms_front = subst (λ l. IsFrontOf l init.rooms.pools.items) (sym pools) q.front;
+      rooms_count = ap length pools ∙ omega (arith, q.count, p.count, inv.rooms_count);
+      closed = subst (λ (m : ℕ). ArePoolsClosed state locks init m new) (sym number) now;
+      rooms = e.rooms ∙ ap {A = Rooms g.row.D.Denot} (λ r. record r { pools = rooms }) inv.rooms ∙ ap (λ p. record init.rooms { pools = p }) (sym (ap (λ r. r.pools) e.rooms));
     }
 
 pub returns : goal.returns

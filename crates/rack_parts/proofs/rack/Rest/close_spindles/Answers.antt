@@ -1,31 +1,35 @@
-use Rattle.rack_parts.proofs.Basics.{◌≡◌, ◌<◌, ◌≤◌, ◌+◌, ◌-◌, ℕ, List, [], ◌∷◌, ◌++◌, length, take, reverse, get_or, Some, refl, sym, ap}
+use Rattle.rack_parts.proofs.Basics.{◌≡◌, ◌<◌, ◌≤◌, ◌+◌, ◌-◌, ℕ, List, [], ◌∷◌, ◌++◌, length, reverse, get_or, Some, refl, sym, ap}
 use Rattle.rack_parts.proofs.Basics.{◌∙◌, subst, arith, All, slice_get, vec_capacity, length_push, get_or-reverse, length-reverse}
 use Rattle.rack_parts.proofs.Basics.{same_Some, slice_get-get_or, slice_get_within}
 use Rattle.rack_parts.proofs.Terms.{TurnLock, PassOf, SpindleView, Spindle, SpindleBase, CanCloseSpindles, HasSpindlePasses, StandsClosed}
 use Rattle.rack_parts.proofs.Terms.{KeepsOtherRows, spindle_pass}
-use Rattle.rack_parts.proofs.Members.{all_front, all_last, front_less, front_last}
-use Rattle.rack_parts.proofs.SpindlesClosed.{same_count, next_passes, others_may, rows_then, made_in, one_more_closed}
+use Rattle.rack_parts.proofs.Members.{all_front, all_last, front_all, pop_front}
+use Rattle.rack_parts.proofs.SpindlesClosed.{same_count, next_passes, others_may, rows_same, rows_then, made_in, one_more_closed}
 use Rattle.rack_parts.proofs.rack.Rest.close_spindles.Goals as goal
 
-pub close_spindle-spindle-requires-clause-passes : goal.close_spindle-spindle-requires-clause-passes
-close_spindle-spindle-requires-clause-passes g c =
+pub loop-lock-init : goal.loop-lock-init
+loop-lock-init g c = record {
+  front = front_all c.args.locks.items;
+  keepers_front = front_all c.args.keepers.items;
+  left = c.requires.locks;
+  count = omega (arith, ap length c.requires.empty);
+  closed = λ k f p d from at_lock. absurd (let below = slice_get_within c.args.locks.items k f at_lock in omega (arith, below, from));
+  kept = λ v k less. refl;
+  images = refl;
+  rows = rows_same c.args.self.now;
+}
+
+pub close_spindle-spindle-requires : goal.close_spindle-spindle-requires
+close_spindle-spindle-requires g c =
     let can : CanCloseSpindles (c.pop.new.self.items ++ c.in-Some.lock ∷ []) (c.pop-in-Some.new.self.items ++ c.in-Some-Some.keeper ∷ []) c.loop-lock.self =
     subst (λ (ls : List (TurnLock Spindle SpindleBase)). CanCloseSpindles ls (c.pop-in-Some.new.self.items ++ c.in-Some-Some.keeper ∷ []) c.loop-lock.self) c.in-Some.ensures.items
     (subst (λ (ks : List (PassOf Spindle SpindleBase)). CanCloseSpindles c.loop-lock.locks.items ks c.loop-lock.self) c.in-Some-Some.ensures.items c.loop-lock.invariant.left) in
     let x = next_passes c.pop.new.self.items c.in-Some.lock c.pop-in-Some.new.self.items c.in-Some-Some.keeper c.loop-lock.self can in
     let number : length c.pop.new.self.items ≡ c.len.result = omega (arith, c.len.ensures, c.pop.new.self.ok.0) in
     let y : HasSpindlePasses c.loop-lock.self c.len.result c.in-Some.lock c.in-Some-Some.keeper = subst (λ (n : ℕ). HasSpindlePasses c.loop-lock.self n c.in-Some.lock c.in-Some-Some.keeper) number x in
-    record { count = y.count; each = y.each; keeper_ = y.keeper_; accesses = y.accesses; settled = y.settled }
-
-pub close_spindle-spindle-requires-clause-empty : goal.close_spindle-spindle-requires-clause-empty
-close_spindle-spindle-requires-clause-empty g c =
-    (all_last (λ row. (row.items ≡ []) × (length c.loop-lock.self.passes.items + 1 ≤ vec_capacity row)) c.pop-in-Some-2.new.self.items c.in-Some-Some.room
-    (subst (λ l. All (λ row. (row.items ≡ []) × (length c.loop-lock.self.passes.items + 1 ≤ vec_capacity row)) l) c.in-Some-Some.ensures'.items c.loop-lock.invariant.left.rooms)).0
-
-pub close_spindle-spindle-requires-clause-room : goal.close_spindle-spindle-requires-clause-room
-close_spindle-spindle-requires-clause-room g c =
-    (all_last (λ row. (row.items ≡ []) × (length c.loop-lock.self.passes.items + 1 ≤ vec_capacity row)) c.pop-in-Some-2.new.self.items c.in-Some-Some.room
-    (subst (λ l. All (λ row. (row.items ≡ []) × (length c.loop-lock.self.passes.items + 1 ≤ vec_capacity row)) l) c.in-Some-Some.ensures'.items c.loop-lock.invariant.left.rooms)).1
+    let room = all_last (λ row. (row.items ≡ []) × (length c.loop-lock.self.passes.items + 1 ≤ vec_capacity row)) c.pop-in-Some-2.new.self.items c.in-Some-Some.room
+    (subst (λ l. All (λ row. (row.items ≡ []) × (length c.loop-lock.self.passes.items + 1 ≤ vec_capacity row)) l) c.in-Some-Some.ensures'.items c.loop-lock.invariant.left.rooms) in
+    record { passes = record { count = y.count; each = y.each; keeper_ = y.keeper_; accesses = y.accesses; settled = y.settled }; empty = room.0; room = room.1 }
 
 pub loop-lock-preserved : goal.loop-lock-preserved
 loop-lock-preserved g c =
@@ -33,9 +37,8 @@ loop-lock-preserved g c =
     subst (λ (ls : List (TurnLock Spindle SpindleBase)). CanCloseSpindles ls (c.pop-in-Some.new.self.items ++ c.in-Some-Some.keeper ∷ []) c.loop-lock.self) c.in-Some.ensures.items
     (subst (λ (ks : List (PassOf Spindle SpindleBase)). CanCloseSpindles c.loop-lock.locks.items ks c.loop-lock.self) c.in-Some-Some.ensures.items c.loop-lock.invariant.left) in
     let counts : length c.pop-in-Some.new.self.items ≡ length c.pop.new.self.items = same_count c.pop.new.self.items c.in-Some.lock c.pop-in-Some.new.self.items c.in-Some-Some.keeper c.loop-lock.self can in
-    let all_locks : length c.loop-lock.locks.items ≡ length c.pop.new.self.items + 1 = ap length c.in-Some.ensures.items ∙ length_push c.pop.new.self.items c.in-Some.lock in
-    let all_keepers : length c.loop-lock.keepers.items ≡ length c.pop-in-Some.new.self.items + 1 = ap length c.in-Some-Some.ensures.items ∙ length_push c.pop-in-Some.new.self.items c.in-Some-Some.keeper in
-    let keepers_front : c.loop-lock.keepers.items ≡ take (length c.loop-lock.keepers.items) c.args.keepers.items = c.loop-lock.invariant.keepers_front ∙ ap (λ (n : ℕ). take n c.args.keepers.items) (omega (arith, all_locks, all_keepers, counts)) in
+    let from_locks = pop_front c.loop-lock.locks.items c.pop.new.self.items c.args.locks.items c.in-Some.lock c.in-Some.ensures.items c.loop-lock.invariant.front in
+    let from_keepers = pop_front c.loop-lock.keepers.items c.pop-in-Some.new.self.items c.args.keepers.items c.in-Some-Some.keeper c.in-Some-Some.ensures.items c.loop-lock.invariant.keepers_front in
     let spindles : c.close_spindle-spindle.new.self.rooms.spindles.items ≡ c.pop-in-Some-2.new.self.items = ap (λ r. r.spindles.items) c.close_spindle-spindle.ensures.rooms in
     let closed : c.close_spindle-spindle.new.self.rooms.closed ≡ c.loop-lock.self.rooms.closed = ap (λ r. r.closed) c.close_spindle-spindle.ensures.rooms in
     let rows_left : length c.loop-lock.self.rooms.spindles.items ≡ length c.pop-in-Some-2.new.self.items + 1 = ap length c.in-Some-Some.ensures'.items ∙ length_push c.pop-in-Some-2.new.self.items c.in-Some-Some.room in
@@ -46,28 +49,27 @@ loop-lock-preserved g c =
     let rows : KeepsOtherRows c.loop-lock.self c.close_spindle-spindle.new.self = record { count = c.close_spindle-spindle.ensures.rows.count; each = c.close_spindle-spindle.ensures.rows.each } in
     let rows_now = rows_then c.args.self.now c.loop-lock.self c.close_spindle-spindle.new.self c.loop-lock.invariant.rows rows in
     record {
-      front = front_less c.args.locks.items c.loop-lock.locks.items c.pop.new.self.items c.in-Some.lock c.loop-lock.invariant.front c.in-Some.ensures.items;
-      keepers_front = front_less c.args.keepers.items c.loop-lock.keepers.items c.pop-in-Some.new.self.items c.in-Some-Some.keeper keepers_front c.in-Some-Some.ensures.items ∙ ap (λ (n : ℕ). take n c.args.keepers.items) counts;
-      few = omega (arith, all_locks, c.loop-lock.invariant.few);
+      front = from_locks.front;
+      keepers_front = from_keepers.front;
       left = others_may c.pop.new.self.items c.in-Some.lock c.pop-in-Some.new.self.items c.in-Some-Some.keeper c.loop-lock.self can _
           (record { count = rows.count; each = rows.each })
           (λ v k differs. c.close_spindle-spindle.ensures.others v k (λ e. differs (e ∙ number)))
-          (ap length spindles ∙ omega (arith, rows_left, c.loop-lock.invariant.left.room_count, all_locks))
+          (ap length spindles ∙ omega (arith, rows_left, c.loop-lock.invariant.left.room_count, from_locks.count))
           (subst (λ l. All (λ row. (row.items ≡ []) × (length c.loop-lock.self.passes.items + 1 ≤ vec_capacity row)) l) (sym spindles)
           (all_front (λ row. (row.items ≡ []) × (length c.loop-lock.self.passes.items + 1 ≤ vec_capacity row)) c.pop-in-Some-2.new.self.items c.in-Some-Some.room
           (subst (λ l. All (λ row. (row.items ≡ []) × (length c.loop-lock.self.passes.items + 1 ≤ vec_capacity row)) l) c.in-Some-Some.ensures'.items c.loop-lock.invariant.left.rooms)))
-          (omega (arith, closed_count, capacity, c.loop-lock.invariant.left.closed, all_locks));
-      count = omega (arith, closed_count, c.loop-lock.invariant.count, all_locks);
+          (omega (arith, closed_count, capacity, c.loop-lock.invariant.left.closed, from_locks.count));
+      count = omega (arith, closed_count, c.loop-lock.invariant.count, from_locks.count);
       closed = λ k f p d from at_lock at_keeper.
           rw closed_items (one_more_closed c.args.self.now (length c.args.locks.items) (length c.pop.new.self.items) c.loop-lock.self.rooms.closed.items c.close_spindle-spindle.result c.args.locks.items c.args.keepers.items c.in-Some.lock c.in-Some-Some.keeper
-          (omega (arith, c.loop-lock.invariant.count, all_locks)) (front_last c.args.locks.items c.loop-lock.locks.items c.pop.new.self.items c.in-Some.lock c.loop-lock.invariant.front c.in-Some.ensures.items)
-          (subst (λ (n : ℕ). slice_get c.args.keepers.items n ≡ Some c.in-Some-Some.keeper) counts (front_last c.args.keepers.items c.loop-lock.keepers.items c.pop-in-Some.new.self.items c.in-Some-Some.keeper keepers_front c.in-Some-Some.ensures.items))
+          (omega (arith, c.loop-lock.invariant.count, from_locks.count)) from_locks.there
+          (subst (λ (n : ℕ). slice_get c.args.keepers.items n ≡ Some c.in-Some-Some.keeper) counts from_keepers.there)
           (made_in c.args.self.now c.loop-lock.self c.len.result (length c.pop.new.self.items) c.in-Some.lock c.in-Some-Some.keeper c.close_spindle-spindle.result number
-          (λ v. ap (spindle_pass c.loop-lock.self v) number ∙ c.loop-lock.invariant.kept v (length c.pop.new.self.items) (omega (arith, all_locks)))
+          (λ v. ap (spindle_pass c.loop-lock.self v) number ∙ c.loop-lock.invariant.kept v (length c.pop.new.self.items) (omega (arith, from_locks.count)))
           (made_in c.loop-lock.self _ c.len.result c.len.result c.in-Some.lock c.in-Some-Some.keeper c.close_spindle-spindle.result refl (λ v. refl) c.close_spindle-spindle.ensures.spindle))
-          (λ j h q e behind. c.loop-lock.invariant.closed j h q e (omega (arith, behind, all_locks)))
+          (λ j h q e behind. c.loop-lock.invariant.closed j h q e (omega (arith, behind, from_locks.count)))
           k f p d (slice_get_within c.args.locks.items k f at_lock) from at_lock at_keeper);
-      kept = λ v k less. c.close_spindle-spindle.ensures.others v k (λ e. omega (arith, e, less, number)) ∙ c.loop-lock.invariant.kept v k (omega (arith, less, all_locks));
+      kept = λ v k less. c.close_spindle-spindle.ensures.others v k (λ e. omega (arith, e, less, number)) ∙ c.loop-lock.invariant.kept v k (omega (arith, less, from_locks.count));
       images = c.close_spindle-spindle.ensures.images ∙ c.loop-lock.invariant.images;
       rows = record { count = rows_now.count; each = rows_now.each };
     }

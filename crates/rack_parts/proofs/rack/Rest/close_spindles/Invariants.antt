@@ -1,4 +1,5 @@
-use Rattle.rack_parts.proofs.Basics.{◌≡◌, ◌<◌, ◌≤◌, ◌+◌, ◌-◌, ℕ, length, take, get_or, vec_len, Some, slice_get}
+use Rattle.rack_parts.proofs.Basics.{◌≡◌, ◌<◌, ◌≤◌, ◌+◌, ◌-◌, ℕ, length, get_or, vec_len, Some, slice_get}
+use Rattle.rack_parts.proofs.Members.{IsFrontOf}
 use Rattle.rack_parts.proofs.Terms.{TurnLock, PassOf, SpindleView, Spindle, SpindleBase, CanCloseSpindles, StandsClosed, KeepsOtherRows}
 use Rattle.rack_parts.proofs.Terms.{spindle_pass}
 use Rattle.rack_parts.proofs.rack.Rest.close_spindles.Given as goal
@@ -6,9 +7,8 @@ use Rattle.rack_parts.proofs.rack.Rest.close_spindles.Given as goal
 -- the spindles behind those that are left are closed, the last first
 abbrev pub invariant-loop-lock : goal.invariant-loop-lock
 invariant-loop-lock g l = record {
-  front : l.locks.items ≡ take (length l.locks.items) l.fn.locks.items;
-  keepers_front : l.keepers.items ≡ take (length l.locks.items) l.fn.keepers.items;
-  few : length l.locks.items ≤ length l.fn.locks.items;
+  front : IsFrontOf l.locks.items l.fn.locks.items;
+  keepers_front : IsFrontOf l.keepers.items l.fn.keepers.items;
   left : CanCloseSpindles l.locks.items l.keepers.items l.self;
   count : length l.self.rooms.closed.items + length l.locks.items ≡ length l.fn.locks.items;
   closed : (k : ℕ) (f : TurnLock Spindle SpindleBase) (p : PassOf Spindle SpindleBase) (d : SpindleView) → length l.locks.items ≤ k → slice_get l.fn.locks.items k ≡ Some f → slice_get l.fn.keepers.items k ≡ Some p

@@ -1,14 +1,13 @@
-use Rattle.rack_parts.proofs.Basics.{◌≡◌, ◌+◌, ℕ, List, [], length, drop, map, sym, ap, ◌∙◌, subst, arith, length_push, take_all, drop_all}
+use Rattle.rack_parts.proofs.Basics.{◌≡◌, ◌+◌, ℕ, List, [], length, drop, map, sym, subst, arith, drop_all}
 use Rattle.rack_parts.proofs.Basics.{nil_from_length}
 use Rattle.rack_parts.proofs.Terms.{Station, IsRest, base_of_station, CanCloseStations, ClosesStations}
-use Rattle.rack_parts.proofs.Members.{front_less, front_last}
+use Rattle.rack_parts.proofs.Members.{front_all, pop_front}
 use Rattle.rack_parts.proofs.StationsClosed.{none_closed, one_closed, apart_behind, next_drop}
 use Rattle.rack_parts.proofs.rack.Rest.close_stations.Goals as goal
 
 pub loop-station-init : goal.loop-station-init
 loop-station-init g c = record {
-  front = sym (take_all (length c.args.stations.items) c.args.stations.items (omega arith));
-  few = omega arith;
+  front = front_all c.args.stations.items;
   may = λ config shared can. can;
   closed = subst (λ (l : List (Station g.row.D.Denot)). ClosesStations g.D.Disk.tells g.D.Disk.state l c.args.self.now c.args.self.now) (sym (drop_all (length c.args.stations.items) c.args.stations.items (omega arith))) (none_closed g.D.Disk.tells g.D.Disk.state c.args.self.now);
 }
@@ -23,16 +22,14 @@ close_station-requires g c = (
 
 pub loop-station-preserved : goal.loop-station-preserved
 loop-station-preserved g c =
-    let count : length c.loop-station.stations.items ≡ length c.pop.new.self.items + 1 = ap length c.in-Some.ensures.items ∙ length_push c.pop.new.self.items c.in-Some.station in
-    let there = front_last c.args.stations.items c.loop-station.stations.items c.pop.new.self.items c.in-Some.station c.loop-station.invariant.front c.in-Some.ensures.items in
+    let p = pop_front c.loop-station.stations.items c.pop.new.self.items c.args.stations.items c.in-Some.station c.in-Some.ensures.items c.loop-station.invariant.front in
     let behind : ClosesStations g.D.Disk.tells g.D.Disk.state (drop (length c.pop.new.self.items + 1) c.args.stations.items) c.args.self.now c.loop-station.self =
-    subst (λ (n : ℕ). ClosesStations g.D.Disk.tells g.D.Disk.state (drop n c.args.stations.items) c.args.self.now c.loop-station.self) count c.loop-station.invariant.closed in
+    subst (λ (n : ℕ). ClosesStations g.D.Disk.tells g.D.Disk.state (drop n c.args.stations.items) c.args.self.now c.loop-station.self) p.count c.loop-station.invariant.closed in
     record {
-      front = front_less c.args.stations.items c.loop-station.stations.items c.pop.new.self.items c.in-Some.station c.loop-station.invariant.front c.in-Some.ensures.items;
-      few = omega (arith, count, c.loop-station.invariant.few);
+      front = p.front;
       may = λ config shared can. c.close_station.ensures.rest config shared c.pop.new.self.items (subst (λ (l : List (Station g.row.D.Denot)). CanCloseStations g.D.Disk.state config shared l c.loop-station.self) c.in-Some.ensures.items (c.loop-station.invariant.may config shared can));
-      closed = subst (λ (l : List (Station g.row.D.Denot)). ClosesStations g.D.Disk.tells g.D.Disk.state l c.args.self.now c.close_station.new.self) (sym (next_drop c.args.stations.items (length c.pop.new.self.items) c.in-Some.station there))
-          (one_closed g.D.Disk.tells g.D.Disk.state c.in-Some.station (drop (length c.pop.new.self.items + 1) c.args.stations.items) (apart_behind c.args.stations.items (length c.pop.new.self.items) c.in-Some.station c.requires.2.rising there) c.args.self.now c.loop-station.self c.close_station.new.self behind c.close_station.ensures.closed);
+      closed = subst (λ (l : List (Station g.row.D.Denot)). ClosesStations g.D.Disk.tells g.D.Disk.state l c.args.self.now c.close_station.new.self) (sym (next_drop c.args.stations.items (length c.pop.new.self.items) c.in-Some.station p.there))
+          (one_closed g.D.Disk.tells g.D.Disk.state c.in-Some.station (drop (length c.pop.new.self.items + 1) c.args.stations.items) (apart_behind c.args.stations.items (length c.pop.new.self.items) c.in-Some.station c.requires.2.rising p.there) c.args.self.now c.loop-station.self c.close_station.new.self behind c.close_station.ensures.closed);
     }
 
 pub returns : goal.returns

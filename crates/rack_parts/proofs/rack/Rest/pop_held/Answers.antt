@@ -1,6 +1,6 @@
 use Rattle.rack_parts.proofs.Basics.{refl, with_item}
 use Rattle.rack_parts.proofs.Terms.{Rest}
-use Rattle.rack_parts.proofs.HeldBack.{row_held, held_popped}
+use Rattle.rack_parts.proofs.Returned.{row_held, held_popped}
 use Rattle.rack_parts.proofs.LanesMoved.{place_in}
 use Rattle.rack_parts.proofs.rack.Rest.pop_held.Goals as goal
 

@@ -1,5 +1,5 @@
 use Rattle.rack_parts.proofs.Basics.{None, is_some, sym, ap, ◌∙◌, arith, get_or_read}
-use Rattle.rack_parts.proofs.HeldBack.{none_yet, next_may, one_more, all_went}
+use Rattle.rack_parts.proofs.Returned.{none_yet, next_may, one_more, all_went}
 use Rattle.rack_parts.proofs.rack.Rest.put_all_held.Goals as goal
 
 pub loop-volume-init : goal.loop-volume-init

@@ -1,4 +1,4 @@
-use Rattle.rack_parts.proofs.HeldBack.{AreBackOf}
+use Rattle.rack_parts.proofs.Returned.{AreBackOf}
 use Rattle.rack_parts.proofs.rack.Rest.put_all_held.Given as goal
 
 -- the lists of the volumes so far are in their places

@@ -1,7 +1,6 @@
 use Rattle.rack_parts.proofs.Basics.{◌≡◌, Some, None, is_some, length, refl, ap, ◌∙◌, arith, with_item, nil_from_length, get_or_read}
 use Rattle.rack_parts.proofs.Terms.{held_here, Rest}
-use Rattle.rack_parts.proofs.HeldBack.{held_none, place_within, place_free, mid_out, held_next, one_less, held_all}
-use Rattle.rack_parts.proofs.Returned.{one_put_at}
+use Rattle.rack_parts.proofs.Returned.{held_none, place_within, place_free, mid_out, held_next, one_less, held_all, one_put_at}
 use Rattle.rack_parts.proofs.Members.{here_within}
 use Rattle.rack_parts.proofs.LanesMoved.{place_in, held_found}
 use Rattle.rack_parts.proofs.rack.Rest.put_held.Goals as goal

@@ -1,6 +1,6 @@
 use Rattle.rack_parts.proofs.Basics.{◌≡◌, ◌+◌, length}
 use Rattle.rack_parts.proofs.Terms.{held_here}
-use Rattle.rack_parts.proofs.HeldBack.{AreHeldSoFar}
+use Rattle.rack_parts.proofs.Returned.{AreHeldSoFar}
 use Rattle.rack_parts.proofs.rack.Rest.put_held.Given as goal
 
 abbrev pub invariant-loop-segment : goal.invariant-loop-segment
