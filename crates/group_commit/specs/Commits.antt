@@ -1,19 +1,14 @@
 -- What becomes of writes that are committed together, with the place of each.
-use Rattle.std.specs.Prelude.{◌≡◌, ◌↔◌, ◌<◌, ◌+◌, ◌^◌, ◌++◌, ℕ, Bool, List, [], None, Some, Result, Ok, Err, IfOk, OnOk, length, map, replicate, vec_len, vec_capacity}
+use Rattle.std.specs.Prelude.{◌≡◌, ◌<◌, ◌+◌, ◌++◌, ℕ, Bool, List, [], Result, Ok, Err, IfOk, length, replicate, vec_len, vec_capacity}
 use Rattle.std.specs.declared.alloc.Global.{Global}
 use Rattle.std.specs.declared.vec.Vec.{Vec}
 use Rattle.wol_disk.specs.Disk.{Block, State}
 use Rattle.log_segment.specs.declared.item.Item.{Item}
-use Rattle.logger.specs.Lanes.{logger_of, first_count}
-use Rattle.manager.specs.Answers.{IsPlaceOf}
-use Rattle.manager.specs.Causes.{NoneRose}
-use Rattle.manager.specs.Groups.{HasRun, place_told, ruled_run}
-use Rattle.manager.specs.Writing.{HaveAnswered, NeedsHome, NeedsLogs, TellsFault, IsAsBefore, takes_at}
+use Rattle.manager.specs.Groups.{HasRun, TellsRun, place_told, ruled_run}
 use Rattle.manager.specs.declared.manager.Manager.{Manager}
-use Rattle.manager.specs.declared.part.Part.{Part}
 use Rattle.manager.specs.declared.part.Place.{Place}
 use Rattle.manager.specs.declared.part.WriteRefusal.{WriteRefusal}
-use Rattle.manager.specs.declared.part.WriteRefusal.TheVariants.{Down, VersionsSpent, NoMemory}
+use Rattle.manager.specs.declared.part.WriteRefusal.TheVariants.{NoMemory}
 
 -- how many were written
 abbrev pub count_told : Result (ℕ × Place) WriteRefusal → Result ℕ WriteRefusal
@@ -45,17 +40,4 @@ pub record HasCommitted {D : Type 0} (tells : Bool) (state : D → State) (items
   pub run : HasRun tells state items from tried (place_told told) (ruled_run old new items from) old
       new
   pub all : IfOk told (λ t. t.0 ≡ tried)
-  pub placed :
-      IsPlaceOf (map logger_of old.lanes.items) (place_told told) (ruled_run old new items from)
-  pub answered : HaveAnswered (first_count items)
-      (takes_at (ruled_run old new items from) (place_told told)) new.rooms.items old.lanes.items
-      new.lanes.items
-  pub waking_home : NeedsHome (ruled_run old new items from) (place_told told) old new
-  pub waking_logs : NeedsLogs (ruled_run old new items from) (place_told told) old new
-  pub down : (p : Part) → (told ≡ Err (Down p)) ↔ (old.down ≡ Some p)
-  pub versions : (told ≡ Err VersionsSpent) ↔ ((old.down ≡ None) × (old.next ≡ 2 ^ 63))
-  pub memory : told ≡ Err NoMemory
-      → (old.down ≡ None) × (old.next < 2 ^ 63) × (old.index.reserved < 1)
-  pub fault : TellsFault state (place_told told) old new
-  pub calm : OnOk told (NoneRose state old new)
-  pub unchanged : IsAsBefore (place_told told) old new
+  pub tells_run : TellsRun state items from (place_told told) old new

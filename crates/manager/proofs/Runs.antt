@@ -32,7 +32,7 @@ use Rattle.volume_parts.proofs.Claims.{no_more_same}
 use Rattle.manager.proofs.Placed.{look_same, claimed_before, stops_before, passed_log, passed_unplaced}
 use Rattle.manager.specs.Joining.{GoTogether}
 use Rattle.manager.specs.declared.run.Ran.{Ran}
-use Rattle.manager.specs.Groups.{HasTakenRun, first_lbn, first_blocks, writes_to_home, run_writes, run_written, ruled_run, HasRun, IsGroup, AreItemsOf, given_out, log_writes, placed_all, place_told}
+use Rattle.manager.specs.Groups.{HasTakenRun, first_lbn, first_blocks, writes_to_home, run_writes, run_written, ruled_run, HasRun, IsGroup, AreItemsOf, given_out, log_writes, placed_all}
 use Rattle.volume_parts.proofs.Places.{group_writes, group_group}
 use Rattle.volume_parts.proofs.Records.{first_long, first_of_take, take_front}
 use Rattle.std.proofs.lemmas.Bool.{false≢true}
@@ -360,15 +360,7 @@ module _ {D : Type 0} (tells : Bool) (state : D → State) (items : List Item) (
     as_before (Err VersionsSpent) is_placed was = absurd is_placed
     as_before (Err NoMemory) is_placed was = absurd is_placed
 
--- ---- What is told of a run
-
-pub on_told : (P : Type 0) (r : Result (ℕ × Place) WriteRefusal) → OnOk (place_told r) P → OnOk r P
-on_told P (Ok told) on = on
-on_told P (Err refusal) on = tt
-
-pub told_refusal : (r : Result (ℕ × Place) WriteRefusal) (e : WriteRefusal) → place_told r ≡ Err e → r ≡ Err e
-told_refusal (Ok told) e is = absurd (let no : Ok told.1 ≡ Err e = is in cc)
-told_refusal (Err refusal) e is = let same : refusal ≡ e = (let both : ◌≡◌ {A = Result Place WriteRefusal} (Err refusal) (Err e) = is in cc) in ap Err same
+-- ---- Some first items
 
 -- the first item, where some are given
 pub first_given : (items : List Item) (k : ℕ) (from : List Block) (d : Item) → 1 ≤ length items → 1 ≤ k → count_of items ≤ length from

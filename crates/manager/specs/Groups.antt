@@ -1,5 +1,5 @@
 -- Runs of writes: what their items stand for, and what becomes of them.
-use Rattle.std.specs.Prelude.{◌≡◌, ◌⊎◌, ◌≤◌, ◌+◌, ◌^◌, ℕ, Bool, true, List, [], Result, Ok, Err, OnOk, IsOk, length, map, take, Option}
+use Rattle.std.specs.Prelude.{◌≡◌, ◌⊎◌, ◌↔◌, ◌≤◌, ◌<◌, ◌+◌, ◌^◌, ℕ, Bool, true, List, [], Result, Ok, Err, OnOk, IsOk, length, map, take, Option, None, Some}
 use Rattle.wol_disk.specs.Disk.{Block, State}
 use Rattle.spin_model.specs.Spun.{state_of}
 use Rattle.spin_model.specs.declared.spun.Spun.{Spun}
@@ -11,8 +11,9 @@ use Rattle.wol_promise.specs.Ruled.{Noted}
 use Rattle.log_segment.specs.Records.{count_of}
 use Rattle.log_segment.specs.declared.item.Item.{Item}
 use Rattle.offload_policy.specs.declared.Room.{Room}
-use Rattle.logger.specs.Lanes.{logger_of}
+use Rattle.logger.specs.Lanes.{logger_of, first_count}
 use Rattle.logger.specs.declared.shared.Shared.{Shared}
+use Rattle.manager.specs.Answers.{IsPlaceOf}
 use Rattle.manager.specs.Causes.{NoneRose}
 use Rattle.manager.specs.Offers.{IsTurnedAway, HasTakenWrite, ChangesLane}
 use Rattle.manager.specs.Seen.{look_of_manager}
@@ -20,8 +21,9 @@ use Rattle.manager.specs.Stands.{Keeps, CanServe, Leaves, LeavesPassing, passed_
 use Rattle.manager.specs.Stops.{StopsWith, StopsClaiming, TellsClaim}
 use Rattle.manager.specs.declared.base.ManagerBase.{ManagerBase}
 use Rattle.manager.specs.declared.manager.Manager.{Manager}
-use Rattle.manager.specs.Writing.{ruled_place, was_tried, TellsFault, IsLogAnswer}
+use Rattle.manager.specs.Writing.{ruled_place, was_tried, takes_at, HaveAnswered, NeedsHome, NeedsLogs, TellsFault, IsAsBefore, IsLogAnswer}
 use Rattle.manager.specs.declared.run.Ran.{Ran}
+use Rattle.manager.specs.declared.part.Part.{Part}
 use Rattle.manager.specs.declared.part.Place.{Place}
 use Rattle.manager.specs.declared.part.WriteRefusal.{WriteRefusal}
 use Rattle.manager.specs.declared.part.WriteRefusal.TheVariants.{Full, DiskFault, Down, VersionsSpent, NoMemory}
@@ -153,3 +155,21 @@ pub record HasRun {D : Type 0} (tells : Bool) (state : D → State) (items : Lis
   pub claims : TellsClaim tells state (IsOk answer) old.lanes.items new.lanes.items claimed
   pub any_moment : StopsWith tells state old new claimed
       (run_writes old.next (take tried items) from answer)
+
+-- What a run's answer tells besides. The place of the first item is the rule's, with room in each
+-- lane but those that were turned away in this call; the disk that took the items was needed, and
+-- no other.
+pub record TellsRun {D : Type 0} (state : D → State) (items : List Item) (from : List Block)
+    (answer : Result Place WriteRefusal) (old new : Manager D) : Type 0 where
+  pub placed : IsPlaceOf (map logger_of old.lanes.items) answer (ruled_run old new items from)
+  pub answered : HaveAnswered (first_count items) (takes_at (ruled_run old new items from) answer)
+      new.rooms.items old.lanes.items new.lanes.items
+  pub waking_home : NeedsHome (ruled_run old new items from) answer old new
+  pub waking_logs : NeedsLogs (ruled_run old new items from) answer old new
+  pub down : (p : Part) → (answer ≡ Err (Down p)) ↔ (old.down ≡ Some p)
+  pub versions : (answer ≡ Err VersionsSpent) ↔ ((old.down ≡ None) × (old.next ≡ 2 ^ 63))
+  pub memory : answer ≡ Err NoMemory
+      → (old.down ≡ None) × (old.next < 2 ^ 63) × (old.index.reserved < 1)
+  pub fault : TellsFault state answer old new
+  pub calm : OnOk answer (NoneRose state old new)
+  pub unchanged : IsAsBefore answer old new

@@ -7,7 +7,7 @@ ghost use Rattle.log_segment.specs.Records.{count_of};
 ghost use Rattle.logger.specs.Lanes.{logger_of, first_count};
 ghost use Rattle.manager.specs.Answers.{IsPlaceOf};
 ghost use Rattle.manager.specs.Causes.{NoneRose};
-ghost use Rattle.manager.specs.Groups.{AreItemsOf, CanRun, WasTurnedAway, HasTakenRun, HasRun, first_lbn, first_blocks, place_told, ruled_run};
+ghost use Rattle.manager.specs.Groups.{AreItemsOf, CanRun, WasTurnedAway, HasTakenRun, HasRun, TellsRun, first_lbn, first_blocks, place_told, ruled_run};
 ghost use Rattle.manager.specs.Joining.{GoTogether};
 ghost use Rattle.manager.specs.Stands.{IsReady, IsHome, IsSameManager, passed_in};
 ghost use Rattle.manager.specs.Writing.{HaveAnswered, NeedsHome, NeedsLogs, TellsFault, IsAsBefore, IsPlacedAnswer, takes_at};
@@ -283,27 +283,8 @@ impl<D: Disk> Manager<D> {
             (place_told result) (ruled_run self.old self.new items.now from.now) self.old self.new
             × IfOk result (λ told. told.0 ≡ tried) }
 
-        // The place of the first is the rule's, with room in each lane but those that were turned away in this call.
-        ensures placed { IsPlaceOf (map logger_of self.old.lanes.items) (place_told result)
-            (ruled_run self.old self.new items.now from.now) }
-        ensures answered { HaveAnswered (first_count items.now)
-            (takes_at (ruled_run self.old self.new items.now from.now) (place_told result))
-            self.new.rooms.items self.old.lanes.items self.new.lanes.items }
-
-        ensures waking_home { NeedsHome (ruled_run self.old self.new items.now from.now)
-            (place_told result) self.old self.new }
-        ensures waking_logs { NeedsLogs (ruled_run self.old self.new items.now from.now)
-            (place_told result) self.old self.new }
-
-        ensures down { (p : Part) → (result ≡ Err (WriteRefusal.Down p))
-            ↔ (self.old.down ≡ Some p) }
-        ensures versions { (result ≡ Err WriteRefusal.VersionsSpent)
-            ↔ ((self.old.down ≡ None) × (self.old.next ≡ 2 ^ 63)) }
-        ensures memory { result ≡ Err WriteRefusal.NoMemory
-            → (self.old.down ≡ None) × (self.old.next < 2 ^ 63) × (self.old.index.reserved < 1) }
-        ensures fault { TellsFault D.state (place_told result) self.old self.new }
-        ensures calm { OnOk result (NoneRose D.state self.old self.new) }
-        ensures unchanged { IsAsBefore (place_told result) self.old self.new }
+        // Its place is the rule's, and which disks were needed and why it was refused is told.
+        ensures told { TellsRun D.state items.now from.now (place_told result) self.old self.new }
     {
         told(self.write_some(rt, shared, items, from))
     }

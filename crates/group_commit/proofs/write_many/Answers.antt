@@ -17,14 +17,5 @@ returns-in_err-count-clause-committed g c =
       tried = r.run.0;
       run = r.run.1;
       all = r.run.2;
-      placed = r.placed;
-      answered = r.answered;
-      waking_home = r.waking_home;
-      waking_logs = r.waking_logs;
-      down = r.down;
-      versions = r.versions;
-      memory = r.memory;
-      fault = r.fault;
-      calm = r.calm;
-      unchanged = r.unchanged;
+      tells_run = r.told;
     })
