@@ -1,5 +1,5 @@
--- Where the bytes of a host's name are.
-use Rattle.std.specs.Prelude.{⊤, ◌≤◌, ℕ, List, take}
+-- Where the bytes of a host's name are, and what tells most names apart.
+use Rattle.std.specs.Prelude.{⊤, ◌≤◌, ◌+◌, ◌-◌, ◌*◌, ◌%◌, ℕ, List, length, slice_index, take}
 use Rattle.msr_trace.specs.declared.host.Bytes.{Bytes}
 use Rattle.msr_trace.specs.declared.host.Bytes.TheVariants as held
 
@@ -11,3 +11,7 @@ bytes_of (held.Long bytes) = bytes.items
 abbrev pub IsHeld : Bytes → Type 0
 IsHeld (held.Short len bytes) = len ≤ 23
 IsHeld (held.Long bytes) = ⊤
+
+-- the length, modulo 256, and the last byte
+abbrev pub mark_of : List ℕ → ℕ
+mark_of bytes = length bytes % 256 * 256 + slice_index bytes (length bytes - 1)

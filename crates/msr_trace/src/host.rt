@@ -1,6 +1,6 @@
 // Names of hosts.
 ghost use Rattle.std.specs.Prelude.{◌≡◌, ◌≤◌, length, IfOk};
-ghost use Rattle.msr_trace.specs.Hosts.{bytes_of, IsHeld};
+ghost use Rattle.msr_trace.specs.Hosts.{bytes_of, IsHeld, mark_of};
 
 use std::alloc::Global;
 use std::marker::Model;
@@ -20,18 +20,19 @@ enum Bytes {
 /// The name of a host: any bytes.
 #[derive(Drop)]
 pub struct HostName {
+    mark: u16,
     bytes: Bytes,
 }
 
 impl Model for HostName {
-    ghost use Rattle.std.specs.Prelude.{ℕ, List};
-    ghost use Rattle.msr_trace.specs.Hosts.{bytes_of, IsHeld};
+    ghost use Rattle.std.specs.Prelude.{◌≡◌, ℕ, List};
+    ghost use Rattle.msr_trace.specs.Hosts.{bytes_of, IsHeld, mark_of};
 
     ghost Value = { List ℕ };
 
     ghost view = { λ h. bytes_of h.bytes };
 
-    ghost invariant = { λ h. IsHeld h.bytes };
+    ghost invariant = { λ h. IsHeld h.bytes × (h.mark ≡ mark_of (bytes_of h.bytes)) };
 }
 
 // The bytes of a name that is short.
@@ -48,16 +49,28 @@ fn shorten(bytes: &[u8]) -> Bytes
     }
 }
 
+// The length, modulo 256, and the last byte: names of hosts differ at their ends more often than in front.
+fn mark_of(bytes: &[u8]) -> u16
+    ensures { result ≡ mark_of bytes.now }
+{
+    if bytes.is_empty() {
+        return 0;
+    }
+    let last = bytes[bytes.len() - 1];
+    (bytes.len() % 256) as u16 * 256 + u16::from(last)
+}
+
 impl HostName {
     pub fn new(alloc: Global, bytes: &[u8]) -> Result<HostName, NoMemory>
         ensures { IfOk result (λ host. host ≡ bytes.now) }
     {
+        let mark = mark_of(bytes);
         let bytes = if bytes.len() <= SHORT_MAX {
             shorten(bytes)
         } else {
             Bytes::Long(Vec::from_slice(alloc, bytes)?)
         };
-        Ok(HostName { bytes })
+        Ok(HostName { mark, bytes })
     }
 
     pub fn as_bytes(&self) -> &[u8]
@@ -67,5 +80,12 @@ impl HostName {
             Bytes::Short { len, bytes } => &bytes[..*len as usize],
             Bytes::Long(bytes) => bytes.as_slice(),
         }
+    }
+
+    /// A number that the bytes determine. Most names that differ have different ones, so it is worth a look before the bytes.
+    pub fn mark(&self) -> u16
+        ensures { result ≡ mark_of self.now }
+    {
+        self.mark
     }
 }

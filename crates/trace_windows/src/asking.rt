@@ -1,5 +1,5 @@
 // What a line asks for: the volume that it belongs to, and its requests.
-ghost use Rattle.std.specs.Prelude.{◌≡◌, true, ◌<◌, ◌≤◌, ◌^◌, ◌++◌, ◌&&◌, ◌==◌, ℕ, length, map, position, take, IfSome, OnOk, OnErr};
+ghost use Rattle.std.specs.Prelude.{◌≡◌, ◌<◌, ◌≤◌, ◌^◌, ◌++◌, ◌&&◌, ◌==◌, ℕ, length, map, position, take, IfSome, OnOk, OnErr};
 ghost use Rattle.std.specs.Str.{bytes_eq};
 ghost use Rattle.wol_config.specs.Configs.{IsValid, most_of};
 ghost use Rattle.trace_gen.specs.Generated.{target_of, targets_of};
@@ -8,7 +8,7 @@ ghost use Rattle.msr_trace.specs.Lines.{Fits, trace_line};
 ghost use Rattle.trace_windows.specs.Requests.{numbered};
 
 use crate::request::Request;
-use msr_trace::Line;
+use msr_trace::{HostName, Line};
 use wol_config::{Config, VolumeConf};
 use wol_disk::NoMemory;
 
@@ -26,25 +26,22 @@ fn place_of(volumes: &[VolumeConf], line: &Line) -> Option<usize>
         ≡ position (λ v. bytes_eq v.host line.now.host && v.disk == line.now.disk) volumes.now }
     ensures within { IfSome result (λ v. v < length volumes.now) }
 {
-    let asked = line.host.as_bytes();
-    volumes
-        .iter()
-        .position(|volume| owns(volume, asked, line.disk))
+    volumes.iter().position(|volume| owns(volume, line))
 }
 
-// Whether the volume has the disk of a host.
-fn owns(volume: &VolumeConf, asked: &[u8], disk: u32) -> bool
-    ensures { result ≡ (bytes_eq volume.now.host asked.now && volume.now.disk == disk) }
+// Whether the line is on the volume's disk.
+fn owns(volume: &VolumeConf, line: &Line) -> bool
+    ensures { result
+        ≡ (bytes_eq volume.now.host line.now.host && volume.now.disk == line.now.disk) }
 {
-    let own = volume.host.as_bytes();
-    may_be_same(own, asked) && own == asked && volume.disk == disk
+    is_same(&volume.host, &line.host) && volume.disk == line.disk
 }
 
-// Whether the names are of one length and end alike. Names of hosts differ at their ends more often than in front.
-fn may_be_same(own: &[u8], asked: &[u8]) -> bool
-    ensures { own.now ≡ asked.now → result ≡ true }
+// Whether two names are the same.
+fn is_same(own: &HostName, asked: &HostName) -> bool
+    ensures { result ≡ bytes_eq own.now asked.now }
 {
-    own.len() == asked.len() && (own.is_empty() || own[own.len() - 1] == asked[own.len() - 1])
+    own.mark() == asked.mark() && own.as_bytes() == asked.as_bytes()
 }
 
 // How many blocks the home of a volume has.
