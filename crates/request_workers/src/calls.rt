@@ -54,9 +54,9 @@ fn refused_turn<D: Disk>(desks: &[Desk<D>]) -> Option<(u32, StepFault)>
 /// log in a row take one turn, and leave one entry. The gate is passed before each request that is run, in no turn: for writes
 /// that are served together before the first of them, so also for those that a refusal among them keeps from being run.
 ///
-/// In mode `Between` each volume in order has one reclaim turn after the requests. In mode `Beside` the caller reclaims beside
-/// the workers too, a step on each volume at a time, until a round of steps did nothing, and at most in as many rounds as
-/// there are requests and one more. `NoMemory` comes before a request is run.
+/// In mode `Between` each volume in order has one reclaim turn after the requests. In mode `Beside` it has one too, and where
+/// workers serve the window the caller reclaims beside them, a step on each volume at a time, until a round of steps did
+/// nothing, and at most in as many rounds as there are requests and one more. `NoMemory` comes before a request is run.
 pub fn window<'e, 'l, D: Disk, G: Gate, R: Wait>(
     rt: &R,
     alloc: Global,

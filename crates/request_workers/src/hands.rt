@@ -59,6 +59,15 @@ pub(crate) fn hands_for(workers: Workers, requests: &[Request]) -> Hands {
     Hands::Many
 }
 
+/// How many rounds the helper makes at most in a window of so many requests: none where the caller alone serves, since the
+/// reclaim turns right behind its requests do all that such rounds would.
+pub(crate) fn rounds_for(hands: Hands, requests: usize) -> usize {
+    match hands {
+        Hands::One => 0,
+        Hands::Many => requests.saturating_add(1),
+    }
+}
+
 /// How so many desks are shared out. In mode `Beside` the caller keeps none, since it is the helper.
 pub(crate) fn shares_for(workers: Workers, desks: usize, rounds: usize, reclaim: Reclaim) -> Shares
     requires { 1 ≤ workers.count }

@@ -8,7 +8,7 @@ ghost use Rattle.request_workers.specs.Shares.{CanShare, HasRunOn};
 ghost use Rattle.window_desks.specs.declared.desk.Desk.{Desk};
 
 use crate::crew::Crew;
-use crate::hands::{hands_for, serve_all, shares_for};
+use crate::hands::{hands_for, rounds_for, serve_all, shares_for};
 use logger::Shared;
 use request_turns::Outcome;
 use std::sync::Wait;
@@ -41,8 +41,8 @@ pub(crate) fn run_window<'e, 'l, D: Disk, G: Gate, R: Wait>(
     ensures run { HasRunOn D.tells requests.now out.new.items reclaim floor.old floor.new }
     ensures crew { IsCrew crew.new }
 {
-    let rounds = requests.len().saturating_add(1);
     let hands = hands_for(crew.workers, requests);
+    let rounds = rounds_for(hands, requests.len());
     let shares = shares_for(crew.workers, floor.desks.len(), rounds, reclaim);
     serve_all(rt, floor, shared, crew, hands, shares);
     close_all(rt, floor.locks, shared, floor.desks.as_mut_slice(), reclaim);

@@ -8,7 +8,7 @@ pub enum Reclaim {
     Off,
     /// After the requests.
     Between,
-    /// Beside the requests, and after them.
+    /// Beside the requests where workers serve them, and after them.
     Beside,
 }
 
@@ -16,7 +16,7 @@ pub enum Reclaim {
 #[derive(Clone, Copy, Debug, PartialEq, Eq)]
 pub enum Sharing {
     /// Those that have enough requests, of more than one volume, for workers to pay. The caller alone serves the others, and
-    /// in mode `Beside` makes the helper's rounds after their requests.
+    /// in mode `Beside` it makes no helper's rounds for them.
     WherePays,
     /// All of them.
     Always,
