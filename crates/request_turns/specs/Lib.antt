@@ -5,6 +5,7 @@ pub mod Answered
 pub mod Counts
 pub mod Causes
 pub mod Written
+pub mod Tried
 pub mod Blocks
 pub mod Groups
 pub mod Closed

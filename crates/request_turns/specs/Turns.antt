@@ -1,5 +1,5 @@
 -- What turns of a manager's lock add to a pass: entries with their notes.
-use Rattle.std.specs.Prelude.{⊤, ◌≡◌, ◌⊎◌, ◌∷◌, ◌++◌, Bool, true, List, [], Option, None, Some, map, is_some, IsTrue}
+use Rattle.std.specs.Prelude.{⊤, ◌≡◌, ◌⊎◌, ◌∷◌, ◌++◌, ℕ, Bool, true, List, [], Option, None, Some, map, is_some, IsTrue}
 use Rattle.std.specs.List.{AllByRecursion}
 use Rattle.turn_lock.specs.Histories.{Entry, own, Begins}
 use Rattle.turn_lock.specs.Passes.{pass_lock, pass_number, pass_seen, pass_mine, value_of, IsFree, IsSamePass}
@@ -12,7 +12,7 @@ use Rattle.wol_promise.specs.Policy.{Look}
 use Rattle.wol_promise.specs.Ruled.{Noted, IsDrained, entries_of, last_look}
 use Rattle.wol_promise.specs.Stands.{HasHistory}
 use Rattle.manager.specs.Seen.{look_of_manager, name_of}
-use Rattle.manager.specs.Stands.{notes_of}
+use Rattle.manager.specs.Stands.{notes_of, passed_in}
 use Rattle.manager.specs.declared.base.ManagerBase.{ManagerBase}
 use Rattle.manager.specs.declared.manager.Manager.{Manager}
 use Rattle.manager.specs.declared.part.Part.{Part}
@@ -43,6 +43,22 @@ look_or_nothing (Some m) = look_of_manager m
 -- what is known of the manager of a turn that keeps it in its place
 abbrev pub look_in_place : {D : Type 0} → ManagerPass D → Look
 look_in_place p = look_or_nothing (value_of p)
+
+-- the pools that it found empty in its last write
+abbrev pub passed_or_none : {D : Type 0} → Option (Manager D) → List ℕ
+passed_or_none None = []
+passed_or_none (Some m) = passed_in m.rooms.items
+
+abbrev pub passed_in_place : {D : Type 0} → ManagerPass D → List ℕ
+passed_in_place p = passed_or_none (value_of p)
+
+-- its next version
+abbrev pub next_or_none : {D : Type 0} → Option (Manager D) → ℕ
+next_or_none None = 0
+next_or_none (Some m) = m.next
+
+abbrev pub next_in_place : {D : Type 0} → ManagerPass D → ℕ
+next_in_place p = next_or_none (value_of p)
 
 -- a disk call of the volume failed
 abbrev pub IsBroken : List Noted → Type 0

@@ -1,31 +1,33 @@
 // A write that no log has room for: all records are drained, and then the write goes home.
 ghost use Rattle.std.specs.Prelude.{ℕ, ◌≡◌, ◌++◌, ◌∷◌, [], ◌≤◌, ◌+◌, false, None, Some, length, OnOk, IfErr, is_ok};
-ghost use Rattle.turn_lock.specs.Passes.{pass_lock, pass_number, IsPassOf, IsInTurn};
-ghost use Rattle.wol_model.specs.History.{worker, Broke};
+ghost use Rattle.turn_lock.specs.Passes.{pass_lock, pass_number, IsPassOf, IsInTurnWith};
+ghost use Rattle.wol_model.specs.History.{worker, Broke, Kept};
 ghost use Rattle.wol_model.specs.Placing.{Full as Nowhere};
 ghost use Rattle.wol_promise.specs.Policy.{drained, place_of};
 ghost use Rattle.wol_promise.specs.Ruled.{last_look};
 ghost use Rattle.manager.specs.Answers.{home_write, written};
 ghost use Rattle.manager.specs.Reclaim.{OnKept, OnFailed, KeepsOn, BreaksOff, Always};
 ghost use Rattle.manager.specs.Seen.{look_of_manager};
-ghost use Rattle.manager.specs.Stands.{Keeps, Stands, IsReady, IsHome, IsShared, passed_in};
+ghost use Rattle.manager.specs.Stands.{Keeps, Stands, IsReady, IsHome, IsShared};
+ghost use Rattle.manager.specs.declared.manager.Manager.{Manager};
 ghost use Rattle.manager.specs.declared.part.Part.{Part};
 ghost use Rattle.request_turns.specs.Causes.{CanTake};
 ghost use Rattle.request_turns.specs.Counts.{HasTaken, IsTakenOff};
-ghost use Rattle.request_turns.specs.Entries.{note_of, full_note, refused_as, has_broken};
-ghost use Rattle.request_turns.specs.Turns.{notes_seen, HasLeft, IsBroken, WasDown, faulty_part};
+ghost use Rattle.request_turns.specs.Entries.{note_of, refused_as, has_broken};
+ghost use Rattle.request_turns.specs.Tried.{CanWrite, HasTried, HasDrained};
+ghost use Rattle.request_turns.specs.Turns.{look_in_place, next_in_place, notes_seen, HasLeft, IsBroken, WasDown, faulty_part};
 ghost use Rattle.request_turns.specs.Written.{HasWritten, IsDiskFault};
 
-use crate::noted::{Memo, leave_noted};
+use crate::noted::{Memo, leave_noted_in_place};
 use crate::outcome::Outcome;
 use crate::tally::Tally;
-use crate::write::outcome_of;
+use crate::write::{outcome_of, try_write};
 use logger::Shared;
 use manager::{Manager, Place, StepFault, WriteRefusal};
 use reclaimer::{Drain, Fetch, drain_step};
 use std::marker::Brand;
 use std::sync::Wait;
-use turn_lock::{Pass, Turn, TurnLock};
+use turn_lock::{Pass, TurnLock};
 use wol_disk::{Block, Disk};
 
 // Drains all records, step by step.
@@ -58,6 +60,23 @@ fn drain<R: Wait, D: Disk>(
     }
 }
 
+// The same, with what was drained.
+fn drain_anew<R: Wait, D: Disk>(
+    rt: &R,
+    m: &mut Manager<D>,
+    shared: &Shared<D>,
+    fetch: &mut Fetch,
+) -> (Result<(), StepFault>, Tally)
+    requires ready { IsReady D.state m.old }
+    requires at { IsHome shared.now m.old }
+    requires up { m.old.down ≡ None }
+    ensures { HasDrained D.tells D.state result.0 result.1 m.old m.new }
+{
+    let mut done = Tally::new();
+    let answer = drain(rt, m, shared, fetch, &mut done);
+    (answer, done)
+}
+
 // The refusal of a write whose drain was refused so.
 fn refusal_of(fault: StepFault) -> WriteRefusal
     ensures { result ≡ refused_as fault }
@@ -76,51 +95,46 @@ fn has_broken(answer: &Result<Place, WriteRefusal>) -> bool
 }
 
 // Ends a turn whose drain failed. `B` has the note of the write that was refused before.
-fn leave_broken<D: Disk, B: Memo, N: Memo>(
-    lock: &TurnLock<Manager<D>>,
-    turn: Turn<Manager<D>>,
-    pass: &mut Pass<Manager<D>>,
-)
+fn leave_broken<D: Disk, B: Memo, N: Memo>(lock: &TurnLock<Manager<D>>, pass: &mut Pass<Manager<D>>)
     requires own { IsPassOf lock.now pass.old }
-    requires turn { IsInTurn pass.old }
-    requires note { N.note ≡ note_of (pass_number pass.old) (Broke []) (look_of_manager turn.value)
+    requires note { N.note ≡ note_of (pass_number pass.old) (Broke []) (look_in_place pass.old)
         B.note.passed false }
-    requires value { Stands D.tells D.state turn.value (pass_lock pass.old).base
-        (notes_seen pass.old ++ N.note ∷ []) }
+    requires value { (m : Manager _) × IsInTurnWith m pass.old
+        × Stands D.tells D.state m (pass_lock pass.old).base (notes_seen pass.old ++ N.note ∷ []) }
     ensures left { HasLeft D.tells N.note pass.old pass.new }
-    ensures broken { (p : Part) → turn.value.down ≡ Some p → WasDown p (notes_seen pass.new) }
+    ensures broken { (m : Manager _) (p : Part) → IsInTurnWith m pass.old → m.down ≡ Some p
+        → WasDown p (notes_seen pass.new) }
 {
-    leave_noted::<D, N>(lock, turn, pass);
+    leave_noted_in_place::<D, N>(lock, pass);
 }
 
 // Ends a turn in which blocks were written after a drain. `B` has that note, and the next version that stood before.
 fn leave_drained<D: Disk, B: Memo, N: Memo>(
     lock: &TurnLock<Manager<D>>,
-    turn: Turn<Manager<D>>,
     pass: &mut Pass<Manager<D>>,
     lbn: u64,
     from: &[Block],
     answer: &Result<Place, WriteRefusal>,
 )
     requires own { IsPassOf lock.now pass.old }
-    requires turn { IsInTurn pass.old }
     requires note { N.note ≡ note_of (pass_number pass.old) (written B.next lbn from.now answer.now)
-        (look_of_manager turn.value) B.note.passed (is_ok answer.now) }
-    requires value { Stands D.tells D.state turn.value (pass_lock pass.old).base
-        (notes_seen pass.old ++ N.note ∷ []) }
+        (look_in_place pass.old) B.note.passed (is_ok answer.now) }
+    requires value { (m : Manager _) × IsInTurnWith m pass.old
+        × Stands D.tells D.state m (pass_lock pass.old).base (notes_seen pass.old ++ N.note ∷ []) }
     ensures left { HasLeft D.tells N.note pass.old pass.new }
-    ensures broken { (p : Part) → turn.value.down ≡ Some p → WasDown p (notes_seen pass.new) }
-    ensures unbroken { turn.value.down ≡ None → IsBroken (notes_seen pass.new) → ⊥ }
+    ensures broken { (m : Manager _) (p : Part) → IsInTurnWith m pass.old → m.down ≡ Some p
+        → WasDown p (notes_seen pass.new) }
+    ensures unbroken { (m : Manager _) → IsInTurnWith m pass.old → m.down ≡ None
+        → IsBroken (notes_seen pass.new) → ⊥ }
 {
     let _ = from;
-    leave_noted::<D, N>(lock, turn, pass);
+    leave_noted_in_place::<D, N>(lock, pass);
 }
 
 // Writes home when no record is left, and ends the turn.
 fn write_home<D: Disk, R: Wait, B: Memo>(
     rt: &R,
     lock: &TurnLock<Manager<D>>,
-    mut turn: Turn<Manager<D>>,
     pass: &mut Pass<Manager<D>>,
     shared: &Shared<D>,
     lbn: u64,
@@ -129,31 +143,34 @@ fn write_home<D: Disk, R: Wait, B: Memo>(
     tally: &mut Tally,
 ) -> Outcome
     requires own { IsPassOf lock.now pass.old }
-    requires turn { IsInTurn pass.old }
     requires client { pass_number pass.old ≡ worker }
-    requires next { B.next ≡ turn.value.next }
-    requires note { B.note ≡ full_note (pass_number pass.old) B.note.look B.note.passed }
+    requires next { B.next ≡ next_in_place pass.old }
+    requires note { B.note.entry.operation ≡ Kept }
     requires full { place_of B.note.passed
         (last_look (pass_lock pass.old).base.volume.began.look (notes_seen pass.old))
         (home_write lbn from.now) ≡ Nowhere }
     requires done { IsTakenOff done (last_look (pass_lock pass.old).base.volume.began.look
-        (notes_seen pass.old)) (look_of_manager turn.value) }
-    requires bare { look_of_manager turn.value
+        (notes_seen pass.old)) (look_in_place pass.old) }
+    requires bare { look_in_place pass.old
         ≡ drained (last_look (pass_lock pass.old).base.volume.began.look (notes_seen pass.old)) }
-    requires up { turn.value.down ≡ None }
     requires takes { CanTake (notes_seen pass.old)
         (last_look (pass_lock pass.old).base.volume.began.look (notes_seen pass.old)) }
-    requires ready { IsReady D.state turn.value }
-    requires at { IsHome shared.now turn.value }
+    requires shared { IsShared shared.now (pass_lock pass.old).base }
     requires count { (1 ≤ length from.now)
         × (length from.now ≤ (pass_lock pass.old).base.volume.began.most) }
     requires fits { lbn + length from.now ≤ (pass_lock pass.old).base.volume.began.home_blocks }
-    requires value { Keeps D.tells D.state turn.value (pass_lock pass.old).base
-        (notes_seen pass.old ++ B.note ∷ []) }
+    requires value { (m : Manager _) × IsInTurnWith m pass.old × (m.down ≡ None)
+        × Keeps D.tells D.state m (pass_lock pass.old).base (notes_seen pass.old ++ B.note ∷ []) }
     ensures { HasWritten D.tells lbn from.now result tally.old tally.new pass.old pass.new }
 {
-    let answer = turn.value.write(rt, shared, lbn, from);
-    leave_drained::<D, B, Brand>(lock, turn, pass, lbn, from, &answer);
+    let answer = lock.change(
+        pass,
+        |m: &mut Manager<D>|
+            requires { CanWrite D.state shared.now lbn from.now m.now }
+            ensures { HasTried D.tells D.state lbn from.entry.now result m.old m.new }
+        { try_write(rt, m, shared, lbn, from) },
+    );
+    leave_drained::<D, B, Brand>(lock, pass, lbn, from, &answer);
     tally.add_unless(has_broken(&answer), done);
     outcome_of(answer, true)
 }
@@ -163,7 +180,6 @@ fn write_home<D: Disk, R: Wait, B: Memo>(
 pub(crate) fn drain_and_write<D: Disk, R: Wait, B: Memo>(
     rt: &R,
     lock: &TurnLock<Manager<D>>,
-    mut turn: Turn<Manager<D>>,
     pass: &mut Pass<Manager<D>>,
     shared: &Shared<D>,
     lbn: u64,
@@ -172,31 +188,34 @@ pub(crate) fn drain_and_write<D: Disk, R: Wait, B: Memo>(
     tally: &mut Tally,
 ) -> Outcome
     requires own { IsPassOf lock.now pass.old }
-    requires turn { IsInTurn pass.old }
     requires client { pass_number pass.old ≡ worker }
-    requires note { B.note ≡ full_note (pass_number pass.old) (look_of_manager turn.value)
-        (passed_in turn.value.rooms.items) }
+    requires note { B.note.entry.operation ≡ Kept }
     requires full { place_of B.note.passed
         (last_look (pass_lock pass.old).base.volume.began.look (notes_seen pass.old))
         (home_write lbn from.now) ≡ Nowhere }
-    requires look { look_of_manager turn.value
+    requires look { look_in_place pass.old
         ≡ last_look (pass_lock pass.old).base.volume.began.look (notes_seen pass.old) }
-    requires up { turn.value.down ≡ None }
     requires takes { CanTake (notes_seen pass.old)
         (last_look (pass_lock pass.old).base.volume.began.look (notes_seen pass.old)) }
     requires shared { IsShared shared.now (pass_lock pass.old).base }
     requires count { (1 ≤ length from.now)
         × (length from.now ≤ (pass_lock pass.old).base.volume.began.most) }
     requires fits { lbn + length from.now ≤ (pass_lock pass.old).base.volume.began.home_blocks }
-    requires value { Keeps D.tells D.state turn.value (pass_lock pass.old).base
-        (notes_seen pass.old ++ B.note ∷ []) }
+    requires value { (m : Manager _) × IsInTurnWith m pass.old × (m.down ≡ None)
+        × Keeps D.tells D.state m (pass_lock pass.old).base (notes_seen pass.old ++ B.note ∷ []) }
     ensures { HasWritten D.tells lbn from.now result tally.old tally.new pass.old pass.new }
 {
-    let mut done = Tally::new();
-    match drain(rt, &mut turn.value, shared, fetch, &mut done) {
-        Ok(()) => write_home::<D, R, Brand>(rt, lock, turn, pass, shared, lbn, from, done, tally),
+    let (answer, done) = lock.change(
+        pass,
+        |m: &mut Manager<D>|
+            requires { IsReady D.state m.now × IsHome shared.now m.now × (m.now.down ≡ None) }
+            ensures { HasDrained D.tells D.state result.0 result.1 m.old m.new }
+        { drain_anew(rt, m, shared, fetch) },
+    );
+    match answer {
+        Ok(()) => write_home::<D, R, Brand>(rt, lock, pass, shared, lbn, from, done, tally),
         Err(fault) => {
-            leave_broken::<D, B, Brand>(lock, turn, pass);
+            leave_broken::<D, B, Brand>(lock, pass);
             Outcome::NoWrite(refusal_of(fault))
         }
     }

@@ -1,22 +1,23 @@
 // Several writes of one volume in one turn: those that go to one log together leave one entry.
 ghost use Rattle.std.specs.Prelude.{ℕ, ◌≡◌, ◌++◌, ◌∷◌, [], ◌≤◌, ◌+◌, ◌^◌, false, None, Some, length, map, take, sum_by, vec_capacity};
 ghost use Rattle.std.specs.List.{AllByRecursion, flat_map};
-ghost use Rattle.turn_lock.specs.Passes.{pass_lock, pass_number, IsPassOf, IsFree, IsInTurn};
+ghost use Rattle.turn_lock.specs.Passes.{pass_lock, pass_number, IsPassOf, IsFree, IsInTurnWith};
 ghost use Rattle.wol_model.specs.History.{worker};
 ghost use Rattle.log_segment.specs.Records.{count_of};
 ghost use Rattle.manager.specs.Groups.{AreItemsOf, run_writes, run_written};
-ghost use Rattle.manager.specs.Seen.{look_of_manager};
-ghost use Rattle.manager.specs.Stands.{Stands, IsShared, passed_in};
+ghost use Rattle.manager.specs.Stands.{Stands, IsShared};
+ghost use Rattle.manager.specs.declared.manager.Manager.{Manager};
 ghost use Rattle.manager.specs.declared.part.Part.{Part};
 ghost use Rattle.request_turns.specs.Answered.{HasAnsweredMany};
 ghost use Rattle.request_turns.specs.Counts.{HasCounted};
 ghost use Rattle.request_turns.specs.Entries.{note_of};
 ghost use Rattle.request_turns.specs.Groups.{HasWrittenMany, item_of, blocks_of, answered_of};
 ghost use Rattle.request_turns.specs.Requests.{IsWithin};
-ghost use Rattle.request_turns.specs.Turns.{notes_seen, HasLeft, IsBroken, WasDown};
+ghost use Rattle.request_turns.specs.Tried.{CanWriteSome, HasTriedSome};
+ghost use Rattle.request_turns.specs.Turns.{look_in_place, next_in_place, passed_in_place, notes_seen, HasLeft, IsBroken, WasDown};
 
 use crate::drain::drain_and_write;
-use crate::noted::{Memo, leave_noted};
+use crate::noted::{Memo, leave_noted_in_place};
 use crate::outcome::Outcome;
 use crate::payload::Payload;
 use crate::tally::Tally;
@@ -29,7 +30,7 @@ use reclaimer::Fetch;
 use std::marker::Brand;
 use std::sync::Wait;
 use trace_windows::Request;
-use turn_lock::{Pass, Turn, TurnLock};
+use turn_lock::{Pass, TurnLock};
 use wol_disk::{Block, Disk};
 use wol_model::Kind;
 
@@ -64,32 +65,46 @@ fn fill_all(requests: &[Request], out: &mut [Block])
     }
 }
 
+// Tries to write some first ones of the items.
+fn try_some<D: Disk, R: Wait>(
+    rt: &R,
+    m: &mut Manager<D>,
+    shared: &Shared<D>,
+    items: &[Item],
+    from: &[Block],
+) -> Ran
+    requires { CanWriteSome D.state shared.now items.now from.now m.old }
+    ensures { HasTriedSome D.tells D.state items.now from.now result m.old m.new }
+{
+    m.write_some(rt, shared, items, from)
+}
+
 // Ends a turn in which some first ones of these items were tried with this answer, where `B` has the next version that
 // stood before.
 fn leave_run<D: Disk, B: Memo, N: Memo>(
     lock: &TurnLock<Manager<D>>,
-    turn: Turn<Manager<D>>,
     pass: &mut Pass<Manager<D>>,
     items: &[Item],
     from: &[Block],
     ran: &Ran,
 )
     requires own { IsPassOf lock.now pass.old }
-    requires turn { IsInTurn pass.old }
     requires note { N.note ≡ note_of (pass_number pass.old)
         (run_written (run_writes B.next (take ran.now.items items.now) from.now ran.now.answer)
         ran.now.answer)
-        (look_of_manager turn.value) (passed_in turn.value.rooms.items) false }
-    requires value { Stands D.tells D.state turn.value (pass_lock pass.old).base
-        (notes_seen pass.old ++ N.note ∷ []) }
+        (look_in_place pass.old) (passed_in_place pass.old) false }
+    requires value { (m : Manager _) × IsInTurnWith m pass.old
+        × Stands D.tells D.state m (pass_lock pass.old).base (notes_seen pass.old ++ N.note ∷ []) }
     ensures left { HasLeft D.tells N.note pass.old pass.new }
-    ensures broken { (p : Part) → turn.value.down ≡ Some p → WasDown p (notes_seen pass.new) }
-    ensures unbroken { turn.value.down ≡ None → IsBroken (notes_seen pass.new) → ⊥ }
+    ensures broken { (m : Manager _) (p : Part) → IsInTurnWith m pass.old → m.down ≡ Some p
+        → WasDown p (notes_seen pass.new) }
+    ensures unbroken { (m : Manager _) → IsInTurnWith m pass.old → m.down ≡ None
+        → IsBroken (notes_seen pass.new) → ⊥ }
 {
     let _ = items;
     let _ = from;
     let _ = ran;
-    leave_noted::<D, N>(lock, turn, pass);
+    leave_noted_in_place::<D, N>(lock, pass);
 }
 
 // How many of the items have this answer: those that were written, and else the first.
@@ -103,7 +118,6 @@ fn answered(ran: &Ran) -> usize
 fn write_run_within<D: Disk, R: Wait, B: Memo>(
     rt: &R,
     lock: &TurnLock<Manager<D>>,
-    mut turn: Turn<Manager<D>>,
     pass: &mut Pass<Manager<D>>,
     shared: &Shared<D>,
     items: &[Item],
@@ -112,29 +126,35 @@ fn write_run_within<D: Disk, R: Wait, B: Memo>(
     tally: &mut Tally,
 ) -> (usize, Outcome)
     requires own { IsPassOf lock.now pass.old }
-    requires turn { IsInTurn pass.old }
     requires client { pass_number pass.old ≡ worker }
-    requires next { B.next ≡ turn.value.next }
+    requires next { B.next ≡ next_in_place pass.old }
     requires shared { IsShared shared.now (pass_lock pass.old).base }
     requires some { 1 ≤ length items.now }
     requires items { AreItemsOf (pass_lock pass.old).base.volume.began.most
         (pass_lock pass.old).base.volume.began.home_blocks items.now }
     requires blocks { count_of items.now ≤ length from.now }
-    requires value { Stands D.tells D.state turn.value (pass_lock pass.old).base
-        (notes_seen pass.old) }
+    requires value { (m : Manager _) × IsInTurnWith m pass.old
+        × Stands D.tells D.state m (pass_lock pass.old).base (notes_seen pass.old) }
     ensures { HasWrittenMany D.tells items.now from.now result.0 result.1 tally.old tally.new
         pass.old pass.new }
 {
-    let ran = turn.value.write_some(rt, shared, items, from);
+    let ran = lock.change(
+        pass,
+        |m: &mut Manager<D>|
+            requires { CanWriteSome D.state shared.now items.now from.now m.now }
+            ensures { HasTriedSome D.tells D.state items.entry.now from.entry.now result m.old
+                m.new }
+        { try_some(rt, m, shared, items, from) },
+    );
     if is_full(&ran.answer) {
         let first = items[0];
         let from = &from[..first.count as usize];
         let outcome = drain_and_write::<D, R, Brand>(
-            rt, lock, turn, pass, shared, first.lbn, from, fetch, tally,
+            rt, lock, pass, shared, first.lbn, from, fetch, tally,
         );
         return (1, outcome);
     }
-    leave_run::<D, B, Brand>(lock, turn, pass, items, from, &ran);
+    leave_run::<D, B, Brand>(lock, pass, items, from, &ran);
     (answered(&ran), outcome_of(ran.answer, false))
 }
 
@@ -162,13 +182,12 @@ pub fn write_many_turn<D: Disk, R: Wait>(
     ensures answered { HasAnsweredMany D.tells requests.now result.0 result.1 pass.old pass.new }
     ensures counted { HasCounted D.tells tally.old tally.new pass.old pass.new }
 {
-    let turn = lock.enter(rt, pass);
+    lock.enter_in_place(rt, pass);
     list_items(requests, &mut payload.items);
     fill_all(requests, &mut payload.blocks);
     write_run_within::<D, R, Brand>(
         rt,
         lock,
-        turn,
         pass,
         shared,
         payload.items.as_slice(),

@@ -87,6 +87,24 @@ pub(crate) fn leave_step<D: Disk>(
     leave_named::<D, Brand>(lock, turn, pass, failed);
 }
 
+/// As `leave_noted`, where the manager stayed in its place.
+pub(crate) fn leave_noted_in_place<D: Disk, N: Memo>(
+    lock: &TurnLock<Manager<D>>,
+    pass: &mut Pass<Manager<D>>,
+)
+    requires own { IsPassOf lock.now pass.old }
+    requires number { N.note.entry.pass ≡ pass_number pass.old }
+    requires value { (m : Manager _) × IsInTurnWith m pass.old
+        × Stands D.tells D.state m (pass_lock pass.old).base (notes_seen pass.old ++ N.note ∷ []) }
+    ensures left { HasLeft D.tells N.note pass.old pass.new }
+    ensures broken { (m : Manager _) (p : Part) → IsInTurnWith m pass.old → m.down ≡ Some p
+        → WasDown p (notes_seen pass.new) }
+    ensures unbroken { (m : Manager _) → IsInTurnWith m pass.old → m.down ≡ None
+        → IsBroken (notes_seen pass.new) → ⊥ }
+{
+    lock.leave_in_place::<Brand>(pass);
+}
+
 // As `leave_named`, where the manager stayed in its place.
 fn leave_named_in_place<D: Disk, N: Memo>(
     lock: &TurnLock<Manager<D>>,

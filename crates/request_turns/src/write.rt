@@ -1,19 +1,20 @@
 // A write in one turn, after a drain where no log has room.
 ghost use Rattle.std.specs.Prelude.{ℕ, Some, ◌≡◌, ◌++◌, ◌∷◌, [], ◌≤◌, ◌+◌, false, None, length};
-ghost use Rattle.turn_lock.specs.Passes.{pass_lock, pass_number, IsPassOf, IsFree, IsInTurn};
+ghost use Rattle.turn_lock.specs.Passes.{pass_lock, pass_number, IsPassOf, IsFree, IsInTurnWith};
 ghost use Rattle.wol_model.specs.History.{worker};
 ghost use Rattle.manager.specs.Answers.{written};
-ghost use Rattle.manager.specs.Seen.{look_of_manager};
-ghost use Rattle.manager.specs.Stands.{Stands, IsShared, passed_in};
+ghost use Rattle.manager.specs.Stands.{Stands, IsShared};
+ghost use Rattle.manager.specs.declared.manager.Manager.{Manager};
 ghost use Rattle.manager.specs.declared.part.Part.{Part};
 ghost use Rattle.request_turns.specs.Entries.{note_of, written_outcome, is_full};
 ghost use Rattle.request_turns.specs.Blocks.{HasWrittenBlocks};
 ghost use Rattle.request_turns.specs.Counts.{HasCounted};
-ghost use Rattle.request_turns.specs.Turns.{notes_seen, HasLeft, IsBroken, WasDown};
+ghost use Rattle.request_turns.specs.Tried.{CanWrite, HasTried};
+ghost use Rattle.request_turns.specs.Turns.{look_in_place, next_in_place, passed_in_place, notes_seen, HasLeft, IsBroken, WasDown};
 ghost use Rattle.request_turns.specs.Written.{HasWritten};
 
 use crate::drain::drain_and_write;
-use crate::noted::{Memo, leave_noted};
+use crate::noted::{Memo, leave_noted_in_place};
 use crate::outcome::Outcome;
 use crate::tally::Tally;
 use logger::Shared;
@@ -21,7 +22,7 @@ use manager::{Manager, Place, WriteRefusal};
 use reclaimer::Fetch;
 use std::marker::Brand;
 use std::sync::Wait;
-use turn_lock::{Pass, Turn, TurnLock};
+use turn_lock::{Pass, TurnLock};
 use wol_disk::{Block, Disk};
 
 /// The outcome of a write with this answer.
@@ -41,34 +42,47 @@ pub(crate) fn is_full(answer: &Result<Place, WriteRefusal>) -> bool
     matches!(answer, Err(WriteRefusal::Full))
 }
 
+/// Writes blocks from block `lbn` of a volume on.
+pub(crate) fn try_write<D: Disk, R: Wait>(
+    rt: &R,
+    m: &mut Manager<D>,
+    shared: &Shared<D>,
+    lbn: u64,
+    from: &[Block],
+) -> Result<Place, WriteRefusal>
+    requires { CanWrite D.state shared.now lbn from.now m.old }
+    ensures { HasTried D.tells D.state lbn from.now result m.old m.new }
+{
+    m.write(rt, shared, lbn, from)
+}
+
 // Ends a turn in which blocks were written with this answer, where `N` has the next version that stood before.
 fn leave_written<D: Disk, B: Memo, N: Memo>(
     lock: &TurnLock<Manager<D>>,
-    turn: Turn<Manager<D>>,
     pass: &mut Pass<Manager<D>>,
     lbn: u64,
     from: &[Block],
     answer: &Result<Place, WriteRefusal>,
 )
     requires own { IsPassOf lock.now pass.old }
-    requires turn { IsInTurn pass.old }
     requires note { N.note ≡ note_of (pass_number pass.old) (written B.next lbn from.now answer.now)
-        (look_of_manager turn.value) (passed_in turn.value.rooms.items) false }
-    requires value { Stands D.tells D.state turn.value (pass_lock pass.old).base
-        (notes_seen pass.old ++ N.note ∷ []) }
+        (look_in_place pass.old) (passed_in_place pass.old) false }
+    requires value { (m : Manager _) × IsInTurnWith m pass.old
+        × Stands D.tells D.state m (pass_lock pass.old).base (notes_seen pass.old ++ N.note ∷ []) }
     ensures left { HasLeft D.tells N.note pass.old pass.new }
-    ensures broken { (p : Part) → turn.value.down ≡ Some p → WasDown p (notes_seen pass.new) }
-    ensures unbroken { turn.value.down ≡ None → IsBroken (notes_seen pass.new) → ⊥ }
+    ensures broken { (m : Manager _) (p : Part) → IsInTurnWith m pass.old → m.down ≡ Some p
+        → WasDown p (notes_seen pass.new) }
+    ensures unbroken { (m : Manager _) → IsInTurnWith m pass.old → m.down ≡ None
+        → IsBroken (notes_seen pass.new) → ⊥ }
 {
     let _ = from;
-    leave_noted::<D, N>(lock, turn, pass);
+    leave_noted_in_place::<D, N>(lock, pass);
 }
 
 // Writes within a turn, and ends it. `B` has the next version at its beginning.
 fn write_within<D: Disk, R: Wait, B: Memo>(
     rt: &R,
     lock: &TurnLock<Manager<D>>,
-    mut turn: Turn<Manager<D>>,
     pass: &mut Pass<Manager<D>>,
     shared: &Shared<D>,
     lbn: u64,
@@ -77,24 +91,27 @@ fn write_within<D: Disk, R: Wait, B: Memo>(
     tally: &mut Tally,
 ) -> Outcome
     requires own { IsPassOf lock.now pass.old }
-    requires turn { IsInTurn pass.old }
     requires client { pass_number pass.old ≡ worker }
-    requires next { B.next ≡ turn.value.next }
+    requires next { B.next ≡ next_in_place pass.old }
     requires shared { IsShared shared.now (pass_lock pass.old).base }
     requires count { (1 ≤ length from.now)
         × (length from.now ≤ (pass_lock pass.old).base.volume.began.most) }
     requires fits { lbn + length from.now ≤ (pass_lock pass.old).base.volume.began.home_blocks }
-    requires value { Stands D.tells D.state turn.value (pass_lock pass.old).base
-        (notes_seen pass.old) }
+    requires value { (m : Manager _) × IsInTurnWith m pass.old
+        × Stands D.tells D.state m (pass_lock pass.old).base (notes_seen pass.old) }
     ensures { HasWritten D.tells lbn from.now result tally.old tally.new pass.old pass.new }
 {
-    let answer = turn.value.write(rt, shared, lbn, from);
+    let answer = lock.change(
+        pass,
+        |m: &mut Manager<D>|
+            requires { CanWrite D.state shared.now lbn from.now m.now }
+            ensures { HasTried D.tells D.state lbn from.entry.now result m.old m.new }
+        { try_write(rt, m, shared, lbn, from) },
+    );
     if is_full(&answer) {
-        return drain_and_write::<D, R, Brand>(
-            rt, lock, turn, pass, shared, lbn, from, fetch, tally,
-        );
+        return drain_and_write::<D, R, Brand>(rt, lock, pass, shared, lbn, from, fetch, tally);
     }
-    leave_written::<D, B, Brand>(lock, turn, pass, lbn, from, &answer);
+    leave_written::<D, B, Brand>(lock, pass, lbn, from, &answer);
     outcome_of(answer, false)
 }
 
@@ -122,6 +139,6 @@ pub fn write_blocks<D: Disk, R: Wait>(
     ensures written { HasWrittenBlocks D.tells lbn from.now result pass.old pass.new }
     ensures counted { HasCounted D.tells tally.old tally.new pass.old pass.new }
 {
-    let turn = lock.enter(rt, pass);
-    write_within::<D, R, Brand>(rt, lock, turn, pass, shared, lbn, from, fetch, tally)
+    lock.enter_in_place(rt, pass);
+    write_within::<D, R, Brand>(rt, lock, pass, shared, lbn, from, fetch, tally)
 }

@@ -4,9 +4,9 @@ use Rattle.request_turns.proofs.WroteTurn.{wrote_blocks}
 use Rattle.request_turns.proofs.write.write_blocks.Goals as goal
 
 pub returns-clause-written : goal.returns-clause-written
-returns-clause-written g c = let e = c.enter-turn.ensures in
-    wrote_blocks _ _ c.args.from.now c.write_within.result c.args.pass.now c.enter-turn.new.pass _ _ _ e.same e.seen e.mine e.own c.write_within.ensures
+returns-clause-written g c = let e = c.enter_in_place.ensures in
+    wrote_blocks _ _ c.args.from.now c.write_within.result c.args.pass.now c.enter_in_place.new.pass _ _ _ e.same e.seen e.mine e.own c.write_within.ensures
 
 pub returns-clause-counted : goal.returns-clause-counted
-returns-clause-counted g c = let e = c.enter-turn.ensures in let w = c.write_within.ensures in
-    counted_turn _ _ c.enter-turn.new.pass _ w.note _ _ _ e.same e.seen e.mine e.own w.left w.ruled refl w.counted
+returns-clause-counted g c = let e = c.enter_in_place.ensures in let w = c.write_within.ensures in
+    counted_turn _ _ c.enter_in_place.new.pass _ w.note _ _ _ e.same e.seen e.mine e.own w.left w.ruled refl w.counted

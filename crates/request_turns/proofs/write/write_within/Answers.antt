@@ -1,37 +1,89 @@
-use Rattle.std.proofs.Common.{refl, sym, ◌∙◌}
+use Rattle.std.proofs.Common.{◌≡◌, ◌≤◌, ◌+◌, ℕ, List, length, refl, sym, ap, subst, ◌∙◌}
 use Rattle.turn_lock.specs.Passes.{pass_lock}
-use Rattle.request_turns.proofs.Taking.{home_at}
+use Rattle.wol_model.specs.Placing.{Full as Nowhere}
+use Rattle.wol_promise.specs.Policy.{place_of}
+use Rattle.wol_promise.specs.Ruled.{last_look}
+use Rattle.manager.specs.Answers.{home_write, written}
+use Rattle.manager.specs.Stands.{IsShared, notes_of}
+use Rattle.request_turns.specs.Causes.{CanTake}
+use Rattle.request_turns.specs.Tried.{CanWrite, HasTried}
+use Rattle.request_turns.specs.Turns.{look_in_place, passed_in_place, notes_seen}
+use Rattle.request_turns.proofs.InPlace.{same_value, between, look_at, passed_at, next_at, own_note_at, full_note_at, at_still, stands_at, keeps_at, left_from, written_from}
+use Rattle.request_turns.proofs.Taking.{home_at, few_at, fits_at}
 use Rattle.request_turns.proofs.WriteNotes.{write_stands, has_written, full_place, full_look, full_up, full_keeps, full_takes}
 use Rattle.request_turns.proofs.write.write_within.Goals as goal
 
-pub write-answer-requires-clause-at : goal.write-answer-requires-clause-at
-write-answer-requires-clause-at g c = home_at _ _ _ _ (pass_lock c.args.pass.now) (pass_lock c.args.pass.now) _ refl c.requires.value.keeps c.requires.shared
+pub change-answer-requires-clause-work : goal.change-answer-requires-clause-work
+change-answer-requires-clause-work g c m at = let v = c.requires.value in let l = pass_lock c.args.pass.now in let s = v.2.keeps in
+    subst (CanWrite g.D.Disk.state c.args.shared.now c.args.lbn c.args.from.now) (same_value v.0 m.now c.args.pass.now v.1 at) (record {
+      ready = s.ready;
+      at = home_at c.args.shared.now _ _ v.0 l l _ refl s c.requires.shared;
+      count = (c.requires.count.0, few_at c.args.shared.now _ _ v.0 l l _ refl s (length c.args.from.now) c.requires.count.1);
+      fits = fits_at c.args.shared.now _ _ v.0 l l _ refl s _ c.requires.fits;
+    })
+
+-- ---- No log had room
 
 pub drain_and_write-requires-clause-full : goal.drain_and_write-requires-clause-full
-drain_and_write-requires-clause-full g c =
-    full_place c.args.turn.value c.write-answer.new.self c.args.lbn c.args.from.now c.write-answer.result (sym c.is_full.ensures ∙ c.if-is_full.true) _ c.requires.value.look _ c.write-answer.ensures.placed
+drain_and_write-requires-clause-full g c = let v = c.requires.value in let k = c.change-answer.ensures in let w = k.worked v.0 v.1 in let p = c.args.pass.now in let i = c.change-answer.new.pass in let a = c.change-answer.result in
+    let t = between (HasTried g.D.Disk.tells g.D.Disk.state c.args.lbn c.args.from.now a) _ _ v.0 w.0 w.1.shows w.1.leaves w.1.met in
+    at_still p i k.same k.seen (λ l es. place_of (passed_in_place i) (last_look l.base.volume.began.look (notes_of es)) (home_write c.args.lbn c.args.from.now) ≡ Nowhere)
+    (ap (λ (ps : List ℕ). place_of ps (last_look (pass_lock p).base.volume.began.look (notes_seen p)) (home_write c.args.lbn c.args.from.now)) (passed_at w.0 i w.2)
+    ∙ full_place v.0 w.0 c.args.lbn c.args.from.now a (sym c.is_full.ensures ∙ c.if-is_full.true) _ v.2.look _ t.placed)
 
 pub drain_and_write-requires-clause-look : goal.drain_and_write-requires-clause-look
-drain_and_write-requires-clause-look g c =
-    full_look c.args.turn.value c.write-answer.new.self c.args.lbn c.args.from.now c.write-answer.result (sym c.is_full.ensures ∙ c.if-is_full.true) _ c.requires.value.look c.write-answer.ensures.look
-
-pub drain_and_write-requires-clause-up : goal.drain_and_write-requires-clause-up
-drain_and_write-requires-clause-up g c =
-    full_up c.args.turn.value c.write-answer.new.self c.args.lbn c.args.from.now c.write-answer.result (sym c.is_full.ensures ∙ c.if-is_full.true) _ c.requires.value.look g.D.Disk.state c.write-answer.ensures.down c.write-answer.ensures.fault
+drain_and_write-requires-clause-look g c = let v = c.requires.value in let k = c.change-answer.ensures in let w = k.worked v.0 v.1 in let p = c.args.pass.now in let i = c.change-answer.new.pass in let a = c.change-answer.result in
+    let t = between (HasTried g.D.Disk.tells g.D.Disk.state c.args.lbn c.args.from.now a) _ _ v.0 w.0 w.1.shows w.1.leaves w.1.met in
+    at_still p i k.same k.seen (λ l es. look_in_place i ≡ last_look l.base.volume.began.look (notes_of es))
+    (look_at w.0 i w.2 ∙ full_look v.0 w.0 c.args.lbn c.args.from.now a (sym c.is_full.ensures ∙ c.if-is_full.true) _ v.2.look t.look)
 
 pub drain_and_write-requires-clause-takes : goal.drain_and_write-requires-clause-takes
-drain_and_write-requires-clause-takes g c = let r = c.write-answer.ensures in
-    full_takes _ _ c.args.turn.value _ _ c.requires.value.keeps _ c.requires.value.look c.write-answer.result (sym c.is_full.ensures ∙ c.if-is_full.true) r.down r.versions
+drain_and_write-requires-clause-takes g c = let v = c.requires.value in let k = c.change-answer.ensures in let w = k.worked v.0 v.1 in let p = c.args.pass.now in let i = c.change-answer.new.pass in let a = c.change-answer.result in
+    let t = between (HasTried g.D.Disk.tells g.D.Disk.state c.args.lbn c.args.from.now a) _ _ v.0 w.0 w.1.shows w.1.leaves w.1.met in
+    at_still p i k.same k.seen (λ l es. CanTake (notes_of es) (last_look l.base.volume.began.look (notes_of es)))
+    (full_takes _ _ v.0 _ _ v.2.keeps _ v.2.look a (sym c.is_full.ensures ∙ c.if-is_full.true) t.down t.versions)
+
+pub drain_and_write-requires-clause-shared : goal.drain_and_write-requires-clause-shared
+drain_and_write-requires-clause-shared g c = let v = c.requires.value in let k = c.change-answer.ensures in let w = k.worked v.0 v.1 in let p = c.args.pass.now in let i = c.change-answer.new.pass in let a = c.change-answer.result in
+    at_still p i k.same k.seen (λ l es. IsShared c.args.shared.now l.base) c.requires.shared
+
+pub drain_and_write-requires-clause-count : goal.drain_and_write-requires-clause-count
+drain_and_write-requires-clause-count g c = let v = c.requires.value in let k = c.change-answer.ensures in let w = k.worked v.0 v.1 in let p = c.args.pass.now in let i = c.change-answer.new.pass in let a = c.change-answer.result in
+    at_still p i k.same k.seen (λ l es. (1 ≤ length c.args.from.now) × (length c.args.from.now ≤ l.base.volume.began.most)) c.requires.count
+
+pub drain_and_write-requires-clause-fits : goal.drain_and_write-requires-clause-fits
+drain_and_write-requires-clause-fits g c = let v = c.requires.value in let k = c.change-answer.ensures in let w = k.worked v.0 v.1 in let p = c.args.pass.now in let i = c.change-answer.new.pass in let a = c.change-answer.result in
+    at_still p i k.same k.seen (λ l es. c.args.lbn + length c.args.from.now ≤ l.base.volume.began.home_blocks) c.requires.fits
 
 pub drain_and_write-requires-clause-value : goal.drain_and_write-requires-clause-value
-drain_and_write-requires-clause-value g c =
-    full_keeps c.args.turn.value c.write-answer.new.self c.args.lbn c.args.from.now c.write-answer.result (sym c.is_full.ensures ∙ c.if-is_full.true) _ c.requires.value.look _ _ _ _ _ c.requires.client c.write-answer.ensures.stands c.requires.value.keeps
+drain_and_write-requires-clause-value g c = let v = c.requires.value in let k = c.change-answer.ensures in let w = k.worked v.0 v.1 in let p = c.args.pass.now in let i = c.change-answer.new.pass in let a = c.change-answer.result in
+    let t = between (HasTried g.D.Disk.tells g.D.Disk.state c.args.lbn c.args.from.now a) _ _ v.0 w.0 w.1.shows w.1.leaves w.1.met in
+    let full = sym c.is_full.ensures ∙ c.if-is_full.true in (
+      w.0,
+      w.2,
+      full_up v.0 w.0 c.args.lbn c.args.from.now a full _ v.2.look g.D.Disk.state t.down t.fault,
+      keeps_at p i k.same k.seen _ _ w.0 _ _ (full_note_at p i k.same k.seen w.0 w.2) (full_keeps v.0 w.0 c.args.lbn c.args.from.now a full _ v.2.look _ _ _ _ _ c.requires.client t.stands v.2.keeps),
+    )
+
+pub returns-then-is_full : goal.returns-then-is_full
+returns-then-is_full g c = let v = c.requires.value in let k = c.change-answer.ensures in let w = k.worked v.0 v.1 in let p = c.args.pass.now in let i = c.change-answer.new.pass in let a = c.change-answer.result in
+    written_from p i k.same k.seen k.mine _ _ _ _ _ _ _ c.drain_and_write.ensures
+
+-- ---- It was placed, or refused
 
 pub leave_written-requires-clause-value : goal.leave_written-requires-clause-value
-leave_written-requires-clause-value g c = let r = c.write-answer.ensures in
-    write_stands _ _ c.args.turn.value c.write-answer.new.self c.args.lbn c.args.from.now c.write-answer.result _ c.requires.next _ _ _ _ c.requires.client c.requires.value.look r.placed r.look r.stands c.requires.value.keeps
+leave_written-requires-clause-value g c = let v = c.requires.value in let k = c.change-answer.ensures in let w = k.worked v.0 v.1 in let p = c.args.pass.now in let i = c.change-answer.new.pass in let a = c.change-answer.result in
+    let t = between (HasTried g.D.Disk.tells g.D.Disk.state c.args.lbn c.args.from.now a) _ _ v.0 w.0 w.1.shows w.1.leaves w.1.met in (
+      w.0,
+      w.2,
+      stands_at p i k.same k.seen _ _ w.0 _ _ (own_note_at p i k.same k.seen w.0 w.2 (written g.B.Memo.next c.args.lbn c.args.from.now a))
+          (write_stands _ _ v.0 w.0 c.args.lbn c.args.from.now a _ (c.requires.next ∙ next_at v.0 p v.1) _ _ _ _ c.requires.client v.2.look t.placed t.look t.stands v.2.keeps),
+    )
 
 pub returns : goal.returns
-returns g c = let r = c.write-answer.ensures in let l = c.leave_written.ensures in
-    rw c.outcome_of.ensures (has_written _ g.D.Disk.state c.args.turn.value c.write-answer.new.self c.args.lbn c.args.from.now c.write-answer.result _ c.requires.next c.args.pass.now _ _
-    (sym c.is_full.ensures ∙ c.if-is_full.false) c.requires.value.keeps c.requires.value.keeps.locks.view c.requires.value.look r.placed r.look r.down r.versions r.fault l.left l.broken l.unbroken)
+returns g c = let v = c.requires.value in let k = c.change-answer.ensures in let w = k.worked v.0 v.1 in let p = c.args.pass.now in let i = c.change-answer.new.pass in let a = c.change-answer.result in
+    let t = between (HasTried g.D.Disk.tells g.D.Disk.state c.args.lbn c.args.from.now a) _ _ v.0 w.0 w.1.shows w.1.leaves w.1.met in
+    let l = c.leave_written.ensures in
+    let left = left_from p i k.same k.seen k.mine _ _ _ _ (own_note_at p i k.same k.seen w.0 w.2 (written g.B.Memo.next c.args.lbn c.args.from.now a)) l.left in
+    rw c.outcome_of.ensures (has_written _ g.D.Disk.state v.0 w.0 c.args.lbn c.args.from.now a _ (c.requires.next ∙ next_at v.0 p v.1) p _ _
+    (sym c.is_full.ensures ∙ c.if-is_full.false) v.2.keeps v.2.keeps.locks.view v.2.look t.placed t.look t.down t.versions t.fault left (λ d down. l.broken w.0 d w.2 down) (λ up broken. l.unbroken w.0 w.2 up broken))
