@@ -1,14 +1,16 @@
--- What the steps of a write's turn make of the manager.
-use Rattle.std.specs.Prelude.{◌≡◌, ◌≤◌, ◌+◌, ◌^◌, ◌↔◌, ℕ, Bool, List, None, Some, Result, Err, OnOk, IfErr, length, map}
+-- What the steps of a request's turn make of the manager.
+use Rattle.std.specs.Prelude.{◌≡◌, ◌≤◌, ◌+◌, ◌^◌, ◌↔◌, ℕ, Bool, List, [], None, Some, Result, Err, OnOk, IfOk, IfErr, IsSome, length, map, count_by}
+use Rattle.std.specs.List.{range_with_len}
 use Rattle.wol_disk.specs.Disk.{State, Block}
 use Rattle.spin_model.specs.Spun.{state_of}
 use Rattle.wol_model.specs.History.{worker}
-use Rattle.wol_promise.specs.Policy.{drained}
+use Rattle.wol_model.specs.Index.{listed_in, is_covered}
+use Rattle.wol_promise.specs.Policy.{drained, woken}
 use Rattle.log_segment.specs.Records.{count_of}
 use Rattle.log_segment.specs.declared.item.Item.{Item}
 use Rattle.logger.specs.Lanes.{logger_of}
 use Rattle.logger.specs.declared.shared.Shared.{Shared}
-use Rattle.manager.specs.Answers.{home_write, written, IsPlaceOf}
+use Rattle.manager.specs.Answers.{home_write, written, was_read, IsPlaceOf}
 use Rattle.manager.specs.Groups.{AreItemsOf, ruled_run, HasRun}
 use Rattle.manager.specs.Reclaim.{OnKept, OnFailed, KeepsOn, BreaksOff, Always}
 use Rattle.manager.specs.Seen.{look_of_manager}
@@ -17,14 +19,43 @@ use Rattle.manager.specs.Writing.{HasLook, IsAsBefore, TellsFault, ruled_place}
 use Rattle.manager.specs.declared.manager.Manager.{Manager}
 use Rattle.manager.specs.declared.part.Part.{Part}
 use Rattle.manager.specs.declared.part.Place.{Place}
+use Rattle.manager.specs.declared.part.ReadRefusal.{ReadRefusal}
+use Rattle.manager.specs.declared.part.ReadRefusal.TheVariants as NotRead
+use Rattle.manager.specs.declared.part.Sources.{Sources}
 use Rattle.manager.specs.declared.part.StepFault.{StepFault}
 use Rattle.manager.specs.declared.part.WriteRefusal.{WriteRefusal}
 use Rattle.manager.specs.declared.part.WriteRefusal.TheVariants.{Down, VersionsSpent}
 use Rattle.manager.specs.declared.run.Ran.{Ran}
 use Rattle.request_turns.specs.Counts.{Counts, HasTaken}
+use Rattle.request_turns.specs.Entries.{read_outcome}
 use Rattle.request_turns.specs.Turns.{faulty_part}
 use Rattle.request_turns.specs.Written.{IsDiskFault}
+use Rattle.request_turns.specs.declared.outcome.Outcome.{Outcome}
 use Rattle.request_turns.specs.declared.tally.Tally.{Tally}
+
+-- a manager can be asked for so many blocks from `first` on
+pub record CanRead {D : Type 0} (state : D → State) (shared : Shared D) (first count : ℕ)
+    (m : Manager D) : Type 0 where
+  pub ready : IsReady state m
+  pub at : IsHome shared m
+  pub some : 1 ≤ count
+  pub few : count ≤ m.most
+  pub fits : first + count ≤ (state_of state m.home).size
+
+-- it gave these, with this answer
+pub record HasReplied {D : Type 0} (tells : Bool) (state : D → State) (first count : ℕ)
+    (answer : Result Sources ReadRefusal) (o : Outcome) (blocks : List Block) (m n : Manager D) :
+    Type 0 where
+  pub long : length blocks ≡ count
+  pub outcome_is : o ≡ read_outcome blocks answer
+  pub stands : Leaves tells state m n (was_read first blocks answer) [] worker
+  pub look : OnOk answer (look_of_manager n ≡ woken (look_of_manager m) first count)
+  pub logged : IfOk answer (λ s.
+      s.logged ≡ count_by (is_covered (listed_in m.index.entries)) (range_with_len first count))
+  pub all : IfOk answer (λ s. s.home + s.logged ≡ count)
+  pub down : (p : Part) → (answer ≡ Err (NotRead.Down p)) ↔ (m.down ≡ Some p)
+  pub unchanged : IsSome m.down → n ≡ m
+  pub failed : (p : Part) → answer ≡ Err (NotRead.DiskFault p) → n.down ≡ Some p
 
 -- a manager can be asked to write these blocks from `first` on
 pub record CanWrite {D : Type 0} (state : D → State) (shared : Shared D) (first : ℕ)

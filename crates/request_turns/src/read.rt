@@ -1,22 +1,25 @@
 // A read in one turn.
 ghost use Rattle.std.specs.Prelude.{ℕ, Some, ◌≡◌, ◌≤◌, ◌+◌, ◌++◌, ◌∷◌, [], false, length};
-ghost use Rattle.turn_lock.specs.Passes.{pass_lock, pass_number, IsPassOf, IsFree, IsInTurn};
+ghost use Rattle.turn_lock.specs.Passes.{pass_lock, pass_number, IsPassOf, IsFree, IsInTurn, IsInTurnWith};
 ghost use Rattle.wol_model.specs.History.{worker};
 ghost use Rattle.manager.specs.Answers.{was_read};
 ghost use Rattle.manager.specs.Seen.{look_of_manager};
 ghost use Rattle.manager.specs.Stands.{Stands, IsShared};
+ghost use Rattle.manager.specs.declared.manager.Manager.{Manager};
 ghost use Rattle.manager.specs.declared.part.Part.{Part};
 ghost use Rattle.request_turns.specs.Entries.{note_of, read_outcome};
 ghost use Rattle.request_turns.specs.Requests.{IsWithin};
 ghost use Rattle.request_turns.specs.Answered.{HasAnswered};
 ghost use Rattle.request_turns.specs.Blocks.{HasReadBlocks};
 ghost use Rattle.request_turns.specs.Counts.{ReclaimsNothing};
-ghost use Rattle.request_turns.specs.Turns.{notes_seen, HasLeft, WasDown};
+ghost use Rattle.request_turns.specs.Tried.{CanRead, HasReplied};
+ghost use Rattle.request_turns.specs.Turns.{look_in_place, notes_seen, HasLeft, WasDown};
 ghost use Rattle.request_turns.specs.Written.{HasRead};
 
-use crate::noted::{Memo, leave_noted};
+use crate::noted::{Memo, leave_noted, leave_noted_in_place};
 use crate::outcome::Outcome;
 use crate::payload::Payload;
+use crate::reply::{Reply, reply_of};
 use logger::Shared;
 use manager::{Manager, ReadRefusal, Sources};
 use msr_trace::mark;
@@ -112,6 +115,45 @@ pub fn read_blocks<D: Disk, R: Wait>(
     read_within(rt, lock, turn, pass, shared, lbn, out)
 }
 
+// Reads the blocks of a request. Gives the answer, the outcome and what was read.
+fn read_request<D: Disk, R: Wait>(
+    rt: &R,
+    m: &mut Manager<D>,
+    shared: &Shared<D>,
+    request: &Request,
+    payload: &mut Payload,
+) -> (Result<Sources, ReadRefusal>, Outcome, Reply)
+    requires { CanRead D.state shared.now request.now.lbn request.now.count m.old }
+    ensures { HasReplied D.tells D.state request.now.lbn request.now.count result.0 result.1
+        result.2.value.items m.old m.new }
+{
+    let out = &mut payload.blocks[..request.count as usize];
+    let answer = m.read(rt, shared, request.lbn, out);
+    (answer, outcome_of(answer, out), reply_of(out))
+}
+
+// Ends a turn in which these blocks were read with this answer, and the manager stayed in its place.
+fn leave_reply<D: Disk, N: Memo>(
+    lock: &TurnLock<Manager<D>>,
+    pass: &mut Pass<Manager<D>>,
+    lbn: u64,
+    answer: &Result<Sources, ReadRefusal>,
+    reply: &Reply,
+)
+    requires own { IsPassOf lock.now pass.old }
+    requires note { N.note
+        ≡ note_of (pass_number pass.old) (was_read lbn reply.now.value.items answer.now)
+        (look_in_place pass.old) [] false }
+    requires value { (m : Manager _) × IsInTurnWith m pass.old
+        × Stands D.tells D.state m (pass_lock pass.old).base (notes_seen pass.old ++ N.note ∷ []) }
+    ensures left { HasLeft D.tells N.note pass.old pass.new }
+    ensures broken { (m : Manager _) (p : Part) → IsInTurnWith m pass.old → m.down ≡ Some p
+        → WasDown p (notes_seen pass.new) }
+{
+    let _ = reply;
+    leave_noted_in_place::<D, N>(lock, pass);
+}
+
 /// Reads the blocks of a request in one turn.
 pub fn read_turn<D: Disk, R: Wait>(
     rt: &R,
@@ -130,8 +172,15 @@ pub fn read_turn<D: Disk, R: Wait>(
     ensures answered { HasAnswered D.tells request.now result pass.old pass.new }
     ensures counted { ReclaimsNothing D.tells pass.old pass.new }
 {
-    let turn = lock.enter(rt, pass);
-    let out = &mut payload.blocks[..request.count as usize];
-    let answer = read_within(rt, lock, turn, pass, shared, request.lbn, out);
-    outcome_of(answer, out)
+    lock.enter_in_place(rt, pass);
+    let (answer, outcome, reply) = lock.change(
+        pass,
+        |m: &mut Manager<D>|
+            requires { CanRead D.state shared.now request.now.lbn request.now.count m.now }
+            ensures { HasReplied D.tells D.state request.entry.now.lbn request.entry.now.count
+                result.0 result.1 result.2.value.items m.old m.new }
+        { read_request(rt, m, shared, request, payload) },
+    );
+    leave_reply::<D, Brand>(lock, pass, request.lbn, &answer, &reply);
+    outcome
 }
