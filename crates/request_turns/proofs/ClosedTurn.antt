@@ -1,12 +1,14 @@
 -- A reclaim turn, from entering to leaving.
-use Rattle.std.proofs.Common.{◌≡◌, ℕ, Bool, true, false, List, [], ◌∷◌, ◌++◌, Option, None, Some, Result, Ok, Err, refl, sym, ap, subst, ◌∙◌}
-use Rattle.std.specs.Prelude.{OnOk, IfErr}
+use Rattle.std.proofs.Common.{◌≡◌, ℕ, Bool, true, false, List, [], ◌∷◌, ◌++◌, length, Option, None, Some, Result, Ok, Err, refl, sym, ap, subst, ◌∙◌, arith}
+use Rattle.std.specs.Prelude.{IsTrue, OnOk, IfErr}
+use Rattle.std.specs.List.{AllByRecursion}
 use Rattle.std.specs.Option.{option_map}
 use Rattle.turn_lock.specs.Histories.{own, Begins}
 use Rattle.turn_lock.specs.Passes.{pass_number, pass_seen, pass_mine, IsSamePass}
 use Rattle.wol_disk.specs.Disk.{State}
 use Rattle.wol_model.specs.History.{Kept, worker}
-use Rattle.wol_promise.specs.Policy.{Look, IsIdleLook}
+use Rattle.wol_model.specs.Index.{Listed, listed_in, has_due, has_going}
+use Rattle.wol_promise.specs.Policy.{Look, IsIdleLook, is_within_reach}
 use Rattle.wol_promise.specs.Policy as policy
 use Rattle.wol_promise.specs.Report.{reclaims}
 use Rattle.wol_promise.specs.Ruled.{Noted, IsKeep, last_look}
@@ -27,6 +29,16 @@ use Rattle.request_turns.specs.declared.tally.Tally.{Tally}
 use Rattle.request_turns.proofs.Counting.{entry_taken, entry_quiet, all_taken, more_of}
 use Rattle.request_turns.proofs.StepNotes.{step_stands, step_helps}
 use Rattle.request_turns.proofs.Turning.{turned}
+
+-- a manager without records leaves an idle look
+no_entries : {X : Type 0} (xs : List X) → length xs ≡ 0 → xs ≡ []
+no_entries [] is = refl
+no_entries (x ∷ xs) is = absurd (omega (arith, is))
+
+pub bare_is_idle : {D : Type 0} (m : Manager D) → length m.index.entries ≡ 0 → IsIdleLook (look_of_manager m)
+bare_is_idle m none = let l = look_of_manager m in
+    subst (λ (es : List Listed). AllByRecursion (λ (e : Listed). IsTrue (is_within_reach l e) → (has_going l.listed e ≡ false) × (IsTrue l.home_up → has_due l.listed e ≡ false)) es)
+    (sym (ap listed_in (no_entries m.index.entries none))) tt
 
 kept_counted : (l m : Look) (pass : ℕ) (failed : Bool) (none done t u : Tally) → failed ≡ false → Counts 0 0 none → HasTaken none done l m → CountsMore done.blocks done.records t u
     → CountsEntry l (note_of pass (step_operation failed) m [] false) t u

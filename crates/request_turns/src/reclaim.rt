@@ -1,5 +1,5 @@
 // Reclaim in one turn: all that is due goes home, and then what may go is given up.
-ghost use Rattle.std.specs.Prelude.{◌≡◌, ◌<◌, ◌≤◌, ℕ, true, false, None, Ok, OnOk, IfErr, Some};
+ghost use Rattle.std.specs.Prelude.{◌≡◌, ◌<◌, ◌≤◌, ℕ, true, false, None, Ok, OnOk, IfErr, Some, length};
 ghost use Rattle.turn_lock.specs.Passes.{pass_lock};
 ghost use Rattle.wol_model.specs.History.{worker};
 ghost use Rattle.wol_model.specs.Index.{listed_in, left};
@@ -117,7 +117,14 @@ fn reclaim_all<R: Wait, D: Disk>(
     }
 }
 
-// The same, with what was reclaimed.
+// Whether no disk call failed and there is no record, so that nothing is due and nothing may go.
+fn is_bare<D: Disk>(m: &Manager<D>) -> bool
+    ensures { result ≡ true → (m.now.down ≡ None) × (length m.now.index.entries ≡ 0) }
+{
+    m.down().is_none() && m.index().is_empty()
+}
+
+// The same, with what was reclaimed. Most turns find no record, and are over at once.
 fn reclaim_anew<R: Wait, D: Disk>(
     rt: &R,
     m: &mut Manager<D>,
@@ -129,6 +136,9 @@ fn reclaim_anew<R: Wait, D: Disk>(
     ensures { HasReclaimed D.tells D.state result.0 result.1 m.old m.new }
 {
     let mut done = Tally::new();
+    if is_bare(m) {
+        return (Ok(()), done);
+    }
     let answer = reclaim_all(rt, m, shared, room, &mut done);
     (answer, done)
 }
