@@ -1,21 +1,28 @@
 -- The images of a configuration that are asked for one after the other.
-use Rattle.rack.proofs.Basics.{◌≡◌, ◌⊎◌, inl, inr, ⊎_elim, ℕ, zero, suc, ◌+◌, ◌-◌, ◌^◌, ◌<◌, ◌≤◌, Bool, true, false, List, [], ◌∷◌, ◌++◌}
-use Rattle.rack.proofs.Basics.{length, get_or, Option, None, Some, option_map, IfSome, Result, Ok, Err, IfOk, IfErr, refl, sym, ap, ◌∙◌}
-use Rattle.rack.proofs.Basics.{subst, arith, slice_get, cases_lt, length_push, none-some, same_Some, slice_get-map}
-use Rattle.rack.proofs.Terms.{State, Rose, Shape, Name, Told, BayState, at_name, refusal, refusal_of, BayFault, Config, VolumeConf}
-use Rattle.rack.proofs.Terms.{part_sizes, IsTold, shape_in, shapes_of, image_here, AreNewImages, PushesImage, HasFaulty, RefusesVolume}
-use Rattle.rack.proofs.Terms.{RefusesImage, said_at, fault_at, IsRefused, WasAtEntry, AreAsked, StayedAs, IsNextOpened, IsNextRefused, Said}
-use Rattle.rack.proofs.Terms.{ImageRest, VolumeFault, Absent, WrongLength, Refused, LabelFault, BayFailed}
+use Rattle.rack.proofs.Basics.{◌≡◌, inl, inr, ⊎_elim, ℕ, ◌+◌, ◌-◌, ◌^◌, ◌<◌, ◌≤◌, Bool, true, false, List, [], ◌∷◌, ◌++◌, length, get_or, Option, None, Some, option_map, IfSome, Result, Ok}
+use Rattle.rack.proofs.Basics.{Err, IfOk, IfErr, refl, sym, ap, ◌∙◌, subst, arith, slice_get, cases_lt, length_push, none-some, same_Some, slice_get-map, IsTrue}
+use Rattle.rack.proofs.Terms.{State, Rose, Shape, Name, Told, BayState, at_name, refusal, refusal_of, BayFault, Config, VolumeConf, part_sizes, IsTold, shape_in, shapes_of, image_here}
+use Rattle.rack.proofs.Terms.{AreNewImages, PushesImage, HasFaulty, RefusesVolume, RefusesImage, said_at, fault_at, IsRefused, WasAtEntry, AreAsked, StayedAs, IsNextOpened, IsNextRefused}
+use Rattle.rack.proofs.Terms.{Said, ImageRest, VolumeFault, Absent, WrongLength, Refused, LabelFault, BayFailed, image_by}
 use Rattle.volume_images.proofs.Refused.{rose_since}
 use Rattle.rack.specs.Opening.{IsOut}
 use Rattle.rack.specs.declared.images.Images.{Images}
 use Rattle.rack_closing.proofs.NewFaults.{told_each, sent_faulty, fault_since, fault_later}
 use Rattle.rack_closing.proofs.Places.{at_less, at_new, push_cases}
+use Rattle.rack.specs.Making.{said_by, fault_by}
 
 -- ---- Faults that rise
 
 pub rose_on : (a b c : ℕ) → Rose a b → b ≤ c → Rose a c
 rose_on a b c rose le = ⊎_elim (λ (lt : a < b). inl (omega (arith, lt, le))) (λ (top : 2 ^ 64 - 1 ≤ b). inr (omega (arith, top, le))) rose
+
+-- what a bay tells at three moments in order
+pub told_then : (P Q R : Told → Told → Type 0) (e o n : Option Told) → ((x y z : Told) → e ≡ Some x → P x y → Q y z → R x z) → IsTold P e o → IsTold Q o n → IsTold R e n
+told_then P Q R None None n each first then = then
+told_then P Q R None (Some o) n each first then = absurd (cc first)
+told_then P Q R (Some e) None n each first then = absurd first
+told_then P Q R (Some e) (Some o) None each first then = absurd then
+told_then P Q R (Some e) (Some o) (Some n) each first then = each e o n refl first then
 
 -- the name has the image that it had
 abbrev pub SameAt : Name → Told → Told → Type 0
@@ -49,11 +56,8 @@ module _ {D : Type 0} (tells : Bool) (state : D → State) (config : Config) whe
   bay_since name sizes answer (Some t) (Some t1) same h = ap (refusal_of sizes) (sym same.0) ∙ h
 
   told_there : (name : Name) (t : Told) (o o1 : Option Told) → o ≡ Some t → IsTold (SameAt name) o o1 → (t1 : Told) × (o1 ≡ Some t1) × SameAt name t t1
-  told_there name t o o1 e same = go o1 (subst (λ (x : Option Told). IsTold (SameAt name) x o1) e same)
-    where
-      go : (x : Option Told) → IsTold (SameAt name) (Some t) x → (t1 : Told) × (x ≡ Some t1) × SameAt name t t1
-      go None s = absurd s
-      go (Some t1) s = (t1, refl, s)
+  told_there name t o None e same = absurd (subst (λ (x : Option Told). IsTold (SameAt name) x None) e same)
+  told_there name t o (Some t1) e same = (t1, refl, subst (λ (x : Option Told). IsTold (SameAt name) x (Some t1)) e same)
 
   image_since : (b b1 b2 : BayState) (k : ℕ) (v : VolumeConf) (f : VolumeFault) → IsTold (SameAt v.name) b.told b1.told → b.faults ≤ b1.faults → RefusesImage {D = D} config [] b1 b2 k v f → RefusesImage {D = D} config [] b b2 k v f
   image_since b b1 b2 k v f same le r = record {
@@ -98,107 +102,78 @@ module _ {D : Type 0} (tells : Bool) (state : D → State) (config : Config) whe
         → IsOut state (length (shapes_of config)) k s i1 r → IsOut state (length (shapes_of config)) k s i2 r
     out_before k s r said fault o = record { said = o.said; said_is = said ∙ o.said_is; no_fault = fault ∙ o.no_fault; rest = o.rest; all = o.all; says = o.says; heads = o.heads }
 
-    -- the next image is out
-    pub asked_opened : (said : Said) (r : ImageRest D) → PushesImage i1 i2 (Ok (said, r)) → IsNextOpened tells state config n v b1 b2 said r → AreAsked tells state config b b2 (n + 1) i2
-    asked_opened said r pushes next = record {
-      said_count = ap (λ l. length l) pushes.said.0 ∙ length_push i1.said.items (Some said) ∙ ap (λ m. m + 1) asked.said_count;
-      out_count = ap (λ l. length l) pushes.out.0 ∙ length_push i1.out.items (Some r) ∙ ap (λ m. m + 1) asked.out_count;
-      fault_count = ap (λ l. length l) pushes.faults.0 ∙ length_push i1.faults.items None ∙ ap (λ m. m + 1) asked.fault_count;
+    -- the next one is out or refused, as it is said
+    asked_next : (opened : Result (Said × ImageRest D) VolumeFault) → PushesImage i1 i2 opened → b1.faults ≤ b2.faults → IsTold HasFaulty b1.told b2.told → (image_by opened ≡ None → IsRefused tells state config b b2 n v i2)
+        → ((r : ImageRest D) → image_by opened ≡ Some r → IsOut state (length (shapes_of config)) n (shape_in config v) i2 r)
+        → (IsTrue tells → (t : Told) → b.told ≡ Some t → (own : Said) (r : ImageRest D) → said_by opened ≡ Some own → image_by opened ≡ Some r → WasAtEntry state config t n v own r) → AreAsked tells state config b b2 (n + 1) i2
+    asked_next opened pushes later gained refused out entry = record {
+      said_count = ap (λ l. length l) pushes.said.0 ∙ length_push i1.said.items (said_by opened) ∙ ap (λ m. m + 1) asked.said_count;
+      out_count = ap (λ l. length l) pushes.out.0 ∙ length_push i1.out.items (image_by opened) ∙ ap (λ m. m + 1) asked.out_count;
+      fault_count = ap (λ l. length l) pushes.faults.0 ∙ length_push i1.faults.items (fault_by opened) ∙ ap (λ m. m + 1) asked.fault_count;
       refused = λ k w lt found none.
-          let none_now : get_or (i1.out.items ++ Some r ∷ []) k None ≡ None = sym (ap (λ l. get_or l k None) pushes.out.0) ∙ none in
+          let none_now : get_or (i1.out.items ++ image_by opened ∷ []) k None ≡ None = sym (ap (λ l. get_or l k None) pushes.out.0) ∙ none in
           ⊎_elim
-          (λ (less : k < n). refused_before k w next.counts (sent_faulty v.name (part_sizes (shape_in config v)) b1.told b2.told next.sent) (said_less k less) (fault_less k less) (asked.refused k w less found (sym (at_less i1.out.items (Some r) n asked.out_count k less) ∙ none_now)))
+          (λ (less : k < n). refused_before k w later gained (said_less k less) (fault_less k less) (asked.refused k w less found (sym (at_less i1.out.items (image_by opened) n asked.out_count k less) ∙ none_now)))
           (λ (more : n ≤ k).
           let e : k ≡ n = omega (arith, more, lt) in
-          absurd (none-some r (sym none_now ∙ ap (λ (j : ℕ). get_or (i1.out.items ++ Some r ∷ []) j None) e ∙ at_new i1.out.items (Some r) n asked.out_count)))
+          let none_n : image_by opened ≡ None = sym (at_new i1.out.items (image_by opened) n asked.out_count) ∙ ap (λ (j : ℕ). get_or (i1.out.items ++ image_by opened ∷ []) j None) (sym e) ∙ none_now in
+          let R : ℕ → VolumeConf → Type 0 = λ j u. IsRefused tells state config b b2 j u i2 in
+          subst (λ (j : ℕ). R j w) (sym e) (subst (λ (u : VolumeConf). R n u) (same_volume k w e found) (refused none_n)))
           (cases_lt k n);
       out = λ k s q shape here.
           ⊎_elim
           (λ was. out_before k s q (said_less k was.0) (fault_less k was.0) (asked.out k s q shape was.1))
           (λ now.
-          let is : r ≡ q = same_Some r q now.1 in
-          let O : ℕ → Shape → ImageRest D → Type 0 = λ j t x. IsOut state (length (shapes_of config)) j t i2 x in
-          subst (λ (j : ℕ). O j s q) (sym now.0) (subst (λ (t : Shape). O n t q) (same_shape k s now.0 shape) (subst (λ (x : ImageRest D). O n (shape_in config v) x) is opened)))
-          (push_cases i1.out.items (Some r) n asked.out_count k q (sym (ap (λ l. get_or l k None) pushes.out.0) ∙ here));
+          let O : ℕ → Shape → Type 0 = λ j t. IsOut state (length (shapes_of config)) j t i2 q in
+          subst (λ (j : ℕ). O j s) (sym now.0) (subst (λ (t : Shape). O n t) (same_shape k s now.0 shape) (out q now.1)))
+          (push_cases i1.out.items (image_by opened) n asked.out_count k q (sym (ap (λ l. get_or l k None) pushes.out.0) ∙ here));
       entry = λ telling t told k w own q found says here.
           ⊎_elim
           (λ was. asked.entry telling t told k w own q found (sym (said_less k was.0) ∙ says) was.1)
           (λ now.
-          let is : r ≡ q = same_Some r q now.1 in
-          let says_n : Some said ≡ Some own = sym said_new ∙ sym (ap (λ (j : ℕ). said_at i2.said.items j) now.0) ∙ says in
-          let then = told_there v.name t b.told b1.told told same in
-          let new = next.entry telling then.0 then.1 in
-          let was_there : WasAtEntry state config t n v said r = record { image = new.image; there = sym then.2.0 ∙ new.there; says = new.says; cut = new.cut } in
-          let W : ℕ → VolumeConf → Said → ImageRest D → Type 0 = λ j u y x. WasAtEntry state config t j u y x in
-          subst (λ (j : ℕ). W j w own q) (sym now.0) (subst (λ (u : VolumeConf). W n u own q) (same_volume k w now.0 found) (subst (λ (y : Said). W n v y q) (same_Some said own says_n) (subst (λ (x : ImageRest D). W n v said x) is was_there))))
-          (push_cases i1.out.items (Some r) n asked.out_count k q (sym (ap (λ l. get_or l k None) pushes.out.0) ∙ here));
+          let says_n : said_by opened ≡ Some own = sym (ap (λ l. get_or l n None) pushes.said.0 ∙ at_new i1.said.items (said_by opened) n asked.said_count) ∙ sym (ap (λ (j : ℕ). said_at i2.said.items j) now.0) ∙ says in
+          let W : ℕ → VolumeConf → Type 0 = λ j u. WasAtEntry state config t j u own q in
+          subst (λ (j : ℕ). W j w) (sym now.0) (subst (λ (u : VolumeConf). W n u) (same_volume k w now.0 found) (entry telling t told own q says_n now.1)))
+          (push_cases i1.out.items (image_by opened) n asked.out_count k q (sym (ap (λ l. get_or l k None) pushes.out.0) ∙ here));
     }
       where
         said_less : (k : ℕ) → k < n → said_at i2.said.items k ≡ said_at i1.said.items k
-        said_less k less = ap (λ l. get_or l k None) pushes.said.0 ∙ at_less i1.said.items (Some said) n asked.said_count k less
+        said_less k less = ap (λ l. get_or l k None) pushes.said.0 ∙ at_less i1.said.items (said_by opened) n asked.said_count k less
 
         fault_less : (k : ℕ) → k < n → fault_at i2.faults.items k ≡ fault_at i1.faults.items k
-        fault_less k less = ap (λ l. get_or l k None) pushes.faults.0 ∙ at_less i1.faults.items None n asked.fault_count k less
+        fault_less k less = ap (λ l. get_or l k None) pushes.faults.0 ∙ at_less i1.faults.items (fault_by opened) n asked.fault_count k less
 
-        said_new : said_at i2.said.items n ≡ Some said
-        said_new = ap (λ l. get_or l n None) pushes.said.0 ∙ at_new i1.said.items (Some said) n asked.said_count
-
-        opened : IsOut state (length (shapes_of config)) n (shape_in config v) i2 r
-        opened = record {
-          said = said;
-          said_is = said_new;
+    pub asked_more : (opened : Result (Said × ImageRest D) VolumeFault) → PushesImage i1 i2 opened → IfOk opened (λ pair. (w : VolumeConf) → slice_get config.volumes.items n ≡ Some w → IsNextOpened tells state config n w b1 b2 pair.0 pair.1)
+        → IfErr opened (λ fault. (w : VolumeConf) → slice_get config.volumes.items n ≡ Some w → IsNextRefused {D = D} tells state config n w b1 b2 fault) → AreAsked tells state config b b2 (n + 1) i2
+    asked_more (Ok pair) pushes ok err =
+        let next = ok v at in
+        asked_next (Ok pair) pushes next.counts (sent_faulty v.name (part_sizes (shape_in config v)) b1.told b2.told next.sent)
+        (λ none. absurd (none-some pair.1 (sym none)))
+        (λ r is. subst (λ (x : ImageRest D). IsOut state (length (shapes_of config)) n (shape_in config v) i2 x) (same_Some pair.1 r is) (record {
+          said = pair.0;
+          said_is = ap (λ l. get_or l n None) pushes.said.0 ∙ at_new i1.said.items (Some pair.0) n asked.said_count;
           no_fault = ap (λ l. get_or l n None) pushes.faults.0 ∙ at_new i1.faults.items None n asked.fault_count;
           rest = next.rest;
           all = next.all;
           says = next.says;
           heads = next.heads;
-        }
-
-    -- the next image was refused
-    pub asked_refused : (fault : VolumeFault) → PushesImage i1 i2 (Err fault) → IsNextRefused tells state config n v b1 b2 fault → AreAsked tells state config b b2 (n + 1) i2
-    asked_refused fault pushes next = record {
-      said_count = ap (λ l. length l) pushes.said.0 ∙ length_push i1.said.items None ∙ ap (λ m. m + 1) asked.said_count;
-      out_count = ap (λ l. length l) pushes.out.0 ∙ length_push i1.out.items None ∙ ap (λ m. m + 1) asked.out_count;
-      fault_count = ap (λ l. length l) pushes.faults.0 ∙ length_push i1.faults.items (Some fault) ∙ ap (λ m. m + 1) asked.fault_count;
-      refused = λ k w lt found none.
-          let none_now : get_or (i1.out.items ++ None ∷ []) k None ≡ None = sym (ap (λ l. get_or l k None) pushes.out.0) ∙ none in
-          ⊎_elim
-          (λ (less : k < n). refused_before k w next.counts (told_each (StayedAs v.name) HasFaulty b1.told b2.told (λ x y s. s.faulty) next.left) (said_less k less) (fault_less k less) (asked.refused k w less found (sym (at_less i1.out.items None n asked.out_count k less) ∙ none_now)))
-          (λ (more : n ≤ k).
-          let e : k ≡ n = omega (arith, more, lt) in
-          let R : ℕ → VolumeConf → Type 0 = λ j u. IsRefused tells state config b b2 j u i2 in
-          subst (λ (j : ℕ). R j w) (sym e) (subst (λ (u : VolumeConf). R n u) (same_volume k w e found) now_refused))
-          (cases_lt k n);
-      out = λ k s q shape here.
-          ⊎_elim
-          (λ was. out_before k s q (said_less k was.0) (fault_less k was.0) (asked.out k s q shape was.1))
-          (λ now. absurd (none-some q now.1))
-          (push_cases i1.out.items None n asked.out_count k q (sym (ap (λ l. get_or l k None) pushes.out.0) ∙ here));
-      entry = λ telling t told k w own q found says here.
-          ⊎_elim
-          (λ was. asked.entry telling t told k w own q found (sym (said_less k was.0) ∙ says) was.1)
-          (λ now. absurd (none-some q now.1))
-          (push_cases i1.out.items None n asked.out_count k q (sym (ap (λ l. get_or l k None) pushes.out.0) ∙ here));
-    }
-      where
-        said_less : (k : ℕ) → k < n → said_at i2.said.items k ≡ said_at i1.said.items k
-        said_less k less = ap (λ l. get_or l k None) pushes.said.0 ∙ at_less i1.said.items None n asked.said_count k less
-
-        fault_less : (k : ℕ) → k < n → fault_at i2.faults.items k ≡ fault_at i1.faults.items k
-        fault_less k less = ap (λ l. get_or l k None) pushes.faults.0 ∙ at_less i1.faults.items (Some fault) n asked.fault_count k less
-
-        now_refused : IsRefused tells state config b b2 n v i2
-        now_refused = record {
+        }))
+        (λ telling t told own r says is.
+        let then = told_there v.name t b.told b1.told told same in
+        let new = next.entry telling then.0 then.1 in
+        let was_there : WasAtEntry state config t n v pair.0 pair.1 = record { image = new.image; there = sym then.2.0 ∙ new.there; says = new.says; cut = new.cut } in
+        subst (λ (y : Said). WasAtEntry state config t n v y r) (same_Some pair.0 own says) (subst (λ (x : ImageRest D). WasAtEntry state config t n v pair.0 x) (same_Some pair.1 r is) was_there))
+    asked_more (Err fault) pushes ok err =
+        let next = err v at in
+        asked_next (Err fault) pushes next.counts (told_each (StayedAs v.name) HasFaulty b1.told b2.told (λ x y s. s.faulty) next.left)
+        (λ none. record {
           unsaid = ap (λ l. get_or l n None) pushes.said.0 ∙ at_new i1.said.items None n asked.said_count;
           fault = fault;
           fault_is = ap (λ l. get_or l n None) pushes.faults.0 ∙ at_new i1.faults.items (Some fault) n asked.fault_count;
           refuses = refuses_since b b1 b2 n v fault same le next.refuses;
-        }
-
-    pub asked_more : (opened : Result (Said × ImageRest D) VolumeFault) → PushesImage i1 i2 opened → IfOk opened (λ pair. (w : VolumeConf) → slice_get config.volumes.items n ≡ Some w → IsNextOpened tells state config n w b1 b2 pair.0 pair.1)
-        → IfErr opened (λ fault. (w : VolumeConf) → slice_get config.volumes.items n ≡ Some w → IsNextRefused {D = D} tells state config n w b1 b2 fault) → AreAsked tells state config b b2 (n + 1) i2
-    asked_more (Ok pair) pushes ok err = asked_opened pair.0 pair.1 pushes (ok v at)
-    asked_more (Err fault) pushes ok err = asked_refused fault pushes (err v at)
+        })
+        (λ r is. absurd (none-some r is))
+        (λ telling t told own r says is. absurd (none-some r is))
 
   -- the faults of the bay may go on
   pub asked_later : (b b1 b2 : BayState) (n : ℕ) (i : Images D) → b1.faults ≤ b2.faults → IsTold HasFaulty b1.told b2.told → AreAsked tells state config b b1 n i → AreAsked tells state config b b2 n i

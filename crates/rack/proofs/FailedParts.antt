@@ -1,12 +1,13 @@
 -- The part that refuses a volume: it is here with a fault, or it came back with one.
-use Rattle.rack.proofs.Basics.{◌≡◌, ◌⊎◌, inl, inr, ⊎_elim, ℕ, ◌+◌, List, ◌++◌, length, Option, None, Some, sym, ap, subst, ◌∙◌, append_assoc, arith, Bool, slice_get, length-map}
-use Rattle.rack.proofs.Basics.{Contains-append_right, slice_get_within}
-use Rattle.rack.proofs.Terms.{State, Rose, BayState, Name, Told, Config, VolumeConf, Part, DiskFault, IsTold, shape_in, shapes_of, ImageFault, CameBackFaulty, HasFaultAt}
-use Rattle.rack.proofs.Terms.{HasFaultIn, HasFaultyPart, IsNamedHere, IsPartHere, ListsFaulty, part_named, place_in, AreRefused, HasFaulty, HasNewFault, fault_in_image, IsImageOut}
-use Rattle.rack.proofs.Terms.{Rack, Rest, Refused, IsCallFault}
+use Rattle.rack.proofs.Basics.{◌≡◌, ◌⊎◌, inl, inr, ⊎_elim, ℕ, List, ◌++◌, length, Option, Some, sym, ap, subst, ◌∙◌, append_assoc, arith, Bool, slice_get, length-map, Contains-append_right}
+use Rattle.rack.proofs.Basics.{slice_get_within}
+use Rattle.rack.proofs.Terms.{State, Rose, BayState, Name, Told, Config, VolumeConf, Part, DiskFault, IsTold, shape_in, shapes_of, ImageFault, CameBackFaulty, HasFaultAt, HasFaultIn}
+use Rattle.rack.proofs.Terms.{HasFaultyPart, IsNamedHere, IsPartHere, ListsFaulty, part_named, place_in, AreRefused, HasFaulty, HasNewFault, fault_in_image, IsImageOut, Rack, Rest, Refused}
+use Rattle.rack.proofs.Terms.{IsCallFault}
 use Rattle.wol_promise.specs.Policy.{PartName}
 use Rattle.rack_closing.proofs.Places.{some_at}
 use Rattle.rack_closing.proofs.NewFaults.{told_each}
+use Rattle.rack.proofs.Asking.{told_then}
 use Rattle.manager.specs.declared.part.Part.TheVariants as part
 use Rattle.volume_images.specs.declared.reading.ImageFault.TheVariants as fault
 
@@ -44,18 +45,14 @@ gained_parts state config r o n = told_each (ListsFaulty state config r) HasFaul
 -- a part that came back with a fault since opening did so since entry
 pub faulty_since : (tells : Bool) (config : Config) (owner : ℕ) (view : List ℕ) (name : PartName) (e o n : Option Told) → IsTold HasFaulty e o → IsTold (HasFaultyPart tells config owner view name) o n
     → IsTold (HasFaultyPart tells config owner view name) e n
-faulty_since tells config owner view name None None n had part = part
-faulty_since tells config owner view name None (Some o) n had part = absurd (cc had)
-faulty_since tells config owner view name (Some e) None n had part = absurd had
-faulty_since tells config owner view name (Some e) (Some o) None had part = absurd part
-faulty_since tells config owner view name (Some e) (Some o) (Some n) had part = record {
+faulty_since tells config owner view name e o n = told_then HasFaulty (HasFaultyPart tells config owner view name) (HasFaultyPart tells config owner view name) e o n (λ x y z is had part. record {
   more = had.0 ++ part.more;
-  more_is = part.more_is ∙ ap (λ (fs : List (Name × ℕ)). fs ++ part.more) had.1 ∙ append_assoc e.faulty had.0 part.more;
+  more_is = part.more_is ∙ ap (λ (fs : List (Name × ℕ)). fs ++ part.more) had.1 ∙ append_assoc x.faulty had.0 part.more;
   conf = part.conf;
   conf_is = part.conf_is;
   among = Contains-append_right had.0 part.more (part.conf.name, place_in (part_named owner name)) part.among;
   lies = part.lies;
-}
+})
 
 -- a part of this image that failed came back with a fault
 image_part : (config : Config) (k : ℕ) (p : Part) (v : VolumeConf) (f : ImageFault) (old new : Told) → slice_get config.volumes.items k ≡ Some v → Refused (DiskFault p) ≡ fault_in_image k f → HasNewFault v.name f old new → CameBackFaulty config p old new
@@ -77,17 +74,10 @@ part_came_back tells state config old bay new r count refused failed first then 
     ⊎_elim
     (λ image. told_each (HasNewFault v.0.name image.image_fault) (CameBackFaulty config p) old.told new.told
     (λ x y has. image_part config k p v.0 image.image_fault x y v.1 image.is_fault has) (image.faulty (call_failed k p image.image_fault image.is_fault)))
-    (λ opening. behind old.told bay.told new.told first then (failed k p at opening.is_out))
+    (λ opening. told_then HasFaulty (ListsFaulty state config r.rest) (CameBackFaulty config p) old.told bay.told new.told (λ x y z is had lists.
+    let found = lists.each p (failed k p at opening.is_out) in (
+      had.0 ++ lists.more,
+      lists.more_is ∙ ap (λ (fs : List (Name × ℕ)). fs ++ lists.more) had.1 ∙ append_assoc x.faulty had.0 lists.more,
+      (found.0, found.1, Contains-append_right had.0 lists.more (found.0.name, place_in p) found.2),
+    )) first then)
     (refused k v.0 (Refused (DiskFault p)) v.1 at)
-  where
-    behind : (e o n : Option Told) → IsTold HasFaulty e o → IsTold (ListsFaulty state config r.rest) o n → HasFaultAt state r.rest p → IsTold (CameBackFaulty config p) e n
-    behind None None n had lists has = lists
-    behind None (Some o) n had lists has = absurd (cc had)
-    behind (Some e) None n had lists has = absurd had
-    behind (Some e) (Some o) None had lists has = absurd lists
-    behind (Some e) (Some o) (Some n) had lists has =
-        let x = lists.each p has in (
-          had.0 ++ lists.more,
-          lists.more_is ∙ ap (λ (fs : List (Name × ℕ)). fs ++ lists.more) had.1 ∙ append_assoc e.faulty had.0 lists.more,
-          (x.0, x.1, Contains-append_right had.0 lists.more (x.0.name, place_in p) x.2),
-        )

@@ -1,28 +1,26 @@
 -- What became of the segments of an opening that was handed back, and that they may return.
-use Rattle.rack.proofs.Basics.{◌≡◌, ◌≢◌, ◌⊎◌, inl, inr, ⊎_elim, ℕ, zero, suc, ◌+◌, ◌<◌, ◌≤◌, Bool, true, false, cond, eqb, List, [], ◌∷◌}
-use Rattle.rack.proofs.Basics.{◌++◌, length, map, reverse, get_or, Option, Some, refl, sym, ap, ◌∙◌, subst, arith, None, slice_get}
-use Rattle.rack.proofs.Basics.{AllPairs, Contains, is_some, All, cases_lt, eq-eqb, ne_eqb, eqb-true, reverse_onto, append_assoc, append-nil}
-use Rattle.rack.proofs.Basics.{get_or-map, get_or_default, length-map, Contains-append_left, Contains-push, All-contains}
-use Rattle.rack.proofs.Basics.{All-contains_itself, All-filter, none-some, same_Some, slice_get-get_or, AllByRecursion, AllZip}
-use Rattle.rack.proofs.Terms.{Block, Values, State, IsDisk, TellsContent, IsImageOf, reads, now_leaves, image_reads, Shape, owned_block}
-use Rattle.rack.proofs.Terms.{IsIdle, IsLog, SaysOwnerOrFree, Image, BayState, Entry, IsSamePass, pass_lock, pass_number, pass_mine}
-use Rattle.rack.proofs.Terms.{state_of, Gave, holds, PoolBase, free_disk, FreeSegment, logger_of, pool_of, IsLane, taken_in, Lane, Station}
-use Rattle.rack.proofs.Terms.{Fate, Kept, Freed, IsFateOf, AreFates, HasGiven, freed_on, kept_of, IsHandedBack, IsUsedLane, OwnedPart}
-use Rattle.rack.proofs.Terms.{HasHead, head_place, HadBefore, HadSegmentBefore, IsGone, AreInOrder, IsBefore, place_of, IsValid, Config}
-use Rattle.rack.proofs.Terms.{Opening, shapes_of, IsOpeningRack, TakesOpening, IsNewLane, IsBarePlace, CanPutLanes, IsOwedPlace}
-use Rattle.rack.proofs.Terms.{CanPutOwned, HasPlace, loggers_out, segments_of, image_here, segment_here, IsRow, Said, Rack, Rest}
+use Rattle.rack.proofs.Basics.{◌≡◌, ◌≢◌, ◌⊎◌, inl, inr, ⊎_elim, ℕ, ◌+◌, ◌<◌, ◌≤◌, Bool, true, false, cond, eqb, List, ◌∷◌, ◌++◌, length, map, reverse, get_or, Option, refl, sym, ap, ◌∙◌}
+use Rattle.rack.proofs.Basics.{subst, arith, AllPairs, Contains, All, cases_lt, eq-eqb, ne_eqb, append_assoc, append-nil, reverse-reverse, get_or-map, get_or_default, length-map}
+use Rattle.rack.proofs.Basics.{All-contains, All-contains_itself, AllByRecursion, AllZip, []}
+use Rattle.rack.proofs.Terms.{Block, Values, State, IsDisk, TellsContent, IsImageOf, reads, now_leaves, image_reads, Shape, owned_block, IsIdle, IsLog, SaysOwnerOrFree, Image, Entry}
+use Rattle.rack.proofs.Terms.{IsSamePass, pass_lock, pass_number, pass_mine, state_of, Gave, holds, PoolBase, free_disk, FreeSegment, logger_of, pool_of, Lane, Station, Fate, Kept, Freed}
+use Rattle.rack.proofs.Terms.{IsFateOf, AreFates, HasGiven, freed_on, kept_of, OwnedPart, HasHead, head_place, HadBefore, HadSegmentBefore, IsGone, AreInOrder, IsBefore, place_of}
 use Rattle.std.proofs.lemmas.Bool.Decides.{eqb_tells}
-use Rattle.std.proofs.lemmas.List.Kept.{AllPairs-cons, AllPairs-filter}
+use Rattle.std.proofs.lemmas.List.Kept.{AllPairs-cons}
 use Rattle.seg_pool.specs.Operations.{operation_of}
 use Rattle.seg_pool.proofs.Holding.{holds-push}
-use Rattle.rack_parts.proofs.Members.{first_in, later_in, in_cases, none_in, of_recursion, all_member, in_map, of_map, segment_in_image, here_within}
-use Rattle.rack_closing.proofs.StationParts.{zip_at}
+use Rattle.rack_parts.proofs.Members.{first_in, later_in, in_cases, none_in, of_recursion, all_member, all_reverse, in_map}
 use Rattle.rack_closing.proofs.OwnedSegments.{never_itself}
-use Rattle.rack.proofs.Openable.{IsInImage, parts_in_images, parts, can_take}
 use Rattle.wol_model.specs.Heads as head
-use Rattle.rack.proofs.Without as without
 
 -- ---- What became of each segment that a volume owned when it was opened
+
+-- lists of partners with the same numbers
+pub zip_map : {X Y : Type 0} (R : X → Y → Type 0) (f : X → ℕ) (g : Y → ℕ) → ((x : X) (y : Y) → R x y → g y ≡ f x) → (xs : List X) (ys : List Y) → AllZip R xs ys → map g ys ≡ map f xs
+zip_map R f g same [] [] zip = refl
+zip_map R f g same [] (y ∷ ys) zip = absurd zip
+zip_map R f g same (x ∷ xs) [] zip = absurd zip
+zip_map R f g same (x ∷ xs) (y ∷ ys) zip = λ i. same x y zip.0 i ∷ zip_map R f g same xs ys zip.1 i
 
 -- two elements of a list are the same where their numbers are, of which no two are
 pub same_by : {X : Type 0} (f : X → ℕ) (xs : List X) (x y : X) → AllPairs (λ (j k : ℕ). j ≢ k) (map f xs) → Contains xs x → Contains xs y → f x ≡ f y → x ≡ y
@@ -41,95 +39,14 @@ same_by {X} f xs x y apart cx cy same =
     at : (n : ℕ) (z : X) → n < length xs → get_or xs n z ≡ z → get_or (map f xs) n 0 ≡ f z
     at n z below is = get_or-map f xs n z 0 below ∙ ap f is
 
-longer : (b : Bool) (y i : ℕ) (xs : List ℕ) → Contains xs i → Contains (cond b (y ∷ xs) xs) i
-longer true y i xs has = later_in y i xs has
-longer false y i xs has = has
-
-module _ {D : Type 0} where
-  -- what became of this one of them
-  pub record HasFate (os : List (OwnedPart D)) (fates : List (Fate D)) (part : OwnedPart D) (f : Fate D) : Type 0 where
-    pub place : ℕ
-    pub owned : slice_get os place ≡ Some part
-    pub is : slice_get fates place ≡ Some f
-
-  pub has_fate : (state : D → State) (id : ℕ) (os : List (OwnedPart D)) (fates : List (Fate D)) → AreFates state id os fates → (part : OwnedPart D) → Contains os part → (f : Fate D) × HasFate os fates part f × IsFateOf state id part f
-  has_fate state id os fates zip part has =
-      let at : slice_get os has.0 ≡ Some part = slice_get-get_or os has.0 part has.1 ∙ ap Some has.2 in
-      let f = zip_at (IsFateOf state id) os fates has.0 part zip at in
-      (f.0, record { place = has.0; owned = at; is = f.1 }, f.2)
-
-  -- one that was kept is among the kept ones
-  kept_at : (fates : List (Fate D)) (n : ℕ) (p : OwnedPart D) → slice_get fates n ≡ Some (Kept p) → Contains (kept_of fates) p
-  kept_at [] n p is = absurd (none-some (Kept p) is)
-  kept_at (Kept q ∷ fates) zero p is = first_in q p (kept_of fates) (same_kept q p (same_Some (Kept q) (Kept p) is))
-    where
-      same_kept : (q p : OwnedPart D) → Kept q ≡ Kept p → q ≡ p
-      same_kept q p e = cc e
-  kept_at (Freed g ∷ fates) zero p is = absurd (differs g p (same_Some (Freed g) (Kept p) is))
-    where
-      differs : (g : FreeSegment D) (p : OwnedPart D) → Freed g ≡ Kept p → ⊥
-      differs g p e = cc e
-  kept_at (Kept q ∷ fates) (suc n) p is = later_in q p (kept_of fates) (kept_at fates n p is)
-  kept_at (Freed g ∷ fates) (suc n) p is = kept_at fates n p is
-
-  pub kept_in : (os : List (OwnedPart D)) (fates : List (Fate D)) (part p : OwnedPart D) → HasFate os fates part (Kept p) → Contains (kept_of fates) p
-  kept_in os fates part p has = kept_at fates has.place p has.is
-
-  -- ---- The indexes of those that were freed
-
-  freed_at : (logger : ℕ) (os : List (OwnedPart D)) (fates : List (Fate D)) (n : ℕ) (part : OwnedPart D) (f : FreeSegment D) → slice_get os n ≡ Some part → slice_get fates n ≡ Some (Freed f) → part.logger ≡ logger → Contains (freed_on logger os fates) part.index
-  freed_at logger [] fates n part f at is on = absurd (none-some part at)
-  freed_at logger (o ∷ os) [] n part f at is on = absurd (none-some (Freed f) is)
-  freed_at logger (o ∷ os) (Kept q ∷ fates) zero part f at is on = absurd (differs q f (same_Some (Kept q) (Freed f) is))
-    where
-      differs : (p : OwnedPart D) (g : FreeSegment D) → Kept p ≡ Freed g → ⊥
-      differs p g e = cc e
-  freed_at logger (o ∷ os) (Freed g ∷ fates) zero part f at is on =
-      let same : o ≡ part = same_Some o part at in
-      let here : eqb o.logger logger ≡ true = eq-eqb o.logger logger (ap (λ (x : OwnedPart D). x.logger) same ∙ on) in
-      subst (λ (b : Bool). Contains (cond b (o.index ∷ freed_on logger os fates) (freed_on logger os fates)) part.index) (sym here) (first_in o.index part.index (freed_on logger os fates) (ap (λ (x : OwnedPart D). x.index) same))
-  freed_at logger (o ∷ os) (Kept q ∷ fates) (suc n) part f at is on = freed_at logger os fates n part f at is on
-  freed_at logger (o ∷ os) (Freed g ∷ fates) (suc n) part f at is on = longer (eqb o.logger logger) o.index part.index (freed_on logger os fates) (freed_at logger os fates n part f at is on)
-
-  pub freed_in : (logger : ℕ) (os : List (OwnedPart D)) (fates : List (Fate D)) (part : OwnedPart D) (f : FreeSegment D) → HasFate os fates part (Freed f) → part.logger ≡ logger → Contains (freed_on logger os fates) part.index
-  freed_in logger os fates part f has on = freed_at logger os fates has.place part f has.owned has.is on
-
-  -- one of them was freed there
-  pub record IsFreedAt (logger : ℕ) (os : List (OwnedPart D)) (fates : List (Fate D)) (i : ℕ) : Type 0 where
-    pub part : OwnedPart D
-    pub free : FreeSegment D
-    pub fate : HasFate os fates part (Freed free)
-    pub on : part.logger ≡ logger
-    pub index : part.index ≡ i
-
-  freed_behind : (logger : ℕ) (o : OwnedPart D) (os : List (OwnedPart D)) (f : Fate D) (fates : List (Fate D)) (i : ℕ) → IsFreedAt logger os fates i → IsFreedAt logger (o ∷ os) (f ∷ fates) i
-  freed_behind logger o os f fates i x = record { part = x.part; free = x.free; fate = record { place = suc x.fate.place; owned = x.fate.owned; is = x.fate.is }; on = x.on; index = x.index }
-
-  freed_first : (logger : ℕ) (o : OwnedPart D) (os : List (OwnedPart D)) (g : FreeSegment D) (fates : List (Fate D)) (i : ℕ) (b : Bool) → eqb o.logger logger ≡ b → Contains (cond b (o.index ∷ freed_on logger os fates) (freed_on logger os fates)) i
-      → (Contains (freed_on logger os fates) i → IsFreedAt logger os fates i) → IsFreedAt logger (o ∷ os) (Freed g ∷ fates) i
-  freed_first logger o os g fates i false other more rest = freed_behind logger o os (Freed g) fates i (rest more)
-  freed_first logger o os g fates i true same more rest =
-      ⊎_elim
-      (λ (e : o.index ≡ i). record { part = o; free = g; fate = record { place = 0; owned = refl; is = refl }; on = eqb-true o.logger logger same; index = e })
-      (λ later. freed_behind logger o os (Freed g) fates i (rest later))
-      (in_cases o.index i (freed_on logger os fates) more)
-
 -- ---- What a pass holds that gave these
 
 in_reverse : (xs : List ℕ) (i : ℕ) → Contains xs i → Contains (reverse xs) i
-in_reverse [] i has = absurd (none_in i has)
-in_reverse (x ∷ xs) i has =
-    subst (λ (l : List ℕ). Contains l i) (sym (reverse_onto xs x []))
-    (⊎_elim (λ (e : x ≡ i). subst (λ (n : ℕ). Contains (reverse xs ++ x ∷ []) n) e (Contains-push (reverse xs) x)) (λ more. Contains-append_left (reverse xs) (x ∷ []) i (in_reverse xs i more)) (in_cases x i xs has))
+in_reverse xs i has =
+    All-contains (Contains (reverse xs)) xs i (subst (All (Contains (reverse xs))) (reverse-reverse xs) (all_reverse (Contains (reverse xs)) (reverse xs) (All-contains_itself (reverse xs)))) has
 
 of_reverse : (xs : List ℕ) (i : ℕ) → Contains (reverse xs) i → Contains xs i
-of_reverse [] i has = has
-of_reverse (x ∷ xs) i has =
-    ⊎_elim (λ more. later_in x i xs (of_reverse xs i more)) (λ (e : x ≡ i). first_in x i xs e)
-    (Rattle.std.proofs.lemmas.List.Elements.Contains-push_cases (reverse xs) x i (subst (λ (l : List ℕ). Contains l i) (reverse_onto xs x []) has))
-
-gave : (n index : ℕ) → Entry
-gave n index = (n, operation_of (Gave index))
+of_reverse xs i has = All-contains (Contains xs) (reverse xs) i (all_reverse (Contains xs) xs (All-contains_itself xs)) has
 
 module _ (b : PoolBase) (n i : ℕ) where
   -- it holds what it held and didn't give
@@ -350,124 +267,3 @@ order_apart {D} (o ∷ os) order = AllPairs-cons (λ (x y : OwnedPart D). place_
   where
     behind : (p : OwnedPart D) → Contains os p → IsBefore (place_of o) (place_of p)
     behind p has = Rattle.rack_parts.proofs.Members.of_recursion (IsBefore (place_of o)) (map place_of os) (place_of p) order.0 (in_map place_of os p has)
-
-module _ {D : Type 0} (state : D → State) (tells : Bool) (config : Config) (valid : IsValid config) (b : BayState) (said : List (Option Said)) (id : ℕ) (r : Rack D) (own : Said)
-    (ready : IsOpeningRack state config b said id r) (lt : id < length (shapes_of config)) (at : slice_get said id ≡ Some (Some own)) (view : List ℕ) (own_view : own.view ≡ view)
-    (away : Rest D) (o : Opening D) (takes : TakesOpening state config r.rest away said id view o) (n : Opening D) (back : IsHandedBack tells state r.shared o n) where
-  abbrev pub loggers : List ℕ
-  loggers = loggers_out r.rest view
-
-  pub not_own : Contains view id → ⊥
-  not_own = (can_take state config valid b said id r own ready lt at view own_view).others
-
-  pub in_view : (k : ℕ) → Contains loggers k → Contains view k
-  in_view k has = All-contains (Contains view) loggers k (All-filter (λ j. is_some (image_here r.rest.images.items j)) (Contains view) view (All-contains_itself view)) has
-
-  -- ---- Lanes
-
-  -- a lane that was taken out, and as it is handed back
-  pub record IsBackLane (l m : Lane D) : Type 0 where
-    pub before : Contains o.lanes.items l
-    pub after : Contains n.lanes.items m
-    pub taken : IsNewLane state r.rest id (segments_of config (logger_of l)) l
-    pub used : IsUsedLane state r.shared o.want.id o.most l m
-    pub given : HasGiven o.owned.items back.fates l m
-
-  new_lane : (l : Lane D) → Contains o.lanes.items l → IsNewLane state r.rest id (segments_of config (logger_of l)) l
-  new_lane l has = All-contains (λ (x : Lane D). IsNewLane state r.rest id (segments_of config (logger_of x)) x) o.lanes.items l takes.lanes.each has
-
-  pub lane_to : (m : Lane D) → Contains n.lanes.items m → (l : Lane D) × IsBackLane l m
-  lane_to m has =
-      let p = partner_of (IsUsedLane state r.shared o.want.id o.most) (HasGiven o.owned.items back.fates) o.lanes.items n.lanes.items m back.lanes back.pools has in
-      (p.0, record { before = p.1; after = has; taken = new_lane p.0 p.1; used = p.2; given = p.3 })
-
-  same_loggers : map logger_of n.lanes.items ≡ loggers
-  same_loggers = go o.lanes.items n.lanes.items back.lanes ∙ takes.lanes.loggers_are
-    where
-      go : (xs ys : List (Lane D)) → AllZip (IsUsedLane state r.shared o.want.id o.most) xs ys → map logger_of ys ≡ map logger_of xs
-      go [] [] all = refl
-      go [] (y ∷ ys) all = absurd all
-      go (x ∷ xs) [] all = absurd all
-      go (x ∷ xs) (y ∷ ys) all = let rest = go xs ys all.1 in λ i. all.0.same.logger i ∷ rest i
-
-  pub logger_seen : (m : Lane D) → Contains n.lanes.items m → Contains loggers (logger_of m)
-  logger_seen m has = subst (λ (l : List ℕ). Contains l (logger_of m)) same_loggers (in_map logger_of n.lanes.items m has)
-
-  -- the lane of a logger
-  pub lane_at : (k : ℕ) → Contains loggers k → (l m : Lane D) × IsBackLane l m × (logger_of l ≡ k) × (logger_of m ≡ k)
-  lane_at k has =
-      let from = of_map logger_of n.lanes.items k (subst (λ (l : List ℕ). Contains l k) (sym same_loggers) has) in
-      let before = lane_to from.0 from.1 in
-      (before.0, from.0, before.1, sym before.1.used.same.logger ∙ from.2, from.2)
-
-  pub away_rows : All (λ p. IsRow (length (shapes_of config)) p) away.passes.items
-  away_rows = takes.home.rows.rows (length (shapes_of config)) (subst (λ x. All (λ p. IsRow (length (shapes_of config)) p) x.items) (sym takes.owned.passes) (takes.lanes.passes.rows.rows (length (shapes_of config)) (parts state config valid b said id r own ready lt at).rows))
-
-  place : (k : ℕ) → k < length (shapes_of config) → HasPlace away id k
-  place k within = record {
-    row = let c = without.rows_without state config said id view r.rest away o takes in let d = (parts state config valid b said id r own ready lt at).count in omega (arith, lt, c, d);
-    volumes = length (shapes_of config);
-    rows = away_rows;
-    within = within;
-  }
-
-  bare : (m : Lane D) → Contains n.lanes.items m → IsBarePlace away id (logger_of m)
-  bare m has =
-      let seen = logger_seen m has in
-      let below = (lane_to m has).1.used.lane.at.pool_in in
-      let long = r.shared.pools.ok.0 in
-      let count = ready.closable.locks.pool_count in
-      record {
-        place = place (logger_of m) (omega (arith, below, long, count));
-        pool = without.pool_gone state config said id view r.rest away o takes (logger_of m) seen;
-        spindle = without.spindle_gone state config said id view r.rest away o takes (logger_of m) (λ e. not_own (subst (λ (k : ℕ). Contains view k) e (in_view (logger_of m) seen))) seen;
-        held = without.held_gone state config said id view r.rest away o takes (logger_of m) seen;
-      }
-
-  pub lanes_return : CanPutLanes state away id n.lanes.items
-  lanes_return = record {
-    whole = all_member (λ (m : Lane D). IsLane state m × (taken_in m ≡ None)) n.lanes.items (λ m has. let l = lane_to m has in (l.1.used.lane.lane, l.1.used.lane.untaken));
-    bare = all_member (λ (m : Lane D). IsBarePlace away id (logger_of m)) n.lanes.items bare;
-    apart = apart;
-  }
-    where
-      apart : AllPairs (λ (l k : Lane D). logger_of l ≢ logger_of k) n.lanes.items
-      apart i j d before_ within same =
-          let long : length (map logger_of n.lanes.items) ≡ length n.lanes.items = length-map n.lanes.items logger_of in
-          let pairs : AllPairs (λ (x y : ℕ). x ≢ y) (map logger_of n.lanes.items) = subst (λ (xs : List ℕ). AllPairs (λ (x y : ℕ). x ≢ y) xs) (sym same_loggers) (AllPairs-filter (λ (x y : ℕ). x ≢ y) (λ k. is_some (image_here r.rest.images.items k)) view takes.distinct) in
-          pairs i j 0 before_ (omega (arith, within, long))
-          (get_or-map logger_of n.lanes.items i d 0 (omega (arith, before_, within)) ∙ same ∙ sym (get_or-map logger_of n.lanes.items j d 0 within))
-
-  pub lanes_of_others : All (λ (m : Lane D). id ≢ logger_of m) n.lanes.items
-  lanes_of_others = all_member (λ (m : Lane D). id ≢ logger_of m) n.lanes.items (λ m has same. not_own (subst (λ (k : ℕ). Contains view k) (sym same) (in_view (logger_of m) (logger_seen m has))))
-
-  -- ---- Owned segments
-
-  pub owned_at : (k i : ℕ) → Contains (map place_of o.owned.items) (k, i) → (p : OwnedPart D) × IsInImage state config valid b said id r own ready lt at view away o takes p × (p.logger ≡ k) × (p.index ≡ i)
-  owned_at k i has =
-      let from = of_map place_of o.owned.items (k, i) has in (
-        from.0,
-        All-contains (λ (q : OwnedPart D). IsInImage state config valid b said id r own ready lt at view away o takes q) o.owned.items from.0
-            (parts_in_images state config valid b said id r own ready lt at view away o takes) from.1,
-        ap (λ (p : ℕ × ℕ). p.0) from.2,
-        ap (λ (p : ℕ × ℕ). p.1) from.2,
-      )
-
-  owed : (p : OwnedPart D) → Contains (map place_of o.owned.items) (place_of p) → IsOwedPlace away p
-  owed p has =
-      let at_p = owned_at p.logger p.index has in
-      let here : image_here r.rest.images.items p.logger ≡ Some at_p.1.image = ap (λ (k : ℕ). image_here r.rest.images.items k) (sym at_p.2) ∙ at_p.1.out in
-      let there : segment_here at_p.1.image p.index ≡ Some at_p.0.part = ap (λ (i : ℕ). segment_here at_p.1.image i) (sym at_p.3) ∙ at_p.1.there in
-      let now = without.image_without state config said id view r.rest away o takes p.logger at_p.1.image here in
-      record {
-        image = now.0;
-        out = now.1;
-        within = let l = here_within at_p.1.image.segments.items p.index at_p.0.part there in let c = now.2.count in omega (arith, l, c);
-        empty = sym (segment_in_image away p.logger now.0 now.1 p.index) ∙ without.segment_gone state config said id view r.rest away o takes p.logger p.index has;
-      }
-
-  pub owned_return : CanPutOwned away n.owned.items
-  owned_return = subst (CanPutOwned away) (sym back.owned) (record {
-    places = all_member (IsOwedPlace away) (kept_of back.fates) (λ p has. owed p (kept_owned state o.want.id o.owned.items back.fates back.parts.each p has));
-    apart = order_apart (kept_of back.fates) (kept_in_order state o.want.id o.owned.items back.fates back.parts.each takes.owned.in_order);
-  })

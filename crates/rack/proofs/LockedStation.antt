@@ -1,36 +1,31 @@
 -- A station more: the rack may be closed with it.
-use Rattle.rack.proofs.Basics.{◌≡◌, ⊎_elim, ℕ, ◌<◌, ◌≤◌, List, [], ◌∷◌, ◌++◌, length, Option, None, Some, refl, sym, ap, ◌∙◌, subst, arith}
-use Rattle.rack.proofs.Basics.{◌⊎◌, inl, inr, ◌+◌, ◌^◌, map, vec_capacity, Bool, get_or, slice_get, IsSome, is_some, All, Contains}
-use Rattle.rack.proofs.Basics.{cases_lt, length_push, length-map, map_push, same_Some, slice_get_within, none-some, slice_get-map}
-use Rattle.rack.proofs.Basics.{option_map_or, option_to_list, Global, Vec, All-push, Contains-push, Contains-push_cases}
-use Rattle.rack.proofs.Basics.{Contains-append_left, filter_passes}
-use Rattle.rack.proofs.Terms.{State, Block, TellsContent, IsImageOf, BayState, Config, ManagerBase, Shared, image_here, IsImageOut, Away}
-use Rattle.rack.proofs.Terms.{IsRestBut, segment_here, held_here, away_with, AreRooms, AreOut, AreRising, IsOpenBase, base_of_station}
-use Rattle.rack.proofs.Terms.{IsStation, IsUnused, IsClosable, KeepToViews, ImageRest, Rest, Rooms, owned_block, free_block, SpellsSegment}
-use Rattle.rack.proofs.Terms.{Record, IsLog, one_segment_head, SaysOwnerOrFree, IsValid, SegHead, Free, Owned, state_of, Spun, Station}
-use Rattle.rack.proofs.Terms.{place_of, CanOpen, Opening, shape_in, shapes_of, TakesOpening, IsOwnedPlace, loggers_out, said_at, view_at}
-use Rattle.rack.proofs.Terms.{fault_at, IsSaidOf, AreTried, IsOpeningRack, Said, Rack, IsNewPass, TurnLock, PassOf, Manager, IsLocked}
+use Rattle.rack.proofs.Basics.{◌≡◌, ⊎_elim, ℕ, ◌<◌, ◌≤◌, List, ◌∷◌, ◌++◌, length, Option, None, Some, refl, sym, ap, ◌∙◌, subst, arith, ◌⊎◌, inl, inr, ◌+◌, ◌^◌, map, vec_capacity, Bool}
+use Rattle.rack.proofs.Basics.{get_or, slice_get, IsSome, is_some, All, Contains, cases_lt, length_push, length-map, map_push, same_Some, slice_get_within, none-some, option_map_or}
+use Rattle.rack.proofs.Basics.{option_to_list, Global, Vec, All-push, Contains-push, Contains-push_cases, Contains-append_left, slice_index_or, [], nil_from_length, get_or_from_slice_get}
+use Rattle.rack.proofs.Basics.{◌≢◌, option_map, slice_range, IsTrue, slice_get-map, AllByRecursion, cases_eq}
+use Rattle.rack.proofs.Terms.{State, Block, TellsContent, IsImageOf, BayState, Config, ManagerBase, image_here, IsRestBut, segment_here, away_with, AreRooms, AreRising, IsOpenBase}
+use Rattle.rack.proofs.Terms.{base_of_station, IsStation, IsUnused, IsClosable, KeepToViews, ImageRest, Rest, Rooms, Record, IsLog, IsValid, SegHead, Free, Owned, state_of, Spun, Station}
+use Rattle.rack.proofs.Terms.{place_of, Opening, shape_in, shapes_of, TakesOpening, IsOwnedPlace, loggers_out, said_at, view_at, fault_at, IsSaidOf, AreTried, IsOpeningRack, Said, Rack}
+use Rattle.rack.proofs.Terms.{IsNewPass, TurnLock, PassOf, Manager, IsLocked, reads, Image, Told, at_name, Part, HasFaultOf, HasBegun, image_reads, Shape, Images, image_of, recovered_from}
+use Rattle.rack.proofs.Terms.{VolumeConf, Base, shape_of, segment_head, HasView, Shared, Begins, StandsInOwned, Opens, IsListedOf, read_of, all_owned, records_in, writes_in, heads_in}
+use Rattle.rack.proofs.Terms.{recovered_of, AreIntact, HaveNoTwins, IsRecoverable, head_place, IsLeftHere, IsGone, images_taken, AreOwnedIn, BeganInPlace, IsBegun, IsOpeningOf, VolumeFault}
 use Rattle.rack_closing.proofs.Places.{some_at}
-use Rattle.rack_parts.proofs.Members.{segment_in_image, a_value, no_value, here_within}
-use Rattle.rack.proofs.OpenAway.{open_away, WasHere, was_here, segment_was, pool_was, spindle_was, held_none, owner_of, open_base}
-use Rattle.rack.proofs.Openable.{image_id, said_id, all_out, all_inside, lanes_taken, can_open, parts, can_take}
-use Rattle.wol_model.specs.Heads as head
+use Rattle.rack_parts.proofs.Members.{segment_in_image, a_value, no_value, here_within, get_left, none_in, of_map}
+use Rattle.rack.proofs.OpenAway.{open_away, owner_new, view_new, all_new, inside_new, base_new}
+use Rattle.rack.proofs.Openable.{image_id, said_id, ids_below, one_owner, owned_in_image, nowhere}
+use Rattle.wol_promise.specs.Stands.{next_version}
+use Rattle.rack_closing.proofs.CutParts.{reads_range}
+use Rattle.rack.proofs.OpeningOf.{sized, opening_of, read_at}
+use Rattle.rack_closing.proofs.OwnedSegments.{recovered_owned}
+use Rattle.rack_closing.proofs.SameOut.{taken_same}
 use Rattle.rack.proofs.Without as without
+use Rattle.wol_model.specs.Heads as head
 
 -- ---- The rack once one volume more is open
 
--- the rooms of a rest don't matter for its parts
-pub with_rooms : {D : Type 0} (state : D → State) (config : Config) (shared : Shared D) (away : Away) (q : Rest D) (rooms : Rooms D) → IsRestBut state config shared away q → IsRestBut state config shared away (record q { rooms = rooms })
-with_rooms state config shared away q rooms is = record {
-  images = is.images;
-  homes = is.homes;
-  count = is.count;
-  rows = is.rows;
-  pools = record { here = is.pools.here; each = is.pools.each };
-  spindles = record { here = is.spindles.here; each = is.spindles.each; settled = is.spindles.settled };
-  returned = record { held = is.returned.held; once = is.returned.once; parts = is.returned.parts; out = is.returned.out };
-  placed = record { known = is.placed.known; known_passes = is.placed.known_passes; here = is.placed.here; others = is.placed.others };
-}
+-- what holds of each and of one more
+all_push : {X : Type 0} (P : X → Type 0) (xs ys : List X) (x : X) → ys ≡ xs ++ x ∷ [] → All P xs → P x → All P ys
+all_push P xs ys x are all one = subst (All P) (sym are) (All-push P xs x all one)
 
 -- one number more that is above all others
 pub rising_push : (ns : List ℕ) (n : ℕ) → AreRising ns → ((j m : ℕ) → slice_get ns j ≡ Some m → m < n) → AreRising (ns ++ n ∷ [])
@@ -46,62 +41,18 @@ rising_push ns n rising above i j a c lt at at' =
     (cases_lt j (length ns))
   where
     front : (k : ℕ) → k < length ns → slice_get (ns ++ n ∷ []) k ≡ slice_get ns k
-    front k less = go ns k less
-      where
-        go : (xs : List ℕ) (k : ℕ) → k < length xs → slice_get (xs ++ n ∷ []) k ≡ slice_get xs k
-        go [] k less = absurd (omega (arith, less))
-        go (x ∷ xs) Rattle.std.proofs.Common.zero less = refl
-        go (x ∷ xs) (Rattle.std.proofs.Common.suc k) less = go xs k (omega (arith, less))
+    front k less = let x = some_at ns k less in get_left ns (n ∷ []) k x.0 x.1 ∙ sym x.1
 
     behind : (xs : List ℕ) (x : ℕ) → slice_get (xs ++ x ∷ []) (length xs) ≡ Some x
     behind [] x = refl
     behind (y ∷ xs) x = behind xs x
 
--- a base stays one while the same images are out
-pub base_stays : {D : Type 0} (config : Config) (shared : Shared D) (old new : List (Option (ImageRest D))) (b : ManagerBase) → ((k : ℕ) → IsImageOut old k → IsImageOut new k) → IsOpenBase config shared old b → IsOpenBase config shared new b
-base_stays config shared old new b stays is = record {
-  out = stays b.volume.began.owner is.out;
-  home_blocks = is.home_blocks;
-  at = is.at;
-  loggers = is.loggers;
-  loggers_out = each b.volume.began.view is.loggers_out;
-  others = is.others;
-  apart = is.apart;
-  most = is.most;
-  own_spindle = is.own_spindle;
-  own_lanes = is.own_lanes;
-  untaken = is.untaken;
-}
-  where
-    each : (ks : List ℕ) → Rattle.std.specs.List.AllByRecursion (IsImageOut old) ks → Rattle.std.specs.List.AllByRecursion (IsImageOut new) ks
-    each [] all = tt
-    each (k ∷ ks) all = (stays k all.0, each ks all.1)
-
--- and the names that are out stay so
-pub out_stays : {D : Type 0} (config : Config) (old new : List (Option (ImageRest D))) (b : BayState) → ((k : ℕ) → IsImageOut new k → IsImageOut old k) → ((k : ℕ) → image_here new k ≡ None → image_here old k ≡ None) → AreOut config old b → AreOut config new b
-out_stays config old new b was none out = λ k v at. ((λ there. (out k v at).0 (was k there)), (λ gone. (out k v at).1 (none k gone)))
-
 -- ---- The rack may be closed once one volume more is open
-
--- a log of a volume says no other owner
-pub one_owner : (w id : ℕ) (c : List Block) (rs : List Record) → w < 2 ^ 32 → SaysOwnerOrFree w c → IsLog c id rs → w ≡ id
-one_owner w id [] rs known says log = absurd says
-one_owner w id (x ∷ c) rs known says log =
-    let first : x ≡ owned_block id = let both = log.joined in cc in
-    let mine : SpellsSegment x (head.Owned id) = record { in_range = log.known; bytes = first } in
-    ⊎_elim
-    (λ (is : x ≡ owned_block w).
-    let same : head.Owned w ≡ head.Owned id = one_segment_head x (head.Owned w) (head.Owned id) (record { in_range = known; bytes = is }) mine in
-    cc)
-    (λ (is : x ≡ free_block).
-    let same : head.Free ≡ head.Owned id = one_segment_head x head.Free (head.Owned id) (record { in_range = tt; bytes = is }) mine in
-    absurd (cc same))
-    says
 
 module _ {D : Type 0} (state : D → State) (config : Config) (valid : IsValid config) (b : BayState) (said : List (Option Said)) (id : ℕ) (r : Rack D) (own : Said)
     (ready : IsOpeningRack state config b said id r) (lt : id < length (shapes_of config)) (at : slice_get said id ≡ Some (Some own)) (view : List ℕ)
     (new : Rest D) (o : Opening D) (takes : TakesOpening state config r.rest new said id view o)
-    (s : Station D) (s_id : s.id ≡ id) (view_is : (base_of_station s).volume.began.view ≡ view) (others : Contains view id → ⊥) (all : loggers_out r.rest view ≡ view)
+    (s : Station D) (s_id : s.id ≡ id) (view_is : (base_of_station s).volume.began.view ≡ view) (all : loggers_out r.rest view ≡ view)
     (inside : (k i : ℕ) → Contains (map place_of o.owned.items) (k, i) → Contains view k)
     (station : IsStation s) (base_ok : IsOpenBase config r.shared new.images.items (base_of_station s)) (rooms : Rooms D) (rooms_ok : AreRooms (length (shapes_of config)) (length r.stations.items + 1) rooms)
     (stations : Vec (Station D) Global) (stations_are : stations.items ≡ r.stations.items ++ s ∷ []) where
@@ -120,33 +71,12 @@ module _ {D : Type 0} (state : D → State) (config : Config) (valid : IsValid c
   ids_are : map (λ (x : Station D). x.id) stations.items ≡ map (λ (x : Station D). x.id) r.stations.items ++ s.id ∷ []
   ids_are = ap (map (λ (x : Station D). x.id)) stations_are ∙ map_push (λ (x : Station D). x.id) r.stations.items s
 
-  pub stays : (k : ℕ) → IsImageOut r.rest.images.items k → IsImageOut new.images.items k
-  stays k there = go (image_here r.rest.images.items k) refl there
-    where
-      go : (x : Option (ImageRest D)) → image_here r.rest.images.items k ≡ x → IsSome x → IsImageOut new.images.items k
-      go None e is = absurd (cc is)
-      go (Some x) e is = ap is_some (without.image_without state config said id view r.rest new o takes k x e).1
-
-  was : (k : ℕ) → IsImageOut new.images.items k → IsImageOut r.rest.images.items k
-  was k there = go (image_here r.rest.images.items k) refl
-    where
-      go : (x : Option (ImageRest D)) → image_here r.rest.images.items k ≡ x → IsImageOut r.rest.images.items k
-      go None e = let none = ap is_some (without.none_without state config said id view r.rest new o takes k e) in absurd (cc (none, there))
-      go (Some x) e = ap is_some e
-
-  none_was : (k : ℕ) → image_here new.images.items k ≡ None → image_here r.rest.images.items k ≡ None
-  none_was k none = go (image_here r.rest.images.items k) refl
-    where
-      go : (x : Option (ImageRest D)) → image_here r.rest.images.items k ≡ x → image_here r.rest.images.items k ≡ None
-      go None e = e
-      go (Some x) e = absurd (none-some (without.image_without state config said id view r.rest new o takes k x e).0 (sym none ∙ (without.image_without state config said id view r.rest new o takes k x e).1))
-
   -- a segment that is here is no log of the volume
   not_its_log : (k i : ℕ) (image : ImageRest D) (p : Spun D) → image_here new.images.items k ≡ Some image → segment_here image i ≡ Some p → ((d : D) → TellsContent (state d)) → (c : List Block) (rs : List Record)
       → IsImageOf (state_of state p).values c → IsLog c id rs → ⊥
   not_its_log k i image p now here told c rs im log =
-      let w = was_here state config valid b said id r own ready lt at view new o takes (base_of_station s) owner_is view_is others all inside k image now in
-      let before = segment_was state config valid b said id r own ready lt at view new o takes (base_of_station s) owner_is view_is others all inside k i image p w now here in
+      let w = without.was_here state config said id view r.rest new o takes k image now in
+      let before = without.segment_was state config said id view r.rest new o takes k i image p w now here in
       let within : k < length (shapes_of config) = let n = ready.closable.rest.parts.images.0 in let l = here_within r.rest.images.items k w.image w.here in omega (arith, n, l) in
       let shape = some_at (shapes_of config) k within in
       let says = ready.says k shape.0 shape.1 (ap is_some w.here) in
@@ -168,52 +98,40 @@ module _ {D : Type 0} (state : D → State) (config : Config) (valid : IsValid c
   one_closable =
       let old = ready.closable in
       record {
-        out = out_stays config r.rest.images.items new.images.items b was none_was old.out;
+        out = without.out_stays state config b r new (without.lists_without state config said id view r.rest new o takes) old.out;
         locks = old.locks;
         keepers = old.keepers;
-        stations = subst (λ (xs : List (Station D)). All (λ x. IsStation x) xs) (sym stations_are) (All-push (λ (x : Station D). IsStation x) r.stations.items s old.stations station);
+        stations = all_push (λ (x : Station D). IsStation x) r.stations.items stations.items s stations_are old.stations station;
         rising = subst (λ (ns : List ℕ). AreRising ns) (sym ids_are) (rising_push (map (λ (x : Station D). x.id) r.stations.items) s.id old.rising
             (λ j m found. subst (λ (n : ℕ). m < n) (sym s_id) (below j m found)));
-        bases = subst (λ (xs : List (Station D)). All (λ x. IsOpenBase config r.shared new.images.items (base_of_station x)) xs) (sym stations_are)
-            (All-push (λ (x : Station D). IsOpenBase config r.shared new.images.items (base_of_station x)) r.stations.items s
-            (λ j d within. base_stays config r.shared r.rest.images.items new.images.items (base_of_station (Rattle.std.specs.Prelude.slice_index_or r.stations.items j d)) stays (old.bases j d within)) base_ok);
+        bases = all_push (λ (x : Station D). IsOpenBase config r.shared new.images.items (base_of_station x)) r.stations.items stations.items s stations_are
+            (λ j d within. without.base_stays config r.shared r.rest.images.items new.images.items (base_of_station (slice_index_or r.stations.items j d)) (without.out_without state config said id view r.rest new o takes) (old.bases j d within)) base_ok;
         rest = record {
           parts = subst (λ (bs : List ManagerBase). IsRestBut state config r.shared (away_with bs) next.rest) (sym bases_are)
-              (with_rooms state config r.shared (away_with (bases ++ base_of_station s ∷ [])) new rooms
-              (open_away state config valid b said id r own ready lt at view new o takes (base_of_station s) owner_is view_is others all inside));
+              (without.with_rooms state config r.shared (away_with (bases ++ base_of_station s ∷ [])) new rooms
+              (open_away state config valid b said id r own ready lt at view new o takes (base_of_station s) owner_is view_is all inside));
           rooms = subst (λ (n : ℕ). AreRooms (length (shapes_of config)) n rooms) (sym count_bases) rooms_ok;
         };
         foreign = record {
           places = λ k i image p now here told c base rs im has log. ⊎_elim
               (λ before.
-              let w = was_here state config valid b said id r own ready lt at view new o takes (base_of_station s) owner_is view_is others all inside k image now in
-              old.foreign.places k i w.image p w.here (segment_was state config valid b said id r own ready lt at view new o takes (base_of_station s) owner_is view_is others all inside k i image p w now here) told c base rs im before log)
+              let w = without.was_here state config said id view r.rest new o takes k image now in
+              old.foreign.places k i w.image p w.here (without.segment_was state config said id view r.rest new o takes k i image p w now here) told c base rs im before log)
               (λ (is : base_of_station s ≡ base).
               not_its_log k i image p now here told c rs im (subst (λ (n : ℕ). IsLog c n rs) (ap (λ (x : ManagerBase). x.volume.began.owner) (sym is) ∙ owner_is) log))
               (Contains-push_cases bases (base_of_station s) base (subst (λ (bs : List ManagerBase). Contains bs base) bases_are has));
-          held = λ v k i p has. absurd (none_held v k i p has);
+          held = λ v k i p has. absurd (none_in (i, p) (subst (λ (l : List (ℕ × Spun D)). Contains l (i, p)) (without.none_held state config said id view r.rest new o takes ready.unheld v k) has));
         };
-        accesses = λ v k p here. old.accesses v k p (spindle_was state config valid b said id r own ready lt at view new o takes (base_of_station s) owner_is view_is others all inside v k p here);
+        accesses = λ v k p here. old.accesses v k p (without.spindle_was state config said id view r.rest new o takes v k p here);
       }
     where
       below : (j m : ℕ) → slice_get (map (λ (x : Station D). x.id) r.stations.items) j ≡ Some m → m < id
       below j m found =
-          let within = slice_get_within (map (λ (x : Station D). x.id) r.stations.items) j m found in
-          let long = length-map r.stations.items (λ (x : Station D). x.id) in
-          let x = some_at r.stations.items j (omega (arith, within, long)) in
-          let is : x.0.id ≡ m = same_Some x.0.id m (sym (ap (Rattle.std.proofs.Common.option_map (λ (y : Station D). y.id)) x.1) ∙ sym (slice_get-map (λ (y : Station D). y.id) r.stations.items j) ∙ found) in
-          let one = ready.tried.below j x.0 (omega (arith, within, long)) in
-          let same = ap (λ (y : Station D). y.id) (Rattle.std.proofs.lemmas.Option.get_or_from_slice_get r.stations.items j x.0 x.0 x.1) in
-          omega (arith, one, same, is)
+          let ids = map (λ (x : Station D). x.id) r.stations.items in
+          ids_below state config b said id r ready m (j, slice_get_within ids j m found, get_or_from_slice_get ids j m m found)
 
       count_bases : length (map (λ (x : Station D). base_of_station x) stations.items) ≡ length r.stations.items + 1
       count_bases = length-map stations.items (λ (x : Station D). base_of_station x) ∙ ap (λ (xs : List (Station D)). length xs) stations_are ∙ Rattle.std.proofs.lemmas.List.length_push r.stations.items s
-
-      none_held : (v k i : ℕ) (p : Spun D) → Contains (held_here new v k) (i, p) → ⊥
-      none_held v k i p has =
-          let none : Contains [] (i, p) = subst (λ (l : List (ℕ × Spun D)). Contains l (i, p)) (held_none state config valid b said id r own ready lt at view new o takes (base_of_station s) owner_is view_is others all inside v k) has in
-          let l = none.1 in
-          omega (arith, l)
 
   -- ---- The rack goes on being opened
 
@@ -230,18 +148,17 @@ module _ {D : Type 0} (state : D → State) (config : Config) (valid : IsValid c
     contains_cases : (k : ℕ) → Contains (map (λ (x : Station D). x.id) stations.items) k → Contains (map (λ (x : Station D). x.id) r.stations.items) k ⊎ (id ≡ k)
     contains_cases k c = ⊎_elim (λ b. inl b) (λ (e : s.id ≡ k). inr (sym s_id ∙ e)) (Contains-push_cases (map (λ (x : Station D). x.id) r.stations.items) s.id k (subst (λ (ns : List ℕ). Contains ns k) ids_are c))
 
-    was_at : (k : ℕ) (image : ImageRest D) → image_here new.images.items k ≡ Some image → WasHere state config valid b said id r own ready lt at view new o takes (base_of_station s) owner_is view_is others all inside k image
-    was_at k image now = was_here state config valid b said id r own ready lt at view new o takes (base_of_station s) owner_is view_is others all inside k image now
+    was_at : (k : ℕ) (image : ImageRest D) → image_here new.images.items k ≡ Some image → without.WasHere state config said id view r.rest new o takes k image
+    was_at k image now = without.was_here state config said id view r.rest new o takes k image now
 
     segment_before : (k i : ℕ) (image : ImageRest D) (p : Spun D) (now : image_here new.images.items k ≡ Some image) → segment_here image i ≡ Some p → segment_here (was_at k image now).image i ≡ Some p
-    segment_before k i image p now here = segment_was state config valid b said id r own ready lt at view new o takes (base_of_station s) owner_is view_is others all inside k i image p (was_at k image now) now here
+    segment_before k i image p now here = without.segment_was state config said id view r.rest new o takes k i image p (was_at k image now) now here
 
     tried : AreTried config (id + 1) next
     tried = record {
       count = ready.tried.count;
       known = ready.tried.known;
-      below = subst (λ (xs : List (Station D)). All (λ (x : Station D). x.id < id + 1) xs) (sym stations_are)
-          (All-push (λ (x : Station D). x.id < id + 1) r.stations.items s (λ j d within. let one = ready.tried.below j d within in omega (arith, one)) (omega (arith, s_id)));
+      below = all_push (λ (x : Station D). x.id < id + 1) r.stations.items stations.items s stations_are (λ j d within. let one = ready.tried.below j d within in omega (arith, one)) (omega (arith, s_id));
       tried = λ k less. ⊎_elim
           (λ (before : k < id).
           let old = ready.tried.tried k before in
@@ -252,7 +169,7 @@ module _ {D : Type 0} (state : D → State) (config : Config) (valid : IsValid c
           let none = (ready.tried.further id (omega arith) lt).1 out in
           (λ is. subst (λ (n : ℕ). Contains (map (λ (x : Station D). x.id) stations.items) n) (sym e) contains_own, λ c. ap (λ (n : ℕ). fault_at r.faults.items n) e ∙ none))
           (cases_lt k id);
-      further = λ k le within. let old = ready.tried.further k (omega (arith, le)) within in (λ none. stays k (old.0 none), λ out. old.1 (was k out));
+      further = λ k le within. let old = ready.tried.further k (omega (arith, le)) within in (λ none. without.out_without state config said id view r.rest new o takes k ∙ old.0 none, λ out. old.1 (sym (without.out_without state config said id view r.rest new o takes k) ∙ out));
     }
 
     -- the view of the volume is the one that its image says
@@ -261,26 +178,24 @@ module _ {D : Type 0} (state : D → State) (config : Config) (valid : IsValid c
 
     users : KeepToViews (view_at said) next
     users = record {
-      opened = subst (λ (xs : List (Station D)). All (λ (x : Station D). view_at said x.id ≡ (base_of_station x).volume.began.view) xs) (sym stations_are)
-          (All-push (λ (x : Station D). view_at said x.id ≡ (base_of_station x).volume.began.view) r.stations.items s ready.users.opened view_said);
+      opened = all_push (λ (x : Station D). view_at said x.id ≡ (base_of_station x).volume.began.view) r.stations.items stations.items s stations_are ready.users.opened view_said;
       unused = λ v k p other never here.
-          ready.users.unused v k p other never (spindle_was state config valid b said id r own ready lt at view new o takes (base_of_station s) owner_is view_is others all inside v k p here);
+          ready.users.unused v k p other never (without.spindle_was state config said id view r.rest new o takes v k p here);
     }
 
     pub one_opening : IsOpeningRack state config b said (id + 1) next
     one_opening = record {
       closable = one_closable;
-      fresh = subst (λ (xs : List (Station D)). All (λ (x : Station D). IsUnused x.worker × IsUnused x.helper × IsUnused x.keeper) xs) (sym stations_are)
-          (All-push (λ (x : Station D). IsUnused x.worker × IsUnused x.helper × IsUnused x.keeper) r.stations.items s ready.fresh unused);
+      fresh = all_push (λ (x : Station D). IsUnused x.worker × IsUnused x.helper × IsUnused x.keeper) r.stations.items stations.items s stations_are ready.fresh unused;
       station_room = let n = ready.station_room in let c = count_stations in omega (arith, n, c, station_cap);
       manager_room = let n = ready.manager_room in let c = count_stations in omega (arith, n, c, manager_cap);
       tried = tried;
-      says = λ k sh shape out. ready.says k sh shape (was k out);
-      silent = λ k none. ready.silent k (none_was k none);
+      says = λ k sh shape out. ready.says k sh shape (sym (without.out_without state config said id view r.rest new o takes k) ∙ out);
+      silent = λ k none. ready.silent k (without.none_was state config said id view r.rest new o takes k none);
       pools = ready.pools;
       said_count = ready.said_count;
-      unheld = λ v k. held_none state config valid b said id r own ready lt at view new o takes (base_of_station s) owner_is view_is others all inside v k;
-      since = λ v k i p here holding. ready.since v k i p (pool_was state config valid b said id r own ready lt at view new o takes (base_of_station s) owner_is view_is others all inside v k p here).0 holding;
+      unheld = λ v k. without.none_held state config said id view r.rest new o takes ready.unheld v k;
+      since = λ v k i p here holding. ready.since v k i p (without.pool_was state config said id view r.rest new o takes v k p here).0 holding;
       owners = record {
         closed = λ k i w own_k image p is head now here has.
             let before = segment_before k i image p now here in
@@ -297,12 +212,12 @@ module _ {D : Type 0} (state : D → State) (config : Config) (valid : IsValid c
       };
       users = users;
       untouched = record {
-        passes = λ v k p le here. ready.untouched.passes v k p (omega (arith, le)) (pool_was state config valid b said id r own ready lt at view new o takes (base_of_station s) owner_is view_is others all inside v k p here).0;
+        passes = λ v k p le here. ready.untouched.passes v k p (omega (arith, le)) (without.pool_was state config said id view r.rest new o takes v k p here).0;
         here = λ v k i own_k image le is head now.
             let w = was_at k image now in
             let before = ready.untouched.here v k i own_k w.image (omega (arith, le)) is head w.here in
             let place : IsOwnedPlace said v k i = (own_k, Rattle.std.proofs.lemmas.Option.slice_get-get_or said k None (here_within said k own_k is) ∙ ap Some is, head) in
-            let never : Contains (map place_of o.owned.items) (k, i) → ⊥ = λ c. let e = owner_of state config valid b said id r own ready lt at view new o takes (base_of_station s) owner_is view_is others all inside v k i place c in omega (arith, le, e) in
+            let never : Contains (map place_of o.owned.items) (k, i) → ⊥ = λ c. let e = without.owner_of state config said id view r.rest new o takes v k i place c in omega (arith, le, e) in
             (before.0, sym (segment_in_image new k image now i) ∙ without.segment_kept state config said id view r.rest new o takes k i never ∙ segment_in_image r.rest k w.image w.here i ∙ before.1, before.2);
       };
     }
@@ -324,10 +239,6 @@ pub record ArePopped {X : Type 0} (ps zs : List X) (worker helper keeper : X) : 
   pub third : keeper ≡ get_or ps 2 keeper
   pub empty : zs ≡ []
 
-no_items : {X : Type 0} (xs : List X) → length xs ≡ 0 → xs ≡ []
-no_items [] e = refl
-no_items (x ∷ xs) e = absurd (omega (arith, e))
-
 pub popped : {X : Type 0} (ps xs ys zs : List X) (worker helper keeper : X) → length ps ≡ 3 → ps ≡ xs ++ keeper ∷ [] → xs ≡ ys ++ helper ∷ [] → ys ≡ zs ++ worker ∷ [] → ArePopped ps zs worker helper keeper
 popped {X} ps xs ys zs worker helper keeper count one two three =
     let l1 = length_push xs keeper in
@@ -336,7 +247,7 @@ popped {X} ps xs ys zs worker helper keeper count one two three =
     let e1 = ap length one in
     let e2 = ap length two in
     let e3 = ap length three in
-    let none = no_items zs (omega (arith, count, l1, l2, l3, e1, e2, e3)) in
+    let none = nil_from_length zs (omega (arith, count, l1, l2, l3, e1, e2, e3)) in
     let all : ps ≡ worker ∷ helper ∷ keeper ∷ [] = one ∙ ap (λ (l : List X). l ++ keeper ∷ []) (two ∙ ap (λ (l : List X). l ++ helper ∷ []) (three ∙ ap (λ (l : List X). l ++ worker ∷ []) none)) in
     record {
       first = sym (ap (λ (l : List X). get_or l 0 worker) all);
@@ -349,110 +260,263 @@ popped {X} ps xs ys zs worker helper keeper count one two three =
 pub new_at : {T B : Type 0} (l : TurnLock T B) (ps : List (PassOf T B)) (n : ℕ) (p : PassOf T B) → ((k : ℕ) (d : PassOf T B) → k < length ps → IsNewPass l k (get_or ps k d)) → n < length ps → p ≡ get_or ps n p → IsNewPass l n p
 new_at l ps n p new within is = subst (IsNewPass l n) (sym is) (new n p within)
 
+-- ---- The faults of other volumes stay while the opening of one is away
+
+module _ {D : Type 0} (state : D → State) (config : Config) (said : List (Option Said)) (id : ℕ) (r : Rack D) (view : List ℕ) (new : Rest D) (o : Opening D) (takes : TakesOpening state config r.rest new said id view o) where
+  -- a part of another volume that had a fault is here
+  pub fault_kept : (rooms : Rooms D) (k : ℕ) (p : Part) → k ≢ id → HasFaultOf state said k p r.rest → HasFaultOf state said k p (record new { rooms = rooms })
+  fault_kept rooms k p other had = record {
+    part = had.part;
+    here = ⊎_elim
+        (λ home.
+        let image = without.image_without state config said id view r.rest new o takes k home.0 home.1 in
+        inl (image.0, image.1, image.2.others other ∙ home.2, home.3))
+        (λ segment.
+        let never : Contains (map place_of o.owned.items) (segment.0, segment.1) → ⊥ = λ taken. other (without.owner_of state config said id view r.rest new o takes k segment.0 segment.1 segment.2 taken) in
+        inr (segment.0, segment.1, segment.2, without.segment_kept state config said id view r.rest new o takes segment.0 segment.1 never ∙ segment.3, segment.4))
+        had.here;
+    fault = had.fault;
+  }
+
+-- ---- What a rack began with once one volume more is open
+
+-- what a volume begins with that was opened of what the images say
+pub begun_of : {D : Type 0} (tells : Bool) (state : D → State) (telling : IsTrue tells) (config : Config) (out : List (Option (ImageRest D))) (images : Images) (id : ℕ) (o : Opening D) (b : Base)
+    → ((k : ℕ) (s : Shape) (image : List Block) → slice_get (shapes_of config) k ≡ Some s → image_of images k ≡ Some image → length image ≡ Rattle.wol_model.specs.Images.image_size s)
+    → (image : List Block) → image_of images id ≡ Some image → IsOpeningOf state config out images id o → Begins tells state o b → IsRecoverable state o → IsBegun config images b
+begun_of {D} tells state telling config out images id o b each image there of begins recoverable =
+    let segments = all_owned state o.owned.items in
+    let owner : b.owner ≡ id = begins.owner ∙ of.id in
+    record {
+      array =
+          begins.array telling
+          ∙ ap (λ (v : ℕ). recovered_of v (read_of (state_of state o.home)) segments) of.id
+          ∙ ap (λ (home : List Block). recovered_of id home segments) (of.home image there)
+          ∙ sym (recovered_owned (shapes_of config) images id (shape_of o.want) image segments each of.shape there of.owned)
+          ∙ ap (λ (v : ℕ). recovered_from (shapes_of config) images v) (sym owner);
+      owned = segments;
+      are_owned = subst (λ (v : ℕ). AreOwnedIn (shapes_of config) images v segments) (sym owner) of.owned;
+      intact = subst (λ (v : ℕ). AreIntact v b.home_blocks segments) (sym begins.owner) (subst (λ (n : ℕ). AreIntact o.want.id n segments) (sym begins.home_blocks) recoverable.0);
+      no_twins = subst (λ (v : ℕ). HaveNoTwins (heads_in v segments)) (sym begins.owner) recoverable.1;
+      records = begins.records telling ∙ ap (λ (v : ℕ). writes_in v segments) (sym begins.owner);
+      listed = begins.listed;
+      found = subst (λ (v : ℕ). AllByRecursion (IsListedOf v b.view segments) b.look.listed) (sym begins.owner)
+          (subst (λ (view : List ℕ). AllByRecursion (IsListedOf o.want.id view segments) b.look.listed) (sym begins.view) (begins.found telling));
+      next = begins.next telling ∙ ap (λ (v : ℕ). next_version (records_in v segments)) (sym begins.owner);
+      view = λ i is. subst (HasView i) (sym begins.view) (of.view i (sym (ap (image_of images) owner) ∙ is));
+      most = begins.most ∙ of.most;
+    }
+
+-- its listed records stood where the images have them
+pub placed_of : {D : Type 0} (tells : Bool) (state : D → State) (telling : IsTrue tells) (config : Config) (shared : Shared D) (out : List (Option (ImageRest D))) (images : Images) (id : ℕ) (o : Opening D) (m : Manager D)
+    → IsOpeningOf state config out images id o → (opens : Opens tells state shared o m) → BeganInPlace config images opens.base
+placed_of {D} tells state telling config shared out images id o m of opens =
+    let segments = all_owned state o.owned.items in
+    let began = opens.base.volume.began in
+    record {
+      owned = segments;
+      are_owned = subst (λ (v : ℕ). AreOwnedIn (shapes_of config) images v segments) (sym (opens.begins.owner ∙ of.id)) of.owned;
+      each = subst (λ (v : ℕ). AllByRecursion (StandsInOwned v began.view segments) opens.base.volume.places) (sym opens.begins.owner)
+          (subst (λ (view : List ℕ). AllByRecursion (StandsInOwned o.want.id view segments) opens.base.volume.places) (sym opens.begins.view) (opens.placed telling));
+    }
+
+-- a fault of a volume that was tried is none of the one at hand
+pub tried_before : {D : Type 0} (state : D → State) (config : Config) (valid : IsValid config) (b : BayState) (said : List (Option Said)) (id : ℕ) (r : Rack D) (own : Said)
+    → (ready : IsOpeningRack state config b said id r) (lt : id < length (shapes_of config)) (at : slice_get said id ≡ Some (Some own)) (k : ℕ) (f : VolumeFault) → fault_at r.faults.items k ≡ Some f
+    → (k < id + 1) ⊎ (image_here r.rest.images.items k ≡ None) → (k < id) ⊎ (image_here r.rest.images.items k ≡ None)
+tried_before state config valid b said id r own ready lt at k f is or =
+    ⊎_elim
+    (λ (less : k < id + 1).
+    ⊎_elim
+    (λ (before : k < id). inl before)
+    (λ (past : id ≤ k).
+    let e : k ≡ id = omega (arith, less, past) in
+    let none = (ready.tried.further id (omega arith) lt).1 (ap is_some (image_id state config valid b said id r own ready lt at).1) in
+    absurd (none-some f (sym none ∙ sym (ap (λ (n : ℕ). fault_at r.faults.items n) e) ∙ is)))
+    (cases_lt k id))
+    (λ none. inr none)
+    or
+
+-- ---- What the rack is then
+
 module _ {D : Type 0} (tells : Bool) (state : D → State) (config : Config) (valid : IsValid config) (b : BayState) (said : List (Option Said)) (id : ℕ) (r : Rack D) (own : Said)
     (ready : IsOpeningRack state config b said id r) (lt : id < length (shapes_of config)) (at : slice_get said id ≡ Some (Some own)) (view : List ℕ) (own_view : own.view ≡ view)
     (new : Rest D) (o : Opening D) (takes : TakesOpening state config r.rest new said id view o)
     (l : TurnLock (Manager D) ManagerBase) (ps : List (PassOf (Manager D) ManagerBase)) (locked : IsLocked tells state r.shared o l ps)
-    (worker helper keeper : PassOf (Manager D) ManagerBase) (worker_is : worker ≡ get_or ps 0 worker) (helper_is : helper ≡ get_or ps 1 helper) (keeper_is : keeper ≡ get_or ps 2 keeper) where
+    (worker helper keeper : PassOf (Manager D) ManagerBase) where
   abbrev pub station : Station D
   station = record { id = id; lock = l; worker = worker; helper = helper; keeper = keeper }
 
-  can : CanOpen state r.shared o
-  can = can_open state config valid b said id r own ready lt at view new o takes
+  -- ---- It began with what the images say
 
-  pub others : Contains view id → ⊥
-  others = (can_take state config valid b said id r own ready lt at view own_view).others
+  module _ (telling : IsTrue tells) (t : Told) (begun : HasBegun state config t said id r) where
+    abbrev images : Images
+    images = images_taken config r.rest.images.items t
 
-  pub all : loggers_out r.rest view ≡ view
-  all = all_out state config r.shared said id view r.rest new o takes can locked.opens.named
+    same_images : images_taken config new.images.items t ≡ images
+    same_images = taken_same new.images.items r.rest.images.items
+        (without.lists_without state config said id view r.rest new o takes) config t
 
-  pub inside : (k i : ℕ) → Contains (map place_of o.owned.items) (k, i) → Contains view k
-  inside = all_inside state config r.shared said id view r.rest new o takes can locked.opens.named
+    station_begun : IsBegun config images (base_of_station station).volume.began
+    station_begun =
+        let x = image_id state config valid b said id r own ready lt at in
+        let read = read_at state config valid b said id r own ready lt at view own_view new o takes t begun.cut id x.0 x.1 in
+        subst (λ (m : ManagerBase). IsBegun config images m.volume.began) (sym locked.base)
+        (begun_of tells state telling config r.rest.images.items images id o locked.opens.base.volume.began
+        (sized state config valid b said id r own ready lt at view own_view new o takes t begun.cut) (reads read.entry.blocks) read.read
+        (opening_of state config valid b said id r own ready lt at view own_view new o takes t begun.cut) locked.opens.begins (locked.opens.recoverable telling))
 
-  pub owner : (base_of_station station).volume.began.owner ≡ id
-  owner = ap (λ (x : ManagerBase). x.volume.began.owner) locked.base ∙ locked.opens.begins.owner ∙ takes.id
+    station_placed : BeganInPlace config images (base_of_station station)
+    station_placed = subst (BeganInPlace config images) (sym locked.base)
+        (placed_of tells state telling config r.shared r.rest.images.items images id o locked.manager (opening_of state config valid b said id r own ready lt at view own_view new o takes t begun.cut) locked.opens)
 
-  pub view_is : (base_of_station station).volume.began.view ≡ view
-  view_is = ap (λ (x : ManagerBase). x.volume.began.view) locked.base ∙ locked.opens.begins.view ∙ takes.view_is
+    -- ---- What is left here
 
-  is_station : IsStation station
-  is_station =
-      let n = locked.count in
-      let w = new_at l ps 0 worker locked.new (omega (arith, n)) worker_is in
-      let h = new_at l ps 1 helper locked.new (omega (arith, n)) helper_is in
-      let k = new_at l ps 2 keeper locked.new (omega (arith, n)) keeper_is in
-      record {
-        id = owner;
-        passes = locked.passes;
-        worker_ = record { own = w.own; free = w.free; number_is = w.number };
-        helper_ = record { own = h.own; free = h.free; number_is = h.number };
-        keeper_ = record { own = k.own; free = k.free; number_is = k.number };
-      }
+    -- a home that is here is another volume's
+    home_was : (k : ℕ) (y : ImageRest D) (w : without.WasHere state config said id view r.rest new o takes k y) (p : Spun D) → y.home ≡ Some p → (k ≢ id) × (w.image.home ≡ Some p)
+    home_was k y w p home =
+        ⊎_elim
+        (λ (e : k ≡ id). absurd (none-some p (sym (w.is.own e) ∙ home)))
+        (λ (other : k ≡ id → ⊥). (other, sym (w.is.others other) ∙ home))
+        (cases_eq k id)
 
-  unused : IsUnused worker × IsUnused helper × IsUnused keeper
-  unused =
-      let n = locked.count in
-      let w = new_at l ps 0 worker locked.new (omega (arith, n)) worker_is in
-      let h = new_at l ps 1 helper locked.new (omega (arith, n)) helper_is in
-      let k = new_at l ps 2 keeper locked.new (omega (arith, n)) keeper_is in
-      (record { seen = w.seen; mine = w.mine }, record { seen = h.seen; mine = h.mine }, record { seen = k.seen; mine = k.mine })
-
-  -- an image that was out is
-  still_out : (k : ℕ) → IsImageOut r.rest.images.items k → IsImageOut new.images.items k
-  still_out k there = go (image_here r.rest.images.items k) refl there
-    where
-      go : (x : Option (ImageRest D)) → image_here r.rest.images.items k ≡ x → is_some x ≡ Rattle.std.proofs.Common.true → IsImageOut new.images.items k
-      go None e is = absurd (cc is)
-      go (Some x) e is = ap is_some (without.image_without state config said id view r.rest new o takes k x e).1
-
-  outs : All (IsImageOut new.images.items) o.view
-  outs = subst (All (IsImageOut new.images.items)) (all ∙ sym takes.view_is)
-      (λ j d below. still_out (get_or (loggers_out r.rest view) j d) (filter_passes (λ k. is_some (image_here r.rest.images.items k)) view j d below))
-
-  is_base : IsOpenBase config r.shared new.images.items (base_of_station station)
-  is_base =
-      let spindle_in : id < length r.shared.spindles.items = let c = ready.closable.locks.spindle_count in omega (arith, lt, c) in
-      let q = some_at r.shared.spindles.items id spindle_in in
-      let spindle = (parts state config valid b said id r own ready lt at).spindles.each id id q.0 o.spindle q.1 takes.spindle_was in
-      let taken = lanes_taken state config valid b said id r own ready lt at view new o takes in
-      subst (λ (x : ManagerBase). IsOpenBase config r.shared new.images.items x) (sym locked.base)
-      (open_base tells state config r.shared new.images.items o locked.manager locked.opens id takes.id takes.shape takes.most
-      (still_out id (ap is_some (image_id state config valid b said id r own ready lt at).1)) outs
-      (λ c. others (subst (λ (ids : List ℕ). Contains ids id) takes.view_is c))
-      (subst (λ (ids : List ℕ). Rattle.std.specs.Prelude.AllPairs (λ j k. Rattle.std.proofs.Common.◌≢◌ j k) ids) (sym takes.view_is) takes.distinct)
-      spindle.number_is
-      (λ j d below. let x = taken j d below in (x.number, x.spindle_number)) (λ j d below. (taken j d below).unused))
-
-  -- ---- The rack with it
-
-  module _ (stations : Vec (Station D) Global) (stations_are : stations.items ≡ r.stations.items ++ station ∷ []) (station_cap : vec_capacity stations ≡ vec_capacity r.stations)
-      (managers : Vec (Vec (PassOf (Manager D) ManagerBase) Global) Global) (row : Vec (PassOf (Manager D) ManagerBase) Global) (managers_are : managers.items ≡ new.rooms.managers.items ++ row ∷ [])
-      (manager_cap : vec_capacity managers ≡ vec_capacity new.rooms.managers) (empty : row.items ≡ []) (row_cap : 3 ≤ vec_capacity row) where
-    abbrev pub rooms : Rooms D
-    rooms = record new.rooms { managers = managers }
-
-    same_rooms : new.rooms ≡ r.rest.rooms
-    same_rooms = takes.home.rooms ∙ takes.owned.rooms ∙ takes.lanes.passes.rooms
-
-    are_rooms : AreRooms (length (shapes_of config)) (length r.stations.items + 1) rooms
-    are_rooms =
-        let count = length-map r.stations.items (λ (s : Station D). base_of_station s) in
-        let old : AreRooms (length (shapes_of config)) (length r.stations.items) new.rooms
-        = subst (λ (x : Rooms D). AreRooms (length (shapes_of config)) (length r.stations.items) x) (sym same_rooms)
-        (subst (λ (n : ℕ). AreRooms (length (shapes_of config)) n r.rest.rooms) count ready.closable.rest.rooms) in
-        let long = length_push new.rooms.managers.items row in
-        let was = old.manager_count in
+    still_left : (k : ℕ) (v : VolumeConf) (before : Image) (y : ImageRest D) → slice_get config.volumes.items k ≡ Some v → at_name v.name t.images ≡ Some before → image_here new.images.items k ≡ Some y → IsLeftHere state (shape_in config v) before y
+    still_left k v before y conf there now =
+        let w = without.was_here state config said id view r.rest new o takes k y now in
+        let old = begun.began.left k v before w.image conf there w.here in
         record {
-          pool_count = old.pool_count;
-          pools = old.pools;
-          spindle_count = old.spindle_count;
-          spindles = old.spindles;
-          manager_count = ap length managers_are ∙ omega (arith, long, was);
-          managers = subst (All (λ x. (x.items ≡ []) × (3 ≤ vec_capacity x))) (sym managers_are)
-              (All-push (λ x. (x.items ≡ []) × (3 ≤ vec_capacity x)) new.rooms.managers.items row old.managers (empty, row_cap));
-          closed = old.closed;
+          label = λ c is. old.label c (subst (λ (p : Spun D). IsImageOf (state_of state p).values c) w.is.label is);
+          home = λ p home. old.home p (home_was k y w p home).1;
+          segments = λ i p here. old.segments i p (without.segment_was state config said id view r.rest new o takes k i y p w now here);
         }
 
-    pub opened : IsOpeningRack state config b said (id + 1) (record r { stations = stations; rest = record new { rooms = rooms } })
-    opened = one_opening state config valid b said id r own ready lt at view new o takes station refl view_is others all inside is_station is_base rooms are_rooms stations stations_are unused station_cap
-        (manager_cap ∙ ap (λ (x : Rooms D). vec_capacity x.managers) same_rooms) own_view
+    -- ---- What is gone
+
+    more_stations : (stations : Vec (Station D) Global) → stations.items ≡ r.stations.items ++ station ∷ [] → (s : Station D) → Contains r.stations.items s → Contains stations.items s
+    more_stations stations are s has = subst (λ (l : List (Station D)). Contains l s) (sym are) (Contains-append_left r.stations.items (station ∷ []) s has)
+
+    -- a segment of the opening was owned by its volume
+    taken_gone : (stations : Vec (Station D) Global) → stations.items ≡ r.stations.items ++ station ∷ [] → (k i : ℕ) (v : VolumeConf) (before : Image) → slice_get config.volumes.items k ≡ Some v → at_name v.name t.images ≡ Some before
+        → Contains (map place_of o.owned.items) (k, i) → IsGone (length (shapes_of config)) (shape_in config v) before stations.items i
+    taken_gone stations are k i v before conf there taken =
+        let from = of_map place_of o.owned.items (k, i) taken in
+        let part = owned_in_image state config valid b said id r own ready lt at view new o takes from.0 from.1 in
+        let logger : from.0.logger ≡ k = ap (λ (p : ℕ × ℕ). p.0) from.2 in
+        let index : from.0.index ≡ i = ap (λ (p : ℕ × ℕ). p.1) from.2 in
+        let said_k : said_at said k ≡ Some part.saying = ap (said_at said) (sym logger) ∙ part.said_is in
+        let head_i : slice_get part.saying.heads.items i ≡ Some (Owned id) = ap (slice_get part.saying.heads.items) (sym index) ∙ part.head in
+        let entry = begun.cut.says k v part.saying conf said_k in
+        let same : entry.0 ≡ before = same_Some entry.0 before (sym entry.1 ∙ there) in
+        let first = head_place (shape_in config v) i in
+        let behind = head_place (shape_in config v) (i + 1) in
+        subst (λ (image : Image). IsGone (length (shapes_of config)) (shape_in config v) image stations.items i) same
+        (record {
+          was = slice_range (reads entry.0.blocks) first behind;
+          had = subst (λ (c : List Block). IsImageOf (Some (slice_range entry.0.blocks first behind)) c) (reads_range entry.0.blocks first behind) (image_reads (slice_range entry.0.blocks first behind));
+          said = inr (inl (
+            station,
+            subst (λ (xs : List (Station D)). Contains xs station) (sym are) (Contains-push r.stations.items station),
+            entry.2.accepted.each i (head.Owned id) (slice_get-map segment_head part.saying.heads.items i ∙ ap (option_map segment_head) head_i),
+          ));
+        })
+
+    kept_gone : (stations : Vec (Station D) Global) → stations.items ≡ r.stations.items ++ station ∷ [] → (s : Shape) (before : Image) (i : ℕ) → IsGone (length (shapes_of config)) s before r.stations.items i
+        → IsGone (length (shapes_of config)) s before stations.items i
+    kept_gone stations are s before i old = record {
+      was = old.was;
+      had = old.had;
+      said = ⊎_elim (λ free. inl free) (⊎_elim (λ owned. inr (inl (owned.0, more_stations stations are owned.0 owned.1, owned.2))) (λ nothing. inr (inr nothing))) old.said;
+    }
+
+    still_gone : (stations : Vec (Station D) Global) → stations.items ≡ r.stations.items ++ station ∷ [] → (k i : ℕ) (v : VolumeConf) (before : Image) (y : ImageRest D) → slice_get config.volumes.items k ≡ Some v
+        → at_name v.name t.images ≡ Some before → image_here new.images.items k ≡ Some y → i < v.segments → ((p : Spun D) → segment_here y i ≡ Some p → ⊥) → IsGone (length (shapes_of config)) (shape_in config v) before stations.items i
+    still_gone stations are k i v before y conf there now within none =
+        let w = without.was_here state config said id view r.rest new o takes k y now in
+        ⊎_elim
+        (λ taken. taken_gone stations are k i v before conf there taken)
+        (λ never. kept_gone stations are (shape_in config v) before i (begun.began.gone k i v before w.image conf there w.here within
+        (nowhere state config valid b said id r own ready lt at k i (λ p is. none p (sym (segment_in_image new k y now i) ∙ without.segment_kept state config said id view r.rest new o takes k i never ∙ is)))))
+        (without.is_pair (map place_of o.owned.items) k i)
+
+    -- ---- The whole
+
+    pub opened_begun : (stations : Vec (Station D) Global) → stations.items ≡ r.stations.items ++ station ∷ [] → (rooms : Rooms D)
+        → HasBegun state config t said (id + 1) (record r { stations = stations; rest = record new { rooms = rooms } })
+    opened_begun stations are rooms = record {
+      began = record {
+        stations = all_push (λ (s : Station D). IsBegun config (images_taken config new.images.items t) (base_of_station s).volume.began) r.stations.items stations.items station are
+            (without.stations_began state config r new (without.lists_without state config said id view r.rest new o takes) t begun.began) (subst (λ is. IsBegun config is (base_of_station station).volume.began) (sym same_images) station_begun);
+        placed = all_push (λ (s : Station D). BeganInPlace config (images_taken config new.images.items t) (base_of_station s)) r.stations.items stations.items station are
+            (without.stations_placed state config r new (without.lists_without state config said id view r.rest new o takes) t begun.began) (subst (λ is. BeganInPlace config is (base_of_station station)) (sym same_images) station_placed);
+        left = still_left;
+        held = λ w k i v before p conf there has. absurd (none_in (i, p) (subst (λ (xs : List (ℕ × Spun D)). Contains xs (i, p)) (without.none_held state config said id view r.rest new o takes ready.unheld w k) has));
+        gone = λ k i v before y conf there now within none. still_gone stations are k i v before y conf there now within (λ p here. none p (inl (y, now, here)));
+        pools = λ k v l y conf lock now. (let w = without.was_here state config said id view r.rest new o takes k y now in begun.began.pools k v l w.image conf lock w.here);
+      };
+      cut = record {
+        says = begun.cut.says;
+        homes = λ k v i y p le conf there now home.
+            let w = without.was_here state config said id view r.rest new o takes k y now in
+            begun.cut.homes k v i w.image p (omega (arith, le)) conf there w.here (home_was k y w p home).1;
+        segments = λ owner k j v i own_k y p le conf there said_is head now here.
+            let w = without.was_here state config said id view r.rest new o takes k y now in
+            begun.cut.segments owner k j v i own_k w.image p (omega (arith, le)) conf there said_is head w.here (without.segment_was state config said id view r.rest new o takes k j y p w now here);
+      };
+    }
+
+  -- ---- It goes on being opened
+
+  module _ (worker_is : worker ≡ get_or ps 0 worker) (helper_is : helper ≡ get_or ps 1 helper) (keeper_is : keeper ≡ get_or ps 2 keeper) where
+    -- the passes are the new ones of its lock
+    are_new : IsNewPass l 0 worker × IsNewPass l 1 helper × IsNewPass l 2 keeper
+    are_new =
+        let n = locked.count in
+        (new_at l ps 0 worker locked.new (omega (arith, n)) worker_is, new_at l ps 1 helper locked.new (omega (arith, n)) helper_is, new_at l ps 2 keeper locked.new (omega (arith, n)) keeper_is)
+
+    is_station : IsStation station
+    is_station =
+        record {
+          id = ap (λ (x : ManagerBase). x.volume.began.owner) locked.base ∙ owner_new tells state config valid b said id r own ready lt at view own_view new o takes locked.manager locked.opens;
+          passes = locked.passes;
+          worker_ = record { own = are_new.0.own; free = are_new.0.free; number_is = are_new.0.number };
+          helper_ = record { own = are_new.1.own; free = are_new.1.free; number_is = are_new.1.number };
+          keeper_ = record { own = are_new.2.own; free = are_new.2.free; number_is = are_new.2.number };
+        }
+
+    unused : IsUnused worker × IsUnused helper × IsUnused keeper
+    unused = (record { seen = are_new.0.seen; mine = are_new.0.mine }, record { seen = are_new.1.seen; mine = are_new.1.mine }, record { seen = are_new.2.seen; mine = are_new.2.mine })
+
+    -- ---- The rack with it
+
+    module _ (stations : Vec (Station D) Global) (stations_are : stations.items ≡ r.stations.items ++ station ∷ []) (station_cap : vec_capacity stations ≡ vec_capacity r.stations)
+        (managers : Vec (Vec (PassOf (Manager D) ManagerBase) Global) Global) (row : Vec (PassOf (Manager D) ManagerBase) Global) (managers_are : managers.items ≡ new.rooms.managers.items ++ row ∷ [])
+        (manager_cap : vec_capacity managers ≡ vec_capacity new.rooms.managers) (empty : row.items ≡ []) (row_cap : 3 ≤ vec_capacity row) where
+      abbrev pub rooms : Rooms D
+      rooms = record new.rooms { managers = managers }
+
+      same_rooms : new.rooms ≡ r.rest.rooms
+      same_rooms = takes.home.rooms ∙ takes.owned.rooms ∙ takes.lanes.passes.rooms
+
+      are_rooms : AreRooms (length (shapes_of config)) (length r.stations.items + 1) rooms
+      are_rooms =
+          let count = length-map r.stations.items (λ (s : Station D). base_of_station s) in
+          let old : AreRooms (length (shapes_of config)) (length r.stations.items) new.rooms
+          = subst (λ (x : Rooms D). AreRooms (length (shapes_of config)) (length r.stations.items) x) (sym same_rooms)
+          (subst (λ (n : ℕ). AreRooms (length (shapes_of config)) n r.rest.rooms) count ready.closable.rest.rooms) in
+          let long = length_push new.rooms.managers.items row in
+          let was = old.manager_count in
+          record {
+            pool_count = old.pool_count;
+            pools = old.pools;
+            spindle_count = old.spindle_count;
+            spindles = old.spindles;
+            manager_count = ap length managers_are ∙ omega (arith, long, was);
+            managers = all_push (λ x. (x.items ≡ []) × (3 ≤ vec_capacity x)) new.rooms.managers.items managers.items row managers_are old.managers (empty, row_cap);
+            closed = old.closed;
+          }
+
+      pub opened : IsOpeningRack state config b said (id + 1) (record r { stations = stations; rest = record new { rooms = rooms } })
+      opened = one_opening state config valid b said id r own ready lt at view new o takes station refl (ap (λ (x : ManagerBase). x.volume.began.view) locked.base ∙ view_new tells state config valid b said id r own ready lt at view own_view new o takes locked.manager locked.opens)
+          (all_new tells state config valid b said id r own ready lt at view own_view new o takes locked.manager locked.opens) (inside_new tells state config valid b said id r own ready lt at view own_view new o takes locked.manager locked.opens)
+          is_station (subst (IsOpenBase config r.shared new.images.items) (sym locked.base) (base_new tells state config valid b said id r own ready lt at view own_view new o takes locked.manager locked.opens)) rooms are_rooms stations stations_are unused station_cap
+          (manager_cap ∙ ap (λ (x : Rooms D). vec_capacity x.managers) same_rooms) own_view

@@ -1,16 +1,15 @@
 -- The opening of a volume is one of the images as they read.
-use Rattle.rack.proofs.Basics.{◌≡◌, ℕ, ◌^◌, ◌<◌, length, Some, option_map, refl, sym, ap, ◌∙◌, subst, arith, ◌==◌, not, cond, List, [], ◌∷◌}
-use Rattle.rack.proofs.Basics.{Option, None, slice_get, unwrap_or, is_some, All, Contains, length-map, same_Some, slice_get-map}
-use Rattle.rack.proofs.Basics.{get_or_from_slice_get, none-some, slice_get-get_or}
-use Rattle.rack.proofs.Terms.{Shape, owned_block, IsValid, Config, VolumeConf, shape_in, shapes_of, image_read, images_read, Block, State}
-use Rattle.rack.proofs.Terms.{reads, Images, image_of, image_size, home_of, segment_of, one_segment_head, Image, Told, BayState, at_name}
-use Rattle.rack.proofs.Terms.{shape_of, segment_head, SegHead, Free, Owned, HasView, state_of, AreInOrder, place_of, read_of, owned_of}
-use Rattle.rack.proofs.Terms.{all_owned, Opening, OwnedPart, said_at, SaysOf, AreStillCut, IsOpeningRack, images_taken, IsOwnedIn}
-use Rattle.rack.proofs.Terms.{IsOpeningOf, TakesOpening, IsOwnedPlace, image_here, Said, ImageRest, Rack, Rest}
+use Rattle.rack.proofs.Basics.{◌≡◌, ℕ, ◌^◌, ◌<◌, length, Some, option_map, sym, ap, ◌∙◌, subst, arith, ◌==◌, not, cond, List, [], ◌∷◌, Option, None, slice_get, unwrap_or, is_some, All}
+use Rattle.rack.proofs.Basics.{Contains, length-map, same_Some, slice_get-map, get_or_from_slice_get, none-some, slice_get-get_or}
+use Rattle.rack.proofs.Terms.{Shape, owned_block, IsValid, Config, VolumeConf, shape_in, shapes_of, image_read, images_read, Block, State, reads, Images, image_of, image_size, home_of}
+use Rattle.rack.proofs.Terms.{segment_of, one_segment_head, Image, Told, BayState, at_name, shape_of, segment_head, SegHead, Free, Owned, HasView, state_of, AreInOrder, place_of, read_of}
+use Rattle.rack.proofs.Terms.{owned_of, all_owned, Opening, OwnedPart, said_at, SaysOf, AreStillCut, IsOpeningRack, images_taken, IsOwnedIn, IsOpeningOf, TakesOpening, IsOwnedPlace}
+use Rattle.rack.proofs.Terms.{image_here, Said, ImageRest, Rack, Rest}
 use Rattle.rack_closing.proofs.Places.{some_at}
 use Rattle.rack_closing.proofs.FinalImages.{accepted_at, volume_at}
 use Rattle.rack_parts.proofs.Members.{all_member, of_map, in_map, map_map, here_within}
-use Rattle.rack.proofs.Openable.{IsInImage, parts_in_images, image_id}
+use Rattle.rack.proofs.Openable.{IsInImage, image_id, first_block, owned_in_image}
+use Rattle.rack_closing.proofs.Cases.{some_or}
 use Rattle.wol_model.specs.Heads as head
 use Rattle.manager_recovery.specs.Owned as owned
 
@@ -75,16 +74,12 @@ module _ {D : Type 0} (state : D → State) (config : Config) (valid : IsValid c
 
   -- an image of them is of one that is out
   pub image_out : (k : ℕ) (image : List Block) → image_of images k ≡ Some image → (x : ImageRest D) × (image_here r.rest.images.items k ≡ Some x)
-  image_out k image is = go (image_here r.rest.images.items k) refl
-    where
-      go : (x : Option (ImageRest D)) → image_here r.rest.images.items k ≡ x → (x : ImageRest D) × (image_here r.rest.images.items k ≡ Some x)
-      go (Some x) e = (x, e)
-      go None e =
-          let none : image_of images k ≡ None
-          = accepted_at 0 (λ (n : ℕ). not (is_some (image_here r.rest.images.items n))) (images_read config t) k
-          ∙ ap (λ (n : ℕ). cond (not (is_some (image_here r.rest.images.items n))) None (image_of (images_read config t) k)) (omega arith)
-          ∙ ap (λ (x : Option (ImageRest D)). cond (not (is_some x)) None (image_of (images_read config t) k)) e in
-          absurd (none-some image (sym none ∙ is))
+  image_out k image is = some_or (image_here r.rest.images.items k) (λ e.
+      let none : image_of images k ≡ None
+      = accepted_at 0 (λ (n : ℕ). not (is_some (image_here r.rest.images.items n))) (images_read config t) k
+      ∙ ap (λ (n : ℕ). cond (not (is_some (image_here r.rest.images.items n))) None (image_of (images_read config t) k)) (omega arith)
+      ∙ ap (λ (x : Option (ImageRest D)). cond (not (is_some x)) None (image_of (images_read config t) k)) e in
+      none-some image (sym none ∙ is))
 
   -- each has its volume's length
   pub sized : (k : ℕ) (s : Shape) (image : List Block) → slice_get (shapes_of config) k ≡ Some s → image_of images k ≡ Some image → length image ≡ image_size s
@@ -96,10 +91,6 @@ module _ {D : Type 0} (state : D → State) (config : Config) (valid : IsValid c
       ap length (sym blocks) ∙ length-map at_k.entry.blocks (λ v. v.now) ∙ at_k.says.size ∙ ap image_size same
 
   -- ---- The segments that the volume owns
-
-  first_block : (bs : List Block) (x : Block) → slice_get bs 0 ≡ Some x → (rest : List Block) × (bs ≡ x ∷ rest)
-  first_block [] x first = absurd (none-some x first)
-  first_block (y ∷ bs) x first = (bs, ap (λ (z : Block). z ∷ bs) (same_Some y x first))
 
   owned_in : (p : OwnedPart D) → IsInImage state config valid b said id r own ready lt at view new o takes p → IsOwnedIn (shapes_of config) images id (owned_of state p)
   owned_in p is =
@@ -127,11 +118,7 @@ module _ {D : Type 0} (state : D → State) (config : Config) (valid : IsValid c
   each_owned = all_member (IsOwnedIn (shapes_of config) images id) (all_owned state o.owned.items)
       (λ x has.
       let from = of_map (owned_of state) o.owned.items x has in
-      subst (IsOwnedIn (shapes_of config) images id) from.2 (of_part from.0 from.1))
-    where
-      of_part : (p : OwnedPart D) → Contains o.owned.items p → IsOwnedIn (shapes_of config) images id (owned_of state p)
-      of_part p has = owned_in p (Rattle.std.proofs.lemmas.List.Elements.All-contains (λ (q : OwnedPart D). IsInImage state config valid b said id r own ready lt at view new o takes q) o.owned.items p
-          (parts_in_images state config valid b said id r own ready lt at view new o takes) has)
+      subst (IsOwnedIn (shapes_of config) images id) from.2 (owned_in from.0 (owned_in_image state config valid b said id r own ready lt at view new o takes from.0 from.1)))
 
   -- what reads as owned by the volume has such a head
   head_of : (k i : ℕ) (x : ImageRest D) (at_k : IsReadAt k x) (rest : List Block) → i < (shape_in config at_k.conf).segments → segment_of (shape_in config at_k.conf) (reads at_k.entry.blocks) i ≡ owned_block id ∷ rest → slice_get at_k.saying.heads.items i ≡ Some (Owned id)

@@ -1,37 +1,21 @@
 -- The volumes of a rack that are opened in order.
-use Rattle.rack.proofs.Basics.{◌≡◌, ◌≢◌, inl, inr, ⊎_elim, ℕ, suc, ◌+◌, ◌<◌, ◌≤◌, Bool, List, [], ◌∷◌, length, map, Option, None, Some}
-use Rattle.rack.proofs.Basics.{refl, sym, ap, ◌∙◌, subst, arith, slice_get, is_some, Contains, cases_lt, none-some, slice_get_within}
+use Rattle.rack.proofs.Basics.{◌≡◌, ◌≢◌, inl, inr, ⊎_elim, ℕ, ◌+◌, ◌<◌, ◌≤◌, Bool, List, length, Option, None, Some, sym, ap, ◌∙◌, arith, is_some, cases_lt, none-some, slice_get_within}
 use Rattle.rack.proofs.Basics.{get_or_from_slice_get}
-use Rattle.rack.proofs.Terms.{State, BayState, Told, Config, Station, shapes_of, said_at, view_at, fault_at, IsOpeningRack, HasBegun}
-use Rattle.rack.proofs.Terms.{AreRefusedBelow, HaveFaults, AreRefused, IsRack, image_here, Said, ImageRest, Rack}
+use Rattle.rack.proofs.Terms.{State, BayState, Told, Config, shapes_of, said_at, view_at, fault_at, IsOpeningRack, HasBegun, AreRefusedBelow, HaveFaults, AreRefused, IsRack, image_here}
+use Rattle.rack.proofs.Terms.{Said, Rack}
 use Rattle.rack_closing.proofs.Places.{some_at}
-use Rattle.rack_parts.proofs.Members.{of_map, none_in, in_cases}
-
--- a member has a place
-place_of : {X : Type 0} (xs : List X) (x : X) → Contains xs x → (k : ℕ) × (slice_get xs k ≡ Some x)
-place_of [] x has = absurd (none_in x has)
-place_of (y ∷ xs) x has = ⊎_elim (λ (e : y ≡ x). (0, ap Some e)) (λ (h : Contains xs x). let more = place_of xs x h in (suc more.0, more.1)) (in_cases y x xs has)
+use Rattle.rack_closing.proofs.Cases.{none_or}
+use Rattle.rack.proofs.Openable.{ids_below}
 
 module _ {D : Type 0} (tells : Bool) (state : D → State) (config : Config) (said : List (Option Said)) (r : Rack D) where
   module _ (b : BayState) (n : ℕ) (o : IsOpeningRack state config b said n r) where
     module _ (within : n < length (shapes_of config)) (none : said_at said n ≡ None) where
       -- a volume that says nothing has no image that is out
       pub not_out : image_here r.rest.images.items n ≡ None
-      not_out = go (image_here r.rest.images.items n) refl
-        where
-          go : (i : Option (ImageRest D)) → image_here r.rest.images.items n ≡ i → image_here r.rest.images.items n ≡ None
-          go None e = e
-          go (Some image) e = let s = some_at (shapes_of config) n within in let own = o.says n s.0 s.1 (ap is_some e) in absurd (none-some own.0 (sym none ∙ own.1))
+      not_out = none_or (image_here r.rest.images.items n) (λ image e. let s = some_at (shapes_of config) n within in let own = o.says n s.0 s.1 (ap is_some e) in none-some own.0 (sym none ∙ own.1))
 
       faulty : fault_at r.faults.items n ≢ None
       faulty e = let there = (o.tried.further n (omega arith) within).0 e in let f = ap is_some not_out in cc (there, f)
-
-      above : (k : ℕ) → Contains (map (λ (s : Station D). s.id) r.stations.items) k → k < n
-      above k has =
-          let found = of_map (λ (s : Station D). s.id) r.stations.items k has in
-          let at = place_of r.stations.items found.0 found.1 in
-          let lt : found.0.id < n = subst (λ (s : Station D). s.id < n) (get_or_from_slice_get r.stations.items at.0 found.0 found.0 at.1) (o.tried.below at.0 found.0 (slice_get_within r.stations.items at.0 found.0 at.1)) in
-          let e = found.2 in omega (arith, lt, e)
 
       -- such a volume is passed over
       pub passed : IsOpeningRack state config b said (n + 1) r
@@ -57,7 +41,7 @@ module _ {D : Type 0} (tells : Bool) (state : D → State) (config : Config) (sa
               (λ (less : k < n). o.tried.tried k less)
               (λ (more : n ≤ k).
               let e : n ≡ k = omega (arith, lt, more) in
-              (λ fine. absurd (faulty (ap (λ (j : ℕ). fault_at r.faults.items j) e ∙ fine)), λ has. let h = above k has in absurd (omega (arith, h, more))))
+              (λ fine. absurd (faulty (ap (λ (j : ℕ). fault_at r.faults.items j) e ∙ fine)), λ has. let h = ids_below state config b said n r o k has in absurd (omega (arith, h, more))))
               (cases_lt k n);
           further = λ k le lt. o.tried.further k (omega (arith, le)) lt;
         };

@@ -1,11 +1,12 @@
 -- An image that was there, whatever a crash had left of it, is there afterwards.
-use Rattle.rack.proofs.Basics.{◌≡◌, ⊎_elim, ℕ, List, Option, None, Some, option_map, refl, sym, ap, ◌∙◌, subst, slice_get, slice_set, slice_index_or, unwrap_or, cases_eq}
-use Rattle.rack.proofs.Basics.{length-set, get_or_from_slice_get, slice_get_within, slice_get-map}
-use Rattle.rack.proofs.Terms.{Block, State, Shape, Images, image_of, IsThere, Name, Told, at_name, Config, VolumeConf, shapes_of, image_read, images_read, MayLeave, AreLeft}
-use Rattle.rack.proofs.Terms.{AreLeftOfParts, HadRefused, image_here, ImageRest, Rack}
+use Rattle.rack.proofs.Basics.{◌≡◌, ⊎_elim, ℕ, List, Option, None, Some, option_map, sym, ap, ◌∙◌, subst, slice_get, slice_set, slice_index_or, unwrap_or, cases_eq, length-set}
+use Rattle.rack.proofs.Basics.{get_or_from_slice_get, slice_get_within, slice_get-map}
+use Rattle.rack.proofs.Terms.{Block, State, Shape, Images, image_of, IsThere, Name, Told, at_name, Config, VolumeConf, shapes_of, image_read, images_read, MayLeave, AreLeft, AreLeftOfParts}
+use Rattle.rack.proofs.Terms.{HadRefused, image_here, Rack}
 use Rattle.manager.proofs.Lanes.{get_set, get_other}
 use Rattle.rack_closing.proofs.LeftImage.{volume_at}
 use Rattle.rack_closing.proofs.SoundClosed.{reads_are_left}
+use Rattle.rack_closing.proofs.Cases.{by_option}
 
 -- whatever a crash had left of the images, that of volume v was there
 abbrev pub WasThere : Config → Told → (v : ℕ) → Type 0
@@ -60,11 +61,8 @@ conf_there config old v all =
 -- of a rack that was closed: an image that was out is back whole, and one that wasn't is left as before
 pub there_left : {D : Type 0} (state : D → State) (config : Config) (r : Rack D) (old new : Told) → HadRefused config r.rest.images.items old new → AreLeftOfParts state config r new
     → (images : Images) → AreLeft config new images → (v : ℕ) → WasThere config old v → IsThere (shapes_of config) images v
-there_left {D} state config r old new had parts images left v all = go (image_here r.rest.images.items v) refl
-  where
-    conf : (z : Shape) × (conf : VolumeConf) × (slice_get (shapes_of config) v ≡ Some z) × (slice_get config.volumes.items v ≡ Some conf)
-    conf = conf_there config old v all
-
-    go : (o : Option (ImageRest D)) → image_here r.rest.images.items v ≡ o → IsThere (shapes_of config) images v
-    go None none = there_may config old images v conf.1 conf.3 (had v conf.1 conf.3 none (image_of images v) (may_at config new images v conf.1 conf.3 left)) all
-    go (Some m) here = let x = parts images left v conf.0 m conf.2 here in (conf.0, x.0, conf.2, x.1, x.2.sized)
+there_left {D} state config r old new had parts images left v all =
+    let c = conf_there config old v all in
+    by_option (image_here r.rest.images.items v)
+    (λ none. there_may config old images v c.1 c.3 (had v c.1 c.3 none (image_of images v) (may_at config new images v c.1 c.3 left)) all)
+    (λ m here. let x = parts images left v c.0 m c.2 here in (c.0, x.0, c.2, x.1, x.2.sized))

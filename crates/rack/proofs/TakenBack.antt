@@ -1,12 +1,11 @@
 -- What was taken out for a rack; and images that went back to their bay after want of memory for the pools.
-use Rattle.rack.proofs.Basics.{◌≡◌, ⊎_elim, ℕ, ◌+◌, ◌<◌, ◌≤◌, Bool, List, [], ◌∷◌, ◌++◌, length, Option, None, Some, option_map, IfSome, refl, sym, ap, ◌∙◌, subst, arith, ◌≢◌, ◌⊎◌}
-use Rattle.rack.proofs.Basics.{inl, inr, ◌*◌, true, false, is_some, not, get_or_from_slice_get, none-some, same_Some, slice_get_within, slice_get-map, slice_get, IsSome}
-use Rattle.rack.proofs.Basics.{slice_index_or, slice_range, IsTrue, length-map}
-use Rattle.rack.proofs.Terms.{Block, State, IsDisk, TellsContent, IsImage, IsImageOf, reads, image_reads, BayState, outs, Image, Told, at_name, Shape, IsIdle, Images, image_of}
-use Rattle.rack.proofs.Terms.{segment_of, IsSoundSegment, AreSound, Config, VolumeConf, IsValid, segment_head, SegHead, Free, Owned, Spun, state_of, HasHead, shape_in, shapes_of}
-use Rattle.rack.proofs.Terms.{NoneOut, MayLeave, AreLeft, IsTold, image_here, segment_here, IsImageRest, out_names, IsComplete, LeavesNoneOut, GivesBack, IsThere, LeavesAll}
-use Rattle.rack.proofs.Terms.{KeepsAllSound, HasFaulty, RefusesVolume, AreAsked, HasSentOut, said_at, StayedSo, LeavesNoMore, WasAtEntry, CanIssue, Restores, IsRestored, Said}
-use Rattle.rack.proofs.Terms.{ImageRest, RecoversSame, VolumeFault}
+use Rattle.rack.proofs.Basics.{◌≡◌, ⊎_elim, ℕ, ◌+◌, ◌<◌, ◌≤◌, Bool, List, [], ◌∷◌, ◌++◌, length, Option, None, Some, option_map, IfSome, refl, sym, ap, ◌∙◌, subst, arith, ◌≢◌, ◌⊎◌, inl, inr}
+use Rattle.rack.proofs.Basics.{◌*◌, true, false, is_some, not, get_or_from_slice_get, none-some, same_Some, slice_get_within, slice_get-map, slice_get, IsSome, slice_index_or, slice_range}
+use Rattle.rack.proofs.Basics.{IsTrue, length-map, with_items, with_items_is}
+use Rattle.rack.proofs.Terms.{Block, State, IsDisk, TellsContent, IsImage, IsImageOf, reads, image_reads, BayState, outs, Image, Told, at_name, Shape, IsIdle, Images, image_of, segment_of}
+use Rattle.rack.proofs.Terms.{IsSoundSegment, AreSound, Config, VolumeConf, IsValid, segment_head, SegHead, Free, Owned, Spun, state_of, HasHead, shape_in, shapes_of, NoneOut, MayLeave}
+use Rattle.rack.proofs.Terms.{AreLeft, IsTold, image_here, segment_here, IsImageRest, out_names, IsComplete, LeavesNoneOut, GivesBack, IsThere, LeavesAll, KeepsAllSound, HasFaulty}
+use Rattle.rack.proofs.Terms.{RefusesVolume, AreAsked, HasSentOut, said_at, StayedSo, LeavesNoMore, WasAtEntry, CanIssue, Restores, IsRestored, Said, ImageRest, RecoversSame, VolumeFault}
 use Rattle.wol_model.specs.Recovered.{extents_in}
 use Rattle.wol_model.proofs.Images.{idle_none}
 use Rattle.rack_parts.proofs.Members.{a_value, here_within}
@@ -18,11 +17,12 @@ use Rattle.rack_closing.proofs.LeftImage.{IsLeftNow, left_image, volume_at}
 use Rattle.rack_closing.proofs.NewFaults.{told_each}
 use Rattle.rack_closing.proofs.SameRecovered.{SegmentsKeep, keeping}
 use Rattle.rack_closing.proofs.SoundBefore.{sound_before}
-use Rattle.rack_closing.proofs.Cases.{none_or}
+use Rattle.rack_closing.proofs.Cases.{none_or, some_or}
 use Rattle.rack.specs.declared.images.Images.{Images as Asked}
-use Rattle.rack.proofs.Asking.{refuses_later}
+use Rattle.rack.proofs.Asking.{refuses_later, told_then}
 use Rattle.rack.proofs.ImagesSent.{names_alike, none_named}
 use Rattle.rack.proofs.StillThere.{WasThere, conf_there, there_may}
+use Rattle.rack.specs.Opening.{IsOut}
 
 -- What was taken out for a rack, from which it is set up.
 
@@ -34,11 +34,77 @@ idle_of_free volumes c head = go c head.first
     go [] is = absurd (none-some head.block is)
     go (b ∷ bs) is = same_Some b head.block is ∙ head.spelled.bytes
 
--- an image that is here has a shape
-pub shape_here : {D : Type 0} (config : Config) (out : List (Option (ImageRest D))) (k : ℕ) (r : ImageRest D) → length out ≡ length config.volumes.items → image_here out k ≡ Some r → (s : Shape) × (slice_get (shapes_of config) k ≡ Some s)
-shape_here config out k r count here =
-    let lt = here_within out k r here in
-    some_at (shapes_of config) k (let m = length-map config.volumes.items (shape_in config) in omega (arith, lt, count, m))
+-- a head is free or names an owner
+by_head : {P : Type 0} (said : Said) (j : ℕ) → j < length said.heads.items → (slice_get said.heads.items j ≡ Some Free → P) → ((owner : ℕ) → slice_get said.heads.items j ≡ Some (Owned owner) → P) → P
+by_head {P} said j lt free owned = let x = some_at said.heads.items j lt in by x.0 x.1
+  where
+    by : (h : SegHead) → slice_get said.heads.items j ≡ Some h → P
+    by Free e = free e
+    by (Owned owner) e = owned owner e
+
+-- ---- Where no image may be left that might not have been before
+
+left_less : (config : Config) (old new : Told) → LeavesNoMore old new → (images : Images) → AreLeft config new images → AreLeft config old images
+left_less config old new less images left = record { count = left.count; each = λ k d lt. less (slice_index_or config.volumes.items k d).name (image_of images k) (left.each k d lt) }
+
+abbrev no_one : ℕ → Bool
+no_one k = false
+
+none_opened : {X : Type 0} (v : ℕ) → no_one v ≡ true → X
+none_opened v is = absurd (cc (is))
+
+module _ {D : Type 0} (tells : Bool) (state : D → State) (config : Config) (b b' : BayState) where
+  all_less : (old new : Told) → LeavesNoMore old new → LeavesAll tells state config b b' old new
+  all_less old new less = record {
+    refused = no_one;
+    cause = λ k v at is. absurd (cc (is));
+    kept = λ k v at is. absurd (cc (is));
+    opened = no_one;
+    are_opened = λ v is. none_opened v is;
+    left = λ images left v there. (images, left_less config old new less images left, record { but = refl; all = λ or. refl });
+    there = λ images left v all. all images (left_less config old new less images left);
+  }
+
+  sound_less : (old new : Told) → LeavesNoMore old new → KeepsAllSound config old new
+  sound_less old new less all images left = all images (left_less config old new less images left)
+
+  told_less : {P : Told → Told → Type 0} → ((old new : Told) → LeavesNoMore old new → P old new) → IsTold LeavesNoMore b.told b'.told → IsTold P b.told b'.told
+  told_less {P} each = told_each LeavesNoMore P b.told b'.told each
+
+  pub left_back : IsTold LeavesNoMore b.told b'.told → IsTold (LeavesAll tells state config b b') b.told b'.told
+  left_back = told_less all_less
+
+  pub sound_back : IsTold LeavesNoMore b.told b'.told → IsTold (KeepsAllSound config) b.told b'.told
+  sound_back = told_less sound_less
+
+-- nothing was done
+pub nothing_done : (o : Option Told) → IsTold LeavesNoMore o o
+nothing_done None = refl
+nothing_done (Some t) = λ name c may. may
+
+-- ---- After want of memory for the pools
+
+-- one segment is as it was, or idle as it was
+abbrev KeepsSegment : (k i : ℕ) → (now was : List Block) → Type 0
+KeepsSegment k i now was = (now ≡ was) ⊎ (IsIdle now × IsIdle was)
+
+-- the front is as it was
+abbrev KeepsFront : (k : ℕ) → (now was : List Block) → Type 0
+KeepsFront k now was = was ≡ now
+
+keeps_front : (k i : ℕ) (now was : List Block) → KeepsFront k now was → i < 2 → slice_get was i ≡ slice_get now i
+keeps_front k i now was same lt = ap (λ (l : List Block). slice_get l i) same
+
+same_front : (v : ℕ) (now was : List Block) → KeepsFront v now was → was ≡ now
+same_front v now was same = same
+
+keeps_extents : (v k i : ℕ) (c d : List Block) → KeepsSegment k i c d → extents_in v c ≡ extents_in v d
+keeps_extents v k i c d keeps = ⊎_elim (λ (same : c ≡ d). ap (extents_in v) same) (λ idle. idle_none v c idle.0 ∙ sym (idle_none v d idle.1)) keeps
+
+keeps_sound : (shapes : List Shape) (views : List (List ℕ)) (k i : ℕ) (c d : List Block) → KeepsSegment k i c d → IsSoundSegment shapes views k d → IsSoundSegment shapes views k c
+keeps_sound shapes views k i c d keeps sound = ⊎_elim (λ (same : c ≡ d). subst (IsSoundSegment shapes views k) (sym same) sound) (λ idle. IsSoundSegment.idle idle.0) keeps
+
+-- ---- What was taken out
 
 module _ {D : Type 0} (tells : Bool) (state : D → State) (config : Config) (b b1 : BayState) (i : Asked D)
     (asked : AreAsked tells state config b b1 (length config.volumes.items) i) where
@@ -76,8 +142,20 @@ module _ {D : Type 0} (tells : Bool) (state : D → State) (config : Config) (b 
 
   -- ---- After want of memory for the pools
 
-  module _ (out : List (Option (ImageRest D))) (count : length out ≡ length i.out.items)
-      (restores : (k : ℕ) → Restores state k config.segment_blocks (said_at i.said.items k) (image_here i.out.items k) (image_here out k)) where
+  module _ (new lent : List (Option (ImageRest D))) (saids : List (Option Said)) (long : length new ≡ length lent) (lent_are : lent ≡ i.out.items) (saids_are : saids ≡ i.said.items)
+      (gave : (k : ℕ) → Restores state k config.segment_blocks (slice_index_or saids k None) (slice_index_or lent k None) (slice_index_or new k None)) where
+    -- the images that go back
+    abbrev pub out : List (Option (ImageRest D))
+    out = (with_items i.out new).items
+
+    out_is : out ≡ new
+    out_is = with_items_is i.out new (let count = long ∙ ap length lent_are in omega (arith, count, i.out.ok.0))
+
+    restores : (k : ℕ) → Restores state k config.segment_blocks (said_at i.said.items k) (image_here i.out.items k) (image_here out k)
+    restores k = subst (λ (l : List (Option (ImageRest D))). Restores state k config.segment_blocks (said_at i.said.items k) (image_here i.out.items k) (image_here l k)) (sym out_is)
+        (subst (λ (l : List (Option (ImageRest D))). Restores state k config.segment_blocks (said_at i.said.items k) (slice_index_or l k None) (slice_index_or new k None)) lent_are
+        (subst (λ (l : List (Option Said)). Restores state k config.segment_blocks (slice_index_or l k None) (slice_index_or lent k None) (slice_index_or new k None)) saids_are (gave k)))
+
     same_out : (o : Option Said) (blocks k : ℕ) (old new : Option (ImageRest D)) → Restores state k blocks o old new → is_some new ≡ is_some old
     same_out None blocks k old new e = ap is_some e
     same_out (Some said) blocks k None new e = ap is_some e
@@ -87,57 +165,56 @@ module _ {D : Type 0} (tells : Bool) (state : D → State) (config : Config) (b 
     pub same_here : (k : ℕ) → is_some (image_here out k) ≡ is_some (image_here i.out.items k)
     same_here k = same_out (said_at i.said.items k) config.segment_blocks k (image_here i.out.items k) (image_here out k) (restores k)
 
+    -- an image that is out was out, and has its parts again
+    pub restored : (k : ℕ) (s : Shape) (n : ImageRest D) → slice_get (shapes_of config) k ≡ Some s → image_here out k ≡ Some n
+        → (q : ImageRest D) × (image_here i.out.items k ≡ Some q) × (of : IsOut state (length (shapes_of config)) k s i q) × IsRestored state k config.segment_blocks of.said q n
+    restored k s n is here =
+        let q = some_or (image_here i.out.items k) (λ e. let f = same_here k in let g = ap is_some e in let h = ap is_some here in cc (f, g, h)) in
+        let of = asked.out k s q.0 is q.1 in
+        let back = subst (λ (x : Option (ImageRest D)). Restores state k config.segment_blocks (Some of.said) (Some q.0) x) here
+        (subst (λ (x : Option (ImageRest D)). Restores state k config.segment_blocks (Some of.said) x (image_here out k)) q.1 (subst (λ (x : Option Said). Restores state k config.segment_blocks x (image_here i.out.items k) (image_here out k)) of.said_is (restores k))) in
+        (q.0, q.1, of, back)
+
     -- an image with all of its parts again
     pub record IsWholeAgain (k : ℕ) (s : Shape) (n : ImageRest D) : Type 0 where
       pub rest : IsImageRest state k s n
       pub all : IsComplete n
 
     pub again : (k : ℕ) (s : Shape) (n : ImageRest D) → slice_get (shapes_of config) k ≡ Some s → image_here out k ≡ Some n → IsWholeAgain k s n
-    again k s n is here = go (said_at i.said.items k) (image_here i.out.items k) refl refl (subst (Restores state k config.segment_blocks (said_at i.said.items k) (image_here i.out.items k)) here (restores k))
+    again k s n is here =
+        let x = restored k s n is here in
+        let was = x.2 in
+        let said = was.said in
+        let restored = x.3 in
+        let heads = was.says.count in
+        record {
+          rest = record {
+            label = subst (Rattle.rack_parts.specs.Rests.IsPart state k 2) (sym restored.same.label) was.rest.label;
+            home = subst (λ (h : Option (Spun D)). IfSome h (Rattle.rack_parts.specs.Rests.IsPart state k s.home)) (sym restored.same.home) was.rest.home;
+            count = restored.same.count ∙ was.rest.count;
+            segments = λ j p there. by_head said j (let l = here_within n.segments.items j p there in let c = restored.same.count in let d = was.rest.count in omega (arith, l, c, d, heads))
+                (λ free. let found = restored.free j free in
+                subst (λ (m : ℕ). Rattle.rack_parts.specs.Rests.IsPart state k m p) (sym blocks) (subst (Rattle.rack_parts.specs.Rests.IsPart state k config.segment_blocks) (same_Some found.0 p (sym found.1 ∙ there)) found.2.part))
+                (λ owner owned. was.rest.segments j p (sym (restored.owned j owner owned) ∙ there));
+            row = subst (λ x. (x.items ≡ []) × (s.segments ≤ Rattle.std.specs.Prelude.vec_capacity x)) (sym restored.same.row) was.rest.row;
+            room = subst (λ x. (x.items ≡ []) × (2 + s.segments ≤ Rattle.std.specs.Prelude.vec_capacity x)) (sym restored.same.room) was.rest.room;
+          };
+          all = record {
+            home = subst (λ (h : Option (Spun D)). IsSome h) (sym restored.same.home) was.all.home;
+            segments = λ j lt. by_head said j (let c = restored.same.count in let d = was.rest.count in omega (arith, lt, c, d, heads))
+                (λ free. ap is_some (restored.free j free).1)
+                (λ owner owned. ap is_some (restored.owned j owner owned) ∙ was.all.segments j (let c = restored.same.count in omega (arith, lt, c)));
+          };
+        }
       where
         blocks : s.segment_blocks ≡ config.segment_blocks
         blocks = let v = volume_at config k s is in ap (λ (x : Shape). x.segment_blocks) (sym v.2)
 
-        go : (o : Option Said) (p : Option (ImageRest D)) → said_at i.said.items k ≡ o → image_here i.out.items k ≡ p → Restores state k config.segment_blocks o p (Some n) → IsWholeAgain k s n
-        go None p e f same = let there : image_here i.out.items k ≡ Some n = f ∙ sym same in let was = asked.out k s n is there in record { rest = was.rest; all = was.all }
-        go (Some said) None e f same = absurd (none-some n (sym same))
-        go (Some said) (Some r) e f restored =
-            let was = asked.out k s r is f in
-            let same : was.said ≡ said = same_Some was.said said (sym was.said_is ∙ e) in
-            let heads : length said.heads.items ≡ s.segments = subst (λ (x : Said). length x.heads.items ≡ s.segments) same was.says.count in
-            record {
-              rest = record {
-                label = subst (Rattle.rack_parts.specs.Rests.IsPart state k 2) (sym restored.same.label) was.rest.label;
-                home = subst (λ (h : Option (Spun D)). IfSome h (Rattle.rack_parts.specs.Rests.IsPart state k s.home)) (sym restored.same.home) was.rest.home;
-                count = restored.same.count ∙ was.rest.count;
-                segments = λ j p there. by_head j (slice_get said.heads.items j) refl
-                    (λ free. let found = restored.free j free in
-                    subst (λ (m : ℕ). Rattle.rack_parts.specs.Rests.IsPart state k m p) (sym blocks) (subst (Rattle.rack_parts.specs.Rests.IsPart state k config.segment_blocks) (same_Some found.0 p (sym found.1 ∙ there)) found.2.part))
-                    (λ owner owned. was.rest.segments j p (sym (restored.owned j owner owned) ∙ there))
-                    (λ none. absurd (beyond j p heads none there (restored.same.count ∙ was.rest.count)));
-                row = subst (λ x. (x.items ≡ []) × (s.segments ≤ Rattle.std.specs.Prelude.vec_capacity x)) (sym restored.same.row) was.rest.row;
-                room = subst (λ x. (x.items ≡ []) × (2 + s.segments ≤ Rattle.std.specs.Prelude.vec_capacity x)) (sym restored.same.room) was.rest.room;
-              };
-              all = record {
-                home = subst (λ (h : Option (Spun D)). IsSome h) (sym restored.same.home) was.all.home;
-                segments = λ j lt. by_head j (slice_get said.heads.items j) refl
-                    (λ free. ap is_some (restored.free j free).1)
-                    (λ owner owned. ap is_some (restored.owned j owner owned) ∙ was.all.segments j (let c = restored.same.count in omega (arith, lt, c)))
-                    (λ none. absurd (let c = restored.same.count in let d = was.rest.count in short j heads none (omega (arith, lt, c, d))));
-              };
-            }
-          where
-            by_head : {P : Type 0} (j : ℕ) (h : Option SegHead) → slice_get said.heads.items j ≡ h → (slice_get said.heads.items j ≡ Some Free → P) → ((owner : ℕ) → slice_get said.heads.items j ≡ Some (Owned owner) → P)
-                → (slice_get said.heads.items j ≡ None → P) → P
-            by_head j None e free owned none = none e
-            by_head j (Some Free) e free owned none = free e
-            by_head j (Some (Owned owner)) e free owned none = owned owner e
-
-            short : (j : ℕ) → length said.heads.items ≡ s.segments → slice_get said.heads.items j ≡ None → j < s.segments → ⊥
-            short j heads none lt = let there = some_at said.heads.items j (omega (arith, heads, lt)) in none-some there.0 (sym none ∙ there.1)
-
-            beyond : (j : ℕ) (p : Spun D) → length said.heads.items ≡ s.segments → slice_get said.heads.items j ≡ None → segment_here n j ≡ Some p → length n.segments.items ≡ s.segments → ⊥
-            beyond j p heads none there long = short j heads none (let lt = here_within n.segments.items j p there in omega (arith, lt, long))
+    pub whole_again : (k : ℕ) (r : ImageRest D) → image_here out k ≡ Some r → IsComplete r
+    whole_again k r here =
+        let lt = here_within out k r here in
+        let s = some_at (shapes_of config) k (let m = length-map config.volumes.items (shape_in config) in let c = ap length out_is ∙ long ∙ ap length lent_are ∙ asked.out_count in omega (arith, lt, c, m)) in
+        (again k s.0 r s.1 here).all
 
     -- the names of those that are out are the same
     pub same_names : out_names config config.volumes.items out ≡ out_names config config.volumes.items i.out.items
@@ -147,185 +224,99 @@ module _ {D : Type 0} (tells : Bool) (state : D → State) (config : Config) (b 
     pub home_again : NoneOut config b → HasSentOut config i.out.items (length config.volumes.items) b b1 → (b2 : BayState) → LeavesNoneOut config out (outs b1) (outs b2) → outs b2 ≡ outs b
     home_again home sent b2 none = none (outs b) (none_named config b home) (sent.outs ∙ ap (λ names. option_map (λ os. os ++ names) (outs b)) (sym same_names))
 
--- Images that went back to their bay after want of memory for the pools, in which free segments may be other blank ones.
+    -- Images that went back to their bay after want of memory for the pools, in which free segments may be other blank ones.
 
--- ---- Where no image may be left that might not have been before
+    module _ (valid : IsValid config) (b2 : BayState) (sent : HasSentOut config i.out.items (length config.volumes.items) b b1) (back : IsTold (GivesBack state config out 0) b1.told b2.told) (counts : b1.faults ≤ b2.faults) where
+      -- an image that isn't out gives no segments
+      abbrev pub not_taken : ℕ → Bool
+      not_taken k = not (is_some (image_here i.out.items k))
 
-left_less : (config : Config) (old new : Told) → LeavesNoMore old new → (images : Images) → AreLeft config new images → AreLeft config old images
-left_less config old new less images left = record { count = left.count; each = λ k d lt. less (slice_index_or config.volumes.items k d).name (image_of images k) (left.each k d lt) }
+      shape_is : (k : ℕ) (conf : VolumeConf) → slice_get config.volumes.items k ≡ Some conf → slice_get (shapes_of config) k ≡ Some (shape_in config conf)
+      shape_is k conf at = slice_get-map (shape_in config) config.volumes.items k ∙ ap (option_map (shape_in config)) at
 
-no_one : ℕ → Bool
-no_one k = false
+      cause : (k : ℕ) (v : VolumeConf) → slice_get config.volumes.items k ≡ Some v → not_taken k ≡ true → (f : VolumeFault) × RefusesVolume {D = D} tells state config [] b b2 k v f
+      cause k v at is =
+          let none = none_or (image_here i.out.items k) (λ r e. let f = ap is_some e in cc (f, is)) in
+          let why = asked.refused k v (slice_get_within config.volumes.items k v at) at none in (
+            why.fault,
+            refuses_later tells state config [] b b1 b2 k v why.fault counts
+                (told_each (GivesBack state config out 0) HasFaulty b1.told b2.told (λ x y g. (g.more, g.faulty)) back) why.refuses,
+          )
 
-none_opened : {X : Type 0} (v : ℕ) → no_one v ≡ true → X
-unfolding no_one
-none_opened v is = absurd (cc (is))
+      -- an image with its parts as they were, but for free segments
+      record IsBack (k : ℕ) (conf : VolumeConf) (t : Told) (n : ImageRest D) : Type 0 where
+        pub own : Said
+        pub was : ImageRest D
+        pub restored : IsRestored state k config.segment_blocks own was n
+        pub entry : WasAtEntry state config t k conf own was
+        pub heads : length own.heads.items ≡ (shape_in config conf).segments
+        pub complete : (j : ℕ) → j < (shape_in config conf).segments → IsSome (segment_here was j)
 
-module _ {D : Type 0} (tells : Bool) (state : D → State) (config : Config) (b b' : BayState) where
-  all_less : (old new : Told) → LeavesNoMore old new → LeavesAll tells state config b b' old new
-  unfolding no_one
-  all_less old new less = record {
-    refused = no_one;
-    cause = λ k v at is. absurd (cc (is));
-    kept = λ k v at is. absurd (cc (is));
-    opened = no_one;
-    are_opened = λ v is. none_opened v is;
-    left = λ images left v there. (images, left_less config old new less images left, record { but = refl; all = λ or. refl });
-    there = λ images left v all. all images (left_less config old new less images left);
-  }
-
-  sound_less : (old new : Told) → LeavesNoMore old new → KeepsAllSound config old new
-  sound_less old new less all images left = all images (left_less config old new less images left)
-
-  told_less : {P : Told → Told → Type 0} → ((old new : Told) → LeavesNoMore old new → P old new) → IsTold LeavesNoMore b.told b'.told → IsTold P b.told b'.told
-  told_less {P} each = told_each LeavesNoMore P b.told b'.told each
-
-  pub left_back : IsTold LeavesNoMore b.told b'.told → IsTold (LeavesAll tells state config b b') b.told b'.told
-  left_back = told_less all_less
-
-  pub sound_back : IsTold LeavesNoMore b.told b'.told → IsTold (KeepsAllSound config) b.told b'.told
-  sound_back = told_less sound_less
-
--- nothing was done
-pub nothing_done : (o : Option Told) → IsTold LeavesNoMore o o
-nothing_done None = refl
-nothing_done (Some t) = λ name c may. may
-
--- ---- After want of memory for the pools
-
--- one segment is as it was, or idle as it was
-KeepsSegment : (k i : ℕ) → (now was : List Block) → Type 0
-KeepsSegment k i now was = (now ≡ was) ⊎ (IsIdle now × IsIdle was)
-
--- the front is as it was
-KeepsFront : (k : ℕ) → (now was : List Block) → Type 0
-KeepsFront k now was = was ≡ now
-
-keeps_front : (k i : ℕ) (now was : List Block) → KeepsFront k now was → i < 2 → slice_get was i ≡ slice_get now i
-unfolding KeepsFront
-keeps_front k i now was same lt = ap (λ (l : List Block). slice_get l i) same
-
-same_front : (v : ℕ) (now was : List Block) → KeepsFront v now was → was ≡ now
-unfolding KeepsFront
-same_front v now was same = same
-
-keeps_extents : (v k i : ℕ) (c d : List Block) → KeepsSegment k i c d → extents_in v c ≡ extents_in v d
-unfolding KeepsSegment
-keeps_extents v k i c d keeps = ⊎_elim (λ (same : c ≡ d). ap (extents_in v) same) (λ idle. idle_none v c idle.0 ∙ sym (idle_none v d idle.1)) keeps
-
-keeps_sound : (shapes : List Shape) (views : List (List ℕ)) (k i : ℕ) (c d : List Block) → KeepsSegment k i c d → IsSoundSegment shapes views k d → IsSoundSegment shapes views k c
-unfolding KeepsSegment
-keeps_sound shapes views k i c d keeps sound = ⊎_elim (λ (same : c ≡ d). subst (IsSoundSegment shapes views k) (sym same) sound) (λ idle. IsSoundSegment.idle idle.0) keeps
-
-module _ {D : Type 0} (tells : Bool) (state : D → State) (config : Config) (valid : IsValid config) (b b1 b2 : BayState) (i : Asked D)
-    (asked : AreAsked tells state config b b1 (length config.volumes.items) i) (sent : HasSentOut config i.out.items (length config.volumes.items) b b1)
-    (out : List (Option (ImageRest D))) (count : length out ≡ length i.out.items)
-    (restores : (k : ℕ) → Restores state k config.segment_blocks (said_at i.said.items k) (image_here i.out.items k) (image_here out k))
-    (back : IsTold (GivesBack state config out 0) b1.told b2.told) (counts : b1.faults ≤ b2.faults) where
-  -- an image that isn't out gives no segments
-  pub not_taken : ℕ → Bool
-  not_taken k = not (is_some (image_here i.out.items k))
-
-  shape_is : (k : ℕ) (conf : VolumeConf) → slice_get config.volumes.items k ≡ Some conf → slice_get (shapes_of config) k ≡ Some (shape_in config conf)
-  shape_is k conf at = slice_get-map (shape_in config) config.volumes.items k ∙ ap (option_map (shape_in config)) at
-
-  cause : (k : ℕ) (v : VolumeConf) → slice_get config.volumes.items k ≡ Some v → not_taken k ≡ true → (f : VolumeFault) × RefusesVolume {D = D} tells state config [] b b2 k v f
-  unfolding not_taken
-  cause k v at is =
-      let none = none_or (image_here i.out.items k) (λ r e. let f = ap is_some e in cc (f, is)) in
-      let why = asked.refused k v (slice_get_within config.volumes.items k v at) at none in (
-        why.fault,
-        refuses_later tells state config [] b b1 b2 k v why.fault counts
-            (told_each (GivesBack state config out 0) HasFaulty b1.told b2.told (λ x y g. (g.more, g.faulty)) back) why.refuses,
-      )
-
-  -- an image with its parts as they were, but for free segments
-  record IsBack (k : ℕ) (conf : VolumeConf) (t : Told) (n : ImageRest D) : Type 0 where
-    pub own : Said
-    pub was : ImageRest D
-    pub restored : IsRestored state k config.segment_blocks own was n
-    pub entry : WasAtEntry state config t k conf own was
-    pub heads : length own.heads.items ≡ (shape_in config conf).segments
-    pub complete : (j : ℕ) → j < (shape_in config conf).segments → IsSome (segment_here was j)
-
-  module _ (telling : IsTrue tells) (tell_all : (d : D) → TellsContent (state d)) (sound : (d : D) → IsDisk (state d)) (t t1 t2 : Told) (is : b.told ≡ Some t)
-      (stayed : StayedSo config i.out.items (length config.volumes.items) t t1) (given : GivesBack state config out 0 t1 t2) where
-    is_back : (k : ℕ) (conf : VolumeConf) (n : ImageRest D) → slice_get config.volumes.items k ≡ Some conf → image_here out k ≡ Some n → IsBack k conf t n
-    is_back k conf n at here = go (said_at i.said.items k) (image_here i.out.items k) refl refl (subst (Restores state k config.segment_blocks (said_at i.said.items k) (image_here i.out.items k)) here (restores k))
-      where
-        go : (o : Option Said) (p : Option (ImageRest D)) → said_at i.said.items k ≡ o → image_here i.out.items k ≡ p → Restores state k config.segment_blocks o p (Some n) → IsBack k conf t n
-        go None p e f same = let of = asked.out k (shape_in config conf) n (shape_is k conf at) (f ∙ sym same) in absurd (none-some of.said (sym e ∙ of.said_is))
-        go (Some own) None e f same = absurd (none-some n (sym same))
-        go (Some own) (Some r) e f restored =
-            let of = asked.out k (shape_in config conf) r (shape_is k conf at) f in
+      module _ (telling : IsTrue tells) (tell_all : (d : D) → TellsContent (state d)) (sound : (d : D) → IsDisk (state d)) (t t1 t2 : Told) (is : b.told ≡ Some t)
+          (stayed : StayedSo config i.out.items (length config.volumes.items) t t1) (given : GivesBack state config out 0 t1 t2) where
+        is_back : (k : ℕ) (conf : VolumeConf) (n : ImageRest D) → slice_get config.volumes.items k ≡ Some conf → image_here out k ≡ Some n → IsBack k conf t n
+        is_back k conf n at here =
+            let x = restored k (shape_in config conf) n (shape_is k conf at) here in
             record {
-              own = own;
-              was = r;
-              restored = restored;
-              entry = asked.entry telling t is k conf own r at e f;
-              heads = subst (λ (x : Said). length x.heads.items ≡ (shape_in config conf).segments) (same_Some of.said own (sym of.said_is ∙ e)) of.says.count;
-              complete = λ j lt. of.all.segments j (let c = of.rest.count in omega (arith, lt, c));
+              own = x.2.said;
+              was = x.0;
+              restored = x.3;
+              entry = asked.entry telling t is k conf x.2.said x.0 at x.2.said_is x.1;
+              heads = x.2.says.count;
+              complete = λ j lt. x.2.all.segments j (let c = x.2.rest.count in omega (arith, lt, c));
             }
 
-    -- a refused image may be left only as before
-    refused_kept : (k : ℕ) (conf : VolumeConf) → slice_get config.volumes.items k ≡ Some conf → not_taken k ≡ true → (c : Option (List Block)) → MayLeave (at_name conf.name t2.images) c → MayLeave (at_name conf.name t.images) c
-    unfolding not_taken
-    refused_kept k conf at is_not c may =
-        let differs : (j : ℕ) (w : VolumeConf) → slice_get config.volumes.items j ≡ Some w → is_some (image_here i.out.items j) ≡ true → conf.name ≢ w.name =
-        λ j w found there. names_differ config valid k j conf w at found (λ (e : k ≡ j). let f = ap (λ (m : ℕ). is_some (image_here i.out.items m)) e in cc (f, there, is_not)) in
-        let same = given.others conf.name (λ j w le found there. differs j w found (sym (same_here tells state config b b1 i asked out count restores j) ∙ there)) in
-        stayed.stayed conf.name (λ j w there found e. differs j w found there (sym e)) c (subst (λ (x : Option Image). MayLeave x c) same may)
+        -- a refused image may be left only as before
+        refused_kept : (k : ℕ) (conf : VolumeConf) → slice_get config.volumes.items k ≡ Some conf → not_taken k ≡ true → (c : Option (List Block)) → MayLeave (at_name conf.name t2.images) c → MayLeave (at_name conf.name t.images) c
+        refused_kept k conf at is_not c may =
+            let differs : (j : ℕ) (w : VolumeConf) → slice_get config.volumes.items j ≡ Some w → is_some (image_here i.out.items j) ≡ true → conf.name ≢ w.name =
+            λ j w found there. names_differ config valid k j conf w at found (λ (e : k ≡ j). let f = ap (λ (m : ℕ). is_some (image_here i.out.items m)) e in cc (f, there, is_not)) in
+            let same = given.others conf.name (λ j w le found there. differs j w found (sym (same_here j) ∙ there)) in
+            stayed.stayed conf.name (λ j w there found e. differs j w found there (sym e)) c (subst (λ (x : Option Image). MayLeave x c) same may)
 
-    module _ (images : Images) (left : AreLeft config t2 images) where
-      kept : (k : ℕ) (conf : VolumeConf) → slice_get config.volumes.items k ≡ Some conf → not_taken k ≡ false → IsKeptImage (KeepsFront k) (KeepsSegment k) (shape_in config conf) (at_name conf.name t.images) (image_of images k)
-      unfolding not_taken KeepsFront KeepsSegment
-      kept k conf at taken = go (image_here out k) refl
-        where
-          s : Shape
-          s = shape_in config conf
-
-          go : (o : Option (ImageRest D)) → image_here out k ≡ o → IsKeptImage (KeepsFront k) (KeepsSegment k) s (at_name conf.name t.images) (image_of images k)
-          go None e = absurd (let same = same_here tells state config b b1 i asked out count restores k in let f = ap is_some e in cc (same, f, taken))
-          go (Some n) e =
-              let ba = is_back k conf n at e in
-              let whole = again tells state config b b1 i asked out count restores k s n (shape_is k conf at) e in
-              let now = left_image state tell_all sound config t2 images left k s n (shape_is k conf at) whole.rest given.more (λ v of. given.back k v n (omega arith) of e) in
-              let before = ba.entry.image in
-              let home = a_value n.home whole.all.home in
-              record {
-                before = before;
-                there = ba.entry.there;
-                whole = ba.entry.says.whole;
-                size = ba.entry.says.size;
-                now = now.0;
-                is = now.1;
-                sized = now.2.size;
-                front = (
-                  slice_range now.0 0 (2 + s.home),
-                  subst (λ (c : List Block). IsImage (slice_range before.blocks 0 (2 + s.home)) c) (slice_join now.0 0 2 (2 + s.home) (omega arith) (omega arith))
-                      (both_slices before.blocks 0 2 (2 + s.home) (slice_range now.0 0 2) (slice_range now.0 2 (2 + s.home)) (omega arith) (omega arith)
-                      (subst (λ (c : List Block). IsImage (slice_range before.blocks 0 2) c)
-                      (reads_range before.blocks 0 2 ∙ sym (ba.entry.cut.label (slice_range now.0 0 2) (subst (λ (p : Spun D). IsImageOf (state_of state p).values (slice_range now.0 0 2)) ba.restored.same.label now.2.label)))
-                      (image_reads (slice_range before.blocks 0 2)))
-                      ((ba.entry.cut.home home.0 (sym ba.restored.same.home ∙ home.1)).had (slice_range now.0 2 (2 + s.home)) (now.2.home home.0 home.1))),
-                  refl,
-                );
-                segments = λ j lt. segment ba now.0 now.2 j lt (some_at ba.own.heads.items j (let h = ba.heads in omega (arith, h, lt)));
-              }
+        module _ (images : Images) (left : AreLeft config t2 images) where
+          kept : (k : ℕ) (conf : VolumeConf) → slice_get config.volumes.items k ≡ Some conf → not_taken k ≡ false → IsKeptImage (KeepsFront k) (KeepsSegment k) (shape_in config conf) (at_name conf.name t.images) (image_of images k)
+          kept k conf at taken = go (image_here out k) refl
             where
-              segment : (ba : IsBack k conf t n) (c : List Block) (now : IsLeftNow state s n c) (j : ℕ) → j < s.segments → (h : SegHead) × (slice_get ba.own.heads.items j ≡ Some h)
-                  → (was : List Block) × IsImage (slice_range ba.entry.image.blocks (2 + s.home + j * s.segment_blocks) (2 + s.home + (j + 1) * s.segment_blocks)) was × ((segment_of s c j ≡ was) ⊎ (IsIdle (segment_of s c j) × IsIdle was))
-              segment ba c now j lt head = by head.0 head.1
+              s : Shape
+              s = shape_in config conf
+
+              go : (o : Option (ImageRest D)) → image_here out k ≡ o → IsKeptImage (KeepsFront k) (KeepsSegment k) s (at_name conf.name t.images) (image_of images k)
+              go None e = absurd (let same = same_here k in let f = ap is_some e in cc (same, f, taken))
+              go (Some n) e =
+                  let ba = is_back k conf n at e in
+                  let whole = again k s n (shape_is k conf at) e in
+                  let now = left_image state tell_all sound config t2 images left k s n (shape_is k conf at) whole.rest given.more (λ v of. given.back k v n (omega arith) of e) in
+                  let before = ba.entry.image in
+                  let home = a_value n.home whole.all.home in
+                  record {
+                    before = before;
+                    there = ba.entry.there;
+                    whole = ba.entry.says.whole;
+                    size = ba.entry.says.size;
+                    now = now.0;
+                    is = now.1;
+                    sized = now.2.size;
+                    front = (
+                      slice_range now.0 0 (2 + s.home),
+                      subst (λ (c : List Block). IsImage (slice_range before.blocks 0 (2 + s.home)) c) (slice_join now.0 0 2 (2 + s.home) (omega arith) (omega arith))
+                          (both_slices before.blocks 0 2 (2 + s.home) (slice_range now.0 0 2) (slice_range now.0 2 (2 + s.home)) (omega arith) (omega arith)
+                          (subst (λ (c : List Block). IsImage (slice_range before.blocks 0 2) c)
+                          (reads_range before.blocks 0 2 ∙ sym (ba.entry.cut.label (slice_range now.0 0 2) (subst (λ (p : Spun D). IsImageOf (state_of state p).values (slice_range now.0 0 2)) ba.restored.same.label now.2.label)))
+                          (image_reads (slice_range before.blocks 0 2)))
+                          ((ba.entry.cut.home home.0 (sym ba.restored.same.home ∙ home.1)).had (slice_range now.0 2 (2 + s.home)) (now.2.home home.0 home.1))),
+                      refl,
+                    );
+                    segments = λ j lt. segment ba now.0 now.2 j lt;
+                  }
                 where
-                  first : ℕ
-                  first = 2 + s.home + j * s.segment_blocks
-
-                  behind : ℕ
-                  behind = 2 + s.home + (j + 1) * s.segment_blocks
-
-                  by : (h : SegHead) → slice_get ba.own.heads.items j ≡ Some h → (was : List Block) × IsImage (slice_range ba.entry.image.blocks first behind) was × ((segment_of s c j ≡ was) ⊎ (IsIdle (segment_of s c j) × IsIdle was))
-                  by Free e =
+                  segment : (ba : IsBack k conf t n) (c : List Block) (now : IsLeftNow state s n c) (j : ℕ) → j < s.segments
+                      → (was : List Block) × IsImage (slice_range ba.entry.image.blocks (2 + s.home + j * s.segment_blocks) (2 + s.home + (j + 1) * s.segment_blocks)) was × ((segment_of s c j ≡ was) ⊎ (IsIdle (segment_of s c j) × IsIdle was))
+                  segment ba c now j lt = by_head ba.own j (let h = ba.heads in omega (arith, h, lt))
+                      (λ e.
                       let p = ba.restored.free j e in
+                      let first : ℕ = 2 + s.home + j * s.segment_blocks in
+                      let behind : ℕ = 2 + s.home + (j + 1) * s.segment_blocks in
                       let was : List Block = slice_range (reads ba.entry.image.blocks) first behind in (
                         was,
                         subst (λ (x : List Block). IsImage (slice_range ba.entry.image.blocks first behind) x) (reads_range ba.entry.image.blocks first behind) (image_reads (slice_range ba.entry.image.blocks first behind)),
@@ -333,81 +324,70 @@ module _ {D : Type 0} (tells : Bool) (state : D → State) (config : Config) (va
                           p.2.idle (segment_of s c j) (now.segments j p.0 p.1),
                           idle_of_free (length (shapes_of config)) was (ba.entry.says.accepted.each j (segment_head Free) (slice_get-map segment_head ba.own.heads.items j ∙ ap (option_map segment_head) e)),
                         ),
-                      )
-                  by (Owned owner) e =
-                      let there = ba.restored.owned j owner e in
-                      let p = a_value (segment_here ba.was j) (ba.complete j lt) in (
-                        segment_of s c j,
-                        (ba.entry.cut.segments j p.0 p.1).had (segment_of s c j) (now.segments j p.0 (there ∙ p.1)),
-                        inl refl,
-                      )
+                      ))
+                      (λ owner e.
+                      let p = a_value (segment_here ba.was j) (ba.complete j lt) in
+                      (segment_of s c j, (ba.entry.cut.segments j p.0 p.1).had (segment_of s c j) (now.segments j p.0 (ba.restored.owned j owner e ∙ p.1)), inl refl))
 
-      still : (k : ℕ) (conf : VolumeConf) → slice_get config.volumes.items k ≡ Some conf → not_taken k ≡ true → MayLeave (at_name conf.name t.images) (image_of images k)
-      still k conf at is_not =
-          let one = left.each k conf (slice_get_within config.volumes.items k conf at) in
-          let name : (slice_index_or config.volumes.items k conf).name ≡ conf.name = ap (λ (w : VolumeConf). w.name) (get_or_from_slice_get config.volumes.items k conf conf at) in
-          refused_kept k conf at is_not (image_of images k) (subst (λ (m : _). MayLeave (at_name m t2.images) (image_of images k)) name one)
+          still : (k : ℕ) (conf : VolumeConf) → slice_get config.volumes.items k ≡ Some conf → not_taken k ≡ true → MayLeave (at_name conf.name t.images) (image_of images k)
+          still k conf at is_not =
+              let one = left.each k conf (slice_get_within config.volumes.items k conf at) in
+              let name : (slice_index_or config.volumes.items k conf).name ≡ conf.name = ap (λ (w : VolumeConf). w.name) (get_or_from_slice_get config.volumes.items k conf conf at) in
+              refused_kept k conf at is_not (image_of images k) (subst (λ (m : _). MayLeave (at_name m t2.images) (image_of images k)) name one)
 
-      -- each image that was there is there
-      back_there : (v : ℕ) → WasThere config t v → IsThere (shapes_of config) images v
-      back_there v all = go (not_taken v) refl
-        where
-          conf : (z : Shape) × (conf : VolumeConf) × (slice_get (shapes_of config) v ≡ Some z) × (slice_get config.volumes.items v ≡ Some conf)
-          conf = conf_there config t v all
-
-          go : (o : Bool) → not_taken v ≡ o → IsThere (shapes_of config) images v
-          go true e = there_may config t images v conf.1 conf.3 (still v conf.1 conf.3 e) all
-          go false e = let k = kept v conf.1 conf.3 e in (shape_in config conf.1, k.now, shape_is v conf.1 conf.3, k.is, k.sized)
-
-      before : (was : Images) × IsBefore KeepsFront KeepsSegment config t not_taken images kept still was
-      before = kept_before KeepsFront KeepsSegment config t not_taken images kept still
-
-      back_recovers : (v : ℕ) → (was : Images) × AreLeft config t was × RecoversSame config not_taken (no_one v) images was v
-      back_recovers v =
-          let keeps : (k i : ℕ) (c d : List Block) → KeepsSegment k i c d → SegmentsKeep v c d = λ k j c d keeps n. ap (λ es. keeping n es) (keeps_extents v k j c d keeps) in (
-            before.0,
-            before.1.left,
-            record {
-              but = before_same KeepsFront KeepsSegment config t not_taken images kept still before.0 before.1 v (same_front v) left.count keeps;
-              all = λ or. before_all KeepsFront KeepsSegment config t not_taken images kept still before.0 before.1 v (same_front v) left.count keeps;
-            },
-          )
-
-      back_sound : ((was : Images) → AreLeft config t was → AreSound (shapes_of config) was) → AreSound (shapes_of config) images
-      back_sound all =
-          sound_before KeepsFront KeepsSegment (shapes_of config) images before.0 (left.count ∙ sym before.1.left.count) each keeps_front (λ v k j c d keeps. keeps_extents v k j c d keeps) (λ views k j c d keeps is. keeps_sound (shapes_of config) views k j c d keeps is)
-          (all before.0 before.1.left)
-        where
-          each : (k : ℕ) (s : Shape) → slice_get (shapes_of config) k ≡ Some s → (image_of before.0 k ≡ image_of images k) ⊎ AreTwo (KeepsFront k) (KeepsSegment k) s (image_of images k) (image_of before.0 k)
-          each k s at =
-              let conf = volume_at config k s at in
-              by conf.0 conf.1 conf.2 (not_taken k) refl
+          -- each image that was there is there
+          back_there : (v : ℕ) → WasThere config t v → IsThere (shapes_of config) images v
+          back_there v all = go (not_taken v) refl
             where
-              by : (conf : VolumeConf) → slice_get config.volumes.items k ≡ Some conf → shape_in config conf ≡ s → (o : Bool) → not_taken k ≡ o → (image_of before.0 k ≡ image_of images k) ⊎ AreTwo (KeepsFront k) (KeepsSegment k) s (image_of images k) (image_of before.0 k)
-              by conf at same true e = inl (before.1.same k conf at e)
-              by conf at same false e = inr (subst (λ (z : Shape). AreTwo (KeepsFront k) (KeepsSegment k) z (image_of images k) (image_of before.0 k)) same (before.1.two k conf at e))
+              conf : (z : Shape) × (conf : VolumeConf) × (slice_get (shapes_of config) v ≡ Some z) × (slice_get config.volumes.items v ≡ Some conf)
+              conf = conf_there config t v all
 
-  module _ (tell_all : IsTrue tells → (d : D) → TellsContent (state d)) (sound : (d : D) → IsDisk (state d)) where
-    back_told : {P : Told → Told → Type 0} → ((t t1 t2 : Told) → b.told ≡ Some t → StayedSo config i.out.items (length config.volumes.items) t t1 → GivesBack state config out 0 t1 t2 → P t t2) → IsTold P b.told b2.told
-    back_told {P} each = go b.told b1.told b2.told refl sent.stayed back
-      where
-        go : (o o1 o2 : Option Told) → b.told ≡ o → IsTold (StayedSo config i.out.items (length config.volumes.items)) o o1 → IsTold (GivesBack state config out 0) o1 o2 → IsTold P o o2
-        go None None o2 is s g = g
-        go None (Some t1) o2 is s g = absurd (cc s)
-        go (Some t) None o2 is s g = absurd s
-        go (Some t) (Some t1) None is s g = absurd g
-        go (Some t) (Some t1) (Some t2) is s g = each t t1 t2 is s g
+              go : (o : Bool) → not_taken v ≡ o → IsThere (shapes_of config) images v
+              go true e = there_may config t images v conf.1 conf.3 (still v conf.1 conf.3 e) all
+              go false e = let k = kept v conf.1 conf.3 e in (shape_in config conf.1, k.now, shape_is v conf.1 conf.3, k.is, k.sized)
 
-    pub left_again : IsTrue tells → IsTold (LeavesAll tells state config b b2) b.told b2.told
-    left_again telling = back_told (λ t t1 t2 is stayed given. record {
-      refused = not_taken;
-      cause = cause;
-      kept = refused_kept telling (tell_all telling) sound t t1 t2 is stayed given;
-      opened = no_one;
-      are_opened = λ v is_open. none_opened v is_open;
-      left = λ images left v there. back_recovers telling (tell_all telling) sound t t1 t2 is stayed given images left v;
-      there = λ images left v all. back_there telling (tell_all telling) sound t t1 t2 is stayed given images left v all;
-    })
+          before : (was : Images) × IsBefore KeepsFront KeepsSegment config t not_taken images kept still was
+          before = kept_before KeepsFront KeepsSegment config t not_taken images kept still
 
-    pub sound_again : IsTrue tells → IsTold (KeepsAllSound config) b.told b2.told
-    sound_again telling = back_told (λ t t1 t2 is stayed given all images left. back_sound telling (tell_all telling) sound t t1 t2 is stayed given images left all)
+          back_recovers : (v : ℕ) → (was : Images) × AreLeft config t was × RecoversSame config not_taken (no_one v) images was v
+          back_recovers v =
+              let keeps : (k i : ℕ) (c d : List Block) → KeepsSegment k i c d → SegmentsKeep v c d = λ k j c d keeps n. ap (λ es. keeping n es) (keeps_extents v k j c d keeps) in (
+                before.0,
+                before.1.left,
+                record {
+                  but = before_same KeepsFront KeepsSegment config t not_taken images kept still before.0 before.1 v (same_front v) left.count keeps;
+                  all = λ or. before_all KeepsFront KeepsSegment config t not_taken images kept still before.0 before.1 v (same_front v) left.count keeps;
+                },
+              )
+
+          back_sound : ((was : Images) → AreLeft config t was → AreSound (shapes_of config) was) → AreSound (shapes_of config) images
+          back_sound all =
+              sound_before KeepsFront KeepsSegment (shapes_of config) images before.0 (left.count ∙ sym before.1.left.count) each keeps_front (λ v k j c d keeps. keeps_extents v k j c d keeps) (λ views k j c d keeps is. keeps_sound (shapes_of config) views k j c d keeps is)
+              (all before.0 before.1.left)
+            where
+              each : (k : ℕ) (s : Shape) → slice_get (shapes_of config) k ≡ Some s → (image_of before.0 k ≡ image_of images k) ⊎ AreTwo (KeepsFront k) (KeepsSegment k) s (image_of images k) (image_of before.0 k)
+              each k s at =
+                  let conf = volume_at config k s at in
+                  by conf.0 conf.1 conf.2 (not_taken k) refl
+                where
+                  by : (conf : VolumeConf) → slice_get config.volumes.items k ≡ Some conf → shape_in config conf ≡ s → (o : Bool) → not_taken k ≡ o → (image_of before.0 k ≡ image_of images k) ⊎ AreTwo (KeepsFront k) (KeepsSegment k) s (image_of images k) (image_of before.0 k)
+                  by conf at same true e = inl (before.1.same k conf at e)
+                  by conf at same false e = inr (subst (λ (z : Shape). AreTwo (KeepsFront k) (KeepsSegment k) z (image_of images k) (image_of before.0 k)) same (before.1.two k conf at e))
+
+      module _ (tell_all : IsTrue tells → (d : D) → TellsContent (state d)) (sound : (d : D) → IsDisk (state d)) where
+        back_told : {P : Told → Told → Type 0} → ((t t1 t2 : Told) → b.told ≡ Some t → StayedSo config i.out.items (length config.volumes.items) t t1 → GivesBack state config out 0 t1 t2 → P t t2) → IsTold P b.told b2.told
+        back_told {P} each = told_then (StayedSo config i.out.items (length config.volumes.items)) (GivesBack state config out 0) P b.told b1.told b2.told each sent.stayed back
+
+        pub left_again : IsTrue tells → IsTold (LeavesAll tells state config b b2) b.told b2.told
+        left_again telling = back_told (λ t t1 t2 is stayed given. record {
+          refused = not_taken;
+          cause = cause;
+          kept = refused_kept telling (tell_all telling) sound t t1 t2 is stayed given;
+          opened = no_one;
+          are_opened = λ v is_open. none_opened v is_open;
+          left = λ images left v there. back_recovers telling (tell_all telling) sound t t1 t2 is stayed given images left v;
+          there = λ images left v all. back_there telling (tell_all telling) sound t t1 t2 is stayed given images left v all;
+        })
+
+        pub sound_again : IsTrue tells → IsTold (KeepsAllSound config) b.told b2.told
+        sound_again telling = back_told (λ t t1 t2 is stayed given all images left. back_sound telling (tell_all telling) sound t t1 t2 is stayed given images left all)

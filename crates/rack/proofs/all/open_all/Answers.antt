@@ -1,11 +1,11 @@
-use Rattle.rack.proofs.Basics.{◌≡◌, ℕ, List, Option, Some, length, sym, ap, ◌∙◌, subst, All, IsTrue}
-use Rattle.rack.proofs.Terms.{Told, PassOf, Spindle, SpindleBase, IsUnused, KeepToViews, BeganWith, view_at, IsOpeningRack, HasBegun, HaveFaults, Said}
+use Rattle.rack.proofs.Basics.{ℕ, List, Option, length, sym, ap, ◌∙◌, subst, All}
+use Rattle.rack.proofs.Terms.{PassOf, Spindle, SpindleBase, IsUnused, KeepToViews, view_at, IsOpeningRack, HasBegun, HaveFaults, Said}
 use Rattle.rack_parts.proofs.LocksIssued.{on_err}
 use Rattle.rack_closing.proofs.SoundVolumes.{opens_all}
 use Rattle.rack.proofs.FailedParts.{gained_parts, part_failed}
 use Rattle.rack.proofs.ImagesSent.{others_same, others_then}
 use Rattle.rack.proofs.TakenBack.{left_back, nothing_done}
-use Rattle.rack.proofs.OpenedAll.{out_after, opened_out, opened_home, opened_others, opened_faulty, opened_unfaulty, opened_kept, opened_failed, opened_there, opened_views, closed_left, closed_sound, quiet_stations, fresh_passes, count_spindles, count_pools, told_at, begun_first, refused_first, taken_opening, many}
+use Rattle.rack.proofs.OpenedAll.{opened_out, opened_home, opened_others, opened_faulty, opened_unfaulty, opened_kept, opened_failed, opened_there, opened_views, closed_left, closed_sound, quiet_stations, fresh_passes, count_spindles, count_pools, told_at, begun_first, refused_first, taken_opening, many}
 use Rattle.rack.proofs.all.open_all.Goals as goal
 
 pub filled-rack-requires-clause-spindles : goal.filled-rack-requires-clause-spindles
@@ -28,29 +28,24 @@ returns-in-Ok-open_volumes-clause-rack g c =
 
 pub returns-in-Ok-open_volumes-clause-out : goal.returns-in-Ok-open_volumes-clause-out
 returns-in-Ok-open_volumes-clause-out g c =
-    let out_is = out_after g.B.Part.Disk.tells g.B.Part.Disk.state c.args.config.now c.requires.config (g.B.Bay.state c.args.bay.now) (g.B.Bay.state c.take_out.new.bay) c.in-Ok.taken c.in-Ok.ensures.taken c.filled-rack.result c.open_volumes.new.rack c.filled-rack.ensures.images c.open_volumes.ensures.same_out in
-    opened_out g.B.Part.Disk.tells g.B.Part.Disk.state c.args.config.now c.requires.config (g.B.Bay.state c.args.bay.now) (g.B.Bay.state c.take_out.new.bay) c.in-Ok.taken c.in-Ok.ensures.taken c.open_volumes.new.rack out_is
+    opened_out g.B.Part.Disk.tells g.B.Part.Disk.state c.args.config.now c.requires.config (g.B.Bay.state c.args.bay.now) (g.B.Bay.state c.take_out.new.bay) c.in-Ok.taken c.in-Ok.ensures.taken c.filled-rack.result c.filled-rack.ensures.images c.open_volumes.new.rack c.open_volumes.ensures.same_out
 
 pub returns-in-Ok-open_volumes-clause-began : goal.returns-in-Ok-open_volumes-clause-began
 returns-in-Ok-open_volumes-clause-began g c =
     λ telling. told_at (g.B.Bay.state c.args.bay.now).told
     (λ old is.
-    let begun : HasBegun g.B.Part.Disk.state c.args.config.now old c.as_slice.result.now 0 c.filled-rack.result =
-    subst (λ (l : List (Option Said)). HasBegun g.B.Part.Disk.state c.args.config.now old l 0 c.filled-rack.result) (sym c.as_slice.ensures.value) (begun_first g.B.Part.Disk.tells g.B.Part.Disk.state c.args.config.now c.requires.config (g.B.Bay.state c.args.bay.now) (g.B.Bay.state c.take_out.new.bay) c.in-Ok.taken c.in-Ok.ensures.taken c.filled-rack.result c.filled-rack.ensures.rest c.filled-rack.ensures.images c.filled-rack.ensures.faults telling old is) in
-    c.open_volumes.ensures.began telling old begun)
+    c.open_volumes.ensures.began telling old (subst (λ (l : List (Option Said)). HasBegun g.B.Part.Disk.state c.args.config.now old l 0 c.filled-rack.result) (sym c.as_slice.ensures.value) (begun_first g.B.Part.Disk.tells g.B.Part.Disk.state c.args.config.now c.requires.config (g.B.Bay.state c.args.bay.now) (g.B.Bay.state c.take_out.new.bay) c.in-Ok.taken c.in-Ok.ensures.taken c.filled-rack.result c.filled-rack.ensures.rest c.filled-rack.ensures.images c.filled-rack.ensures.faults telling old is)))
 
 pub returns-in-Ok-open_volumes-clause-there : goal.returns-in-Ok-open_volumes-clause-there
 returns-in-Ok-open_volumes-clause-there g c =
-    let out_is = out_after g.B.Part.Disk.tells g.B.Part.Disk.state c.args.config.now c.requires.config (g.B.Bay.state c.args.bay.now) (g.B.Bay.state c.take_out.new.bay) c.in-Ok.taken c.in-Ok.ensures.taken c.filled-rack.result c.open_volumes.new.rack c.filled-rack.ensures.images c.open_volumes.ensures.same_out in
-    λ telling. told_at (g.B.Bay.state c.args.bay.now).told (opened_there g.B.Part.Disk.tells g.B.Part.Disk.state c.args.config.now c.requires.config (g.B.Bay.state c.args.bay.now) (g.B.Bay.state c.take_out.new.bay) c.in-Ok.taken c.in-Ok.ensures.taken c.open_volumes.new.rack out_is telling)
+    λ telling. told_at (g.B.Bay.state c.args.bay.now).told (opened_there g.B.Part.Disk.tells g.B.Part.Disk.state c.args.config.now c.requires.config (g.B.Bay.state c.args.bay.now) (g.B.Bay.state c.take_out.new.bay) c.in-Ok.taken c.in-Ok.ensures.taken c.filled-rack.result c.filled-rack.ensures.images c.open_volumes.new.rack c.open_volumes.ensures.same_out telling)
 
 pub returns-in-Ok-open_volumes-clause-users : goal.returns-in-Ok-open_volumes-clause-users
 returns-in-Ok-open_volumes-clause-users g c =
-    let out_is = out_after g.B.Part.Disk.tells g.B.Part.Disk.state c.args.config.now c.requires.config (g.B.Bay.state c.args.bay.now) (g.B.Bay.state c.take_out.new.bay) c.in-Ok.taken c.in-Ok.ensures.taken c.filled-rack.result c.open_volumes.new.rack c.filled-rack.ensures.images c.open_volumes.ensures.same_out in
     λ telling. told_at (g.B.Bay.state c.args.bay.now).told (λ old is. (
       view_at c.in-Ok.taken.images.said.items,
       subst (λ (l : List (Option Said)). KeepToViews (view_at l) c.open_volumes.new.rack) c.as_slice.ensures.value c.in-Ok-open_volumes.ensures.users,
-      opened_views g.B.Part.Disk.tells g.B.Part.Disk.state c.args.config.now c.requires.config (g.B.Bay.state c.args.bay.now) (g.B.Bay.state c.take_out.new.bay) c.in-Ok.taken c.in-Ok.ensures.taken c.open_volumes.new.rack out_is telling old is,
+      opened_views g.B.Part.Disk.tells g.B.Part.Disk.state c.args.config.now c.requires.config (g.B.Bay.state c.args.bay.now) (g.B.Bay.state c.take_out.new.bay) c.in-Ok.taken c.in-Ok.ensures.taken c.filled-rack.result c.filled-rack.ensures.images c.open_volumes.new.rack c.open_volumes.ensures.same_out telling old is,
     ))
 
 pub returns-in-Ok-open_volumes-clause-refused : goal.returns-in-Ok-open_volumes-clause-refused
@@ -63,27 +58,23 @@ returns-in-Ok-open_volumes-clause-fresh_keepers g c =
 
 pub returns-in-Ok-open_volumes-clause-faulty : goal.returns-in-Ok-open_volumes-clause-faulty
 returns-in-Ok-open_volumes-clause-faulty g c =
-    let out_is = out_after g.B.Part.Disk.tells g.B.Part.Disk.state c.args.config.now c.requires.config (g.B.Bay.state c.args.bay.now) (g.B.Bay.state c.take_out.new.bay) c.in-Ok.taken c.in-Ok.ensures.taken c.filled-rack.result c.open_volumes.new.rack c.filled-rack.ensures.images c.open_volumes.ensures.same_out in
-    opened_faulty g.B.Part.Disk.tells g.B.Part.Disk.state c.args.config.now c.requires.config (g.B.Bay.state c.args.bay.now) (g.B.Bay.state c.take_out.new.bay) c.in-Ok.taken c.in-Ok.ensures.taken c.open_volumes.new.rack out_is
+    opened_faulty g.B.Part.Disk.tells g.B.Part.Disk.state c.args.config.now c.requires.config (g.B.Bay.state c.args.bay.now) (g.B.Bay.state c.take_out.new.bay) c.in-Ok.taken c.in-Ok.ensures.taken c.filled-rack.result c.filled-rack.ensures.images c.open_volumes.new.rack c.open_volumes.ensures.same_out
 
 pub returns-in-Ok-open_volumes-clause-unfaulty : goal.returns-in-Ok-open_volumes-clause-unfaulty
 returns-in-Ok-open_volumes-clause-unfaulty g c =
-    let out_is = out_after g.B.Part.Disk.tells g.B.Part.Disk.state c.args.config.now c.requires.config (g.B.Bay.state c.args.bay.now) (g.B.Bay.state c.take_out.new.bay) c.in-Ok.taken c.in-Ok.ensures.taken c.filled-rack.result c.open_volumes.new.rack c.filled-rack.ensures.images c.open_volumes.ensures.same_out in
-    λ all. opened_unfaulty g.B.Part.Disk.tells g.B.Part.Disk.state c.args.config.now c.requires.config (g.B.Bay.state c.args.bay.now) (g.B.Bay.state c.take_out.new.bay) c.in-Ok.taken c.in-Ok.ensures.taken c.open_volumes.new.rack out_is all (many g.B.Part.Disk.tells g.B.Part.Disk.state c.args.config.now c.requires.config (g.B.Bay.state c.args.bay.now) (g.B.Bay.state c.take_out.new.bay) c.in-Ok.taken c.in-Ok.ensures.taken)
+    λ all. opened_unfaulty g.B.Part.Disk.tells g.B.Part.Disk.state c.args.config.now c.requires.config (g.B.Bay.state c.args.bay.now) (g.B.Bay.state c.take_out.new.bay) c.in-Ok.taken c.in-Ok.ensures.taken c.filled-rack.result c.filled-rack.ensures.images c.open_volumes.new.rack c.open_volumes.ensures.same_out all (many g.B.Part.Disk.tells g.B.Part.Disk.state c.args.config.now c.requires.config (g.B.Bay.state c.args.bay.now) (g.B.Bay.state c.take_out.new.bay) c.in-Ok.taken c.in-Ok.ensures.taken)
 
 pub returns-in-Ok-open_volumes-clause-kept : goal.returns-in-Ok-open_volumes-clause-kept
 returns-in-Ok-open_volumes-clause-kept g c =
-    let out_is = out_after g.B.Part.Disk.tells g.B.Part.Disk.state c.args.config.now c.requires.config (g.B.Bay.state c.args.bay.now) (g.B.Bay.state c.take_out.new.bay) c.in-Ok.taken c.in-Ok.ensures.taken c.filled-rack.result c.open_volumes.new.rack c.filled-rack.ensures.images c.open_volumes.ensures.same_out in
-    λ telling. opened_kept g.B.Part.Disk.tells g.B.Part.Disk.state c.args.config.now c.requires.config (g.B.Bay.state c.args.bay.now) (g.B.Bay.state c.take_out.new.bay) c.in-Ok.taken c.in-Ok.ensures.taken c.open_volumes.new.rack out_is
+    λ telling. opened_kept g.B.Part.Disk.tells g.B.Part.Disk.state c.args.config.now c.requires.config (g.B.Bay.state c.args.bay.now) (g.B.Bay.state c.take_out.new.bay) c.in-Ok.taken c.in-Ok.ensures.taken c.filled-rack.result c.filled-rack.ensures.images c.open_volumes.new.rack c.open_volumes.ensures.same_out
 
 pub returns-in-Ok-open_volumes-clause-failed : goal.returns-in-Ok-open_volumes-clause-failed
 returns-in-Ok-open_volumes-clause-failed g c =
     let opening = taken_opening g.B.Part.Disk.tells g.B.Part.Disk.state c.args.config.now c.requires.config (g.B.Bay.state c.args.bay.now) (g.B.Bay.state c.take_out.new.bay) c.in-Ok.taken c.in-Ok.ensures.taken c.requires.home c.filled-rack.result c.filled-rack.ensures.rest c.filled-rack.ensures.images c.filled-rack.ensures.faults in
-    let out_is = out_after g.B.Part.Disk.tells g.B.Part.Disk.state c.args.config.now c.requires.config (g.B.Bay.state c.args.bay.now) (g.B.Bay.state c.take_out.new.bay) c.in-Ok.taken c.in-Ok.ensures.taken c.filled-rack.result c.open_volumes.new.rack c.filled-rack.ensures.images c.open_volumes.ensures.same_out in
     let rack = c.in-Ok-open_volumes.ensures.rack (g.B.Bay.state c.take_out.new.bay) (subst (λ (l : List (Option Said)). IsOpeningRack g.B.Part.Disk.state c.args.config.now (g.B.Bay.state c.take_out.new.bay) l 0 c.filled-rack.result) (sym c.as_slice.ensures.value) opening) in
     let said_count = ap (λ (x : _). length x.items) c.in-Ok.ensures.taken.same.0 ∙ c.in-Ok.ensures.taken.asked.said_count in
     let have = subst (λ (n : ℕ). HaveFaults g.B.Part.Disk.state c.in-Ok.taken.images.said.items n c.open_volumes.new.rack) said_count (subst (λ (l : List (Option Said)). HaveFaults g.B.Part.Disk.state l (length l) c.open_volumes.new.rack) c.as_slice.ensures.value c.in-Ok-open_volumes.ensures.failed) in
-    opened_failed g.B.Part.Disk.tells g.B.Part.Disk.state c.args.config.now c.requires.config (g.B.Bay.state c.args.bay.now) (g.B.Bay.state c.take_out.new.bay) c.in-Ok.taken c.in-Ok.ensures.taken c.open_volumes.new.rack out_is have (rack.fault_count ∙ many g.B.Part.Disk.tells g.B.Part.Disk.state c.args.config.now c.requires.config (g.B.Bay.state c.args.bay.now) (g.B.Bay.state c.take_out.new.bay) c.in-Ok.taken c.in-Ok.ensures.taken)
+    opened_failed g.B.Part.Disk.tells g.B.Part.Disk.state c.args.config.now c.requires.config (g.B.Bay.state c.args.bay.now) (g.B.Bay.state c.take_out.new.bay) c.in-Ok.taken c.in-Ok.ensures.taken c.filled-rack.result c.filled-rack.ensures.images c.open_volumes.new.rack c.open_volumes.ensures.same_out have (rack.fault_count ∙ many g.B.Part.Disk.tells g.B.Part.Disk.state c.args.config.now c.requires.config (g.B.Bay.state c.args.bay.now) (g.B.Bay.state c.take_out.new.bay) c.in-Ok.taken c.in-Ok.ensures.taken)
 
 pub close_all-spindles-requires-clause-rack : goal.close_all-spindles-requires-clause-rack
 close_all-spindles-requires-clause-rack g c =
@@ -92,8 +83,7 @@ close_all-spindles-requires-clause-rack g c =
 
 pub returns-clause-home : goal.returns-clause-home
 returns-clause-home g c =
-    let out_is = out_after g.B.Part.Disk.tells g.B.Part.Disk.state c.args.config.now c.requires.config (g.B.Bay.state c.args.bay.now) (g.B.Bay.state c.take_out.new.bay) c.in-Ok.taken c.in-Ok.ensures.taken c.filled-rack.result c.open_volumes.new.rack c.filled-rack.ensures.images c.open_volumes.ensures.same_out in
-    opened_home g.B.Part.Disk.tells g.B.Part.Disk.state c.args.config.now c.requires.config (g.B.Bay.state c.args.bay.now) (g.B.Bay.state c.take_out.new.bay) c.in-Ok.taken c.in-Ok.ensures.taken c.open_volumes.new.rack out_is c.requires.home (g.B.Bay.state c.close_all-spindles.new.bay) c.close_all-spindles.ensures.home
+    opened_home g.B.Part.Disk.tells g.B.Part.Disk.state c.args.config.now c.requires.config (g.B.Bay.state c.args.bay.now) (g.B.Bay.state c.take_out.new.bay) c.in-Ok.taken c.in-Ok.ensures.taken c.filled-rack.result c.filled-rack.ensures.images c.open_volumes.new.rack c.open_volumes.ensures.same_out c.requires.home (g.B.Bay.state c.close_all-spindles.new.bay) c.close_all-spindles.ensures.home
 
 pub returns-in_err-lists-clause-left : goal.returns-in_err-lists-clause-left
 returns-in_err-lists-clause-left g c =
@@ -101,19 +91,13 @@ returns-in_err-lists-clause-left g c =
 
 pub returns-clause-left : goal.returns-clause-left
 returns-clause-left g c = λ telling.
-    let out_is = out_after g.B.Part.Disk.tells g.B.Part.Disk.state c.args.config.now c.requires.config (g.B.Bay.state c.args.bay.now) (g.B.Bay.state c.take_out.new.bay) c.in-Ok.taken c.in-Ok.ensures.taken c.filled-rack.result c.open_volumes.new.rack c.filled-rack.ensures.images c.open_volumes.ensures.same_out in
-    let began : IsTrue g.B.Part.Disk.tells → (old : Told) → (g.B.Bay.state c.args.bay.now).told ≡ Some old → BeganWith g.B.Part.Disk.state c.args.config.now old c.open_volumes.new.rack = λ telling old is.
-    c.open_volumes.ensures.began telling old (subst (λ (l : List (Option Said)). HasBegun g.B.Part.Disk.state c.args.config.now old l 0 c.filled-rack.result) (sym c.as_slice.ensures.value) (begun_first g.B.Part.Disk.tells g.B.Part.Disk.state c.args.config.now c.requires.config (g.B.Bay.state c.args.bay.now) (g.B.Bay.state c.take_out.new.bay) c.in-Ok.taken c.in-Ok.ensures.taken c.filled-rack.result c.filled-rack.ensures.rest c.filled-rack.ensures.images c.filled-rack.ensures.faults telling old is)) in
-    closed_left g.B.Part.Disk.tells g.B.Part.Disk.state c.args.config.now c.requires.config (g.B.Bay.state c.args.bay.now) (g.B.Bay.state c.take_out.new.bay) (g.B.Bay.state c.close_all-spindles.new.bay) c.in-Ok.taken c.in-Ok.ensures.taken c.open_volumes.new.rack out_is c.close_all-spindles.ensures.counts (gained_parts g.B.Part.Disk.state c.args.config.now c.open_volumes.new.rack.rest (g.B.Bay.state c.take_out.new.bay).told (g.B.Bay.state c.close_all-spindles.new.bay).told c.close_all-spindles.ensures.faulty) (c.close_all-spindles.ensures.kept telling) (c.close_all-spindles.ensures.parts telling)
-    (λ old is. c.close_all-spindles.ensures.volumes old telling (began telling old is) (opened_there g.B.Part.Disk.tells g.B.Part.Disk.state c.args.config.now c.requires.config (g.B.Bay.state c.args.bay.now) (g.B.Bay.state c.take_out.new.bay) c.in-Ok.taken c.in-Ok.ensures.taken c.open_volumes.new.rack out_is telling old is) (quiet_stations c.open_volumes.new.rack.stations.items c.open_volumes.ensures.fresh))
+    closed_left g.B.Part.Disk.tells g.B.Part.Disk.state c.args.config.now c.requires.config (g.B.Bay.state c.args.bay.now) (g.B.Bay.state c.take_out.new.bay) c.in-Ok.taken c.in-Ok.ensures.taken c.filled-rack.result c.filled-rack.ensures.images c.open_volumes.new.rack c.open_volumes.ensures.same_out (g.B.Bay.state c.close_all-spindles.new.bay) c.close_all-spindles.ensures.counts (gained_parts g.B.Part.Disk.state c.args.config.now c.open_volumes.new.rack.rest (g.B.Bay.state c.take_out.new.bay).told (g.B.Bay.state c.close_all-spindles.new.bay).told c.close_all-spindles.ensures.faulty) (c.close_all-spindles.ensures.kept telling) (c.close_all-spindles.ensures.parts telling)
+    (λ old is. c.close_all-spindles.ensures.volumes old telling (c.open_volumes.ensures.began telling old (subst (λ (l : List (Option Said)). HasBegun g.B.Part.Disk.state c.args.config.now old l 0 c.filled-rack.result) (sym c.as_slice.ensures.value) (begun_first g.B.Part.Disk.tells g.B.Part.Disk.state c.args.config.now c.requires.config (g.B.Bay.state c.args.bay.now) (g.B.Bay.state c.take_out.new.bay) c.in-Ok.taken c.in-Ok.ensures.taken c.filled-rack.result c.filled-rack.ensures.rest c.filled-rack.ensures.images c.filled-rack.ensures.faults telling old is))) (opened_there g.B.Part.Disk.tells g.B.Part.Disk.state c.args.config.now c.requires.config (g.B.Bay.state c.args.bay.now) (g.B.Bay.state c.take_out.new.bay) c.in-Ok.taken c.in-Ok.ensures.taken c.filled-rack.result c.filled-rack.ensures.images c.open_volumes.new.rack c.open_volumes.ensures.same_out telling old is) (quiet_stations c.open_volumes.new.rack.stations.items c.open_volumes.ensures.fresh))
 
 pub returns-clause-sound : goal.returns-clause-sound
 returns-clause-sound g c = λ telling.
-    let out_is = out_after g.B.Part.Disk.tells g.B.Part.Disk.state c.args.config.now c.requires.config (g.B.Bay.state c.args.bay.now) (g.B.Bay.state c.take_out.new.bay) c.in-Ok.taken c.in-Ok.ensures.taken c.filled-rack.result c.open_volumes.new.rack c.filled-rack.ensures.images c.open_volumes.ensures.same_out in
-    let began : IsTrue g.B.Part.Disk.tells → (old : Told) → (g.B.Bay.state c.args.bay.now).told ≡ Some old → BeganWith g.B.Part.Disk.state c.args.config.now old c.open_volumes.new.rack = λ telling old is.
-    c.open_volumes.ensures.began telling old (subst (λ (l : List (Option Said)). HasBegun g.B.Part.Disk.state c.args.config.now old l 0 c.filled-rack.result) (sym c.as_slice.ensures.value) (begun_first g.B.Part.Disk.tells g.B.Part.Disk.state c.args.config.now c.requires.config (g.B.Bay.state c.args.bay.now) (g.B.Bay.state c.take_out.new.bay) c.in-Ok.taken c.in-Ok.ensures.taken c.filled-rack.result c.filled-rack.ensures.rest c.filled-rack.ensures.images c.filled-rack.ensures.faults telling old is)) in
-    closed_sound g.B.Part.Disk.tells g.B.Part.Disk.state c.args.config.now c.requires.config (g.B.Bay.state c.args.bay.now) (g.B.Bay.state c.take_out.new.bay) (g.B.Bay.state c.close_all-spindles.new.bay) c.in-Ok.taken c.in-Ok.ensures.taken c.open_volumes.new.rack out_is c.close_all-spindles.ensures.counts (gained_parts g.B.Part.Disk.state c.args.config.now c.open_volumes.new.rack.rest (g.B.Bay.state c.take_out.new.bay).told (g.B.Bay.state c.close_all-spindles.new.bay).told c.close_all-spindles.ensures.faulty) (c.close_all-spindles.ensures.kept telling)
-    (λ old is. c.close_all-spindles.ensures.sound old telling (began telling old is) (opened_there g.B.Part.Disk.tells g.B.Part.Disk.state c.args.config.now c.requires.config (g.B.Bay.state c.args.bay.now) (g.B.Bay.state c.take_out.new.bay) c.in-Ok.taken c.in-Ok.ensures.taken c.open_volumes.new.rack out_is telling old is))
+    closed_sound g.B.Part.Disk.tells g.B.Part.Disk.state c.args.config.now c.requires.config (g.B.Bay.state c.args.bay.now) (g.B.Bay.state c.take_out.new.bay) c.in-Ok.taken c.in-Ok.ensures.taken c.filled-rack.result c.filled-rack.ensures.images c.open_volumes.new.rack c.open_volumes.ensures.same_out (g.B.Bay.state c.close_all-spindles.new.bay) c.close_all-spindles.ensures.counts (gained_parts g.B.Part.Disk.state c.args.config.now c.open_volumes.new.rack.rest (g.B.Bay.state c.take_out.new.bay).told (g.B.Bay.state c.close_all-spindles.new.bay).told c.close_all-spindles.ensures.faulty) (c.close_all-spindles.ensures.kept telling)
+    (λ old is. c.close_all-spindles.ensures.sound old telling (c.open_volumes.ensures.began telling old (subst (λ (l : List (Option Said)). HasBegun g.B.Part.Disk.state c.args.config.now old l 0 c.filled-rack.result) (sym c.as_slice.ensures.value) (begun_first g.B.Part.Disk.tells g.B.Part.Disk.state c.args.config.now c.requires.config (g.B.Bay.state c.args.bay.now) (g.B.Bay.state c.take_out.new.bay) c.in-Ok.taken c.in-Ok.ensures.taken c.filled-rack.result c.filled-rack.ensures.rest c.filled-rack.ensures.images c.filled-rack.ensures.faults telling old is))) (opened_there g.B.Part.Disk.tells g.B.Part.Disk.state c.args.config.now c.requires.config (g.B.Bay.state c.args.bay.now) (g.B.Bay.state c.take_out.new.bay) c.in-Ok.taken c.in-Ok.ensures.taken c.filled-rack.result c.filled-rack.ensures.images c.open_volumes.new.rack c.open_volumes.ensures.same_out telling old is))
 
 pub returns-in-Ok-open_volumes-clause-complete : goal.returns-in-Ok-open_volumes-clause-complete
 returns-in-Ok-open_volumes-clause-complete g c =
@@ -127,10 +111,8 @@ returns-in_err-lists-clause-others g c = others_same c.args.config.now (g.B.Bay.
 
 pub returns-in-Ok-open_volumes-clause-others : goal.returns-in-Ok-open_volumes-clause-others
 returns-in-Ok-open_volumes-clause-others g c =
-    let out_is = out_after g.B.Part.Disk.tells g.B.Part.Disk.state c.args.config.now c.requires.config (g.B.Bay.state c.args.bay.now) (g.B.Bay.state c.take_out.new.bay) c.in-Ok.taken c.in-Ok.ensures.taken c.filled-rack.result c.open_volumes.new.rack c.filled-rack.ensures.images c.open_volumes.ensures.same_out in
-    opened_others g.B.Part.Disk.tells g.B.Part.Disk.state c.args.config.now c.requires.config (g.B.Bay.state c.args.bay.now) (g.B.Bay.state c.take_out.new.bay) c.in-Ok.taken c.in-Ok.ensures.taken c.open_volumes.new.rack out_is
+    opened_others g.B.Part.Disk.tells g.B.Part.Disk.state c.args.config.now c.requires.config (g.B.Bay.state c.args.bay.now) (g.B.Bay.state c.take_out.new.bay) c.in-Ok.taken c.in-Ok.ensures.taken c.filled-rack.result c.filled-rack.ensures.images c.open_volumes.new.rack c.open_volumes.ensures.same_out
 
 pub returns-clause-others : goal.returns-clause-others
 returns-clause-others g c =
-    let out_is = out_after g.B.Part.Disk.tells g.B.Part.Disk.state c.args.config.now c.requires.config (g.B.Bay.state c.args.bay.now) (g.B.Bay.state c.take_out.new.bay) c.in-Ok.taken c.in-Ok.ensures.taken c.filled-rack.result c.open_volumes.new.rack c.filled-rack.ensures.images c.open_volumes.ensures.same_out in
-    others_then c.args.config.now (g.B.Bay.state c.args.bay.now).told (g.B.Bay.state c.take_out.new.bay).told (g.B.Bay.state c.close_all-spindles.new.bay).told (opened_others g.B.Part.Disk.tells g.B.Part.Disk.state c.args.config.now c.requires.config (g.B.Bay.state c.args.bay.now) (g.B.Bay.state c.take_out.new.bay) c.in-Ok.taken c.in-Ok.ensures.taken c.open_volumes.new.rack out_is) c.close_all-spindles.ensures.others
+    others_then c.args.config.now (g.B.Bay.state c.args.bay.now).told (g.B.Bay.state c.take_out.new.bay).told (g.B.Bay.state c.close_all-spindles.new.bay).told (opened_others g.B.Part.Disk.tells g.B.Part.Disk.state c.args.config.now c.requires.config (g.B.Bay.state c.args.bay.now) (g.B.Bay.state c.take_out.new.bay) c.in-Ok.taken c.in-Ok.ensures.taken c.filled-rack.result c.filled-rack.ensures.images c.open_volumes.new.rack c.open_volumes.ensures.same_out) c.close_all-spindles.ensures.others

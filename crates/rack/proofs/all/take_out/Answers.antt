@@ -1,11 +1,9 @@
-use Rattle.rack.proofs.Basics.{◌≡◌, ℕ, length, List, Option, None, refl, sym, ap, ◌∙◌, subst, arith, is_some, slice_index_or, All, with_items_is, slice_get_within}
-use Rattle.rack.proofs.Basics.{get_or_from_slice_get}
-use Rattle.rack.proofs.Terms.{Spindle, SpindleBase, IsHome, outs, VolumeConf, IsTold, GivesBack, LeavesNoneOut, IsWholeLock, AreSpindlesOf, CanIssue, IsIssuedPool, Supplies}
-use Rattle.rack.proofs.Terms.{Restores, image_here, Said, Issued, ImageRest}
+use Rattle.rack.proofs.Basics.{◌≡◌, ℕ, length, List, Option, None, refl, sym, ap, ◌∙◌, subst, arith, slice_index_or, All, with_items_is, slice_get_within, get_or_from_slice_get}
+use Rattle.rack.proofs.Terms.{Spindle, SpindleBase, IsHome, VolumeConf, IsWholeLock, AreSpindlesOf, CanIssue, IsIssuedPool, Supplies, image_here, Said, Issued, ImageRest}
 use Rattle.std.specs.Prelude.{vec_len}
 use Rattle.rack_parts.proofs.LocksIssued.{on_err}
 use Rattle.rack.proofs.ImagesSent.{names_out, others_same, others_then, back_others, sent_others}
-use Rattle.rack.proofs.TakenBack.{left_back, sound_back, nothing_done, left_again, sound_again, shape_here, may_issue, again, same_here, home_again}
+use Rattle.rack.proofs.TakenBack.{left_back, sound_back, nothing_done, left_again, sound_again, may_issue, again, whole_again, same_here, home_again}
 use Rattle.rack.proofs.all.take_out.Goals as goal
 
 pub issue_pools-requires-clause-each : goal.issue_pools-requires-clause-each
@@ -18,32 +16,17 @@ issue_pools-requires-clause-each g c = λ k s is.
 
 pub give_back-requires-clause-images : goal.give_back-requires-clause-images
 give_back-requires-clause-images g c = λ k s r is here.
-    let count : length c.issue_pools.new.images ≡ length c.in-Ok.images.out.items = c.issue_pools.ensures.images ∙ ap length c.as_mut_slice.ensures.value in
-    let e = with_items_is c.in-Ok.images.out c.issue_pools.new.images (omega (arith, count, c.in-Ok.images.out.ok.0)) in
-    let restores = λ (j : ℕ). subst (λ (l : List (Option (ImageRest g.row.B-Part.Denot))). Restores g.B.Part.Disk.state j c.args.config.now.segment_blocks (slice_index_or c.in-Ok.images.said.items j None) (slice_index_or l j None) (slice_index_or c.issue_pools.new.images j None)) c.as_mut_slice.ensures.value
-    (subst (λ (l : List (Option Said)). Restores g.B.Part.Disk.state j c.args.config.now.segment_blocks (slice_index_or l j None) (slice_index_or c.as_mut_slice.result.now j None) (slice_index_or c.issue_pools.new.images j None)) c.as_slice.ensures.value (c.in-Err-issue_pools.ensures.restores j)) in
-    (again g.B.Part.Disk.tells g.B.Part.Disk.state c.args.config.now (g.B.Bay.state c.args.bay.now) (g.B.Bay.state c.open_images.new.bay) c.in-Ok.images c.in-Ok.ensures.asked c.issue_pools.new.images count restores k s r is (sym (ap (λ (l : List (Option (ImageRest g.row.B-Part.Denot))). image_here l k) e) ∙ here)).rest
+    (again g.B.Part.Disk.tells g.B.Part.Disk.state c.args.config.now (g.B.Bay.state c.args.bay.now) (g.B.Bay.state c.open_images.new.bay) c.in-Ok.images c.in-Ok.ensures.asked c.issue_pools.new.images c.as_mut_slice.result.now c.as_slice.result.now c.issue_pools.ensures.images c.as_mut_slice.ensures.value c.as_slice.ensures.value c.in-Err-issue_pools.ensures.restores k s r is here).rest
 
 pub give_back-requires-clause-whole : goal.give_back-requires-clause-whole
-give_back-requires-clause-whole g c = λ k r here.
-    let count : length c.issue_pools.new.images ≡ length c.in-Ok.images.out.items = c.issue_pools.ensures.images ∙ ap length c.as_mut_slice.ensures.value in
-    let e = with_items_is c.in-Ok.images.out c.issue_pools.new.images (omega (arith, count, c.in-Ok.images.out.ok.0)) in
-    let restores = λ (j : ℕ). subst (λ (l : List (Option (ImageRest g.row.B-Part.Denot))). Restores g.B.Part.Disk.state j c.args.config.now.segment_blocks (slice_index_or c.in-Ok.images.said.items j None) (slice_index_or l j None) (slice_index_or c.issue_pools.new.images j None)) c.as_mut_slice.ensures.value
-    (subst (λ (l : List (Option Said)). Restores g.B.Part.Disk.state j c.args.config.now.segment_blocks (slice_index_or l j None) (slice_index_or c.as_mut_slice.result.now j None) (slice_index_or c.issue_pools.new.images j None)) c.as_slice.ensures.value (c.in-Err-issue_pools.ensures.restores j)) in
-    let there = sym (ap (λ (l : List (Option (ImageRest g.row.B-Part.Denot))). image_here l k) e) ∙ here in
-    let s = shape_here c.args.config.now c.issue_pools.new.images k r (let a = c.in-Ok.ensures.asked.out_count in omega (arith, count, a)) there in
-    (again g.B.Part.Disk.tells g.B.Part.Disk.state c.args.config.now (g.B.Bay.state c.args.bay.now) (g.B.Bay.state c.open_images.new.bay) c.in-Ok.images c.in-Ok.ensures.asked c.issue_pools.new.images count restores k s.0 r s.1 there).all
+give_back-requires-clause-whole g c = whole_again g.B.Part.Disk.tells g.B.Part.Disk.state c.args.config.now (g.B.Bay.state c.args.bay.now) (g.B.Bay.state c.open_images.new.bay) c.in-Ok.images c.in-Ok.ensures.asked c.issue_pools.new.images c.as_mut_slice.result.now c.as_slice.result.now c.issue_pools.ensures.images c.as_mut_slice.ensures.value c.as_slice.ensures.value c.in-Err-issue_pools.ensures.restores
 
 pub give_back-requires-clause-out : goal.give_back-requires-clause-out
 give_back-requires-clause-out g c = λ k w at there.
-    let count : length c.issue_pools.new.images ≡ length c.in-Ok.images.out.items = c.issue_pools.ensures.images ∙ ap length c.as_mut_slice.ensures.value in
-    let e = with_items_is c.in-Ok.images.out c.issue_pools.new.images (omega (arith, count, c.in-Ok.images.out.ok.0)) in
-    let restores = λ (j : ℕ). subst (λ (l : List (Option (ImageRest g.row.B-Part.Denot))). Restores g.B.Part.Disk.state j c.args.config.now.segment_blocks (slice_index_or c.in-Ok.images.said.items j None) (slice_index_or l j None) (slice_index_or c.issue_pools.new.images j None)) c.as_mut_slice.ensures.value
-    (subst (λ (l : List (Option Said)). Restores g.B.Part.Disk.state j c.args.config.now.segment_blocks (slice_index_or l j None) (slice_index_or c.as_mut_slice.result.now j None) (slice_index_or c.issue_pools.new.images j None)) c.as_slice.ensures.value (c.in-Err-issue_pools.ensures.restores j)) in
-    let same = same_here g.B.Part.Disk.tells g.B.Part.Disk.state c.args.config.now (g.B.Bay.state c.args.bay.now) (g.B.Bay.state c.open_images.new.bay) c.in-Ok.images c.in-Ok.ensures.asked c.issue_pools.new.images count restores k in
+    let same = same_here g.B.Part.Disk.tells g.B.Part.Disk.state c.args.config.now (g.B.Bay.state c.args.bay.now) (g.B.Bay.state c.open_images.new.bay) c.in-Ok.images c.in-Ok.ensures.asked c.issue_pools.new.images c.as_mut_slice.result.now c.as_slice.result.now c.issue_pools.ensures.images c.as_mut_slice.ensures.value c.as_slice.ensures.value c.in-Err-issue_pools.ensures.restores k in
     let home = subst (λ (x : VolumeConf). IsHome x.name (g.B.Bay.state c.args.bay.now)) (get_or_from_slice_get c.args.config.now.volumes.items k w w at) (c.requires.home k w (slice_get_within c.args.config.now.volumes.items k w at)) in
     names_out c.args.config.now c.requires.config c.in-Ok.images.out.items (length c.args.config.now.volumes.items) k w (g.B.Bay.state c.args.bay.now) (g.B.Bay.state c.open_images.new.bay) at
-    (sym same ∙ sym (ap (λ (l : List (Option (ImageRest g.row.B-Part.Denot))). is_some (image_here l k)) e) ∙ there) home c.in-Ok.ensures.out
+    (sym same ∙ there) home c.in-Ok.ensures.out
 
 pub end_spindles-requires-in-Err-issue_pools : goal.end_spindles-requires-in-Err-issue_pools
 end_spindles-requires-in-Err-issue_pools g c =
@@ -76,12 +59,7 @@ returns-in-Ok-issue_pools-clause-taken g c =
 
 pub returns-in-Err-issue_pools-clause-home : goal.returns-in-Err-issue_pools-clause-home
 returns-in-Err-issue_pools-clause-home g c =
-    let count : length c.issue_pools.new.images ≡ length c.in-Ok.images.out.items = c.issue_pools.ensures.images ∙ ap length c.as_mut_slice.ensures.value in
-    let e = with_items_is c.in-Ok.images.out c.issue_pools.new.images (omega (arith, count, c.in-Ok.images.out.ok.0)) in
-    let restores = λ (j : ℕ). subst (λ (l : List (Option (ImageRest g.row.B-Part.Denot))). Restores g.B.Part.Disk.state j c.args.config.now.segment_blocks (slice_index_or c.in-Ok.images.said.items j None) (slice_index_or l j None) (slice_index_or c.issue_pools.new.images j None)) c.as_mut_slice.ensures.value
-    (subst (λ (l : List (Option Said)). Restores g.B.Part.Disk.state j c.args.config.now.segment_blocks (slice_index_or l j None) (slice_index_or c.as_mut_slice.result.now j None) (slice_index_or c.issue_pools.new.images j None)) c.as_slice.ensures.value (c.in-Err-issue_pools.ensures.restores j)) in
-    home_again g.B.Part.Disk.tells g.B.Part.Disk.state c.args.config.now (g.B.Bay.state c.args.bay.now) (g.B.Bay.state c.open_images.new.bay) c.in-Ok.images c.in-Ok.ensures.asked c.issue_pools.new.images count restores c.requires.home c.in-Ok.ensures.out (g.B.Bay.state c.give_back.new.bay)
-    (subst (λ (l : List (Option (ImageRest g.row.B-Part.Denot))). LeavesNoneOut c.args.config.now l (outs (g.B.Bay.state c.open_images.new.bay)) (outs (g.B.Bay.state c.give_back.new.bay))) e c.give_back.ensures.home)
+    home_again g.B.Part.Disk.tells g.B.Part.Disk.state c.args.config.now (g.B.Bay.state c.args.bay.now) (g.B.Bay.state c.open_images.new.bay) c.in-Ok.images c.in-Ok.ensures.asked c.issue_pools.new.images c.as_mut_slice.result.now c.as_slice.result.now c.issue_pools.ensures.images c.as_mut_slice.ensures.value c.as_slice.ensures.value c.in-Err-issue_pools.ensures.restores c.requires.home c.in-Ok.ensures.out (g.B.Bay.state c.give_back.new.bay) c.give_back.ensures.home
 
 pub returns-in_err-spindles-clause-left : goal.returns-in_err-spindles-clause-left
 returns-in_err-spindles-clause-left g c =
@@ -95,28 +73,15 @@ returns-in-Err-clause-sound g c = λ telling. sound_back g.B.Part.Disk.tells g.B
 
 pub returns-in-Err-issue_pools-clause-left : goal.returns-in-Err-issue_pools-clause-left
 returns-in-Err-issue_pools-clause-left g c =
-    let count : length c.issue_pools.new.images ≡ length c.in-Ok.images.out.items = c.issue_pools.ensures.images ∙ ap length c.as_mut_slice.ensures.value in
-    let e = with_items_is c.in-Ok.images.out c.issue_pools.new.images (omega (arith, count, c.in-Ok.images.out.ok.0)) in
-    let restores = λ (j : ℕ). subst (λ (l : List (Option (ImageRest g.row.B-Part.Denot))). Restores g.B.Part.Disk.state j c.args.config.now.segment_blocks (slice_index_or c.in-Ok.images.said.items j None) (slice_index_or l j None) (slice_index_or c.issue_pools.new.images j None)) c.as_mut_slice.ensures.value
-    (subst (λ (l : List (Option Said)). Restores g.B.Part.Disk.state j c.args.config.now.segment_blocks (slice_index_or l j None) (slice_index_or c.as_mut_slice.result.now j None) (slice_index_or c.issue_pools.new.images j None)) c.as_slice.ensures.value (c.in-Err-issue_pools.ensures.restores j)) in
-    left_again g.B.Part.Disk.tells g.B.Part.Disk.state c.args.config.now c.requires.config (g.B.Bay.state c.args.bay.now) (g.B.Bay.state c.open_images.new.bay) (g.B.Bay.state c.give_back.new.bay) c.in-Ok.images c.in-Ok.ensures.asked c.in-Ok.ensures.out c.issue_pools.new.images count restores
-    (subst (λ (l : List (Option (ImageRest g.row.B-Part.Denot))). IsTold (GivesBack g.B.Part.Disk.state c.args.config.now l 0) (g.B.Bay.state c.open_images.new.bay).told (g.B.Bay.state c.give_back.new.bay).told) e c.give_back.ensures.back) c.give_back.ensures.counts
-    (λ telling d. g.met.B.Part.Disk.told telling d) g.met.B.Part.Disk.sound
+    left_again g.B.Part.Disk.tells g.B.Part.Disk.state c.args.config.now (g.B.Bay.state c.args.bay.now) (g.B.Bay.state c.open_images.new.bay) c.in-Ok.images c.in-Ok.ensures.asked c.issue_pools.new.images c.as_mut_slice.result.now c.as_slice.result.now c.issue_pools.ensures.images c.as_mut_slice.ensures.value c.as_slice.ensures.value c.in-Err-issue_pools.ensures.restores c.requires.config (g.B.Bay.state c.give_back.new.bay) c.in-Ok.ensures.out c.give_back.ensures.back c.give_back.ensures.counts (λ telling d. g.met.B.Part.Disk.told telling d) g.met.B.Part.Disk.sound
 
 pub returns-in-Err-issue_pools-clause-sound : goal.returns-in-Err-issue_pools-clause-sound
 returns-in-Err-issue_pools-clause-sound g c =
-    let count : length c.issue_pools.new.images ≡ length c.in-Ok.images.out.items = c.issue_pools.ensures.images ∙ ap length c.as_mut_slice.ensures.value in
-    let e = with_items_is c.in-Ok.images.out c.issue_pools.new.images (omega (arith, count, c.in-Ok.images.out.ok.0)) in
-    let restores = λ (j : ℕ). subst (λ (l : List (Option (ImageRest g.row.B-Part.Denot))). Restores g.B.Part.Disk.state j c.args.config.now.segment_blocks (slice_index_or c.in-Ok.images.said.items j None) (slice_index_or l j None) (slice_index_or c.issue_pools.new.images j None)) c.as_mut_slice.ensures.value
-    (subst (λ (l : List (Option Said)). Restores g.B.Part.Disk.state j c.args.config.now.segment_blocks (slice_index_or l j None) (slice_index_or c.as_mut_slice.result.now j None) (slice_index_or c.issue_pools.new.images j None)) c.as_slice.ensures.value (c.in-Err-issue_pools.ensures.restores j)) in
-    sound_again g.B.Part.Disk.tells g.B.Part.Disk.state c.args.config.now c.requires.config (g.B.Bay.state c.args.bay.now) (g.B.Bay.state c.open_images.new.bay) (g.B.Bay.state c.give_back.new.bay) c.in-Ok.images c.in-Ok.ensures.asked c.in-Ok.ensures.out c.issue_pools.new.images count restores
-    (subst (λ (l : List (Option (ImageRest g.row.B-Part.Denot))). IsTold (GivesBack g.B.Part.Disk.state c.args.config.now l 0) (g.B.Bay.state c.open_images.new.bay).told (g.B.Bay.state c.give_back.new.bay).told) e c.give_back.ensures.back) c.give_back.ensures.counts
-    (λ telling d. g.met.B.Part.Disk.told telling d) g.met.B.Part.Disk.sound
+    sound_again g.B.Part.Disk.tells g.B.Part.Disk.state c.args.config.now (g.B.Bay.state c.args.bay.now) (g.B.Bay.state c.open_images.new.bay) c.in-Ok.images c.in-Ok.ensures.asked c.issue_pools.new.images c.as_mut_slice.result.now c.as_slice.result.now c.issue_pools.ensures.images c.as_mut_slice.ensures.value c.as_slice.ensures.value c.in-Err-issue_pools.ensures.restores c.requires.config (g.B.Bay.state c.give_back.new.bay) c.in-Ok.ensures.out c.give_back.ensures.back c.give_back.ensures.counts (λ telling d. g.met.B.Part.Disk.told telling d) g.met.B.Part.Disk.sound
 
 pub returns-in_err-spindles-clause-others : goal.returns-in_err-spindles-clause-others
 returns-in_err-spindles-clause-others g c = others_same c.args.config.now (g.B.Bay.state c.args.bay.now).told
 
 pub returns-in-Err-issue_pools-clause-others : goal.returns-in-Err-issue_pools-clause-others
 returns-in-Err-issue_pools-clause-others g c =
-    let n = length c.args.config.now.volumes.items in
-    others_then c.args.config.now (g.B.Bay.state c.args.bay.now).told (g.B.Bay.state c.open_images.new.bay).told (g.B.Bay.state c.give_back.new.bay).told (sent_others c.args.config.now c.in-Ok.images.out.items n (g.B.Bay.state c.args.bay.now) (g.B.Bay.state c.open_images.new.bay) c.in-Ok.ensures.out) (back_others c.args.config.now _ g.B.Part.Disk.state (g.B.Bay.state c.open_images.new.bay).told (g.B.Bay.state c.give_back.new.bay).told c.give_back.ensures.back)
+    others_then c.args.config.now (g.B.Bay.state c.args.bay.now).told (g.B.Bay.state c.open_images.new.bay).told (g.B.Bay.state c.give_back.new.bay).told (sent_others c.args.config.now c.in-Ok.images.out.items (length c.args.config.now.volumes.items) (g.B.Bay.state c.args.bay.now) (g.B.Bay.state c.open_images.new.bay) c.in-Ok.ensures.out) (back_others c.args.config.now _ g.B.Part.Disk.state (g.B.Bay.state c.open_images.new.bay).told (g.B.Bay.state c.give_back.new.bay).told c.give_back.ensures.back)

@@ -1,9 +1,8 @@
-use Rattle.rack.proofs.Basics.{◌≡◌, ◌<◌, ℕ, false, length, option_map, Some, IfSome, sym, ap, ◌∙◌, subst, arith, length-map}
-use Rattle.rack.proofs.Basics.{slice_get-get_or, get_or_from_slice_get, slice_get}
-use Rattle.rack.proofs.Terms.{Shape, Name, IsHome, sent_out, blocks_at, VolumeConf, shape_of, part_sizes, IsTold, IsCutOpenable, SaysSo}
-use Rattle.rack.proofs.Terms.{shape_in, shapes_of, pass_lock, pass_mine, IsPassOf, IsFree, PassOf, Spindle, SpindleBase, has_token}
+use Rattle.rack.proofs.Basics.{◌≡◌, ◌<◌, ℕ, false, length, option_map, Some, IfSome, sym, ap, ◌∙◌, subst, arith, length-map, slice_get-get_or, get_or_from_slice_get, slice_get}
+use Rattle.rack.proofs.Terms.{Shape, Name, IsHome, sent_out, blocks_at, VolumeConf, shape_of, part_sizes, IsTold, IsCutOpenable, SaysSo, shape_in, shapes_of, pass_lock, pass_mine, IsPassOf}
+use Rattle.rack.proofs.Terms.{IsFree, PassOf, Spindle, SpindleBase, has_token}
 use Rattle.volume_images.specs.Refusals.{Refuses}
-use Rattle.rack.proofs.NextImage.{sized, next_rest, next_all, next_says, next_heads, next_entry, next_refuses, next_stayed, back_at_once, used_pass}
+use Rattle.rack.proofs.ImagesSent.{sized, next_rest, next_all, next_says, next_heads, next_entry, next_refuses, next_stayed, back_at_once, used_pass}
 use Rattle.rack.proofs.images.open_next.Goals as goal
 
 pub open_image-requires-clause-home : goal.open_image-requires-clause-home
@@ -72,9 +71,7 @@ returns-in-Ok-open_image-clause-opened g c = λ v found.
 
 pub returns-in-Ok-open_image-clause-passes : goal.returns-in-Ok-open_image-clause-passes
 returns-in-Ok-open_image-clause-passes g c =
-    used_pass c.args.spindle.now c.args.id c.index_mut-pass.result.now c.open_image.new.pass
-    (let n = c.requires.within in let p = c.requires.passes.0.whole.count in let s = c.requires.spindle.passes in omega (arith, n, p, s))
-    c.index_mut-pass.ensures.value c.open_image.ensures.same c.open_image.ensures.free c.open_image.ensures.settled
+    used_pass c.args.spindle.now c.args.id c.index_mut-pass.result.now c.open_image.new.pass c.index_mut-pass.ensures.value c.open_image.ensures.same c.open_image.ensures.free c.open_image.ensures.settled
     (let n = c.requires.within in let p = c.requires.passes.0.whole.count in let s = c.requires.spindle.passes in omega (arith, n, p, s)) c.open_image.ensures.uses c.requires.passes
 
 pub returns-in-Some-clause-refused : goal.returns-in-Some-clause-refused
@@ -98,16 +95,12 @@ returns-in-Some-clause-refused g c = λ v found.
 
 pub returns-in-Some-clause-passes : goal.returns-in-Some-clause-passes
 returns-in-Some-clause-passes g c =
-    used_pass c.args.spindle.now c.args.id c.index_mut-pass.result.now c.open_image.new.pass
-    (let n = c.requires.within in let p = c.requires.passes.0.whole.count in let s = c.requires.spindle.passes in omega (arith, n, p, s))
-    c.index_mut-pass.ensures.value c.open_image.ensures.same c.open_image.ensures.free c.open_image.ensures.settled
+    used_pass c.args.spindle.now c.args.id c.index_mut-pass.result.now c.open_image.new.pass c.index_mut-pass.ensures.value c.open_image.ensures.same c.open_image.ensures.free c.open_image.ensures.settled
     (let n = c.requires.within in let p = c.requires.passes.0.whole.count in let s = c.requires.spindle.passes in omega (arith, n, p, s)) c.open_image.ensures.uses c.requires.passes
 
 pub returns-in-None-clause-passes : goal.returns-in-None-clause-passes
 returns-in-None-clause-passes g c =
-    used_pass c.args.spindle.now c.args.id c.index_mut-pass.result.now c.open_image.new.pass
-    (let n = c.requires.within in let p = c.requires.passes.0.whole.count in let s = c.requires.spindle.passes in omega (arith, n, p, s))
-    c.index_mut-pass.ensures.value c.open_image.ensures.same c.open_image.ensures.free c.open_image.ensures.settled
+    used_pass c.args.spindle.now c.args.id c.index_mut-pass.result.now c.open_image.new.pass c.index_mut-pass.ensures.value c.open_image.ensures.same c.open_image.ensures.free c.open_image.ensures.settled
     (let n = c.requires.within in let p = c.requires.passes.0.whole.count in let s = c.requires.spindle.passes in omega (arith, n, p, s)) c.open_image.ensures.uses c.requires.passes
 
 pub returns-in-None-clause-err : goal.returns-in-None-clause-err

@@ -1,7 +1,5 @@
-use Rattle.rack.proofs.Basics.{◌≡◌, ◌<◌, ◌+◌, ℕ, List, Option, None, Some, length, get_or, refl, sym, ap, ◌∙◌, subst, arith, length-map}
-use Rattle.rack.proofs.Basics.{get_or_default, slice_get-get_or}
-use Rattle.rack.proofs.Terms.{BayState, shape_in, shapes_of, said_at, IsOpeningRack, HasBegun, AreRefusedBelow, HaveFaults, AreSameOut}
-use Rattle.rack.proofs.Terms.{Said, Rack}
+use Rattle.rack.proofs.Basics.{◌≡◌, ◌<◌, ◌+◌, ℕ, List, Option, None, Some, length, get_or, refl, sym, ap, ◌∙◌, subst, arith, length-map, get_or_default, slice_get-get_or}
+use Rattle.rack.proofs.Terms.{BayState, shape_in, shapes_of, said_at, IsOpeningRack, HasBegun, AreRefusedBelow, HaveFaults, AreSameOut, Said, Rack}
 use Rattle.manager.proofs.ReadThrough.{never_some}
 use Rattle.rack_parts.proofs.LocksIssued.{on_err}
 use Rattle.rack.proofs.OpeningSteps.{passed, whole, begun_passed, refused_passed, all_refused, failed_passed}

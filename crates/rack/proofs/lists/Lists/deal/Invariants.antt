@@ -1,4 +1,4 @@
-use Rattle.rack.proofs.SettingUp.{AreDealtDown}
+use Rattle.rack.proofs.Setting.{AreDealtDown}
 use Rattle.rack.proofs.lists.Lists.deal.Given as goal
 
 abbrev pub invariant-loop-left : goal.invariant-loop-left

@@ -1,5 +1,5 @@
 use Rattle.rack.proofs.Basics.{length, refl}
-use Rattle.rack.proofs.SettingUp.{pools_shared, pools_rooms, can_deal, set_up}
+use Rattle.rack.proofs.Setting.{pools_shared, pools_rooms, can_deal, set_up}
 use Rattle.rack.proofs.lists.Lists.filled.Goals as goal
 
 pub put_pools-requires : goal.put_pools-requires

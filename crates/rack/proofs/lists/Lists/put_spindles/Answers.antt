@@ -36,5 +36,5 @@ loop-lock-preserved g c =
     let all = c.args.spindles.items in let rest = c.pop.new.self.items in let old = c.args.self.now in let new = c.loop-lock.self in let i = c.in-Some.field-0 in
     let so_far = subst (λ (l : List SpindleLock). AreSpindlesPut all l old new) c.in-Some.ensures.items c.loop-lock.invariant in
     spindles_next all rest i old new so_far _ c.in-Some-pop.keeper c.pop-in-Some.new.self c.in-Some-pop.ensures.items c.in-Some-pop.ensures.capacity
-    c.push_reserved.ensures.items c.push_reserved.ensures.capacity refl c.push_reserved-in-Some.ensures.items c.push_reserved-in-Some.ensures.capacity
-    c.push_reserved-in-Some-2.ensures.items c.push_reserved-in-Some-2.ensures.capacity refl refl refl refl refl
+    c.push_reserved.ensures.items c.push_reserved.ensures.capacity c.push_reserved-in-Some.ensures.items c.push_reserved-in-Some.ensures.capacity
+    c.push_reserved-in-Some-2.ensures.items c.push_reserved-in-Some-2.ensures.capacity refl
