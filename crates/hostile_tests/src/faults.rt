@@ -1,9 +1,9 @@
 // Each call of a disk, of a source and of the sink fails alone.
-use crate::calls::{Call, Failing, make_call};
-use crate::images::{Left, bay_of, crash, images_of};
-use crate::rows::{CLEANED, FORMATTED, RECLAIMED, RECLAIMS, Row, SMALL_DRAINED, keeping};
+use crate::calls::{Failing, Stream};
+use crate::rows::{CLEANED, FORMATTED, RECLAIMED, Row, SMALL_DRAINED, keeping};
 use crate::same::{holds_at, same, same_at};
-use crate::stops::{found, prepared, stopped, without_last_line};
+use crate::stops::{Remains, found, left_by, prepared, stopped, without_last_line};
+use fixtures::{Call, Left, RECLAIMS};
 use std::alloc::Global;
 use std::process::Abort;
 use std::sync::Wait;
@@ -17,13 +17,8 @@ type Faults<'a> = (u64, u8, &'a str);
 // All further calls.
 const REST: u64 = u64::MAX;
 
-// The calls of a part of an image in a command.
-#[derive(Clone, Copy)]
-struct Part<'a> {
-    image: &'a str,
-    part: u32,
-    faults: &'a [Faults<'a>],
-}
+// A part of an image, and its calls in a command.
+type Part<'a> = (&'a str, u32, &'a [Faults<'a>]);
 
 // The label and view of an image, its home, and its first segments.
 const LABEL: u32 = 0;
@@ -45,24 +40,12 @@ fn failed<R: Abort + Threads + Wait + Sync>(
     alloc: Global,
     row: &Row<'_>,
     images: &[Vec<Block>],
-    part: Part<'_>,
-    number: u64,
+    failing: Failing<'_>,
     left: Left,
 ) -> Result<(u8, String), Fail> {
-    let mut bay = bay_of(alloc, row.volumes, images)?;
-    bay.plan(part.image, part.part, number)?;
-    let (status, text) = make_call(
-        rt,
-        alloc,
-        &mut bay,
-        row.config.as_bytes(),
-        row.call,
-        Failing::Nothing,
-    )?;
-    crash(alloc, &mut bay, row.volumes, left)?;
-    let images = images_of(alloc, &mut bay, row.volumes)?;
-    let _places = found(rt, alloc, row, &images)?;
-    Ok((status, String::from_utf8_lossy(alloc, &text)?))
+    let stop = left_by(rt, alloc, row, row.call, images, failing, left)?;
+    let _places = found(rt, alloc, row, &stop.images)?;
+    Ok((stop.status, String::from_utf8_lossy(alloc, &stop.text)?))
 }
 
 // What is expected of the call of this number, and whether there may be no such call.
@@ -85,26 +68,19 @@ fn try_part<R: Abort + Threads + Wait + Sync>(
     images: &[Vec<Block>],
     part: Part<'_>,
 ) -> Result<(), Fail> {
-    let (words, image, place) = (row.call.words, part.image, part.part);
+    let (words, (image, place, faults)) = (row.call.words, part);
     for number in 0..MOST_CALLS {
-        let (status, text) = failed(rt, alloc, row, images, part, number, Left::AllOld)?;
-        let (newer, _text) = failed(rt, alloc, row, images, part, number, Left::AllNew)?;
+        let failing = Failing::Part(image, place, number);
+        let (status, text) = failed(rt, alloc, row, images, failing, Left::AllOld)?;
+        let (newer, _text) = failed(rt, alloc, row, images, failing, Left::AllNew)?;
         same(rt, &newer, &status);
-        let (wanted, line, may_end) = fault_at(part.faults, number).unwrap_or((0, "", true));
+        let (wanted, line, may_end) = fault_at(faults, number).unwrap_or((0, "", true));
         if may_end && status == 0 {
             return Ok(());
         }
-        same_at(
-            rt,
-            &status,
-            &wanted,
-            &format_args!("{words}: {image} {place} {number}: {text}"),
-        );
-        holds_at(
-            rt,
-            text.lines().any(|it| it == line),
-            &format_args!("{words}: {image} {place} {number}: {text}"),
-        );
+        let at = format!(in alloc; "{words}: {image} {place} {number}: {text}")?;
+        same_at(rt, &status, &wanted, &at);
+        holds_at(rt, text.lines().any(|it| it == line), &at);
     }
     panic!(rt; "it made a thousand calls")
 }
@@ -122,107 +98,47 @@ fn try_parts<R: Abort + Threads + Wait + Sync>(
     Ok(())
 }
 
-// What a call leaves in which one call of a source or of the sink fails: the status, what is printed, and the images.
-fn left_by<R: Abort + Threads + Wait + Sync>(
-    rt: &R,
-    alloc: Global,
-    row: &Row<'_>,
-    images: &[Vec<Block>],
-    failing: Failing,
-) -> Result<(u8, Vec<u8>, Vec<Vec<Block>>), Fail> {
-    let mut bay = bay_of(alloc, row.volumes, images)?;
-    let (status, text) = make_call(
-        rt,
-        alloc,
-        &mut bay,
-        row.config.as_bytes(),
-        row.call,
-        failing,
-    )?;
-    let images = images_of(alloc, &mut bay, row.volumes)?;
-    Ok((status, text, images))
-}
-
-// Each read of the configuration fails in turn: that is told, and no image is touched.
-fn try_config<R: Abort + Threads + Wait + Sync>(
-    rt: &R,
-    alloc: Global,
-    row: &Row<'_>,
-) -> Result<(), Fail> {
-    let words = row.call.words;
-    let images = prepared(rt, alloc, row)?;
-    for number in 0..MOST_CALLS {
-        let (status, text, left) = left_by(rt, alloc, row, &images, Failing::Config(number))?;
-        if status == 0 {
-            holds_at(rt, number > 10, &words);
-            return Ok(());
+// How a call ends in which a call of a stream fails. Of the configuration: no image is touched. Of the trace: the whole lines before
+// were run. Of the sink: what it took before is a front of what is printed otherwise.
+fn is_told(stream: Stream, left: &Remains, whole: &Remains, images: &[Vec<Block>]) -> bool {
+    match stream {
+        Stream::Config => {
+            left.text.as_slice() == b"fault 8 config\n".as_slice()
+                && left.images.as_slice() == images
         }
-        same_at(rt, &status, &8, &format_args!("{words} {number}"));
-        same_at(
-            rt,
-            &text.as_slice(),
-            &b"fault 8 config\n".as_slice(),
-            &format_args!("{words} {number}"),
-        );
-        holds_at(rt, left == images, &format_args!("{words} {number}"));
+        Stream::Trace => {
+            left.text.ends_with(b"fault 8 trace\n")
+                && whole.text.starts_with(without_last_line(&left.text))
+        }
+        Stream::Sink => whole.text.starts_with(&left.text),
     }
-    panic!(rt; "it made a thousand calls")
 }
 
-// Each read of the trace fails in turn: the whole lines before were run, and that is told.
-fn try_trace<R: Abort + Threads + Wait + Sync>(
+// Each call of a stream fails in turn, and there are so many at least.
+fn try_stream<R: Abort + Threads + Wait + Sync>(
     rt: &R,
     alloc: Global,
     row: &Row<'_>,
+    stream: Stream,
+    least: u64,
 ) -> Result<(), Fail> {
     let words = row.call.words;
     let images = prepared(rt, alloc, row)?;
-    let whole = stopped(rt, alloc, row, row.call, &images, u64::MAX, Left::AllOld)?;
+    let whole = stopped(rt, alloc, row, row.call, &images, u64::MAX, Left::AllNew)?;
     for number in 0..MOST_CALLS {
-        let (status, text, left) = left_by(rt, alloc, row, &images, Failing::Trace(number))?;
-        let _places = found(rt, alloc, row, &left)?;
-        if status == 0 {
-            holds_at(rt, number > 10, &words);
+        let failing = Failing::Stream(stream, number);
+        let left = left_by(rt, alloc, row, row.call, &images, failing, Left::AllNew)?;
+        if stream != Stream::Config {
+            let _places = found(rt, alloc, row, &left.images)?;
+        }
+        if left.status == 0 {
+            holds_at(rt, number >= least, &words);
+            same_at(rt, &left.text.as_slice(), &whole.text.as_slice(), &words);
             return Ok(());
         }
-        same_at(rt, &status, &8, &format_args!("{words} {number}"));
-        holds_at(
-            rt,
-            text.ends_with(b"fault 8 trace\n"),
-            &format_args!("{words} {number}"),
-        );
-        holds_at(
-            rt,
-            whole.text.starts_with(without_last_line(&text)),
-            &format_args!("{words} {number}"),
-        );
-    }
-    panic!(rt; "it made a thousand calls")
-}
-
-// Each call of the sink fails in turn: what it took before is a front of what is printed otherwise.
-fn try_sink<R: Abort + Threads + Wait + Sync>(
-    rt: &R,
-    alloc: Global,
-    row: &Row<'_>,
-) -> Result<(), Fail> {
-    let words = row.call.words;
-    let images = prepared(rt, alloc, row)?;
-    let whole = stopped(rt, alloc, row, row.call, &images, u64::MAX, Left::AllOld)?;
-    for number in 0..MOST_CALLS {
-        let (status, text, left) = left_by(rt, alloc, row, &images, Failing::Sink(number))?;
-        let _places = found(rt, alloc, row, &left)?;
-        if status == 0 {
-            holds_at(rt, number > 0, &words);
-            same_at(rt, &text.as_slice(), &whole.text.as_slice(), &words);
-            return Ok(());
-        }
-        same_at(rt, &status, &7, &format_args!("{words} {number}"));
-        holds_at(
-            rt,
-            whole.text.starts_with(&text),
-            &format_args!("{words} {number}"),
-        );
+        let at = format!(in alloc; "{words} {number}")?;
+        same_at(rt, &left.status, &stream.status(), &at);
+        holds_at(rt, is_told(stream, &left, &whole, &images), &at);
     }
     panic!(rt; "it made a thousand calls")
 }
@@ -241,10 +157,10 @@ const OTHERS: [&str; 7] = [
 #[test]
 fn a_configuration_that_cannot_be_read_touches_nothing(rt: HostRuntime) -> Result<(), Fail> {
     for words in OTHERS {
-        try_config(&rt, rt.alloc(), &keeping(words, &[]))?;
+        try_stream(&rt, rt.alloc(), &keeping(words, &[]), Stream::Config, 11)?;
     }
     for row in &[FORMATTED, RECLAIMED, CLEANED] {
-        try_config(&rt, rt.alloc(), row)?;
+        try_stream(&rt, rt.alloc(), row, Stream::Config, 11)?;
     }
     Ok(())
 }
@@ -259,7 +175,7 @@ fn a_trace_that_cannot_be_read_further_was_run_so_far(rt: HostRuntime) -> Result
         ..keeping("whatif", &[])
     };
     for row in &[SMALL_DRAINED, RECLAIMED, compared] {
-        try_trace(&rt, rt.alloc(), row)?;
+        try_stream(&rt, rt.alloc(), row, Stream::Trace, 11)?;
     }
     Ok(())
 }
@@ -267,43 +183,27 @@ fn a_trace_that_cannot_be_read_further_was_run_so_far(rt: HostRuntime) -> Result
 #[test]
 fn an_output_that_is_refused_loses_nothing(rt: HostRuntime) -> Result<(), Fail> {
     for words in OTHERS {
-        try_sink(&rt, rt.alloc(), &keeping(words, &[]))?;
+        try_stream(&rt, rt.alloc(), &keeping(words, &[]), Stream::Sink, 1)?;
     }
     for row in &[SMALL_DRAINED, RECLAIMED, FORMATTED, CLEANED] {
-        try_sink(&rt, rt.alloc(), row)?;
+        try_stream(&rt, rt.alloc(), row, Stream::Sink, 1)?;
     }
     Ok(())
 }
 
 const IN_A_DRAIN: &[Part<'_>] = &[
-    Part {
-        image: "a",
-        part: LABEL,
-        faults: &[(2, 4, "fault 4 a disk label")],
-    },
-    Part {
-        image: "a",
-        part: HOME,
-        faults: &[(REST, 4, "fault 4 a disk home")],
-    },
-    Part {
-        image: "b",
-        part: LABEL,
-        faults: &[(2, 6, "fault 6 a logger 1 missing")],
-    },
-    Part {
-        image: "b",
-        part: HOME,
-        faults: &[(REST, 4, "fault 4 b disk home")],
-    },
-    Part {
-        image: "b",
-        part: SEGMENT_0,
-        faults: &[
+    ("a", LABEL, &[(2, 4, "fault 4 a disk label")]),
+    ("a", HOME, &[(REST, 4, "fault 4 a disk home")]),
+    ("b", LABEL, &[(2, 6, "fault 6 a logger 1 missing")]),
+    ("b", HOME, &[(REST, 4, "fault 4 b disk home")]),
+    (
+        "b",
+        SEGMENT_0,
+        &[
             (2, 6, "fault 6 a logger 1 missing"),
             (REST, 4, "fault 4 a disk segment 0 of b"),
         ],
-    },
+    ),
 ];
 
 #[test]
@@ -312,31 +212,15 @@ fn each_call_of_a_disk_that_fails_in_a_drain_is_told(rt: HostRuntime) -> Result<
 }
 
 const IN_A_FORMAT: &[Part<'_>] = &[
-    Part {
-        image: "a",
-        part: LABEL,
-        faults: &[(REST, 4, "fault 4 a disk label")],
-    },
-    Part {
-        image: "a",
-        part: HOME,
-        faults: &[(1, 4, "fault 4 a disk home")],
-    },
-    Part {
-        image: "b",
-        part: LABEL,
-        faults: &[(REST, 4, "fault 4 b disk label")],
-    },
-    Part {
-        image: "b",
-        part: HOME,
-        faults: &[(1, 4, "fault 4 b disk home")],
-    },
-    Part {
-        image: "b",
-        part: SEGMENT_0,
-        faults: &[(REST, 4, "fault 4 b disk segment 0 of b")],
-    },
+    ("a", LABEL, &[(REST, 4, "fault 4 a disk label")]),
+    ("a", HOME, &[(1, 4, "fault 4 a disk home")]),
+    ("b", LABEL, &[(REST, 4, "fault 4 b disk label")]),
+    ("b", HOME, &[(1, 4, "fault 4 b disk home")]),
+    (
+        "b",
+        SEGMENT_0,
+        &[(REST, 4, "fault 4 b disk segment 0 of b")],
+    ),
 ];
 
 #[test]
@@ -345,62 +229,30 @@ fn each_call_of_a_disk_that_fails_in_a_format_is_told(rt: HostRuntime) -> Result
 }
 
 const IN_A_CHECK: &[Part<'_>] = &[
-    Part {
-        image: "u",
-        part: LABEL,
-        faults: &[(2, 4, "u disk label")],
-    },
-    Part {
-        image: "u",
-        part: HOME,
-        faults: &[(REST, 4, "u disk home")],
-    },
-    Part {
-        image: "u",
-        part: SEGMENT_0,
-        faults: &[(2, 4, "u disk segment 0 of u")],
-    },
-    Part {
-        image: "w",
-        part: LABEL,
-        faults: &[(2, 6, "w disk label")],
-    },
-    Part {
-        image: "w",
-        part: HOME,
-        faults: &[(REST, 4, "w disk home")],
-    },
-    Part {
-        image: "w",
-        part: SEGMENT_0,
-        faults: &[
+    ("u", LABEL, &[(2, 4, "u disk label")]),
+    ("u", HOME, &[(REST, 4, "u disk home")]),
+    ("u", SEGMENT_0, &[(2, 4, "u disk segment 0 of u")]),
+    ("w", LABEL, &[(2, 6, "w disk label")]),
+    ("w", HOME, &[(REST, 4, "w disk home")]),
+    (
+        "w",
+        SEGMENT_0,
+        &[
             (2, 6, "w disk segment 0 of w"),
             (REST, 4, "u disk segment 0 of w"),
         ],
-    },
-    Part {
-        image: "w",
-        part: SEGMENT_1,
-        faults: &[
+    ),
+    (
+        "w",
+        SEGMENT_1,
+        &[
             (2, 6, "w disk segment 1 of w"),
             (REST, 4, "s disk segment 1 of w"),
         ],
-    },
-    Part {
-        image: "s",
-        part: LABEL,
-        faults: &[(2, 4, "s disk label")],
-    },
-    Part {
-        image: "s",
-        part: HOME,
-        faults: &[(REST, 4, "s disk home")],
-    },
-    Part {
-        image: "s",
-        part: SEGMENT_0,
-        faults: &[(2, 4, "s disk segment 0 of s")],
-    },
+    ),
+    ("s", LABEL, &[(2, 4, "s disk label")]),
+    ("s", HOME, &[(REST, 4, "s disk home")]),
+    ("s", SEGMENT_0, &[(2, 4, "s disk segment 0 of s")]),
 ];
 
 #[test]
@@ -408,53 +260,26 @@ fn each_call_of_a_disk_that_fails_in_a_check_is_told(rt: HostRuntime) -> Result<
     try_parts(&rt, rt.alloc(), &keeping("check", &[]), IN_A_CHECK)
 }
 
+// The first calls of a part of `w`, which the volume of another opens.
+const MISSING: Faults<'_> = (2, 6, "fault 6 u logger 1 missing");
+
 const IN_A_CHANGE: &[Part<'_>] = &[
-    Part {
-        image: "u",
-        part: LABEL,
-        faults: &[(2, 4, "fault 4 u disk label")],
-    },
-    Part {
-        image: "u",
-        part: HOME,
-        faults: &[(REST, 4, "fault 4 u disk home")],
-    },
-    Part {
-        image: "u",
-        part: SEGMENT_0,
-        faults: &[(2, 4, "fault 4 u disk segment 0 of u")],
-    },
-    Part {
-        image: "w",
-        part: LABEL,
-        faults: &[(2, 6, "fault 6 u logger 1 missing")],
-    },
-    Part {
-        image: "w",
-        part: HOME,
-        faults: &[(1, 4, "fault 4 w disk home")],
-    },
-    Part {
-        image: "w",
-        part: SEGMENT_0,
-        faults: &[
-            (2, 6, "fault 6 u logger 1 missing"),
-            (REST, 4, "fault 4 u disk segment 0 of w"),
-        ],
-    },
-    Part {
-        image: "w",
-        part: SEGMENT_1,
-        faults: &[
-            (2, 6, "fault 6 u logger 1 missing"),
-            (REST, 4, "fault 4 s disk segment 1 of w"),
-        ],
-    },
-    Part {
-        image: "s",
-        part: HOME,
-        faults: &[(1, 4, "fault 4 s disk home")],
-    },
+    ("u", LABEL, &[(2, 4, "fault 4 u disk label")]),
+    ("u", HOME, &[(REST, 4, "fault 4 u disk home")]),
+    ("u", SEGMENT_0, &[(2, 4, "fault 4 u disk segment 0 of u")]),
+    ("w", LABEL, &[MISSING]),
+    ("w", HOME, &[(1, 4, "fault 4 w disk home")]),
+    (
+        "w",
+        SEGMENT_0,
+        &[MISSING, (REST, 4, "fault 4 u disk segment 0 of w")],
+    ),
+    (
+        "w",
+        SEGMENT_1,
+        &[MISSING, (REST, 4, "fault 4 s disk segment 1 of w")],
+    ),
+    ("s", HOME, &[(1, 4, "fault 4 s disk home")]),
 ];
 
 #[test]
@@ -470,45 +295,24 @@ fn each_call_of_a_disk_that_fails_in_a_change_of_views_is_told(
 }
 
 const IN_A_CLEANING: &[Part<'_>] = &[
-    Part {
-        image: "u",
-        part: LABEL,
-        faults: &[(2, 4, "fault 4 u disk label")],
-    },
-    Part {
-        image: "u",
-        part: HOME,
-        faults: &[(1, 4, "fault 4 u disk home")],
-    },
-    Part {
-        image: "w",
-        part: LABEL,
-        faults: &[(2, 6, "fault 6 u logger 1 missing")],
-    },
-    Part {
-        image: "w",
-        part: SEGMENT_0,
-        faults: &[
-            (2, 6, "fault 6 u logger 1 missing"),
-            (REST, 4, "fault 4 u disk segment 0 of w"),
-        ],
-    },
-    Part {
-        image: "w",
-        part: SEGMENT_1,
-        faults: &[
-            (2, 6, "fault 6 u logger 1 missing"),
-            (REST, 4, "fault 4 s disk segment 1 of w"),
-        ],
-    },
-    Part {
-        image: "w",
-        part: SEGMENT_2,
-        faults: &[
-            (2, 6, "fault 6 u logger 1 missing"),
-            (REST, 4, "fault 4 u disk segment 2 of w"),
-        ],
-    },
+    ("u", LABEL, &[(2, 4, "fault 4 u disk label")]),
+    ("u", HOME, &[(1, 4, "fault 4 u disk home")]),
+    ("w", LABEL, &[MISSING]),
+    (
+        "w",
+        SEGMENT_0,
+        &[MISSING, (REST, 4, "fault 4 u disk segment 0 of w")],
+    ),
+    (
+        "w",
+        SEGMENT_1,
+        &[MISSING, (REST, 4, "fault 4 s disk segment 1 of w")],
+    ),
+    (
+        "w",
+        SEGMENT_2,
+        &[MISSING, (REST, 4, "fault 4 u disk segment 2 of w")],
+    ),
 ];
 
 #[test]

@@ -1,19 +1,14 @@
-//! The program where everything around it fails: `stops.rt` has disks that stop at each of their calls, and what is there afterwards,
-//! `reopening.rt` disks that stop once more while that is looked at, `faults.rt` each call of a disk, of a source and of the sink that
-//! fails alone, `solo_stops.rt` and `served.rt` the same for a volume of its own and for one that is served to a client, `forged.rt`
-//! images that no run wrote, `spoiled.rt` images, configurations and traces that are changed at random. `calls.rt` has a call of the
-//! program over a bay in memory, `images.rt` what a crash leaves of its images, `rows.rt` the configurations, traces and commands of the
-//! tables: a command more is a row more there.
+//! The program where what is around it stops or fails: `stops.rt` has disks that stop at each of their calls, and what is there
+//! afterwards, `reopening.rt` disks that stop once more while that is looked at, `faults.rt` each call of a disk, of a source and of the
+//! sink that fails alone, `solo_stops.rt` and `served.rt` the same for a volume of its own and for one that is served to a client.
+//! `calls.rt` has a call of the program over a bay in memory, `rows.rt` the traces and commands of the tables: a command more is a row
+//! more there.
 #![tactic(auto)]
 
 #[cfg(test)]
 mod calls;
 #[cfg(test)]
 mod faults;
-#[cfg(test)]
-mod forged;
-#[cfg(test)]
-mod images;
 #[cfg(test)]
 mod reopening;
 #[cfg(test)]
@@ -24,7 +19,5 @@ mod same;
 mod served;
 #[cfg(test)]
 mod solo_stops;
-#[cfg(test)]
-mod spoiled;
 #[cfg(test)]
 mod stops;

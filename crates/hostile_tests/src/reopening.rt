@@ -1,9 +1,8 @@
 // Disks that stop once more while what a stop left is looked at.
-use crate::calls::asked;
-use crate::images::{CHOICES, Left};
 use crate::rows::{CLEANED, FORMATTED, KEEPING, RECLAIMED, Row, SMALL_DRAINED, keeping};
 use crate::same::{holds_at, same_at};
 use crate::stops::{checked, prepared, stopped};
+use fixtures::{CHOICES, Left, asked};
 use std::alloc::Global;
 use std::process::Abort;
 use std::sync::Wait;
@@ -25,18 +24,10 @@ fn try_images<R: Abort + Threads + Wait + Sync>(
     let whole = stopped(rt, alloc, row, check, images, u64::MAX, left)?;
     for calls in 0..whole.passed {
         let stop = stopped(rt, alloc, row, check, images, calls, left)?;
-        holds_at(
-            rt,
-            matches!(stop.status, 4 | 5 | 6),
-            &format_args!("{words} {calls} {left:?}: {}", stop.status),
-        );
+        let at = format!(in alloc; "{words} {calls} {left:?}: {}", stop.status)?;
+        holds_at(rt, matches!(stop.status, 4 | 5 | 6), &at);
         let again = checked(rt, alloc, row, &stop.images)?;
-        same_at(
-            rt,
-            &again.as_str(),
-            &text.as_str(),
-            &format_args!("{words} {calls} {left:?}"),
-        );
+        same_at(rt, &again.as_str(), &text.as_str(), &at);
     }
     Ok(())
 }

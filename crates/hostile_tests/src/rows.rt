@@ -1,8 +1,9 @@
-// The tables: configurations, traces, commands, and what may be found after each. The digests were made outside, of the writes in
+// The tables: commands on configured volumes, and what may be found after each. The digests were made outside, of the writes in
 // the traces.
-use crate::calls::{Call, asked};
-use crate::images::Volume;
-use fixtures::{DRAINING, DRAINS};
+use fixtures::{
+    AFTER_STAYS, Call, DRAINING, DRAINS, FORMAT, LOGS, RECLAIMS, ROOMY_THREE, SMALL_DRAINING,
+    SMALL_THREE, THREE_ROOMY, Volume, asked,
+};
 
 /// A command on volumes, and what may be found of them where their disks stop within.
 #[derive(Clone, Copy)]
@@ -18,145 +19,17 @@ pub struct Row<'a> {
     pub again: &'a [u8],
 }
 
-/// `DRAINING`, with volumes of four blocks.
-pub const SMALL_DRAINING: &str = r#"segment_blocks = 4
-timeout_ms = 60000
-awake_mw = 8000
-standby_mw = 1000
-wake_mj = 50000
-volume = [
-  { name = "a", host = "a", disk = 0, home_blocks = 4, segments = 0, view = ["b"] },
-  { name = "b", host = "b", disk = 0, home_blocks = 4, segments = 1, view = [] },
-]
-"#;
+pub const TWO_VOLUMES: [Volume<'static>; 2] = [("a", 102), ("b", 106)];
 
-/// Three volumes of eight blocks; the first and the last log on the second, and the last on the first too.
-pub const SMALL_THREE: &str = r#"segment_blocks = 8
-timeout_ms = 60000
-awake_mw = 8000
-standby_mw = 1000
-wake_mj = 50000
-volume = [
-  { name = "u", host = "u", disk = 0, home_blocks = 8, segments = 1, view = ["w"] },
-  { name = "w", host = "w", disk = 0, home_blocks = 8, segments = 2, view = [] },
-  { name = "s", host = "s", disk = 0, home_blocks = 8, segments = 1, view = ["w", "u"] },
-]
-"#;
+pub const TWO_SMALL: [Volume<'static>; 2] = [("a", 6), ("b", 10)];
 
-/// The same, with a segment of the second in which there is room for what is cleaned.
-pub const ROOMY_THREE: &str = r#"segment_blocks = 8
-timeout_ms = 60000
-awake_mw = 8000
-standby_mw = 1000
-wake_mj = 50000
-volume = [
-  { name = "u", host = "u", disk = 0, home_blocks = 8, segments = 1, view = ["w"] },
-  { name = "w", host = "w", disk = 0, home_blocks = 8, segments = 3, view = [] },
-  { name = "s", host = "s", disk = 0, home_blocks = 8, segments = 1, view = ["w", "u"] },
-]
-"#;
-
-pub const TWO_VOLUMES: [Volume<'static>; 2] = [
-    Volume {
-        name: "a",
-        blocks: 102,
-    },
-    Volume {
-        name: "b",
-        blocks: 106,
-    },
-];
-
-pub const TWO_SMALL: [Volume<'static>; 2] = [
-    Volume {
-        name: "a",
-        blocks: 6,
-    },
-    Volume {
-        name: "b",
-        blocks: 10,
-    },
-];
-
-pub const THREE_SMALL: [Volume<'static>; 3] = [
-    Volume {
-        name: "u",
-        blocks: 18,
-    },
-    Volume {
-        name: "w",
-        blocks: 26,
-    },
-    Volume {
-        name: "s",
-        blocks: 18,
-    },
-];
-
-pub const THREE_ROOMY: [Volume<'static>; 3] = [
-    Volume {
-        name: "u",
-        blocks: 18,
-    },
-    Volume {
-        name: "w",
-        blocks: 34,
-    },
-    Volume {
-        name: "s",
-        blocks: 18,
-    },
-];
-
-/// Writes of each volume; the last one of the first is in the log of the second.
-pub const LOGS: &[u8] = b"128166372000000000,a,0,Write,512,512,100
-128166372000000000,b,0,Write,512,512,100
-128166372500000000,b,0,Read,0,512,100
-128166373000000000,a,0,Write,0,512,100
-";
-
-/// Lines 3 to 5 go to logs of `w`, which is awake, two of `u` at one moment. Line 7 wakes `u`, whose records are put home and
-/// dropped then; so does line 12 with those of `s`. Line 10 goes home, two blocks in one write.
-pub const RECLAIMS: &[u8] = b"128166372000000000,w,0,Read,0,512,100
-128166372500000000,w,0,Read,0,512,100
-128166373000000000,u,0,Write,0,1024,100
-128166373000000000,u,0,Write,512,512,100
-128166373000000000,s,0,Write,1536,512,100
-128166373500000000,w,0,Read,0,512,100
-128166374000000000,u,0,Read,2560,512,100
-128166374000000000,u,0,Read,0,1024,100
-128166374300000000,u,0,Write,0,512,100
-128166375000000000,w,0,Write,2048,1024,100
-128166375200000000,s,0,Read,1536,512,100
-128166376000000000,s,0,Read,1024,1024,100
-";
-
-/// A line of what `RECLAIMS` logs, for which nothing was reclaimed.
-pub const STAYS: &[u8] = b"128166372000000000,w,0,Read,0,512,100
-128166372500000000,w,0,Read,0,512,100
-128166373000000000,u,0,Write,0,1024,100
-128166373000000000,u,0,Write,512,512,100
-128166373000000000,s,0,Write,1536,512,100
-";
-
-const FORMAT: Call<'_> = Call {
-    words: "format",
-    trace: b"",
-};
+pub const THREE_SMALL: [Volume<'static>; 3] = [("u", 18), ("w", 26), ("s", 18)];
 
 const AFTER_LOGS: &[Call<'_>] = &[
     FORMAT,
     Call {
         words: "replay",
         trace: LOGS,
-    },
-];
-
-const AFTER_STAYS: &[Call<'_>] = &[
-    FORMAT,
-    Call {
-        words: "replay --reclaim off",
-        trace: STAYS,
     },
 ];
 

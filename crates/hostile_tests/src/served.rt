@@ -1,11 +1,11 @@
 // A volume that is served to a client, at once or behind a handshake, while a disk, the client or its replies stop. Each session clears
 // a buffer of 32 MiB, so there is one of each kind.
-use crate::calls::{Call, Failing, make_call};
-use crate::images::{CHOICES, Left, bay_of, crash, images_of};
+use crate::calls::{Failing, Stream};
 use crate::reopening;
 use crate::rows::{Row, keeping};
 use crate::same::{holds_at, same, same_at};
-use crate::stops::{Remains, found, prepared, stopped};
+use crate::stops::{Remains, found, left_by, prepared, stopped};
+use fixtures::{CHOICES, Call, Left};
 use std::alloc::Global;
 use std::process::Abort;
 use std::sync::Wait;
@@ -13,54 +13,39 @@ use std::test::Fail;
 use std::thread::Threads;
 use wol_disk::Block;
 
-// A request's head, and how many blocks of which byte follow it.
-type Request<'a> = (&'a [u8], usize, u8);
+// A request: its kind, its cookie, the first of its bytes, how many they are, and what each of its blocks is written with.
+type Request = (u8, u8, u64, u32, u8);
 
-// The first write joins what is in a log, the second goes home, the third finds the log full; then FLUSH, READ and DISC.
-const REQUESTS: [Request<'_>; 6] = [
-    (
-        b"\x25\x60\x95\x13\0\0\0\x01\0\0\0\0\0\0\0\x01\0\0\0\0\0\0\x02\0\0\0\x02\0",
-        1,
-        0xa1,
-    ),
-    (
-        b"\x25\x60\x95\x13\0\0\0\x01\0\0\0\0\0\0\0\x02\0\0\0\0\0\0\x08\0\0\0\x04\0",
-        2,
-        0xa2,
-    ),
-    (
-        b"\x25\x60\x95\x13\0\0\0\x01\0\0\0\0\0\0\0\x03\0\0\0\0\0\0\0\0\0\0\x02\0",
-        1,
-        0xa3,
-    ),
-    (
-        b"\x25\x60\x95\x13\0\0\0\x03\0\0\0\0\0\0\0\x04\0\0\0\0\0\0\0\0\0\0\0\0",
-        0,
-        0,
-    ),
-    (
-        b"\x25\x60\x95\x13\0\0\0\0\0\0\0\0\0\0\0\x05\0\0\0\0\0\0\0\0\0\0\x0c\0",
-        0,
-        0,
-    ),
-    (
-        b"\x25\x60\x95\x13\0\0\0\x02\0\0\0\0\0\0\0\x06\0\0\0\0\0\0\0\0\0\0\0\0",
-        0,
-        0,
-    ),
+const READ: u8 = 0;
+
+const WRITE: u8 = 1;
+
+const DISC: u8 = 2;
+
+const FLUSH: u8 = 3;
+
+// The first write joins what is in a log, the second goes home, the third finds the log full.
+const REQUESTS: [Request; 6] = [
+    (WRITE, 1, 512, 512, 0xa1),
+    (WRITE, 2, 2048, 1024, 0xa2),
+    (WRITE, 3, 0, 512, 0xa3),
+    (FLUSH, 4, 0, 0, 0),
+    (READ, 5, 0, 3072, 0),
+    (DISC, 6, 0, 0, 0),
 ];
 
-// A reply's head, and how many blocks of which byte follow it in all replies.
-const REPLIES: [Request<'_>; 9] = [
-    (b"\x67\x44\x66\x98\0\0\0\0\0\0\0\0\0\0\0\x01", 0, 0),
-    (b"\x67\x44\x66\x98\0\0\0\0\0\0\0\0\0\0\0\x02", 0, 0),
-    (b"\x67\x44\x66\x98\0\0\0\0\0\0\0\0\0\0\0\x03", 0, 0),
-    (b"\x67\x44\x66\x98\0\0\0\0\0\0\0\0\0\0\0\x04", 0, 0),
-    (b"\x67\x44\x66\x98\0\0\0\0\0\0\0\0\0\0\0\x05", 1, 0xa3),
-    (b"", 1, 0xa1),
-    (b"", 2, 0),
-    (b"", 1, 0xa2),
-    (b"", 1, 0xa2),
+// What comes in all replies: the head of that of this cookie, or none, and a block of this byte behind it, or none.
+const REPLIES: [(Option<u8>, Option<u8>); 10] = [
+    (Some(1), None),
+    (Some(2), None),
+    (Some(3), None),
+    (Some(4), None),
+    (Some(5), Some(0xa3)),
+    (None, Some(0xa1)),
+    (None, Some(0)),
+    (None, Some(0)),
+    (None, Some(0xa2)),
+    (None, Some(0xa2)),
 ];
 
 // The lines of the volumes as the pieces of the writes come to stand.
@@ -84,57 +69,16 @@ const BEHIND: [(usize, usize); 4] = [(0, 1), (1, 4), (4, 5), (5, 5)];
 const REPLY: usize = 16;
 
 // A part of an image, how many of its calls open its image for another, and how many then the volume itself.
-#[derive(Clone, Copy)]
-struct Part<'a> {
-    image: &'a str,
-    part: u32,
-    lends: u64,
-    opens: u64,
-}
+type Part<'a> = (&'a str, u32, u64, u64);
 
 const PARTS: [Part<'_>; 7] = [
-    Part {
-        image: "u",
-        part: 0,
-        lends: 0,
-        opens: 2,
-    },
-    Part {
-        image: "u",
-        part: 1,
-        lends: 0,
-        opens: 1,
-    },
-    Part {
-        image: "w",
-        part: 0,
-        lends: 2,
-        opens: 0,
-    },
-    Part {
-        image: "w",
-        part: 1,
-        lends: 0,
-        opens: 1,
-    },
-    Part {
-        image: "w",
-        part: 2,
-        lends: 2,
-        opens: 5,
-    },
-    Part {
-        image: "w",
-        part: 3,
-        lends: 2,
-        opens: 4,
-    },
-    Part {
-        image: "s",
-        part: 2,
-        lends: 0,
-        opens: 2,
-    },
+    ("u", 0, 0, 2),
+    ("u", 1, 0, 1),
+    ("w", 0, 2, 0),
+    ("w", 1, 0, 1),
+    ("w", 2, 2, 5),
+    ("w", 3, 2, 4),
+    ("s", 2, 0, 2),
 ];
 
 // What a session begins with: the words of its command, what the client sends first, and what it gets for that.
@@ -171,13 +115,33 @@ const BROKE: &[u8] = &[0, 0, 0, 5];
 
 const MOST_CALLS: u64 = 1000;
 
-// Heads and what follows them, behind these bytes.
-fn spelled(alloc: Global, first: &[u8], all: &[Request<'_>]) -> Result<Vec<u8>, Fail> {
+// All requests, behind these bytes.
+fn asked_of(alloc: Global, first: &[u8]) -> Result<Vec<u8>, Fail> {
     let mut bytes = Vec::from_slice(alloc, first)?;
-    for (head, blocks, byte) in all {
-        bytes.extend_from_slice(head)?;
-        for _ in 0..*blocks {
-            bytes.extend_from_slice(&[*byte; 512])?;
+    for (kind, cookie, place, length, byte) in REQUESTS {
+        bytes.extend_from_slice(b"\x25\x60\x95\x13\0\0\0")?;
+        bytes.extend_from_slice(&[kind, 0, 0, 0, 0, 0, 0, 0, cookie])?;
+        bytes.extend_from_slice(&place.to_be_bytes())?;
+        bytes.extend_from_slice(&length.to_be_bytes())?;
+        if kind == WRITE {
+            for _ in 0..length {
+                bytes.push(byte)?;
+            }
+        }
+    }
+    Ok(bytes)
+}
+
+// All replies, behind these bytes.
+fn told_of(alloc: Global, first: &[u8]) -> Result<Vec<u8>, Fail> {
+    let mut bytes = Vec::from_slice(alloc, first)?;
+    for (head, block) in REPLIES {
+        if let Some(cookie) = head {
+            bytes.extend_from_slice(b"\x67\x44\x66\x98\0\0\0\0\0\0\0\0\0\0\0")?;
+            bytes.push(cookie)?;
+        }
+        if let Some(byte) = block {
+            bytes.extend_from_slice(&[byte; 512])?;
         }
     }
     Ok(bytes)
@@ -228,11 +192,8 @@ fn place_of<R: Abort + Threads + Wait + Sync>(
     let (Some(place), Some((least, most))) = (places.first(), BEHIND.get(answered(replies))) else {
         panic!(rt; "no volume");
     };
-    holds_at(
-        rt,
-        *least <= *place && *place <= *most,
-        &format_args!("{least} {place} {most}"),
-    );
+    let at = format!(in alloc; "{least} {place} {most}")?;
+    holds_at(rt, *least <= *place && *place <= *most, &at);
     Ok(*place)
 }
 
@@ -252,14 +213,11 @@ fn try_choice<R: Abort + Threads + Wait + Sync>(
     let mut before = 0;
     for calls in 0..whole.passed {
         let stop = stopped(rt, alloc, row, row.call, images, calls, left)?;
-        same_at(rt, &stop.passed, &calls, &format_args!("{left:?}"));
-        holds_at(
-            rt,
-            session.is_told(&stop),
-            &format_args!("{calls} {left:?}: {}", stop.status),
-        );
+        let at = format!(in alloc; "{calls} {left:?}: {}", stop.status)?;
+        same_at(rt, &stop.passed, &calls, &at);
+        holds_at(rt, session.is_told(&stop), &at);
         let place = place_of(rt, alloc, session, &stop)?;
-        holds_at(rt, place >= before, &format_args!("{calls} {left:?}"));
+        holds_at(rt, place >= before, &at);
         before = place;
     }
     Ok(())
@@ -285,8 +243,8 @@ fn session_of<'a>(opening: &Opening<'a>, trace: &'a [u8], wanted: &'a [u8]) -> S
 fn a_session_whose_disks_stop_keeps_what_was_answered(rt: HostRuntime) -> Result<(), Fail> {
     let alloc = rt.alloc();
     for opening in [AT_ONCE, SHAKEN] {
-        let trace = spelled(alloc, opening.asked, &REQUESTS)?;
-        let wanted = spelled(alloc, opening.told, &REPLIES)?;
+        let trace = asked_of(alloc, opening.asked)?;
+        let wanted = told_of(alloc, opening.told)?;
         let session = session_of(&opening, &trace, &wanted);
         let images = prepared(&rt, alloc, &session.row)?;
         for left in CHOICES {
@@ -298,59 +256,8 @@ fn a_session_whose_disks_stop_keeps_what_was_answered(rt: HostRuntime) -> Result
 
 #[test]
 fn a_check_that_stops_changes_nothing_after_a_session(rt: HostRuntime) -> Result<(), Fail> {
-    let trace = spelled(rt.alloc(), AT_ONCE.asked, &REQUESTS)?;
+    let trace = asked_of(rt.alloc(), AT_ONCE.asked)?;
     reopening::try_row(&rt, rt.alloc(), &session_of(&AT_ONCE, &trace, &[]).row)
-}
-
-// Where the client's bytes come from, where the replies go, and where the configuration comes from.
-#[derive(Clone, Copy, Debug, PartialEq, Eq)]
-enum Stream {
-    Config,
-    Client,
-    Replies,
-}
-
-impl Stream {
-    fn failing(self, call: u64) -> Failing {
-        match self {
-            Stream::Config => Failing::Config(call),
-            Stream::Client => Failing::Trace(call),
-            Stream::Replies => Failing::Sink(call),
-        }
-    }
-
-    fn status(self) -> u8 {
-        match self {
-            Stream::Config | Stream::Client => 8,
-            Stream::Replies => 7,
-        }
-    }
-}
-
-// What a session leaves in which one call of a stream fails.
-fn left_by<R: Abort + Threads + Wait + Sync>(
-    rt: &R,
-    alloc: Global,
-    row: &Row<'_>,
-    images: &[Vec<Block>],
-    failing: Failing,
-) -> Result<Remains, Fail> {
-    let mut bay = bay_of(alloc, row.volumes, images)?;
-    let (status, text) = make_call(
-        rt,
-        alloc,
-        &mut bay,
-        row.config.as_bytes(),
-        row.call,
-        failing,
-    )?;
-    let images = images_of(alloc, &mut bay, row.volumes)?;
-    Ok(Remains {
-        status,
-        passed: 0,
-        text,
-        images,
-    })
 }
 
 // Each call of a stream fails in turn: the replies before are out, and a write that isn't there whole isn't begun.
@@ -361,37 +268,22 @@ fn try_stream<R: Abort + Threads + Wait + Sync>(
     images: &[Vec<Block>],
     stream: Stream,
 ) -> Result<(), Fail> {
+    let row = &session.row;
     for number in 0..MOST_CALLS {
-        let left = left_by(rt, alloc, &session.row, images, stream.failing(number))?;
+        let failing = Failing::Stream(stream, number);
+        let left = left_by(rt, alloc, row, row.call, images, failing, Left::AllNew)?;
         let place = place_of(rt, alloc, session, &left)?;
+        let at = format!(in alloc; "{stream:?} {number}")?;
         if left.status == 0 {
-            holds_at(rt, number > 5, &format_args!("{stream:?}"));
-            same_at(
-                rt,
-                &left.text.as_slice(),
-                &session.wanted,
-                &format_args!("{stream:?}"),
-            );
+            holds_at(rt, number > 5, &at);
+            same_at(rt, &left.text.as_slice(), &session.wanted, &at);
             return Ok(());
         }
-        same_at(
-            rt,
-            &left.status,
-            &stream.status(),
-            &format_args!("{stream:?} {number}"),
-        );
-        holds_at(
-            rt,
-            session.wanted.starts_with(&left.text),
-            &format_args!("{stream:?} {number}"),
-        );
+        same_at(rt, &left.status, &stream.status(), &at);
+        holds_at(rt, session.wanted.starts_with(&left.text), &at);
         let (_, replies) = session.parts(&left.text);
         let least = BEHIND.get(answered(replies)).map(|it| it.0);
-        holds_at(
-            rt,
-            stream == Stream::Replies || least == Some(place),
-            &format_args!("{stream:?} {number}"),
-        );
+        holds_at(rt, stream == Stream::Sink || least == Some(place), &at);
     }
     panic!(rt; "it made a thousand calls")
 }
@@ -400,58 +292,27 @@ fn try_stream<R: Abort + Threads + Wait + Sync>(
 fn a_client_that_fails_has_what_was_answered(rt: HostRuntime) -> Result<(), Fail> {
     let alloc = rt.alloc();
     for opening in [AT_ONCE, SHAKEN] {
-        let trace = spelled(alloc, opening.asked, &REQUESTS)?;
-        let wanted = spelled(alloc, opening.told, &REPLIES)?;
+        let trace = asked_of(alloc, opening.asked)?;
+        let wanted = told_of(alloc, opening.told)?;
         let session = session_of(&opening, &trace, &wanted);
         let images = prepared(&rt, alloc, &session.row)?;
-        for stream in [Stream::Config, Stream::Client, Stream::Replies] {
+        for stream in [Stream::Config, Stream::Trace, Stream::Sink] {
             try_stream(&rt, alloc, &session, &images, stream)?;
         }
     }
     Ok(())
 }
 
-impl Part<'_> {
-    // The status where the call of this number fails: within the session it is an error of a reply.
-    fn status_at(&self, number: u64) -> u8 {
-        if number < self.lends {
-            6
-        } else if number - self.lends < self.opens {
-            4
-        } else {
-            0
-        }
+// The status where the call of this number fails: within the session it is an error of a reply.
+fn status_at(part: Part<'_>, number: u64) -> u8 {
+    let (_, _, lends, opens) = part;
+    if number < lends {
+        6
+    } else if number - lends < opens {
+        4
+    } else {
+        0
     }
-}
-
-// What a session leaves in which one call of a part fails.
-fn failed<R: Abort + Threads + Wait + Sync>(
-    rt: &R,
-    alloc: Global,
-    row: &Row<'_>,
-    images: &[Vec<Block>],
-    part: Part<'_>,
-    number: u64,
-    left: Left,
-) -> Result<Remains, Fail> {
-    let mut bay = bay_of(alloc, row.volumes, images)?;
-    bay.plan(part.image, part.part, number)?;
-    let (status, text) = make_call(
-        rt,
-        alloc,
-        &mut bay,
-        row.config.as_bytes(),
-        row.call,
-        Failing::Nothing,
-    )?;
-    crash(alloc, &mut bay, row.volumes, left)?;
-    let images = images_of(alloc, &mut bay, row.volumes)?;
-    Ok(Remains {
-        status,
-        passed: 0,
-        text,
-        images,
-    })
 }
 
 // Each call of a part fails in turn.
@@ -463,21 +324,15 @@ fn try_part<R: Abort + Threads + Wait + Sync>(
     part: Part<'_>,
     left: Left,
 ) -> Result<(), Fail> {
-    let (image, place) = (part.image, part.part);
+    let (image, place, _, _) = part;
+    let row = &session.row;
     for number in 0..MOST_CALLS {
-        let stop = failed(rt, alloc, &session.row, images, part, number, left)?;
-        let status = part.status_at(number);
-        same_at(
-            rt,
-            &stop.status,
-            &status,
-            &format_args!("{image} {place} {number}"),
-        );
-        holds_at(
-            rt,
-            session.is_told(&stop),
-            &format_args!("{image} {place} {number}"),
-        );
+        let failing = Failing::Part(image, place, number);
+        let stop = left_by(rt, alloc, row, row.call, images, failing, left)?;
+        let status = status_at(part, number);
+        let at = format!(in alloc; "{image} {place} {number}")?;
+        same_at(rt, &stop.status, &status, &at);
+        holds_at(rt, session.is_told(&stop), &at);
         let _place = place_of(rt, alloc, session, &stop)?;
         if status == 0 && stop.text.as_slice() == session.wanted {
             return Ok(());
@@ -489,8 +344,8 @@ fn try_part<R: Abort + Threads + Wait + Sync>(
 #[test]
 fn each_call_of_a_disk_that_fails_in_a_session_is_told(rt: HostRuntime) -> Result<(), Fail> {
     let alloc = rt.alloc();
-    let trace = spelled(alloc, AT_ONCE.asked, &REQUESTS)?;
-    let wanted = spelled(alloc, AT_ONCE.told, &REPLIES)?;
+    let trace = asked_of(alloc, AT_ONCE.asked)?;
+    let wanted = told_of(alloc, AT_ONCE.told)?;
     let session = session_of(&AT_ONCE, &trace, &wanted);
     let images = prepared(&rt, alloc, &session.row)?;
     for part in PARTS {

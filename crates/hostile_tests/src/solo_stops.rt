@@ -1,9 +1,9 @@
 // A disk that stops while the lines of one volume are run on it.
-use crate::calls::{Call, Failing, make_call};
-use crate::images::{CHOICES, Left, Volume, bay_of};
+use crate::calls::{Failing, Stream};
 use crate::rows::Row;
 use crate::same::{holds_at, same, same_at};
-use crate::stops::{prepared, stopped};
+use crate::stops::{Remains, left_by, prepared, stopped};
+use fixtures::{CHOICES, Call, Left};
 use std::alloc::Global;
 use std::process::Abort;
 use std::sync::Wait;
@@ -42,10 +42,7 @@ const AT_LEAST: [usize; 3] = [0, 3, 6];
 
 const SOLO: Row<'_> = Row {
     config: "",
-    volumes: &[Volume {
-        name: "solo",
-        blocks: BLOCKS as u64,
-    }],
+    volumes: &[("solo", BLOCKS as u64)],
     before: &[Call {
         words: "solo h 0 8",
         trace: b"",
@@ -110,11 +107,11 @@ fn try_choice<R: Abort + Threads + Wait + Sync>(
         same(rt, &(stop.status, stop.passed), &(4, calls));
         assert!(rt; stop.text.ends_with(b"fault 4 solo disk home\n"));
         let place = found(rt, &stop.images);
-        holds_at(rt, place >= before, &format_args!("{calls} {left:?}"));
-        let Some(least) = AT_LEAST.get(reads(&stop.text)) else {
-            panic!(rt; "{calls} {left:?}");
-        };
-        holds_at(rt, place >= *least, &format_args!("{calls} {left:?}"));
+        let least = AT_LEAST
+            .get(reads(&stop.text))
+            .map_or(ARRAYS.len(), |it| *it);
+        let goes_on = place >= before && place >= least;
+        holds_at(rt, goes_on, &format_args!("{calls} {left:?}"));
         before = place;
     }
     Ok(())
@@ -128,19 +125,14 @@ fn a_solo_that_stops_keeps_what_was_written(rt: HostRuntime) -> Result<(), Fail>
     Ok(())
 }
 
-// The status of a run in which one call fails, and what it prints.
+// What a run leaves in which one call fails.
 fn failed<R: Abort + Threads + Wait + Sync>(
     rt: &R,
     alloc: Global,
-    failing: Failing,
-    planned: Option<u64>,
-) -> Result<(u8, Vec<u8>), Fail> {
+    failing: Failing<'_>,
+) -> Result<Remains, Fail> {
     let images = prepared(rt, alloc, &SOLO)?;
-    let mut bay = bay_of(alloc, SOLO.volumes, &images)?;
-    if let Some(number) = planned {
-        bay.plan("solo", 0, number)?;
-    }
-    make_call(rt, alloc, &mut bay, b"", SOLO.call, failing)
+    left_by(rt, alloc, &SOLO, SOLO.call, &images, failing, Left::AllNew)
 }
 
 #[test]
@@ -148,22 +140,27 @@ fn each_call_that_fails_ends_a_solo(rt: HostRuntime) -> Result<(), Fail> {
     let alloc = rt.alloc();
     // four writes with a sync each, and two reads
     for number in 0..10 {
-        let (status, text) = failed(&rt, alloc, Failing::Nothing, Some(number))?;
-        same_at(&rt, &status, &4, &number);
-        assert!(rt; text.ends_with(b"fault 4 solo disk home\n"));
+        let left = failed(&rt, alloc, Failing::Part("solo", 0, number))?;
+        same_at(&rt, &left.status, &4, &number);
+        assert!(rt; left.text.ends_with(b"fault 4 solo disk home\n"));
     }
     for number in 0..4 {
-        let (status, text) = failed(&rt, alloc, Failing::Trace(number), None)?;
-        same_at(&rt, &status, &8, &number);
-        assert!(rt; text.ends_with(b"fault 8 trace\n"));
+        let left = failed(&rt, alloc, Failing::Stream(Stream::Trace, number))?;
+        same_at(&rt, &left.status, &8, &number);
+        assert!(rt; left.text.ends_with(b"fault 8 trace\n"));
     }
     for number in 0..3 {
-        let (status, text) = failed(&rt, alloc, Failing::Sink(number), None)?;
-        same_at(&rt, &status, &7, &number);
-        assert!(rt; PRINTED.starts_with(&text) && text.len() < PRINTED.len());
+        let left = failed(&rt, alloc, Failing::Stream(Stream::Sink, number))?;
+        same_at(&rt, &left.status, &7, &number);
+        assert!(rt; PRINTED.starts_with(&left.text) && left.text.len() < PRINTED.len());
     }
-    let (status, text) = failed(&rt, alloc, Failing::Sink(3), Some(10))?;
-    same(&rt, &status, &0);
-    same(&rt, &text.as_slice(), &PRINTED);
+    for behind in [
+        Failing::Part("solo", 0, 10),
+        Failing::Stream(Stream::Sink, 3),
+    ] {
+        let left = failed(&rt, alloc, behind)?;
+        same(&rt, &left.status, &0);
+        same(&rt, &left.text.as_slice(), &PRINTED);
+    }
     Ok(())
 }

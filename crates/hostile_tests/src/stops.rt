@@ -1,8 +1,8 @@
 // Disks that stop at one of their calls, and what is there afterwards.
-use crate::calls::{Call, Failing, asked, make_call};
-use crate::images::{CHOICES, Left, bay_of, crash, images_of};
+use crate::calls::{Failing, make_call, plan};
 use crate::rows::{CLEANED, DRAINED, FORMATTED, KEEPING, RECLAIMED, Row, SMALL_DRAINED, keeping};
 use crate::same::{holds_at, same_at};
+use fixtures::{CHOICES, Call, Left, asked, bay_of, crash, images_of};
 use std::alloc::Global;
 use std::process::Abort;
 use std::sync::{Arc, Wait};
@@ -11,7 +11,7 @@ use std::thread::Threads;
 use wol_bay::MemBay;
 use wol_disk::{Block, Fuse};
 
-/// What is left of a call over disks that stop after so many calls.
+/// What is left of a call around which something fails.
 #[derive(Drop)]
 pub struct Remains {
     pub status: u8,
@@ -33,7 +33,7 @@ pub fn prepared<R: Abort + Threads + Wait + Sync>(
             rt,
             alloc,
             &mut bay,
-            row.config.as_bytes(),
+            row.config,
             *earlier,
             Failing::Nothing,
         )?;
@@ -42,27 +42,25 @@ pub fn prepared<R: Abort + Threads + Wait + Sync>(
     images_of(alloc, &mut bay, row.volumes)
 }
 
-/// A call over disks that stop after so many calls, and then crash.
-pub fn stopped<R: Abort + Threads + Wait + Sync>(
+/// A call around which something fails, and then a crash of the disks. `Left::AllNew` leaves what the call did.
+pub fn left_by<R: Abort + Threads + Wait + Sync>(
     rt: &R,
     alloc: Global,
     row: &Row<'_>,
-    asked: Call<'_>,
+    call: Call<'_>,
     images: &[Vec<Block>],
-    calls: u64,
+    failing: Failing<'_>,
     left: Left,
 ) -> Result<Remains, Fail> {
-    let mut bay = bay_of(alloc, row.volumes, images)?;
+    let calls = match failing {
+        Failing::Disks(calls) => calls,
+        _ => u64::MAX,
+    };
     let fuse = Arc::new(alloc, Fuse::new(calls))?;
+    let mut bay = bay_of(alloc, row.volumes, images)?;
+    plan(&mut bay, failing)?;
     bay.set_fuse(Some(Arc::try_clone(&fuse)?));
-    let (status, text) = make_call(
-        rt,
-        alloc,
-        &mut bay,
-        row.config.as_bytes(),
-        asked,
-        Failing::Nothing,
-    )?;
+    let (status, text) = make_call(rt, alloc, &mut bay, row.config, call, failing)?;
     crash(alloc, &mut bay, row.volumes, left)?;
     bay.set_fuse(None);
     let images = images_of(alloc, &mut bay, row.volumes)?;
@@ -74,6 +72,20 @@ pub fn stopped<R: Abort + Threads + Wait + Sync>(
     })
 }
 
+/// A call over disks that stop after so many calls, and then crash.
+pub fn stopped<R: Abort + Threads + Wait + Sync>(
+    rt: &R,
+    alloc: Global,
+    row: &Row<'_>,
+    call: Call<'_>,
+    images: &[Vec<Block>],
+    calls: u64,
+    left: Left,
+) -> Result<Remains, Fail> {
+    let failing = Failing::Disks(calls);
+    left_by(rt, alloc, row, call, images, failing, left)
+}
+
 /// What `check` prints of images.
 pub fn checked<R: Abort + Threads + Wait + Sync>(
     rt: &R,
@@ -82,14 +94,8 @@ pub fn checked<R: Abort + Threads + Wait + Sync>(
     images: &[Vec<Block>],
 ) -> Result<String, Fail> {
     let mut bay = bay_of(alloc, row.volumes, images)?;
-    let (status, text) = make_call(
-        rt,
-        alloc,
-        &mut bay,
-        row.config.as_bytes(),
-        asked("check"),
-        Failing::Nothing,
-    )?;
+    let call = asked("check");
+    let (status, text) = make_call(rt, alloc, &mut bay, row.config, call, Failing::Nothing)?;
     let text = String::from_utf8_lossy(alloc, &text)?;
     let in_order = text.lines().filter(|line| line.contains(" ok ")).count();
     same_at(rt, &(status == 0), &(in_order == row.volumes.len()), &text);
@@ -142,11 +148,8 @@ fn try_again<R: Abort + Threads + Wait + Sync>(
         return Ok(());
     }
     let again = stopped(rt, alloc, row, row.call, images, u64::MAX, Left::AllOld)?;
-    holds_at(
-        rt,
-        row.again.contains(&again.status),
-        &format_args!("{} {}", row.call.words, again.status),
-    );
+    let at = format!(in alloc; "{} {}", row.call.words, again.status)?;
+    holds_at(rt, row.again.contains(&again.status), &at);
     let places = found(rt, alloc, row, &again.images)?;
     holds_at(rt, are_last(row, &places), &row.call.words);
     Ok(())
@@ -170,20 +173,14 @@ fn try_choice<R: Abort + Threads + Wait + Sync>(
     let mut before = found(rt, alloc, row, images)?;
     for calls in 0..whole.passed {
         let stop = stopped(rt, alloc, row, row.call, images, calls, left)?;
-        holds_at(
-            rt,
-            matches!(stop.status, 4 | 6),
-            &format_args!("{words} {calls} {left:?}: {}", stop.status),
-        );
-        same_at(rt, &stop.passed, &calls, &format_args!("{words} {left:?}"));
-        holds_at(
-            rt,
-            tells_each(words) || whole.text.starts_with(without_last_line(&stop.text)),
-            &format_args!("{words} {calls} {left:?}"),
-        );
+        let at = format!(in alloc; "{words} {calls} {left:?}: {}", stop.status)?;
+        holds_at(rt, matches!(stop.status, 4 | 6), &at);
+        same_at(rt, &stop.passed, &calls, &at);
+        let is_front = whole.text.starts_with(without_last_line(&stop.text));
+        holds_at(rt, tells_each(words) || is_front, &at);
         let places = found(rt, alloc, row, &stop.images)?;
         let goes_on = before.iter().zip(&places).all(|(then, now)| *then <= *now);
-        holds_at(rt, goes_on, &format_args!("{words} {calls} {left:?}"));
+        holds_at(rt, goes_on, &at);
         try_again(rt, alloc, row, &stop.images)?;
         before = places;
     }

@@ -1,8 +1,8 @@
 // Runs of the top call over streams and a bay in memory. The expected outputs were worked out by hand from the formats.
 ghost use Rattle.solo.specs.Images.{NoneOut};
 
-use fixtures::{DRAINING, DRAINS, OFFLOADS, ONE_BLOCK_EACH, THREE};
-use std::alloc::{AllocError, Global};
+use fixtures::{DRAINING, DRAINS, OFFLOADS, ONE_BLOCK_EACH, THREE, words_of};
+use std::alloc::Global;
 use std::process::Abort;
 use std::sync::Wait;
 use std::test::Fail;
@@ -33,14 +33,6 @@ volume = [
   { name = \"usr0\", host = \"usr\", disk = 0, home_blocks = 0, segments = 4, view = [] },
 ]
 ";
-
-fn words_of(alloc: Global, text: &str) -> Result<Vec<String>, AllocError> {
-    let mut words = Vec::new(alloc);
-    for word in text.split_whitespace() {
-        words.push(word.to_string(alloc)?)?;
-    }
-    Ok(words)
-}
 
 // A call of a part of an image that is to fail.
 #[derive(Clone, Copy)]
@@ -75,6 +67,18 @@ fn try_row<R: Abort + Threads + Wait + Sync>(
         assert!(rt; bay.plan(planned.image, planned.part, planned.call).is_ok());
     }
     try_in(rt, alloc, row, &mut bay)
+}
+
+// Tries each row in a bay of its own.
+fn try_rows<R: Abort + Threads + Wait + Sync>(
+    rt: &R,
+    alloc: Global,
+    rows: &[Row<'_>],
+) -> Result<(), Fail> {
+    for row in rows {
+        try_row(rt, alloc, row)?;
+    }
+    Ok(())
 }
 
 // Tries a row in a bay that has images.
@@ -202,10 +206,7 @@ fn runs_and_refuses_as_worked_out_by_hand(rt: HostRuntime) -> Result<(), Fail> {
         plain("solo usr 0 0", b"", 1, b"fault 1 words\n"),
         plain("solo u,r 0 1", b"", 1, b"fault 1 words\n"),
     ];
-    for row in &rows {
-        try_row(&rt, rt.alloc(), row)?;
-    }
-    Ok(())
+    try_rows(&rt, rt.alloc(), &rows)
 }
 
 #[test]
@@ -229,10 +230,7 @@ fn tells_a_source_a_sink_and_a_disk_that_fail(rt: HostRuntime) -> Result<(), Fai
             ..plain(USR, WRITE_AND_READ, 4, b"fault 4 solo disk home\n")
         },
     ];
-    for row in &rows {
-        try_row(&rt, rt.alloc(), row)?;
-    }
-    Ok(())
+    try_rows(&rt, rt.alloc(), &rows)
 }
 
 fn configured<'a>(words: &'a str, config: &'a [u8], status: u8, text: &'a [u8]) -> Row<'a> {
@@ -268,10 +266,7 @@ fn prints_generated_lines(rt: HostRuntime) -> Result<(), Fail> {
             ..configured("gen 0 1", three, 7, b"")
         },
     ];
-    for row in &rows {
-        try_row(&rt, rt.alloc(), row)?;
-    }
-    Ok(())
+    try_rows(&rt, rt.alloc(), &rows)
 }
 
 #[test]
@@ -308,10 +303,7 @@ fn formats_volumes(rt: HostRuntime) -> Result<(), Fail> {
             ..configured("format", TWO_VOLUMES, 8, b"fault 8 config\n")
         },
     ];
-    for row in &rows {
-        try_row(&rt, rt.alloc(), row)?;
-    }
-    Ok(())
+    try_rows(&rt, rt.alloc(), &rows)
 }
 
 #[test]

@@ -1,7 +1,7 @@
 // Images that no run wrote, through the words of each command. The lines were worked out by hand from the formats.
-use crate::calls::{Call, Failing, make_call};
+use crate::calls::make_call;
 use crate::same::same_at;
-use fixtures::{Change, SRC0, THREE, USR0, WEB0, put};
+use fixtures::{Call, Change, SRC0, THREE, USR0, WEB0, put};
 use std::alloc::Global;
 use std::process::Abort;
 use std::sync::Wait;
@@ -173,14 +173,7 @@ fn expect<R: Abort + Threads + Wait + Sync>(
     put(alloc, &mut bay, &WEB0, image.changes)?;
     put(alloc, &mut bay, &SRC0, image.changes)?;
     let asked = Call { words, trace: LINE };
-    let (found, said) = make_call(
-        rt,
-        alloc,
-        &mut bay,
-        THREE.as_bytes(),
-        asked,
-        Failing::Nothing,
-    )?;
+    let (found, said) = make_call(rt, alloc, &mut bay, THREE.as_bytes(), asked)?;
     let said = String::from_utf8_lossy(alloc, &said)?;
     same_at(rt, &said.as_str(), &text, &words);
     same_at(rt, &found, &status, &format_args!("{words}: {text}"));

@@ -3,11 +3,11 @@
 ghost use Rattle.solo.specs.Images.{NoneOut};
 ghost use Rattle.wol_bay.specs.MemBay.{mem_bay_state};
 
-use crate::calls::{Call, Failing, asked, make_call};
-use crate::images::bay_of;
-use crate::rows::{CLEANED, RECLAIMS, ROOMY_THREE, SMALL_THREE, THREE_ROOMY};
+use crate::calls::make_call;
 use crate::same::{holds_at, same, same_at};
-use crate::stops::prepared;
+use fixtures::{
+    AFTER_STAYS, Call, RECLAIMS, ROOMY_THREE, SMALL_THREE, THREE_ROOMY, asked, bay_of, images_of,
+};
 use rand_xoshiro::SplitMix64;
 use rand_xoshiro::rand_core::{Rng, SeedableRng};
 use std::alloc::Global;
@@ -153,14 +153,20 @@ fn called<R: Abort + Threads + Wait + Sync>(
     ensures { NoneOut (mem_bay_state bay.new) }
 {
     let call = Call { words, trace };
-    make_call(
-        rt,
-        alloc,
-        bay,
-        ROOMY_THREE.as_bytes(),
-        call,
-        Failing::Nothing,
-    )
+    make_call(rt, alloc, bay, ROOMY_THREE.as_bytes(), call)
+}
+
+// Images of which the log of the second has what the others wrote.
+fn sound_images<R: Abort + Threads + Wait + Sync>(
+    rt: &R,
+    alloc: Global,
+) -> Result<Vec<Vec<Block>>, Fail> {
+    let mut bay = MemBay::new(alloc);
+    for earlier in AFTER_STAYS {
+        let (status, _text) = called(rt, alloc, &mut bay, earlier.words, earlier.trace)?;
+        same_at(rt, &status, &0, &earlier.words);
+    }
+    images_of(alloc, &mut bay, &THREE_ROOMY)
 }
 
 // What `check` tells of images, `dump` tells too, and `check` again behind it. A replay is refused for it and changes nothing, or
@@ -190,7 +196,7 @@ fn try_images<R: Abort + Threads + Wait + Sync>(
 fn spoiled_images_are_told_or_are_what_they_say(rt: HostRuntime) -> Result<(), Fail> {
     let alloc = rt.alloc();
     let mut generator = SplitMix64::from_seed(SEED);
-    let sound = prepared(&rt, alloc, &CLEANED)?;
+    let sound = sound_images(&rt, alloc)?;
     let heads = places_of_heads(alloc, &sound)?;
     let mut in_order = 0u32;
     for number in 0..IMAGES {
@@ -229,14 +235,7 @@ fn spoiled_configurations_are_told_or_read(rt: HostRuntime) -> Result<(), Fail> 
     for _ in 0..CONFIGS {
         let config = spoiled_text(alloc, &mut generator, SMALL_THREE.as_bytes())?;
         let mut bay = MemBay::new(alloc);
-        let (status, text) = make_call(
-            &rt,
-            alloc,
-            &mut bay,
-            &config,
-            asked("gen 7 3"),
-            Failing::Nothing,
-        )?;
+        let (status, text) = make_call(&rt, alloc, &mut bay, &config, asked("gen 7 3"))?;
         holds_at(&rt, matches!(status, 0 | 2), &status);
         assert!(rt; status == 0 || text.starts_with(b"fault 2 config "));
     }
@@ -247,7 +246,7 @@ fn spoiled_configurations_are_told_or_read(rt: HostRuntime) -> Result<(), Fail> 
 fn spoiled_lines_are_told_or_run(rt: HostRuntime) -> Result<(), Fail> {
     let alloc = rt.alloc();
     let mut generator = SplitMix64::from_seed(SEED);
-    let sound = prepared(&rt, alloc, &CLEANED)?;
+    let sound = sound_images(&rt, alloc)?;
     for _ in 0..TRACES {
         let trace = spoiled_text(alloc, &mut generator, RECLAIMS)?;
         let mut bay = bay_of(alloc, &THREE_ROOMY, &sound)?;
@@ -265,7 +264,7 @@ fn spoiled_lines_are_told_or_run(rt: HostRuntime) -> Result<(), Fail> {
 #[test]
 fn a_line_too_long_or_without_its_end_is_told_or_run(rt: HostRuntime) -> Result<(), Fail> {
     let alloc = rt.alloc();
-    let sound = prepared(&rt, alloc, &CLEANED)?;
+    let sound = sound_images(&rt, alloc)?;
     let mut long = Vec::from_slice(alloc, b"1,u,0,Write,0,512,")?;
     long.resize(5000, b'0')?;
     let rows: [(&[u8], u8); 6] = [
