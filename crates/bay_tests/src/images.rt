@@ -4,7 +4,7 @@ ghost use Rattle.wol_model.specs.Heads.{IsShape};
 ghost use Rattle.log_layout.specs.Values.{shape_of};
 ghost use Rattle.wol_bay.specs.Bay.{IsHome, outs};
 
-use fixtures::TWO;
+use fixtures::{TWO, read_image};
 use log_layout::{Label, SegHead};
 use spin_model::Spindle;
 use std::alloc::Global;
@@ -14,7 +14,7 @@ use turn_lock::TurnLock;
 use volume_images::{ImageRefusal, OutImage, PartName, RackFault, format, open_image};
 use wol_bay::{Bay, MemBay};
 use wol_config::read_config;
-use wol_disk::{Block, Disk};
+use wol_disk::Block;
 
 const LABEL: Label = Label {
     id: 0,
@@ -30,22 +30,6 @@ fn block(front: &[u8]) -> Block
     let mut b = [0; 512];
     b[..front.len()].copy_from_slice(front);
     b
-}
-
-// Takes an image out as one part, reads its first blocks, and puts it back.
-fn read_image<B: Bay>(bay: &mut B, name: &str, size: u64, blocks: &mut [Block]) -> Result<(), Fail>
-    requires home { IsHome name.now (B.state bay.old) }
-    requires fits { length blocks.old ≤ size }
-    ensures { outs (B.state bay.new) ≡ outs (B.state bay.old) }
-{
-    let mut parts = bay.attach(name, &[size])?;
-    let Some(mut part) = parts.pop() else {
-        unreachable!()
-    };
-    let read = part.read(0, blocks);
-    parts.push(part).unwrap();
-    bay.detach(name, parts);
-    Ok(read?)
 }
 
 #[test]

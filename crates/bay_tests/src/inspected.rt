@@ -34,8 +34,8 @@ const C: Formatted<'_> = Formatted {
     segments: &[3],
 };
 
-// The exit status is that of the first trouble.
-fn tries<R: Abort + Threads + Wait + Sync>(
+/// What is asked of volumes is told by this text; the exit status is that of the first trouble.
+pub(crate) fn tries<R: Abort + Threads + Wait + Sync>(
     rt: &R,
     alloc: Global,
     asked: Asked,
@@ -121,14 +121,14 @@ const SRC_WITHOUT_USR: &[u8] = b"src0 logger 0 missing\n";
 const BEHIND: &[u8] = b"usr0 damaged 1003 of web0\n";
 
 // The first or the second segment of web0, or the first of src0, is owned by usr0.
-const OWNED: Change<'_> = ("web0", 1002, b"WOLSEGO1\x00\x00\x00\x00");
+pub(crate) const OWNED: Change<'_> = ("web0", 1002, b"WOLSEGO1\x00\x00\x00\x00");
 
 const OWNED_TOO: Change<'_> = ("web0", 1018, b"WOLSEGO1\x00\x00\x00\x00");
 
 const ELSEWHERE: Change<'_> = ("src0", 1002, b"WOLSEGO1\x00\x00\x00\x00");
 
 // Heads of one block in both forms, of version 5 and of the last version.
-const FIVE: &[u8] =
+pub(crate) const FIVE: &[u8] =
     b"WOLREC01\x01\x00\x00\x00\x00\x00\x00\x00\x05\x00\x00\x00\x00\x00\x00\x00\x00\x00\x00\x00\x00\x00\x00\x00\x01";
 
 const OTHER_FIVE: &[u8] =

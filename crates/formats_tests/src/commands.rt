@@ -1,15 +1,8 @@
 // Command lines, and the commands that they ask for.
 use command_words::{Command, Mode, WordsFault, command_of};
+use fixtures::words_of;
 use std::alloc::{AllocError, Global};
 use std::test::Fail;
-
-fn words_of(alloc: Global, text: &str) -> Result<Vec<String>, AllocError> {
-    let mut words = Vec::new(alloc);
-    for word in text.split_whitespace() {
-        words.push(word.to_string(alloc)?)?;
-    }
-    Ok(words)
-}
 
 // Whether the line asks for no command.
 fn is_refused(alloc: Global, line: &str) -> Result<bool, AllocError> {

@@ -1,16 +1,13 @@
-//! Tests of what comes in and is printed, over examples that were worked out by hand: disks and bays, trace lines and their
-//! windows, generated lines, configurations, commands and texts.
+//! Tests of what comes in and is printed, over examples that were worked out by hand: disks, trace lines and their windows,
+//! generated lines, configurations, commands and texts.
 //!
-//! `disks.rt` is of `wol_disk`; `memory_bays.rt`, `file_bays.rt` and `file_lengths.rt`, with the calls in `bay_calls.rt`, of
-//! `wol_bay`; `streams.rt` and `file_sources.rt` of `wol_io`; `amounts.rt` of `energy`; `trace_lines.rt` of `msr_trace`;
-//! `config_files.rt` and `config_refusals.rt` of `wol_config`; `generated_lines.rt` of `trace_gen`; `windows.rt` of
-//! `trace_windows`; `commands.rt` of `command_words`; `texts.rt` of `report`.
+//! `disks.rt` is of `wol_disk`; `streams.rt` and `file_sources.rt` of `wol_io`; `amounts.rt` of `energy`; `trace_lines.rt` of
+//! `msr_trace`; `config_files.rt` and `config_refusals.rt` of `wol_config`; `generated_lines.rt` of `trace_gen`; `windows.rt`
+//! of `trace_windows`; `commands.rt` of `command_words`; `texts.rt` of `report`.
 #![tactic(auto)]
 
 #[cfg(test)]
 mod amounts;
-#[cfg(test)]
-mod bay_calls;
 #[cfg(test)]
 mod commands;
 #[cfg(test)]
@@ -20,15 +17,9 @@ mod config_refusals;
 #[cfg(test)]
 mod disks;
 #[cfg(test)]
-mod file_bays;
-#[cfg(test)]
-mod file_lengths;
-#[cfg(test)]
 mod file_sources;
 #[cfg(test)]
 mod generated_lines;
-#[cfg(test)]
-mod memory_bays;
 #[cfg(test)]
 mod same;
 #[cfg(test)]

@@ -1,7 +1,7 @@
 use Rattle.std.proofs.Common.{[], ◌∷◌}
 use Rattle.wol_bay.proofs.OneImage.{goes_out, comes_home, one_part, one_size, is_back}
-use Rattle.formats_tests.proofs.AllHome.{home_of, same_home}
-use Rattle.formats_tests.proofs.bay_calls.write_image.Goals as goal
+use Rattle.bay_tests.proofs.AllHome.{home_of, same_home}
+use Rattle.bay_tests.proofs.bay_calls.write_image.Goals as goal
 
 pub create-requires : goal.create-requires
 create-requires g c = home_of c.args.name.now (g.B.Bay.state c.args.bay.now) c.requires

@@ -2,7 +2,7 @@
 ghost use Rattle.std.specs.Prelude.{◌≡◌, OnOk};
 ghost use Rattle.wol_bay.specs.Bay.{Holds};
 ghost use Rattle.wol_bay.specs.MemBay.{mem_bay_state};
-ghost use Rattle.formats_tests.specs.Home.{AreAllHome};
+ghost use Rattle.bay_tests.specs.Home.{AreAllHome};
 
 use crate::bay_calls::{read_image, reads, write_image, writes};
 use crate::same::same;

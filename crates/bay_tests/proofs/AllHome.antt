@@ -1,7 +1,7 @@
 -- No image of a bay is out, before and after a use of it.
 use Rattle.std.proofs.Common.{◌≡◌, ℕ, List, [], Option, None, Some, option_map, IfSome, sym, ap, subst}
 use Rattle.wol_bay.specs.Bay.{Name, BayState, Told, at_name, outs, IsHome}
-use Rattle.formats_tests.specs.Home.{AreAllHome}
+use Rattle.bay_tests.specs.Home.{AreAllHome}
 
 -- so each of them may go out
 pub home_of : (name : Name) (b : BayState) → AreAllHome b → IsHome name b

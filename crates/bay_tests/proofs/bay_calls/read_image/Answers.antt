@@ -1,9 +1,9 @@
 use Rattle.std.proofs.Common.{append-nil, sym, ap, ◌∙◌}
 use Rattle.wol_bay.specs.Parts.{sizes_of}
 use Rattle.wol_bay.proofs.OneImage.{goes_out, comes_home, is_back}
-use Rattle.formats_tests.proofs.AllHome.{home_of, same_home}
+use Rattle.bay_tests.proofs.AllHome.{home_of, same_home}
 use Rattle.fixtures.proofs.Cut.{cut_sizes, last_sized}
-use Rattle.formats_tests.proofs.bay_calls.read_image.Goals as goal
+use Rattle.bay_tests.proofs.bay_calls.read_image.Goals as goal
 
 pub detach-requires : goal.detach-requires
 detach-requires g c =

@@ -1,1 +1,2 @@
 mod AllHome
+mod Idle
