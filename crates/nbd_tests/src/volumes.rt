@@ -88,6 +88,30 @@ fn served<R: Wait>(
     Ok((status_of(&answer), Vec::from_slice(alloc, sink.bytes())?))
 }
 
+// A session at a volume, what the client sends, and its status.
+type Ended<'a> = (Beginning, &'a str, &'a [u8], u8);
+
+// These sessions are to end so, and to give the client nothing.
+fn end<R: Abort + Wait>(
+    rt: &R,
+    alloc: Global,
+    config: &Config,
+    bay: &mut MemBay,
+    sessions: &[Ended<'_>],
+) -> Result<(), Fail>
+    requires valid { IsValid config.now }
+    requires none { outs (mem_bay_state bay.old) ≡ Some [] }
+{
+    for session in sessions {
+        let (beginning, name, asked, wanted) = *session;
+        let asked = Vec::from_slice(alloc, asked)?;
+        let (status, got) = served(rt, alloc, config, bay, beginning, name, asked)?;
+        assert_eq!(rt; status, wanted, "{name}");
+        assert!(rt; got.is_empty());
+    }
+    Ok(())
+}
+
 // What `check` prints.
 fn checked<R: Abort + Threads + Wait + Sync>(
     rt: &R,
@@ -251,70 +275,24 @@ fn sessions_end_with_their_statuses(rt: HostRuntime) -> Result<(), Fail> {
     let config = read_config(alloc, THREE.as_bytes())?;
     let mut bay = formatted(&rt, alloc, &config);
 
-    let (status, got) = served(
-        &rt,
-        alloc,
-        &config,
-        &mut bay,
-        Beginning::AtOnce,
-        "usr1",
-        Vec::new(alloc),
-    )?;
-    assert_eq!(rt; status, 15);
-    assert!(rt; got.is_empty());
-
-    let short = Vec::from_slice(alloc, b"short")?;
-    let (status, got) = served(
-        &rt,
-        alloc,
-        &config,
-        &mut bay,
-        Beginning::AtOnce,
-        "web0",
-        short,
-    )?;
-    assert_eq!(rt; status, 14);
-    assert!(rt; got.is_empty());
-
-    let other = Vec::from_slice(alloc, b"twenty-eight bytes of no kind")?;
-    let (status, got) = served(
-        &rt,
-        alloc,
-        &config,
-        &mut bay,
-        Beginning::AtOnce,
-        "web0",
-        other,
-    )?;
-    assert_eq!(rt; status, 14);
-    assert!(rt; got.is_empty());
-
+    let refused: [Ended<'_>; 3] = [
+        (Beginning::AtOnce, "usr1", b"", 15),
+        (Beginning::AtOnce, "web0", b"short", 14),
+        (
+            Beginning::AtOnce,
+            "web0",
+            b"twenty-eight bytes of no kind",
+            14,
+        ),
+    ];
+    end(&rt, alloc, &config, &mut bay, &refused)?;
     // A name is looked for before any image is.
     let mut nothing = MemBay::new(alloc);
-    let (status, got) = served(
-        &rt,
-        alloc,
-        &config,
-        &mut nothing,
-        Beginning::Handshake,
-        "usr1",
-        Vec::new(alloc),
-    )?;
-    assert_eq!(rt; status, 15);
-    assert!(rt; got.is_empty());
-
-    let (status, got) = served(
-        &rt,
-        alloc,
-        &config,
-        &mut nothing,
-        Beginning::AtOnce,
-        "src0",
-        Vec::new(alloc),
-    )?;
-    assert_eq!(rt; status, 12);
-    assert!(rt; got.is_empty());
-    Ok(())
+    let looked_for: [Ended<'_>; 2] = [
+        (Beginning::Handshake, "usr1", b"", 15),
+        (Beginning::AtOnce, "src0", b"", 12),
+    ];
+    end(&rt, alloc, &config, &mut nothing, &looked_for)
 }
 
 // What `check` prints when 20 blocks of the first volume were written, from block 10 on.
