@@ -63,3 +63,14 @@ loop-preserved g c =
       source_calm = c.in-Ok-Some.ensures.calm (λ is. cc) ∙ i.source_calm;
       same_borrow = c.in-Ok-Some.ensures.same_borrow ∙ i.same_borrow;
     }
+
+pub returns-in_err-take-in-Ok-Some-clause-some : goal.returns-in_err-take-in-Ok-Some-clause-some
+returns-in_err-take-in-Ok-Some-clause-some g c =
+    let so = c.loop.invariant.so_far in
+    let next = rw c.in-Ok-Some.field-0-is at c.in-Ok-Some.ensures.line in
+    let p = err_from_is_err_and c.from_residual-in_err-take-in-Ok-Some.result c.from_residual-in_err-take-in-Ok-Some.ensures.1 in
+    rw (p.1, p.2) (record {
+      run = so.run ++ option_map trace_line c.in-Ok-Some.line ∷ [];
+      given = next c.args.given.now so.run so.given;
+      cause = inr refl;
+    })
