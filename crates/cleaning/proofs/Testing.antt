@@ -7,10 +7,10 @@ use Rattle.std.proofs.lemmas.Option.{same_Some}
 use Rattle.wol_model.specs.Index.{Indexed, Listed, is_homed, listed_in}
 use Rattle.wol_model.specs.Log.{has_bit}
 use Rattle.wol_promise.proofs.Lists.{all_mapped, all_member, member_map, member_of}
+use Rattle.block_cells.specs.Masks.{IsMask}
+use Rattle.block_cells.specs.declared.record.Rec.{Rec}
+use Rattle.block_cells.proofs.Bits.{has_bit-above}
 use Rattle.redirect_map.specs.Index.{HasVersion, IsIndex, IsRecordOf, entry_at}
-use Rattle.redirect_map.specs.Masks.{IsMask}
-use Rattle.redirect_map.specs.declared.record.Rec.{Rec}
-use Rattle.redirect_map.proofs.Bits.{has_bit-above}
 use Rattle.redirect_map.proofs.Versions.{entry_at-own}
 use Rattle.manager.proofs.Entries.{same_mask}
 use Rattle.log_cleaner.specs.Chunks.{NoneHomed}

@@ -4,7 +4,7 @@ use Rattle.std.specs.Prelude.{slice_get, option_map, IfSome, IsSomeAnd, slice_in
 use Rattle.std.specs.List.{AllByRecursion, find}
 use Rattle.std.proofs.lemmas.Bool.{false≢true, cases_lt, eqb-true}
 use Rattle.wol_model.specs.Index.{Indexed, AreRising}
-use Rattle.redirect_map.specs.declared.record.Rec.{Rec}
+use Rattle.block_cells.specs.declared.record.Rec.{Rec}
 use Rattle.redirect_map.specs.Index.{has_version, entry_at, HasVersion, IsRecordOf, IsAnswer, IsIndex}
 use Rattle.redirect_map.proofs.Seen.{all_more, all_before_map, all_at, all_from_places}
 use Rattle.redirect_map.proofs.Versions.{entry_at-own}

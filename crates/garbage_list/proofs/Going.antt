@@ -9,12 +9,12 @@ use Rattle.std.proofs.lemmas.List.{get_or_past}
 use Rattle.wol_model.specs.Log.{has_bit}
 use Rattle.wol_model.specs.Extents.{marked, has_newer, has_older}
 use Rattle.wol_model.specs.Index.{listed_in, Listed, Indexed, cover_of, listed_covers, is_homed, is_live, is_due, goes, block_numbers}
-use Rattle.redirect_map.specs.declared.record.Rec.{Rec}
-use Rattle.redirect_map.specs.Masks.{IsMask}
+use Rattle.block_cells.specs.declared.record.Rec.{Rec}
+use Rattle.block_cells.specs.Masks.{IsMask}
+use Rattle.block_cells.proofs.Bits.{has_bit-without, has_bit-zero, some_bit}
+use Rattle.block_cells.proofs.Meeting.{any_in_range, none_in_range}
+use Rattle.block_cells.proofs.Marks.{marked-marks_of, in_mask-bit}
 use Rattle.redirect_map.specs.Index.{entry_at, IsRecordOf}
-use Rattle.redirect_map.proofs.Bits.{has_bit-without, has_bit-zero, some_bit}
-use Rattle.redirect_map.proofs.Meeting.{any_in_range, none_in_range}
-use Rattle.redirect_map.proofs.Seen.{marked-marks_of, in_mask-bit}
 
 -- a record's mask has the blocks that it covers
 pub keep_is : (e : Indexed) (r : Rec) → IsRecordOf e r → IsMask e.listed.first (cover_of e.listed).covers r.keep

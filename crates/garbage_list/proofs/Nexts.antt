@@ -7,8 +7,8 @@ use Rattle.std.proofs.lemmas.Bool.{eq-eqb, ne_eqb, eqb-true, lt-ltb}
 use Rattle.std.proofs.lemmas.Option.{none-some, same_Some, slice_get_within}
 use Rattle.wol_model.specs.Index.{Listed, Indexed, listed_in, AreRising}
 use Rattle.wol_promise.proofs.Lists.{all_member, member_map}
+use Rattle.block_cells.specs.declared.record.Rec.{Rec}
 use Rattle.redirect_map.specs.Index.{entry_at, changed, has_version, IsAnswer, IsRecordOf}
-use Rattle.redirect_map.specs.declared.record.Rec.{Rec}
 use Rattle.garbage_list.specs.Least.{first_version}
 
 -- ---- lists

@@ -17,9 +17,9 @@ use Rattle.wol_model.proofs.Newest.{above, newer_is_above}
 use Rattle.wol_promise.specs.Manager.{Held, IsBacked, IsIndexOf, extents_held, versions}
 use Rattle.wol_promise.proofs.Covers.{any_member, any_found, same_cover, held_is_listed}
 use Rattle.wol_promise.proofs.Lists.{member_map, member_of, member_front, member_behind, all_member}
+use Rattle.block_cells.specs.declared.record.Rec.{Rec}
 use Rattle.redirect_map.specs.Index.{cover_at}
 use Rattle.wol_promise.proofs.Woken.{covered_is, IsBareRun, IsLaneRun, count_all, count_none}
-use Rattle.redirect_map.specs.declared.record.Rec.{Rec}
 use Rattle.listed_records.specs.Entries.{IsSource}
 use Rattle.garbage_list.proofs.Nexts.{Answered, answered, unanswered}
 use Rattle.wol_promise.proofs.OneMore.{or_none}

@@ -14,13 +14,13 @@ use Rattle.wol_model.specs.Extents.{remarked, marked, has_newer}
 use Rattle.wol_model.specs.Index.{Indexed, listed_in, AreRising, is_homed, cover_of, goes, keeping, keeps_a_block, is_live, listed_covers}
 use Rattle.wol_model.specs.Log.{has_bit, marks_of}
 use Rattle.wol_promise.proofs.Lists.{member_mid, all_member, all_map, all_front, all_back, all_push}
-use Rattle.redirect_map.proofs.Bits.{has_bit-or, has_bit-without, some_bit}
+use Rattle.block_cells.proofs.Bits.{has_bit-or, has_bit-without, some_bit}
+use Rattle.block_cells.proofs.Marks.{in_mask-bit, marks_at, marked-marks_of}
+use Rattle.block_cells.specs.Masks.{in_mask, IsMask}
+use Rattle.block_cells.specs.declared.record.Rec.{Rec}
 use Rattle.redirect_map.proofs.Changing.{remarked-marks_of}
-use Rattle.redirect_map.proofs.Seen.{in_mask-bit, marks_at, marked-marks_of}
 use Rattle.listed_records.specs.Changes.{with_put, with_kept, given_of, NoneLiveIn, lies_elsewhere}
 use Rattle.redirect_map.specs.Index.{entry_at, changed, has_version, with_homed, IsEntry, IsIndex, IsRecordOf, IsAnswer, given_up}
-use Rattle.redirect_map.specs.Masks.{in_mask, IsMask}
-use Rattle.redirect_map.specs.declared.record.Rec.{Rec}
 use Rattle.log_segment.specs.Records.{IsProperPart}
 use Rattle.garbage_list.proofs.Going.{some_block, goes_covers, keep_is}
 use Rattle.listed_records.specs.Entries.{StandsAt, AreStill, entries_at}

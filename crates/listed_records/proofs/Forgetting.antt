@@ -15,10 +15,10 @@ use Rattle.wol_promise.proofs.Covers.{any_found, any_member}
 use Rattle.wol_promise.proofs.GiveUps.{newer_in}
 use Rattle.wol_promise.proofs.Lists.{all_back, all_front, all_insert, all_map, all_member, member_behind}
 use Rattle.wol_promise.proofs.Wholes.{above_of, member_filter, member_unfilter}
+use Rattle.block_cells.specs.Masks.{IsMask}
+use Rattle.block_cells.specs.declared.record.Rec.{Rec}
+use Rattle.block_cells.proofs.Bits.{some_bit}
 use Rattle.redirect_map.specs.Index.{IsAnswer, IsEntry, IsIndex, changed, entry_at, given_up, has_version}
-use Rattle.redirect_map.specs.Masks.{IsMask}
-use Rattle.redirect_map.specs.declared.record.Rec.{Rec}
-use Rattle.redirect_map.proofs.Bits.{some_bit}
 use Rattle.garbage_list.proofs.Going.{keep_is, some_block}
 use Rattle.listed_records.specs.Changes.{GoesIn, NoneLiveIn, lies_elsewhere, stays_behind, with_kept}
 use Rattle.listed_records.specs.Entries.{entries_at}

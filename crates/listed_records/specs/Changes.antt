@@ -5,8 +5,8 @@ use Rattle.std.specs.List.{AllByRecursion}
 use Rattle.wol_disk.specs.Disk.{Block}
 use Rattle.wol_model.specs.Blocks.{block_of}
 use Rattle.wol_model.specs.Index.{Indexed, cover_of, goes, listed_in, homing, is_live, keeping, keeps_a_block}
+use Rattle.block_cells.specs.Masks.{in_mask}
 use Rattle.redirect_map.specs.Index.{changed}
-use Rattle.redirect_map.specs.Masks.{in_mask}
 
 -- what blocks from block `first` on have for block b, where it is in the mask: bit i of the mask is
 -- block `first + i`

@@ -4,8 +4,8 @@ use Rattle.std.specs.List.{AllByRecursion, count_by, list_any, range_with_len}
 use Rattle.wol_model.specs.Index.{Indexed, Listed, is_covered}
 use Rattle.wol_model.specs.Extents.{newest}
 use Rattle.wol_promise.specs.Policy.{has_newest_on}
+use Rattle.block_cells.specs.declared.record.Rec.{Rec}
 use Rattle.redirect_map.specs.Index.{cover_at, IsAnswer}
-use Rattle.redirect_map.specs.declared.record.Rec.{Rec}
 
 -- how many entries of the index lie in the segment of this index of the lane at place k
 abbrev pub entries_at : (k index : ℕ) → List Indexed → ℕ

@@ -16,10 +16,10 @@ use Rattle.wol_promise.proofs.Covers.{any_found, any_member}
 use Rattle.wol_promise.proofs.GiveUps.{newer_in}
 use Rattle.wol_promise.proofs.Lists.{all_map, all_mapped, all_member, member_map}
 use Rattle.wol_promise.proofs.Wholes.{above_of, member_unfilter, one_newer}
+use Rattle.block_cells.specs.Masks.{IsMask}
+use Rattle.block_cells.specs.declared.record.Rec.{Rec}
+use Rattle.block_cells.proofs.Bits.{has_bit-zero}
 use Rattle.redirect_map.specs.Index.{IsAnswer, IsIndex, entry_at, has_version}
-use Rattle.redirect_map.specs.Masks.{IsMask}
-use Rattle.redirect_map.specs.declared.record.Rec.{Rec}
-use Rattle.redirect_map.proofs.Bits.{has_bit-zero}
 use Rattle.manager.specs.Reading.{needs_of}
 use Rattle.manager.specs.Reclaim.{Always, BreaksOff, HasDroppedSegment, KeepsOn, NoneLiveIn, OnFailed, OnTried, TellsStep, lies_elsewhere}
 use Rattle.manager.specs.Stands.{Keeps}

@@ -9,11 +9,11 @@ use Rattle.wol_model.specs.Index.{Listed, Indexed, listed_in, cover_of, listed_c
 use Rattle.wol_model.specs.Log.{has_bit}
 use Rattle.wol_promise.proofs.Covers.{any_member}
 use Rattle.wol_promise.proofs.Lists.{member_map}
+use Rattle.block_cells.specs.Masks.{IsMask, in_mask}
+use Rattle.block_cells.specs.declared.record.Rec.{Rec}
+use Rattle.block_cells.proofs.Bits.{has_bit-above}
+use Rattle.block_cells.proofs.Marks.{marked-marks_of}
 use Rattle.redirect_map.specs.Index.{HasVersion, IsAnswer, IsEntry, IsIndex, entry_at}
-use Rattle.redirect_map.specs.Masks.{IsMask, in_mask}
-use Rattle.redirect_map.specs.declared.record.Rec.{Rec}
-use Rattle.redirect_map.proofs.Bits.{has_bit-above}
-use Rattle.redirect_map.proofs.Seen.{marked-marks_of}
 use Rattle.manager.proofs.Entries.{Found, among, entry_in, entry_of_version, found_of, some_of}
 use Rattle.log_cleaner.specs.Chunks.{IsTidy, KeepsNone, is_within}
 use Rattle.log_cleaner.proofs.Lists.{each_is_member, none_in, some_in}

@@ -17,8 +17,8 @@ use Rattle.logger.specs.declared.lane.Lane.{Lane}
 use Rattle.wol_model.specs.Blocks.{Write}
 use Rattle.wol_model.specs.Index.{Listed, Indexed, listed_in, is_covered, goes, has_going}
 use Rattle.wol_promise.proofs.Lists.{all_mapped, all_map}
+use Rattle.block_cells.specs.declared.record.Rec.{Rec}
 use Rattle.redirect_map.specs.Index.{Contents, IsAnswer, entry_at}
-use Rattle.redirect_map.specs.declared.record.Rec.{Rec}
 use Rattle.garbage_list.proofs.Nexts.{answered}
 use Rattle.manager.specs.Causes.{PartRose, PartRoseOrClaimed}
 use Rattle.manager.specs.Offers.{ChangesLane}

@@ -10,10 +10,10 @@ use Rattle.wol_model.specs.Index.{Listed, Indexed, listed_in, cover_of, listed_c
 use Rattle.wol_model.specs.Log.{has_bit}
 use Rattle.wol_promise.proofs.Covers.{any_found, any_member}
 use Rattle.wol_promise.proofs.Lists.{all_member, member_map}
+use Rattle.block_cells.specs.Masks.{IsMask, in_mask}
+use Rattle.block_cells.specs.declared.record.Rec.{Rec}
+use Rattle.block_cells.proofs.Marks.{in_mask-bit, marked-marks_of}
 use Rattle.redirect_map.specs.Index.{IsAnswer, IsIndex, cover_at, entry_at, has_version}
-use Rattle.redirect_map.specs.Masks.{IsMask, in_mask}
-use Rattle.redirect_map.specs.declared.record.Rec.{Rec}
-use Rattle.redirect_map.proofs.Seen.{in_mask-bit, marked-marks_of}
 use Rattle.manager.proofs.Entries.{among, entry_of_version, same_mask, some_of}
 use Rattle.manager.proofs.RunContent.{IsNewest, newest_is, newest_listed}
 use Rattle.garbage_list.proofs.Nexts.{Answered, answered, unanswered}

@@ -11,10 +11,10 @@ use Rattle.wol_model.specs.Index.{Indexed, is_homed, is_live, listed_in}
 use Rattle.wol_promise.proofs.Lists.{all_member, member_of}
 use Rattle.logger.specs.Lanes.{logger_of}
 use Rattle.logger.specs.declared.lane.Lane.{Lane}
-use Rattle.redirect_map.specs.Masks.{IsMask}
+use Rattle.block_cells.specs.Masks.{IsMask}
 use Rattle.manager.specs.Stands.{IsPlacedIn}
+use Rattle.block_cells.specs.declared.record.Rec.{Rec}
 use Rattle.redirect_map.specs.Index.{HasVersion, IsIndex, IsRecordOf, entry_at}
-use Rattle.redirect_map.specs.declared.record.Rec.{Rec}
 use Rattle.redirect_map.proofs.Versions.{entry_at-own}
 use Rattle.manager.specs.declared.manager.Manager.{Manager}
 use Rattle.log_dump.proofs.Naming.{mapped_at, name_of_volume, read_at}

@@ -9,8 +9,8 @@ use Rattle.std.proofs.lemmas.List.Folds.{list_any-append}
 use Rattle.std.proofs.lemmas.Option.{get_or_from_slice_get, slice_get_within}
 use Rattle.wol_model.specs.Index.{Indexed}
 use Rattle.wol_promise.proofs.Lists.{all_push}
+use Rattle.block_cells.specs.declared.record.Rec.{Rec}
 use Rattle.redirect_map.specs.Index.{IsRecordOf}
-use Rattle.redirect_map.specs.declared.record.Rec.{Rec}
 use Rattle.log_dump.specs.Segments.{is_same_place, noted, place_of}
 use Rattle.log_dump.proofs.HeldCount.{exact, laws}
 

@@ -6,9 +6,9 @@ use Rattle.hex.specs.Hex.{encode_lower}
 use Rattle.sha2.specs.Sha256.{sha256}
 use Rattle.wol_disk.specs.Disk.{Block}
 use Rattle.wol_model.specs.Index.{Indexed, listed_in, is_live, is_homed}
+use Rattle.block_cells.specs.Masks.{IsMask}
+use Rattle.block_cells.specs.declared.record.Rec.{Rec}
 use Rattle.redirect_map.specs.Index.{IsRecordOf}
-use Rattle.redirect_map.specs.Masks.{IsMask}
-use Rattle.redirect_map.specs.declared.record.Rec.{Rec}
 use Rattle.report.specs.Words.{line_of}
 use Rattle.report.specs.Names.{name_at}
 

@@ -20,9 +20,9 @@ use Rattle.wol_promise.proofs.OneMore.{last_more}
 use Rattle.spin_model.specs.Spun.{state_of}
 use Rattle.log_segment.specs.Records.{IsProperPart}
 use Rattle.log_segment.specs.declared.free.FreeSegment.{FreeSegment}
+use Rattle.block_cells.specs.Masks.{IsMask}
+use Rattle.block_cells.specs.declared.record.Rec.{Rec}
 use Rattle.redirect_map.specs.Index.{Contents, IsIndex, IsEntry, entry_at, changed, given_up, has_version}
-use Rattle.redirect_map.specs.Masks.{IsMask}
-use Rattle.redirect_map.specs.declared.record.Rec.{Rec}
 use Rattle.log_layout.specs.Values.{record_head}
 use Rattle.log_layout.specs.declared.record.RecHead.{RecHead}
 use Rattle.logger.specs.Lanes.{IsLane, HoldsAll, IsSameLane, HasUsed, IsTrimmable, Trimmed, in_place, to_pool, not_freed, held_in, taken_in, pool_of, logger_of}

@@ -24,12 +24,12 @@ use Rattle.wol_promise.proofs.Trims.{trimmed}
 use Rattle.spin_model.specs.declared.spun.Spun.{Spun}
 use Rattle.log_segment.specs.Records.{count_valid}
 use Rattle.log_segment.specs.Segment.{Holds, part_of, disk_of, owner_of}
+use Rattle.block_cells.specs.Masks.{in_mask, IsMask}
+use Rattle.block_cells.specs.declared.record.Rec.{Rec}
+use Rattle.block_cells.proofs.Bits.{some_bit, has_bit-zero}
+use Rattle.block_cells.proofs.Meeting.{any_in_range}
+use Rattle.block_cells.proofs.Marks.{marked-marks_of, in_mask-bit}
 use Rattle.redirect_map.specs.Index.{IsIndex, IsRecordOf}
-use Rattle.redirect_map.specs.Masks.{in_mask, IsMask}
-use Rattle.redirect_map.specs.declared.record.Rec.{Rec}
-use Rattle.redirect_map.proofs.Bits.{some_bit, has_bit-zero}
-use Rattle.redirect_map.proofs.Meeting.{any_in_range}
-use Rattle.redirect_map.proofs.Seen.{marked-marks_of, in_mask-bit}
 use Rattle.logger.specs.Lanes.{IsLane, IsHeld, IsSameLane, CutDown, GaveUp, held_in, taken_in, lane_owner, logger_of, segments_in, pool_of}
 use Rattle.logger.specs.declared.lane.HeldSegment.{HeldSegment}
 use Rattle.logger.specs.declared.lane.Lane.{Lane}

@@ -17,9 +17,9 @@ use Rattle.wol_promise.proofs.Lists.{all_member, member_of, member_mid}
 use Rattle.spin_model.specs.declared.spun.Spun.{Spun}
 use Rattle.log_segment.specs.Segment.{IsWhole, Holds, part_of, owner_of}
 use Rattle.log_segment.specs.Records.{IsSameHead}
+use Rattle.block_cells.specs.declared.record.Rec.{Rec}
+use Rattle.block_cells.proofs.Marks.{length-marks_of}
 use Rattle.redirect_map.specs.Index.{IsRecordOf}
-use Rattle.redirect_map.specs.declared.record.Rec.{Rec}
-use Rattle.redirect_map.proofs.Seen.{length-marks_of}
 use Rattle.logger.specs.Lanes.{IsHeld, AreWhole, IsHeadAt, held_in, lane_owner, logger_of, segments_in, pool_of}
 use Rattle.logger.specs.declared.lane.HeldSegment.{HeldSegment}
 use Rattle.logger.specs.declared.lane.Lane.{Lane}

@@ -15,9 +15,9 @@ use Rattle.wol_promise.proofs.Lists.{all_map}
 use Rattle.spin_model.specs.Spun.{state_of}
 use Rattle.log_segment.specs.Segment.{IsWhole, blocks_of, valid_of}
 use Rattle.log_segment.specs.declared.free.FreeSegment.{FreeSegment}
+use Rattle.block_cells.specs.Masks.{IsMask}
+use Rattle.block_cells.specs.declared.record.Rec.{Rec}
 use Rattle.redirect_map.specs.Index.{Contents, IsIndex, IsRecordOf}
-use Rattle.redirect_map.specs.Masks.{IsMask}
-use Rattle.redirect_map.specs.declared.record.Rec.{Rec}
 use Rattle.logger.specs.Lanes.{IsLane, HoldsAll, IsHeld, IsSameLane, AreWhole, held_in, taken_in, lane_owner, logger_of, segments_in, pool_of}
 use Rattle.logger.specs.declared.lane.HeldSegment.{HeldSegment}
 use Rattle.logger.specs.declared.lane.Lane.{Lane}

@@ -19,9 +19,9 @@ use Rattle.spin_model.specs.declared.spun.Spun.{Spun}
 use Rattle.log_segment.specs.Kept.{IsKeptOrTrimmed}
 use Rattle.log_segment.specs.Records.{count_valid}
 use Rattle.log_segment.specs.Segment.{IsBroken, IsSame, Holds, part_of, disk_of, owner_of}
+use Rattle.block_cells.specs.Masks.{IsMask}
+use Rattle.block_cells.specs.declared.record.Rec.{Rec}
 use Rattle.redirect_map.specs.Index.{IsRecordOf}
-use Rattle.redirect_map.specs.Masks.{IsMask}
-use Rattle.redirect_map.specs.declared.record.Rec.{Rec}
 use Rattle.logger.specs.Lanes.{IsLane, IsKeptTrimmedOrIdle, IsBareAfter, IsHeadAt, IsHeld, held_in, taken_in, logger_of, lane_owner, segments_in, pool_of}
 use Rattle.logger.specs.declared.lane.HeldSegment.{HeldSegment}
 use Rattle.logger.specs.declared.lane.Lane.{Lane}

@@ -20,8 +20,8 @@ use Rattle.log_segment.specs.Segment.{Holds, blocks_of, owner_of}
 use Rattle.logger.specs.Lanes.{AreWhole, ReadFrom, held_in}
 use Rattle.logger.specs.declared.lane.HeldSegment.{HeldSegment}
 use Rattle.logger.specs.declared.lane.Lane.{Lane}
+use Rattle.block_cells.specs.declared.record.Rec.{Rec}
 use Rattle.redirect_map.specs.Index.{entry_at, IsAnswer, IsIndex}
-use Rattle.redirect_map.specs.declared.record.Rec.{Rec}
 use Rattle.manager.specs.Reclaim.{AreOf, HasFetched}
 use Rattle.manager.specs.Seen.{all_held, parts_of}
 use Rattle.manager.specs.Stands.{Keeps, IsReady, IsPlacedIn}

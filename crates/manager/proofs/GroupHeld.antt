@@ -17,7 +17,7 @@ use Rattle.spin_model.specs.declared.spun.Spun.{Spun}
 use Rattle.log_segment.specs.Segment.{IsWhole, IsBroken, Holds, part_of, disk_of, owner_of, place_of, room_of, segment_volume}
 use Rattle.log_segment.specs.Records.{group_of, count_of}
 use Rattle.log_segment.specs.declared.item.Item.{Item}
-use Rattle.redirect_map.specs.declared.record.Rec.{Rec}
+use Rattle.block_cells.specs.declared.record.Rec.{Rec}
 use Rattle.spin_model.specs.Spun.{state_of}
 use Rattle.wol_promise.specs.Manager.{Held, ManagerSeen, SegmentPart, AreInUse}
 use Rattle.wol_promise.specs.Policy.{Look}

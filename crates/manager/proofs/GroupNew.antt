@@ -24,7 +24,7 @@ use Rattle.log_segment.specs.Segment.{IsSegment, IsSame, IsWhole, IsBroken, Hold
 use Rattle.log_segment.specs.declared.free.FreeSegment.{FreeSegment}
 use Rattle.log_segment.specs.declared.item.Item.{Item}
 use Rattle.log_segment.specs.declared.segment.Segment.{Segment}
-use Rattle.redirect_map.specs.declared.record.Rec.{Rec}
+use Rattle.block_cells.specs.declared.record.Rec.{Rec}
 use Rattle.wol_promise.specs.Manager.{Parts, Held, ManagerSeen, Base, SegmentPart, look_of, AreInUse, Recovers, SaysOwnerOrFree, WasWritten, extents_held, is_homed_in}
 use Rattle.wol_promise.specs.Policy.{Look}
 use Rattle.wol_promise.specs.Ruled.{Noted, entries_of, IsStep, last_look}

@@ -24,8 +24,8 @@ use Rattle.log_segment.specs.Records.{group_of, count_of, AreItems}
 use Rattle.log_segment.specs.Segment.{IsWhole, Holds, blocks_of, valid_of}
 use Rattle.log_segment.specs.declared.free.FreeSegment.{FreeSegment}
 use Rattle.log_segment.specs.declared.item.Item.{Item}
+use Rattle.block_cells.specs.declared.record.Rec.{Rec}
 use Rattle.redirect_map.specs.Index.{Contents, entry_of, unhomed, cover_at}
-use Rattle.redirect_map.specs.declared.record.Rec.{Rec}
 use Rattle.wol_model.specs.Extents.{Cover}
 use Rattle.wol_promise.specs.Manager.{AreInUse}
 use Rattle.wol_promise.specs.Policy.{Look}

@@ -20,8 +20,8 @@ use Rattle.log_segment.specs.Segment.{Holds, owner_of}
 use Rattle.logger.specs.Lanes.{held_in}
 use Rattle.logger.specs.declared.lane.HeldSegment.{HeldSegment}
 use Rattle.logger.specs.declared.lane.Lane.{Lane}
+use Rattle.block_cells.specs.declared.record.Rec.{Rec}
 use Rattle.redirect_map.specs.Index.{cover_at}
-use Rattle.redirect_map.specs.declared.record.Rec.{Rec}
 use Rattle.manager.specs.Reading.{IsSource}
 use Rattle.manager.specs.Seen.{all_held, parts_of, seen, down_of}
 use Rattle.manager.specs.Stands.{Keeps}

@@ -8,8 +8,8 @@ use Rattle.wol_disk.specs.Disk.{State, Block, IsDisk}
 use Rattle.wol_model.specs.Extents.{newest}
 use Rattle.wol_promise.proofs.Lists.{all_map, all_member}
 use Rattle.log_segment.specs.Segment.{IsWhole, blocks_of, valid_of}
+use Rattle.block_cells.specs.declared.record.Rec.{Rec}
 use Rattle.redirect_map.specs.Index.{cover_at}
-use Rattle.redirect_map.specs.declared.record.Rec.{Rec}
 use Rattle.logger.specs.Lanes.{IsLane, HoldsAll, IsSameLane, AreWhole, held_in, taken_in}
 use Rattle.logger.specs.declared.lane.HeldSegment.{HeldSegment}
 use Rattle.logger.specs.declared.lane.Lane.{Lane}

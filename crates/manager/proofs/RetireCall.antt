@@ -14,8 +14,8 @@ use Rattle.wol_promise.proofs.Lists.{member_of}
 use Rattle.wol_promise.proofs.OneMore.{last_more}
 use Rattle.log_segment.specs.Segment.{valid_of}
 use Rattle.log_segment.specs.declared.free.FreeSegment.{FreeSegment}
+use Rattle.block_cells.specs.declared.record.Rec.{Rec}
 use Rattle.redirect_map.specs.Index.{Contents, IsIndex, entry_at}
-use Rattle.redirect_map.specs.declared.record.Rec.{Rec}
 use Rattle.logger.specs.Lanes.{IsLane, HoldsAll, IsSameLane, HasUsed, held_in, taken_in, pool_of, logger_of}
 use Rattle.logger.specs.Trims.{IsRetirable, KeepsSoMany, Retired, gone, held_still}
 use Rattle.logger.specs.declared.lane.HeldSegment.{HeldSegment}

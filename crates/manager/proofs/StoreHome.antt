@@ -34,8 +34,8 @@ use Rattle.spin_model.specs.declared.spindle.Spindle.{Spindle}
 use Rattle.spin_model.specs.declared.spindle.SpindleBase.{SpindleBase}
 use Rattle.spin_model.specs.declared.spun.Spun.{Spun}
 use Rattle.log_segment.specs.Segment.{Holds}
+use Rattle.block_cells.specs.Masks.{in_mask}
 use Rattle.redirect_map.specs.Index.{Contents, changed}
-use Rattle.redirect_map.specs.Masks.{in_mask}
 use Rattle.logger.proofs.Uses.{accesses_then}
 use Rattle.manager.specs.Accesses.{HasUsedOnce}
 use Rattle.manager.specs.Reading.{IsReadThrough}

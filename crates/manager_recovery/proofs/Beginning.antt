@@ -15,7 +15,7 @@ use Rattle.wol_model.specs.Index.{Indexed, listed_in}
 use Rattle.wol_model.specs.Log.{Record, extent_of, marks_of}
 use Rattle.wol_model.specs.Recovered.{recovered, extents_of}
 use Rattle.wol_model.proofs.Overlay.{overlay_length_from}
-use Rattle.redirect_map.proofs.Seen.{length-marks_of}
+use Rattle.block_cells.proofs.Marks.{length-marks_of}
 use Rattle.log_layout.specs.Values.{record_head}
 use Rattle.log_scan.specs.declared.Found.{Found}
 use Rattle.log_scan.specs.declared.Scan.{Scan}

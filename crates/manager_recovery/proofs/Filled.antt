@@ -7,9 +7,9 @@ use Rattle.std.proofs.lemmas.List.{map-append}
 use Rattle.wol_model.specs.Extents.{Cover, remarked}
 use Rattle.wol_model.specs.Index.{Indexed, AreRising}
 use Rattle.wol_model.specs.Log.{has_bit, marks_of}
-use Rattle.redirect_map.proofs.Bits.{has_bit-zero}
+use Rattle.block_cells.proofs.Bits.{has_bit-zero}
+use Rattle.block_cells.specs.declared.record.Rec.{Rec}
 use Rattle.redirect_map.specs.Index.{entry_of, unhomed, cover_at}
-use Rattle.redirect_map.specs.declared.record.Rec.{Rec}
 use Rattle.manager_recovery.specs.Scanned.{entries_from}
 use Rattle.manager_recovery.specs.declared.listing.FoundRecord.{FoundRecord}
 use Rattle.manager_recovery.proofs.Lists.{take_snoc}

@@ -12,7 +12,7 @@ use Rattle.wol_model.specs.Log.{Record, IsLog, IsIdle, extent_of, has_bit, marks
 use Rattle.wol_model.specs.Recovered.{recovered, extents_in, extents_of}
 use Rattle.wol_model.proofs.Images.{kept, idle_none}
 use Rattle.wol_model.proofs.Spellings.{one_log, not_both}
-use Rattle.redirect_map.proofs.Bits.{has_bit-zero}
+use Rattle.block_cells.proofs.Bits.{has_bit-zero}
 use Rattle.spin_model.specs.Spun.{state_of}
 use Rattle.spin_model.specs.declared.spun.Spun.{Spun}
 use Rattle.manager_recovery.specs.Left.{IsAsBefore, HasNothing, IsLeftOf, Fate, AreFates, IsFateOf, AreSince, RecoversAsBefore, StaysSound, LeavesParts}

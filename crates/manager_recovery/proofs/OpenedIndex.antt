@@ -12,9 +12,9 @@ use Rattle.wol_model.specs.Extents.{Extent, Cover, IsValid, AreDistinct, covers_
 use Rattle.wol_model.specs.Heads.{RecordHead}
 use Rattle.wol_model.specs.Index.{Indexed, AreRising, IsListed, listed_in}
 use Rattle.wol_model.specs.Log.{Record, IsNamed, extent_of, marks_of, has_bit, position_of}
+use Rattle.block_cells.proofs.Bits.{has_bit-zero}
+use Rattle.block_cells.proofs.Marks.{length-marks_of}
 use Rattle.redirect_map.specs.Index.{entry_of}
-use Rattle.redirect_map.proofs.Bits.{has_bit-zero}
-use Rattle.redirect_map.proofs.Seen.{length-marks_of}
 use Rattle.log_layout.specs.Values.{record_head}
 use Rattle.log_segment.specs.Segment.{blocks_of, valid_of}
 use Rattle.log_scan.specs.Adopted.{count_kept}

@@ -13,8 +13,8 @@ use Rattle.wol_model.specs.Extents.{Extent, IsValid, with_extents, write_of}
 use Rattle.wol_model.specs.Heads.{RecordHead, owned_block}
 use Rattle.wol_model.specs.Index.{Listed, Indexed, AreRising, IsListed, listed_in}
 use Rattle.wol_model.specs.Log.{Record, IsLog, extent_of, has_bit}
-use Rattle.redirect_map.proofs.Bits.{has_bit-zero}
-use Rattle.redirect_map.proofs.Seen.{length-marks_of}
+use Rattle.block_cells.proofs.Bits.{has_bit-zero}
+use Rattle.block_cells.proofs.Marks.{length-marks_of}
 use Rattle.wol_promise.specs.Manager.{Base, Held, ManagerSeen, AreInUse, WasWritten, SaysOwnerOrFree, extents_held, versions}
 use Rattle.wol_promise.specs.Stands.{IsOpening, IsOpened, LiesInVolume, HasVersions, LiesInHome, LieInHome, AreKnown, HasPlaces, IsHeldBy, IsPlaced, Upholds}
 use Rattle.wol_promise.proofs.Opens.{opens}

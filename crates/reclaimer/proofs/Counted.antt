@@ -11,9 +11,9 @@ use Rattle.wol_model.specs.Log.{has_bit}
 use Rattle.wol_model.proofs.Counts.{counted, marked_within}
 use Rattle.wol_promise.specs.Policy.{Look}
 use Rattle.wol_promise.proofs.Covers.{any_found}
+use Rattle.block_cells.specs.Masks.{in_mask}
+use Rattle.block_cells.proofs.Marks.{in_mask-bit}
 use Rattle.redirect_map.specs.Index.{Contents, entry_at, changed, has_version, IsEntry, IsIndex}
-use Rattle.redirect_map.specs.Masks.{in_mask}
-use Rattle.redirect_map.proofs.Seen.{in_mask-bit}
 use Rattle.manager.specs.Reclaim.{HasDropped, with_kept, with_put, given_of}
 use Rattle.manager.specs.Seen.{look_of_manager}
 use Rattle.manager.specs.declared.manager.Manager.{Manager}

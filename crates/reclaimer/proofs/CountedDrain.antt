@@ -5,9 +5,9 @@ use Rattle.std.specs.List.{count_by}
 use Rattle.wol_disk.specs.Disk.{State}
 use Rattle.wol_model.specs.Index.{Indexed, listed_in, is_due, has_due, has_going, block_numbers}
 use Rattle.wol_promise.specs.Policy.{Look}
+use Rattle.block_cells.specs.Masks.{in_mask}
+use Rattle.block_cells.proofs.Marks.{in_mask-bit}
 use Rattle.redirect_map.specs.Index.{Contents, entry_at, changed, IsIndex}
-use Rattle.redirect_map.specs.Masks.{in_mask}
-use Rattle.redirect_map.proofs.Seen.{in_mask-bit}
 use Rattle.manager.specs.Reclaim.{HasDropped, with_put}
 use Rattle.manager.specs.Seen.{look_of_manager}
 use Rattle.manager.specs.declared.manager.Manager.{Manager}

@@ -3,8 +3,8 @@ use Rattle.std.proofs.Common.{◌≡◌, ◌<◌, Bool, true, false, Some, Resul
 use Rattle.std.specs.Prelude.{is_none, if◌then◌else◌}
 use Rattle.wol_disk.specs.Disk.{State}
 use Rattle.wol_model.specs.Index.{Indexed, listed_in, left}
+use Rattle.block_cells.specs.declared.record.Rec.{Rec}
 use Rattle.redirect_map.specs.Index.{entry_at, IsIndex}
-use Rattle.redirect_map.specs.declared.record.Rec.{Rec}
 use Rattle.manager.specs.Reclaim.{OnTried, TellsStep, HasDropped}
 use Rattle.manager.specs.Seen.{look_of_manager}
 use Rattle.manager.specs.declared.manager.Manager.{Manager}

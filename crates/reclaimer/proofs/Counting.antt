@@ -6,7 +6,7 @@ use Rattle.std.proofs.lemmas.Nat.{ones-le, ones_cat, shr_split, shr-shr, zero_fr
 use Rattle.std.proofs.Math.Nat.{pow-suc}
 use Rattle.wol_model.specs.Log.{has_bit}
 use Rattle.wol_model.proofs.Counts.{counted}
-use Rattle.redirect_map.specs.Masks.{IsMask}
+use Rattle.block_cells.specs.Masks.{IsMask}
 
 -- ---- counts over ranges
 

@@ -13,9 +13,9 @@ use Rattle.wol_model.proofs.Counts.{marked_within}
 use Rattle.wol_promise.specs.Policy.{drained}
 use Rattle.wol_promise.proofs.Covers.{any_found}
 use Rattle.wol_promise.proofs.Lists.{all_map}
+use Rattle.block_cells.specs.Masks.{IsMask, in_mask}
+use Rattle.block_cells.specs.declared.record.Rec.{Rec}
 use Rattle.redirect_map.specs.Index.{Contents, entry_at, changed, HasVersion, IsAnswer, IsIndex}
-use Rattle.redirect_map.specs.Masks.{IsMask, in_mask}
-use Rattle.redirect_map.specs.declared.record.Rec.{Rec}
 use Rattle.garbage_list.specs.Least.{HasLane}
 use Rattle.manager.specs.Reclaim.{OnTried, OnKept, TellsStep, HasFetched, HasDropped, with_kept, with_put, given_of}
 use Rattle.manager.specs.Seen.{down_of, look_of_manager}

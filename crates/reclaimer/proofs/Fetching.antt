@@ -11,9 +11,9 @@ use Rattle.wol_model.specs.Index.{Indexed, listed_in, listed_covers, cover_of, i
 use Rattle.wol_model.specs.Log.{has_bit}
 use Rattle.wol_model.proofs.Counts.{marked_within, count_lower}
 use Rattle.wol_promise.proofs.Covers.{any_found}
+use Rattle.block_cells.specs.Masks.{in_mask}
+use Rattle.block_cells.specs.declared.record.Rec.{Rec}
 use Rattle.redirect_map.specs.Index.{Contents, entry_at, HasVersion, IsAnswer, IsIndex}
-use Rattle.redirect_map.specs.Masks.{in_mask}
-use Rattle.redirect_map.specs.declared.record.Rec.{Rec}
 use Rattle.garbage_list.specs.Least.{can_go_home}
 use Rattle.manager.specs.Reclaim.{OnTried, OnKept, TellsStep, HasFetched}
 use Rattle.manager.specs.Seen.{down_of, look_of_manager}

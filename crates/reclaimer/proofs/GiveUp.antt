@@ -6,8 +6,8 @@ use Rattle.std.proofs.lemmas.Option.{same_Some}
 use Rattle.wol_disk.specs.Disk.{State}
 use Rattle.wol_model.specs.Index.{Indexed, listed_in, has_going, keeps_a_block}
 use Rattle.wol_promise.specs.Policy.{IsReclaim, gives_up}
+use Rattle.block_cells.specs.declared.record.Rec.{Rec}
 use Rattle.redirect_map.specs.Index.{Contents, entry_at, changed, HasVersion, IsAnswer, IsIndex}
-use Rattle.redirect_map.specs.declared.record.Rec.{Rec}
 use Rattle.garbage_list.specs.Least.{can_go}
 use Rattle.manager.specs.Reclaim.{OnTried, TellsStep, HasDropped, with_kept, given_of}
 use Rattle.manager.specs.Seen.{down_of, look_of_manager}

@@ -12,8 +12,8 @@ use Rattle.wol_model.specs.Log.{has_bit}
 use Rattle.wol_promise.specs.Policy.{IsReclaim}
 use Rattle.wol_promise.specs.Ruled.{Noted, entries_of}
 use Rattle.wol_promise.specs.Stands.{IsDataOf}
+use Rattle.block_cells.specs.Masks.{IsMask, in_mask}
 use Rattle.redirect_map.specs.Index.{Contents, entry_at, changed, HasVersion, IsIndex}
-use Rattle.redirect_map.specs.Masks.{IsMask, in_mask}
 use Rattle.manager.specs.Reclaim.{OnTried, OnFailed, TellsStep, BreaksOff, StopsSince, AreOf, HasStored, with_put}
 use Rattle.manager.specs.Seen.{look_of_manager}
 use Rattle.manager.specs.declared.base.ManagerBase.{ManagerBase}

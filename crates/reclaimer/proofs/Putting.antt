@@ -13,11 +13,11 @@ use Rattle.wol_model.specs.Log.{has_bit}
 use Rattle.wol_model.proofs.Masks.{mask_and}
 use Rattle.wol_model.proofs.Counts.{marked_within}
 use Rattle.wol_promise.specs.Policy.{IsReclaim, puts_home}
+use Rattle.block_cells.specs.Masks.{IsMask, in_mask}
+use Rattle.block_cells.specs.declared.record.Rec.{Rec}
+use Rattle.block_cells.proofs.Bits.{has_bit-zero}
+use Rattle.block_cells.proofs.Marks.{in_mask-bit}
 use Rattle.redirect_map.specs.Index.{entry_at, IsAnswer, IsIndex}
-use Rattle.redirect_map.specs.Masks.{IsMask, in_mask}
-use Rattle.redirect_map.specs.declared.record.Rec.{Rec}
-use Rattle.redirect_map.proofs.Bits.{has_bit-zero}
-use Rattle.redirect_map.proofs.Seen.{in_mask-bit}
 use Rattle.manager.specs.Reclaim.{HasStored, with_put}
 use Rattle.manager.specs.Seen.{down_of, look_of_manager}
 use Rattle.manager.specs.declared.manager.Manager.{Manager}

@@ -6,9 +6,9 @@ use Rattle.wol_model.specs.History.{writes}
 use Rattle.wol_model.specs.Index.{Indexed, listed_in, is_due}
 use Rattle.wol_promise.specs.Ruled.{Noted, entries_of}
 use Rattle.wol_promise.specs.Stands.{IsDataOf}
+use Rattle.block_cells.specs.Masks.{IsMask}
+use Rattle.block_cells.specs.declared.record.Rec.{Rec}
 use Rattle.redirect_map.specs.Index.{Contents, entry_at, IsAnswer, IsIndex, IsRecordOf}
-use Rattle.redirect_map.specs.Masks.{IsMask}
-use Rattle.redirect_map.specs.declared.record.Rec.{Rec}
 use Rattle.manager.specs.Reclaim.{AreOf}
 use Rattle.manager.specs.declared.base.ManagerBase.{ManagerBase}
 use Rattle.manager.proofs.Entries.{found_of, some_of, entry_of_version, among, entry_in}

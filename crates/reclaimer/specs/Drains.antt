@@ -2,8 +2,8 @@
 use Rattle.std.specs.Prelude.{⊤, ◌≡◌, ◌<◌, ℕ, true, List, [], find, Option, None, Some, is_none, IsErr, Result, Ok, Err, count_by, if◌then◌else◌}
 use Rattle.wol_disk.specs.Disk.{State, Block}
 use Rattle.wol_model.specs.Index.{Indexed, listed_in, is_due, has_due, has_going, block_numbers, left}
+use Rattle.block_cells.specs.Masks.{IsMask}
 use Rattle.redirect_map.specs.Index.{entry_at}
-use Rattle.redirect_map.specs.Masks.{IsMask}
 use Rattle.manager.specs.Accesses.{HasUsedOnce}
 use Rattle.manager.specs.Reclaim.{HasFetched, HasStored, HasDropped}
 use Rattle.manager.specs.declared.manager.Manager.{Manager}

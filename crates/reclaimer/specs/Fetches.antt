@@ -6,8 +6,8 @@ use Rattle.wol_model.specs.History.{writes}
 use Rattle.wol_model.specs.Index.{Listed, Indexed, listed_in, is_due}
 use Rattle.wol_promise.specs.Ruled.{Noted, entries_of}
 use Rattle.wol_promise.specs.Stands.{IsDataOf}
+use Rattle.block_cells.specs.Masks.{in_mask, IsMask}
 use Rattle.redirect_map.specs.Index.{entry_at}
-use Rattle.redirect_map.specs.Masks.{in_mask, IsMask}
 use Rattle.garbage_list.specs.Least.{can_go, can_go_home}
 use Rattle.manager.specs.declared.base.ManagerBase.{ManagerBase}
 use Rattle.manager.specs.declared.manager.Manager.{Manager}

@@ -4,8 +4,8 @@ use Rattle.wol_disk.specs.Disk.{State}
 use Rattle.wol_model.specs.Index.{listed_in}
 use Rattle.wol_promise.specs.Policy.{IsReclaim}
 use Rattle.wol_promise.specs.Ruled.{Noted}
+use Rattle.block_cells.specs.Masks.{IsMask}
 use Rattle.redirect_map.specs.Index.{entry_at}
-use Rattle.redirect_map.specs.Masks.{IsMask}
 use Rattle.manager.specs.Reclaim.{HasFetched, HasStored, HasDropped}
 use Rattle.manager.specs.Seen.{look_of_manager}
 use Rattle.manager.specs.Stands.{Keeps}

@@ -4,7 +4,7 @@ ghost use Rattle.std.specs.Option.{ForSome};
 ghost use Rattle.std.specs.List.{range_with_len};
 ghost use Rattle.wol_model.specs.Log.{has_bit};
 ghost use Rattle.wol_model.specs.Index.{listed_in, is_due, left};
-ghost use Rattle.redirect_map.specs.Masks.{IsMask};
+ghost use Rattle.block_cells.specs.Masks.{IsMask};
 ghost use Rattle.redirect_map.specs.Index.{entry_at, HasVersion, IsIndex};
 ghost use Rattle.manager.specs.Causes.{NoneRose};
 ghost use Rattle.manager.specs.Reclaim.{OnKept, OnFailed, TellsStep, KeepsOn, BreaksOff};

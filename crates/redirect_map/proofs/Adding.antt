@@ -7,14 +7,15 @@ use Rattle.std.proofs.lemmas.List.Folds.{list_any-append, list_any_at}
 use Rattle.std.proofs.lemmas.Bool.{cases_lt, and_parts, or_from, false≢true, false_from_ne_true, not-true}
 use Rattle.wol_model.specs.Log.{has_bit, marks_of}
 use Rattle.wol_model.specs.Index.{Indexed, AreRising}
+use Rattle.block_cells.specs.declared.record.Rec.{Rec}
+use Rattle.block_cells.specs.Masks.{in_mask}
+use Rattle.block_cells.specs.Runs.{runs_after, runs_of}
+use Rattle.block_cells.proofs.Bits.{has_bit-above, has_bit-zero, some_bit, small_from_bits}
+use Rattle.block_cells.proofs.Marks.{marks_at, marked-marks_of, length-marks_of}
 use Rattle.redirect_map.specs.declared.entry.Entry.{Entry}
-use Rattle.redirect_map.specs.declared.record.Rec.{Rec}
-use Rattle.redirect_map.specs.Masks.{in_mask}
-use Rattle.redirect_map.specs.Runs.{runs_after, runs_of}
 use Rattle.redirect_map.specs.Index.{entry_of, cover_at, unhomed}
 use Rattle.redirect_map.specs.Kept.{seen, keeps, one_keeps, IsInRange, IsUnhomed, AreLive, AreEntries}
-use Rattle.redirect_map.proofs.Bits.{has_bit-above, has_bit-zero, some_bit, small_from_bits}
-use Rattle.redirect_map.proofs.Seen.{marks_at, marked-marks_of, length-marks_of, all_before_map}
+use Rattle.redirect_map.proofs.Seen.{all_before_map}
 use Rattle.redirect_map.proofs.Answering.{wide}
 use Rattle.redirect_map.proofs.Changing.{remarked-marks_of}
 

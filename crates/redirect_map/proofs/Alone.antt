@@ -3,11 +3,12 @@ use Rattle.std.proofs.Common.{◌≡◌, ◌+◌, ℕ, zero, suc, Bool, true, fa
 use Rattle.std.specs.Prelude.{slice_get, IfSome}
 use Rattle.wol_model.specs.Log.{has_bit}
 use Rattle.wol_model.specs.Index.{listed_in, is_live, goes}
+use Rattle.block_cells.specs.Masks.{IsMask}
+use Rattle.block_cells.proofs.Marks.{in_mask-bit}
 use Rattle.redirect_map.specs.declared.entry.Entry.{Entry}
-use Rattle.redirect_map.specs.Masks.{IsMask}
 use Rattle.redirect_map.specs.Index.{entry_at}
 use Rattle.redirect_map.specs.Kept.{seen, one_keeps, AreEntries}
-use Rattle.redirect_map.proofs.Seen.{IsAt, covers_seen, newer_at, older_at, in_mask-bit}
+use Rattle.redirect_map.proofs.Seen.{IsAt, covers_seen, newer_at, older_at}
 use Rattle.redirect_map.proofs.Answering.{range_at, of_entry, live_there, homed_there, live_entry}
 
 -- no other stands before it, or behind it

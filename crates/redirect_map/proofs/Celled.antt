@@ -4,10 +4,11 @@ use Rattle.std.specs.Prelude.{slice_get}
 use Rattle.std.specs.List.{AllByRecursion, remove}
 use Rattle.std.proofs.lemmas.Bool.{ne_eqb, eq-eqb, lt-ltb, false≢true, or_left, or_right}
 use Rattle.wol_model.specs.Index.{AreRising}
+use Rattle.block_cells.specs.declared.blocks.Cell.{Cell}
+use Rattle.block_cells.specs.Cells.{with_older, keepers_of, is_held, take_one, one_covers}
 use Rattle.redirect_map.specs.declared.entry.Entry.{Entry}
-use Rattle.redirect_map.specs.declared.blocks.Cell.{Cell}
 use Rattle.redirect_map.specs.Kept.{keeps, one_keeps}
-use Rattle.redirect_map.specs.Cells.{cell_of, with_older, keepers_of, is_held, take_one, one_covers}
+use Rattle.redirect_map.specs.Cells.{cell_of}
 use Rattle.redirect_map.proofs.Seen.{all_at, all_before_map}
 
 -- ---- Whether there is one

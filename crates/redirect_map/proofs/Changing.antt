@@ -10,13 +10,14 @@ use Rattle.std.proofs.lemmas.Bool.{and_parts, or_parts, or_from, false_from_ne_t
 use Rattle.wol_model.specs.Log.{has_bit, marks_of}
 use Rattle.wol_model.specs.Extents.{marked, remarked}
 use Rattle.wol_model.specs.Index.{listed_in, Indexed, AreRising, cover_of, is_live, keeps_a_block}
+use Rattle.block_cells.specs.Masks.{in_mask}
+use Rattle.block_cells.proofs.Bits.{has_bit-above, has_bit-zero, has_bit-without, small_from_bits}
+use Rattle.block_cells.proofs.Meeting.{none_in_range}
+use Rattle.block_cells.proofs.Marks.{marked-marks_of, in_mask-bit, length-marks_of}
 use Rattle.redirect_map.specs.declared.entry.Entry.{Entry}
-use Rattle.redirect_map.specs.Masks.{in_mask}
 use Rattle.redirect_map.specs.Index.{entry_at, changed, with_homed, given_up}
 use Rattle.redirect_map.specs.Kept.{seen, keeps, one_keeps, IsInRange, AreLive, AreEntries}
-use Rattle.redirect_map.proofs.Bits.{has_bit-above, has_bit-zero, has_bit-without, small_from_bits}
-use Rattle.redirect_map.proofs.Meeting.{none_in_range}
-use Rattle.redirect_map.proofs.Seen.{IsAt, all_at, all_before_map, marked-marks_of, in_mask-bit, length-marks_of}
+use Rattle.redirect_map.proofs.Seen.{IsAt, all_at, all_before_map}
 use Rattle.redirect_map.proofs.Answering.{wide, range_at, live_there, live_entry, keeps_some}
 
 -- ---- One entry in place of another

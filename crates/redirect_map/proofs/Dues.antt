@@ -6,20 +6,22 @@ use Rattle.std.specs.List.{AllByRecursion, list_any, range_with_len}
 use Rattle.std.proofs.lemmas.Bool.{cases_lt, lt-ltb, le-ltb, leb-true, eqb-true, and_parts, false≢true, false_from_ne_true}
 use Rattle.wol_model.specs.Log.{has_bit}
 use Rattle.wol_model.specs.Index.{listed_in, is_covered, is_due, goes, has_due, has_going}
+use Rattle.block_cells.specs.declared.record.Rec.{Rec}
+use Rattle.block_cells.specs.declared.blocks.Cell.{Cell}
+use Rattle.block_cells.specs.Masks.{in_mask, IsMask}
+use Rattle.block_cells.specs.Cells.{is_held, keepers_of, take_one}
+use Rattle.block_cells.proofs.Bits.{has_bit-above, has_bit-without}
+use Rattle.block_cells.proofs.Meeting.{any_in_range}
+use Rattle.block_cells.proofs.Marks.{in_mask-bit, length-marks_of}
+use Rattle.block_cells.proofs.Stepping.{mask_within}
 use Rattle.redirect_map.specs.declared.entry.Entry.{Entry}
-use Rattle.redirect_map.specs.declared.record.Rec.{Rec}
-use Rattle.redirect_map.specs.declared.blocks.Cell.{Cell}
-use Rattle.redirect_map.specs.Masks.{in_mask, IsMask}
 use Rattle.redirect_map.specs.Index.{entry_at}
 use Rattle.redirect_map.specs.Kept.{seen, keeps, one_keeps, IsInRange, AreEntries}
-use Rattle.redirect_map.specs.Cells.{cell_of, is_held, keepers_of, take_one}
+use Rattle.redirect_map.specs.Cells.{cell_of}
 use Rattle.redirect_map.specs.Marked.{is_home, is_due_of, goes_of, AreBegun}
-use Rattle.redirect_map.proofs.Bits.{has_bit-above, has_bit-without}
-use Rattle.redirect_map.proofs.Meeting.{any_in_range}
-use Rattle.redirect_map.proofs.Seen.{IsAt, covers_seen, homed_seen, newer_at, older_at, in_mask-bit, length-marks_of}
+use Rattle.redirect_map.proofs.Seen.{IsAt, covers_seen, homed_seen, newer_at, older_at}
 use Rattle.redirect_map.proofs.Answering.{range_at, any_block, of_entry, covered_seen, live_entry}
 use Rattle.redirect_map.proofs.Celled.{held_at, alone_at, cell_there}
-use Rattle.redirect_map.proofs.Stepping.{mask_within}
 use Rattle.redirect_map.proofs.Tabling.{GoesAll}
 
 -- an entry's block i is due, or may go, by the bits of its masks

@@ -2,9 +2,9 @@
 use Rattle.std.proofs.Common.{◌-◌, length-drop, get_or-drop, ◌≡◌, ◌<◌, ◌≤◌, ◌+◌, ℕ, Bool, true, false, ◌&&◌, ◌||◌, List, take, drop, length, refl, sym, ap, ◌∙◌, subst, arith, get_or, ltb, bit_or}
 use Rattle.std.proofs.lemmas.List.Folds.{list_any_more}
 use Rattle.wol_model.specs.Log.{has_bit}
+use Rattle.block_cells.proofs.Bits.{has_bit-or}
 use Rattle.redirect_map.specs.declared.entry.Entry.{Entry}
 use Rattle.redirect_map.specs.Kept.{keeps, one_keeps, IsKept}
-use Rattle.redirect_map.proofs.Bits.{has_bit-or}
 
 both : (t a b : Bool) → ((t && a) || (t && b)) ≡ (t && (a || b))
 both true a b = refl

@@ -4,7 +4,7 @@ use Rattle.std.specs.Int.{bit_at, w64}
 use Rattle.std.proofs.lemmas.Nat.Bits.{bit_at_set_same, bit_at_set_other}
 use Rattle.std.proofs.lemmas.Bool.{cases_eq, lt-ltb, le-leb, eq-eqb, ne_eqb}
 use Rattle.wol_model.specs.Log.{has_bit}
-use Rattle.redirect_map.proofs.Bits.{moved_up}
+use Rattle.block_cells.proofs.Bits.{moved_up}
 
 -- one bit of 64, and a mask with it
 pub has_bit-set_64 : (m k i : ℕ) → k < 64 → has_bit (bit_or m (1 * 2 ^ k % 2 ^ 64)) i ≡ (has_bit m i || eqb i k)

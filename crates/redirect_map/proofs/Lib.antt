@@ -1,6 +1,3 @@
-pub mod Bits
-pub mod Meeting
-pub mod Counting
 pub mod Found
 pub mod Keeping
 pub mod Seen
@@ -11,7 +8,6 @@ pub mod Adding
 pub mod Search
 pub mod Celled
 pub mod Without
-pub mod Stepping
 pub mod Newest
 pub mod Tabling
 pub mod Dues

@@ -11,7 +11,8 @@ use Rattle.std.proofs.lemmas.List.Filters.{length-filter_more}
 use Rattle.std.proofs.lemmas.List.Sums.{length-filter, count_by-le-length}
 use Rattle.std.proofs.lemmas.Bool.{ne_eqb, eq-eqb, eqb-true, false≢true}
 use Rattle.wol_model.specs.Index.{AreRising}
-use Rattle.redirect_map.specs.declared.blocks.Cell.{Cell}
+use Rattle.block_cells.specs.declared.blocks.Cell.{Cell}
+use Rattle.block_cells.proofs.Bits.{has_bit-zero}
 use Rattle.redirect_map.specs.declared.entry.Entry.{Entry}
 use Rattle.redirect_map.specs.Cells.{cell_of}
 use Rattle.redirect_map.specs.Index.{has_version}
@@ -19,7 +20,6 @@ use Rattle.redirect_map.specs.Kept.{is_version, seen, keeps, one_keeps, IsKept, 
 use Rattle.redirect_map.specs.Listing.{is_listed, is_dead, place_in, ArePlaces}
 use Rattle.redirect_map.proofs.Found.{find-map}
 use Rattle.redirect_map.proofs.Seen.{IsAt, all_at, all_before_map}
-use Rattle.redirect_map.proofs.Bits.{has_bit-zero}
 use Rattle.redirect_map.proofs.Celled.{IsNewest}
 use Rattle.redirect_map.proofs.Newest.{newest_here}
 use Rattle.redirect_map.proofs.Changing.{versions_set}

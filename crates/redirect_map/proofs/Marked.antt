@@ -9,20 +9,21 @@ use Rattle.wol_model.specs.Extents.{has_newer, has_older}
 use Rattle.wol_model.specs.Index.{listed_in, Indexed, listed_covers, AreRising, is_due, goes, is_live, is_homed, block_numbers, has_due, has_going}
 use Rattle.std.proofs.lemmas.Option.{none-some, same_Some}
 use Rattle.version_marks.specs.Marks.{IsWithin, AreApart}
+use Rattle.block_cells.specs.declared.record.Rec.{Rec}
+use Rattle.block_cells.specs.declared.blocks.Cell.{Cell}
+use Rattle.block_cells.specs.Masks.{in_mask}
+use Rattle.block_cells.specs.Cells.{is_held, one_covers, take_one, version_in}
+use Rattle.block_cells.proofs.Bits.{has_bit-zero, has_bit-above, has_bit-and, has_bit-or, has_bit-without}
+use Rattle.block_cells.proofs.Stepping.{next_block, no_block, all_blocks}
 use Rattle.redirect_map.specs.declared.entry.Entry.{Entry}
-use Rattle.redirect_map.specs.declared.record.Rec.{Rec}
-use Rattle.redirect_map.specs.declared.blocks.Cell.{Cell}
-use Rattle.redirect_map.specs.Masks.{in_mask}
 use Rattle.redirect_map.specs.Index.{cover_at}
 use Rattle.redirect_map.specs.Kept.{seen, keeps, one_keeps, is_version, IsInRange, IsUnhomed, AreEntries, NoneHomed}
-use Rattle.redirect_map.specs.Cells.{cell_of, is_held, one_covers, take_one, version_in}
+use Rattle.redirect_map.specs.Cells.{cell_of}
 use Rattle.redirect_map.specs.Marked.{there_bit, lane_bit, is_home, is_due_of, goes_of, IsMarked, AreMarked, AreThere, begins, AreBegun}
-use Rattle.redirect_map.proofs.Bits.{has_bit-zero, has_bit-above, has_bit-and, has_bit-or, has_bit-without}
 use Rattle.redirect_map.proofs.Seen.{all_from_places, all_of_map, all_before_map, all_at, covers_seen, homed_seen, newer_at, older_at}
 use Rattle.redirect_map.proofs.Answering.{wide, range_at, any_block, no_any, same_version}
 use Rattle.redirect_map.proofs.Adding.{new_entry}
 use Rattle.redirect_map.proofs.Search.{place_unique}
-use Rattle.redirect_map.proofs.Stepping.{next_block, no_block, all_blocks}
 use Rattle.redirect_map.proofs.Without.{none_homed_at}
 use Rattle.redirect_map.proofs.Celled.{cell_there, held_at, alone_at, one_there}
 

@@ -8,14 +8,16 @@ use Rattle.std.proofs.lemmas.Option.{slice_get-get_or}
 use Rattle.wol_model.specs.Log.{has_bit}
 use Rattle.wol_model.specs.Extents.{newest, newer_of}
 use Rattle.wol_model.specs.Index.{listed_in, AreRising, is_live, is_older, is_covered}
+use Rattle.block_cells.specs.declared.blocks.Cell.{Cell}
+use Rattle.block_cells.specs.Masks.{IsMask}
+use Rattle.block_cells.specs.Cells.{is_held, version_in}
+use Rattle.block_cells.proofs.Bits.{has_bit-above, has_bit-zero, has_bit-without}
+use Rattle.block_cells.proofs.Marks.{in_mask-bit}
 use Rattle.redirect_map.specs.declared.entry.Entry.{Entry}
-use Rattle.redirect_map.specs.declared.blocks.Cell.{Cell}
-use Rattle.redirect_map.specs.Masks.{IsMask}
 use Rattle.redirect_map.specs.Index.{cover_at, entry_at, IsAnswer, IsRecordOf}
 use Rattle.redirect_map.specs.Kept.{seen, keeps, one_keeps, is_version, IsInRange, AreEntries}
-use Rattle.redirect_map.specs.Cells.{cell_of, is_held, version_in}
-use Rattle.redirect_map.proofs.Bits.{has_bit-above, has_bit-zero, has_bit-without}
-use Rattle.redirect_map.proofs.Seen.{IsAt, all_at, all_before_map, covers_seen, in_mask-bit}
+use Rattle.redirect_map.specs.Cells.{cell_of}
+use Rattle.redirect_map.proofs.Seen.{IsAt, all_at, all_before_map, covers_seen}
 use Rattle.redirect_map.proofs.Answering.{same_version, record_seen, range_at, covered_seen, any_block, of_entry, live_there, older_there}
 use Rattle.redirect_map.proofs.Search.{place_unique}
 use Rattle.redirect_map.proofs.Celled.{IsNewest, newest_place, cell_there, held_at, alone_at}

@@ -1,39 +1,17 @@
 -- What contracts see of the program's entries.
-use Rattle.std.proofs.Common.{◌≡◌, ⊎_elim, ◌<◌, ◌+◌, ◌-◌, ◌^◌, ℕ, zero, suc, Bool, true, false, cond, ◌&&◌, ◌||◌, List, [], ◌∷◌, map, length, take, drop, get_or, Some, refl, sym, ap, ◌∙◌, subst, arith, ltb, leb}
+use Rattle.std.proofs.Common.{◌≡◌, ◌<◌, ◌+◌, ℕ, zero, suc, Bool, true, false, cond, ◌&&◌, ◌||◌, List, [], ◌∷◌, map, length, take, drop, get_or, Some, refl, sym, ap, ◌∙◌, subst, arith, ltb}
 use Rattle.std.specs.Prelude.{slice_get, option_map}
 use Rattle.std.specs.List.{AllByRecursion, find}
-use Rattle.std.proofs.lemmas.Bool.{cases_lt, lt-ltb, le-ltb, le-leb, eqb-true}
-use Rattle.std.proofs.lemmas.List.{get_or_past}
-use Rattle.std.proofs.lemmas.List.FromFn.{get_or-map-range_with_len, length-map-range_with_len}
+use Rattle.std.proofs.lemmas.Bool.{lt-ltb, le-ltb, eqb-true}
 use Rattle.std.proofs.lemmas.Option.{slice_get-get_or}
-use Rattle.wol_model.specs.Log.{has_bit, marks_of}
-use Rattle.wol_model.specs.Extents.{marked, has_newer, has_older}
+use Rattle.wol_model.specs.Extents.{has_newer, has_older}
 use Rattle.wol_model.specs.Index.{listed_in, AreRising, listed_covers, is_homed}
+use Rattle.block_cells.specs.Masks.{in_mask}
+use Rattle.block_cells.proofs.Marks.{marked-marks_of}
 use Rattle.redirect_map.specs.declared.entry.Entry.{Entry}
-use Rattle.redirect_map.specs.Masks.{in_mask}
 use Rattle.redirect_map.specs.Index.{cover_at, has_version, entry_at}
 use Rattle.redirect_map.specs.Kept.{seen, keeps, one_keeps, is_version, IsInRange}
-use Rattle.redirect_map.proofs.Bits.{has_bit-above}
 use Rattle.redirect_map.proofs.Found.{find-map}
-
--- a mark is the mask's bit
-pub marks_at : (count mask i : ℕ) → mask < 2 ^ count → get_or (marks_of count mask) i false ≡ has_bit mask i
-marks_at count mask i fits = ⊎_elim
-    (λ inside. get_or-map-range_with_len (has_bit mask) 0 count i i false inside (omega arith))
-    (λ past. get_or_past (marks_of count mask) i false (omega (arith, length-map-range_with_len (has_bit mask) 0 count, past)) ∙ sym (has_bit-above mask count i fits past))
-    (cases_lt i count)
-
-pub marked-marks_of : (first count mask b : ℕ) → mask < 2 ^ count → marked first (marks_of count mask) b ≡ in_mask first mask b
-marked-marks_of first count mask b fits = ap (λ (t : Bool). leb first b && t) (marks_at count mask (b - first) fits)
-
-pub length-marks_of : (count mask : ℕ) → length (marks_of count mask) ≡ count
-length-marks_of count mask = length-map-range_with_len (has_bit mask) 0 count
-
--- a block of a mask, by its bit
-pub in_mask-bit : (first mask i : ℕ) → in_mask first mask (first + i) ≡ has_bit mask i
-in_mask-bit first mask i =
-    let e : first + i - first ≡ i = omega arith in
-    rw (le-leb first (first + i) (omega arith), e) refl
 
 pub covers_seen : (e : Entry) (b : ℕ) → IsInRange e → (cover_at (seen e)).covers b ≡ keeps e b
 covers_seen e b r = marked-marks_of e.record.lbn e.record.count e.record.keep b r.keep_within

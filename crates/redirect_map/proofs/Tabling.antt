@@ -8,15 +8,17 @@ use Rattle.std.proofs.lemmas.Bool.{and_parts, false≢true, leb-true}
 use Rattle.wol_model.specs.Log.{has_bit}
 use Rattle.wol_model.specs.Extents.{has_newer, has_older}
 use Rattle.wol_model.specs.Index.{listed_in, goes, listed_covers, is_homed}
+use Rattle.block_cells.specs.declared.record.Rec.{Rec}
+use Rattle.block_cells.specs.declared.blocks.Cell.{Cell}
+use Rattle.block_cells.specs.Masks.{in_mask}
+use Rattle.block_cells.specs.Cells.{one_covers, take_one}
+use Rattle.block_cells.proofs.Bits.{has_bit-zero, has_bit-without}
+use Rattle.block_cells.proofs.Marks.{in_mask-bit}
 use Rattle.redirect_map.specs.declared.entry.Entry.{Entry}
-use Rattle.redirect_map.specs.declared.record.Rec.{Rec}
-use Rattle.redirect_map.specs.declared.blocks.Cell.{Cell}
-use Rattle.redirect_map.specs.Masks.{in_mask}
 use Rattle.redirect_map.specs.Index.{entry_at, cover_at}
 use Rattle.redirect_map.specs.Kept.{seen, keeps, one_keeps, IsInRange, IsUnhomed, AreEntries}
-use Rattle.redirect_map.specs.Cells.{cell_of, one_covers, take_one}
-use Rattle.redirect_map.proofs.Bits.{has_bit-zero, has_bit-without}
-use Rattle.redirect_map.proofs.Seen.{IsAt, covers_seen, newer_at, older_at, in_mask-bit}
+use Rattle.redirect_map.specs.Cells.{cell_of}
+use Rattle.redirect_map.proofs.Seen.{IsAt, covers_seen, newer_at, older_at}
 use Rattle.redirect_map.proofs.Answering.{range_at, wide}
 use Rattle.redirect_map.proofs.Changing.{trimmed, within_count}
 use Rattle.redirect_map.proofs.Adding.{new_entry}

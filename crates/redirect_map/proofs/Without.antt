@@ -7,13 +7,14 @@ use Rattle.std.proofs.lemmas.Bool.{cases_lt, cases_eq, ne_eqb, eq-eqb, leb-true,
 use Rattle.std.proofs.lemmas.Option.{none-some, same_Some}
 use Rattle.wol_model.specs.Log.{has_bit}
 use Rattle.wol_model.specs.Index.{AreRising}
+use Rattle.block_cells.specs.declared.record.Rec.{Rec}
+use Rattle.block_cells.specs.Masks.{in_mask}
+use Rattle.block_cells.specs.Cells.{with_older}
+use Rattle.block_cells.proofs.Bits.{has_bit-above, has_bit-zero, has_bit-without, has_bit-pow, small_from_bits}
+use Rattle.block_cells.proofs.Marks.{in_mask-bit}
 use Rattle.redirect_map.specs.declared.entry.Entry.{Entry}
-use Rattle.redirect_map.specs.declared.record.Rec.{Rec}
-use Rattle.redirect_map.specs.Masks.{in_mask}
 use Rattle.redirect_map.specs.Kept.{keeps, one_keeps, IsInRange, IsWithout, IsUnhomed, AreLive, AreEntries, NoneHomed}
-use Rattle.redirect_map.specs.Cells.{cell_of, with_older}
-use Rattle.redirect_map.proofs.Bits.{has_bit-above, has_bit-zero, has_bit-without, has_bit-pow, small_from_bits}
-use Rattle.redirect_map.proofs.Seen.{in_mask-bit}
+use Rattle.redirect_map.specs.Cells.{cell_of}
 use Rattle.redirect_map.proofs.Answering.{wide}
 
 -- ---- Sets of blocks

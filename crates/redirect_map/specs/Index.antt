@@ -5,8 +5,8 @@ use Rattle.std.specs.List.{AllByRecursion}
 use Rattle.wol_model.specs.Log.{marks_of}
 use Rattle.wol_model.specs.Extents.{Cover, remarked}
 use Rattle.wol_model.specs.Index.{Listed, Indexed, listed_in, AreRising, IsListed, cover_of, keeps_a_block}
-use Rattle.redirect_map.specs.declared.record.Rec.{Rec}
-use Rattle.redirect_map.specs.Masks.{in_mask}
+use Rattle.block_cells.specs.declared.record.Rec.{Rec}
+use Rattle.block_cells.specs.Masks.{in_mask}
 
 -- the records by rising version, and for how many runs of kept blocks there is room
 pub record Contents : Type 0 where

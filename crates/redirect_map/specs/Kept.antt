@@ -3,9 +3,9 @@ use Rattle.std.specs.Prelude.{◌≡◌, ◌<◌, ◌≤◌, ◌^◌, ◌+◌, �
 use Rattle.std.specs.List.{list_any, AllByRecursion}
 use Rattle.wol_model.specs.Log.{has_bit}
 use Rattle.wol_model.specs.Index.{Indexed, AreRising}
-use Rattle.redirect_map.specs.declared.record.Rec.{Rec}
+use Rattle.block_cells.specs.declared.record.Rec.{Rec}
+use Rattle.block_cells.specs.Masks.{in_mask}
 use Rattle.redirect_map.specs.declared.entry.Entry.{Entry}
-use Rattle.redirect_map.specs.Masks.{in_mask}
 use Rattle.redirect_map.specs.Index.{entry_of}
 
 -- an entry as contracts see it

@@ -1,5 +1,3 @@
-pub mod Masks
-pub mod Runs
 pub mod Index
 pub mod Kept
 pub mod Cells

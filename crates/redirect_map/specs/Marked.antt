@@ -3,11 +3,11 @@
 use Rattle.std.specs.Prelude.{◌≡◌, ◌+◌, ◌%◌, ℕ, Bool, true, false, not, ◌&&◌, ◌||◌, List, Option, Some, slice_get}
 use Rattle.wol_model.specs.Log.{has_bit}
 use Rattle.version_marks.specs.Marks.{Contents, IsWithin, mask_of}
-use Rattle.redirect_map.specs.declared.blocks.Cell.{Cell}
+use Rattle.block_cells.specs.declared.blocks.Cell.{Cell}
+use Rattle.block_cells.specs.Masks.{in_mask}
+use Rattle.block_cells.specs.Cells.{is_held, take_one}
 use Rattle.redirect_map.specs.declared.entry.Entry.{Entry}
-use Rattle.redirect_map.specs.Masks.{in_mask}
 use Rattle.redirect_map.specs.Kept.{keeps}
-use Rattle.redirect_map.specs.Cells.{is_held, take_one}
 
 -- bits of a version's mask: the record is there; it may have a due block; it may have a block that
 -- goes. Lanes with one rest share their bits

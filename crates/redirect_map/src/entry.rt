@@ -7,10 +7,8 @@ ghost use Rattle.wol_model.specs.Index.{AreRising};
 ghost use Rattle.redirect_map.specs.Kept.{is_version, keeps, IsKept, IsUnhomed, IsWithout, AreEntries, NoneHomed};
 ghost use Rattle.redirect_map.specs.Cells.{AreTabled};
 
-use crate::blocks::{Cell, newest_of};
 use crate::list::Entries;
-use crate::mask::moved;
-use crate::record::Rec;
+use block_cells::{Cell, Rec, moved, newest_of};
 use std::collections::{HashMap, VecDeque};
 
 #[derive(Clone, Copy)]

@@ -3,13 +3,12 @@ ghost use Rattle.std.specs.Prelude.{◌≡◌, ◌<◌, ◌≤◌, ◌^◌, ◌+
 ghost use Rattle.std.specs.List.{list_any, range_with_len};
 ghost use Rattle.std.specs.HashMap.{get};
 ghost use Rattle.wol_model.specs.Log.{has_bit};
+ghost use Rattle.block_cells.specs.Cells.{is_held};
 ghost use Rattle.redirect_map.specs.Kept.{IsInRange};
-ghost use Rattle.redirect_map.specs.Cells.{is_held};
 ghost use Rattle.redirect_map.specs.Marked.{is_due_of, goes_of};
 
-use crate::blocks::{Cell, holds, newest_of, with_bit};
 use crate::entry::Entry;
-use crate::mask::has;
+use block_cells::{Cell, has, holds, newest_of, with_bit};
 use std::collections::HashMap;
 
 // Whether block i of the entry is due. Of a block that it doesn't keep, or that is home, nothing is looked up.

@@ -5,18 +5,17 @@ ghost use Rattle.std.specs.List.{list_any, range_with_len, AllByRecursion};
 ghost use Rattle.wol_model.specs.Log.{has_bit, marks_of};
 ghost use Rattle.wol_model.specs.Extents.{newest};
 ghost use Rattle.wol_model.specs.Index.{listed_in, is_covered, is_live, is_older, is_homed, goes, has_due, has_going, keeps_a_block};
-ghost use Rattle.redirect_map.specs.Masks.{IsMask};
-ghost use Rattle.redirect_map.specs.Runs.{runs_of};
+ghost use Rattle.block_cells.specs.Masks.{IsMask};
+ghost use Rattle.block_cells.specs.Runs.{runs_of};
 ghost use Rattle.redirect_map.specs.Index.{cover_at, entry_at, HasVersion, entry_of, IsRecordOf, IsAnswer, changed, unhomed, with_homed, given_up, IsIndex};
 
-use crate::blocks::{Cell, any_covered, cover, held, held_both, newest_of, run_length, uncover};
 use crate::entry::{Entry, unhome, with_homes};
 use crate::going::{all_going, any_due, any_going};
 use crate::list::Entries;
 use crate::marking::{
     exact_mask, lanes_mask, mark_all_exactly, mark_blocks, mark_given_up, new_mask, newest_versions,
 };
-use crate::record::Rec;
+use block_cells::{Cell, Rec, any_covered, cover, held, held_both, newest_of, run_length, uncover};
 use std::alloc::Global;
 use std::collections::HashMap;
 use std::marker::Model;

@@ -3,19 +3,16 @@
 //! each, a table that names for each kept block its newest record and how many records keep it, and marks of
 //! the versions of which a block may be due or may go, so that the next of these is found without a walk.
 //!
-//! `record.rt` has a record and its place, `entry.rt` a record with its homed blocks, `list.rt` the list of these,
-//! `mask.rt` masks of 128 blocks, `blocks.rt` the table of kept blocks, `going.rt` what of an entry is due or may go,
-//! `marking.rt` the marks, `index.rt` `Index`, where the contracts stand.
+//! A record, masks of its blocks and the table are those of `block_cells`, the tree of the marks is that of
+//! `version_marks`. `entry.rt` has a record with its homed blocks, `list.rt` the list of these, `going.rt` what of an
+//! entry is due or may go, `marking.rt` the marks, `index.rt` `Index`, where the contracts stand.
 #![tactic(auto)]
 
-mod blocks;
 mod entry;
 mod going;
 mod index;
 mod list;
 mod marking;
-mod mask;
-mod record;
 
+pub use block_cells::Rec;
 pub use index::Index;
-pub use record::Rec;

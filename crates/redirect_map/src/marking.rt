@@ -3,17 +3,16 @@ ghost use Rattle.std.specs.Prelude.{◌≡◌, ◌<◌, ◌≤◌, ◌^◌, ◌+
 ghost use Rattle.std.specs.HashMap.{get};
 ghost use Rattle.wol_model.specs.Log.{has_bit};
 ghost use Rattle.version_marks.specs.Marks.{mask_of};
-ghost use Rattle.redirect_map.specs.Masks.{in_mask};
+ghost use Rattle.block_cells.specs.Masks.{in_mask};
+ghost use Rattle.block_cells.specs.Cells.{keepers_of, version_in};
 ghost use Rattle.redirect_map.specs.Kept.{IsInRange, AreEntries, NoneHomed};
-ghost use Rattle.redirect_map.specs.Cells.{AreTabled, keepers_of, version_in};
+ghost use Rattle.redirect_map.specs.Cells.{AreTabled};
 ghost use Rattle.redirect_map.specs.Marked.{there_bit, lane_bit, is_home, begins, IsMarked, AreMarked, AreThere, AreBegun, KeepsBits};
 
-use crate::blocks::{Cell, newest_of, with_bit};
 use crate::entry::Entry;
 use crate::going::{any_due, any_going};
 use crate::list::Entries;
-use crate::mask::moved;
-use crate::record::Rec;
+use block_cells::{Cell, Rec, moved, newest_of, with_bit};
 use std::collections::HashMap;
 use version_marks::VersionMarks;
 

@@ -24,9 +24,9 @@ use Rattle.wol_model.specs.Extents.{marked, remarked, KeepsAll, IsValid}
 use Rattle.wol_model.specs.Log.{Record, has_bit, marks_of, extent_of, end_of}
 use Rattle.wol_model.specs.Placing.{Log}
 use Rattle.wol_model.proofs.Live.{full_mask}
+use Rattle.block_cells.specs.Runs.{runs_after, runs_of}
+use Rattle.block_cells.specs.declared.record.Rec.{Rec}
 use Rattle.redirect_map.specs.Index.{entry_of, unhomed, cover_at}
-use Rattle.redirect_map.specs.Runs.{runs_after, runs_of}
-use Rattle.redirect_map.specs.declared.record.Rec.{Rec}
 use Rattle.wol_promise.specs.Manager.{Held}
 use Rattle.wol_promise.specs.Policy.{Look, PartName, placed, is_in}
 use Rattle.wol_promise.proofs.Index.{cleared, indexed_with, grown}

@@ -2,8 +2,8 @@
 use Rattle.std.specs.Prelude.{◌+◌, ◌-◌, ◌^◌, ◌∷◌, ◌++◌, ℕ, List, [], map}
 use Rattle.wol_model.specs.Index.{Indexed}
 use Rattle.log_segment.specs.declared.item.Item.{Item}
+use Rattle.block_cells.specs.declared.record.Rec.{Rec}
 use Rattle.redirect_map.specs.Index.{entry_of, unhomed, cover_at}
-use Rattle.redirect_map.specs.declared.record.Rec.{Rec}
 
 -- one for each item, of versions in a row, behind one another in a segment
 abbrev pub recs_at : (version : ℕ) → List Item → (lane segment pos : ℕ) → List Rec

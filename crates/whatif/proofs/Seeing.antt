@@ -13,8 +13,8 @@ use Rattle.wol_model.specs.Index.{Listed, Indexed, listed_in, cover_of, has_due,
 use Rattle.wol_model.specs.Journal.{SpindleState}
 use Rattle.wol_model.proofs.Counts.{both, either}
 use Rattle.wol_promise.specs.Policy.{Look, woken}
+use Rattle.block_cells.specs.declared.record.Rec.{Rec}
 use Rattle.redirect_map.specs.Index.{cover_at, IsAnswer, IsRecordOf}
-use Rattle.redirect_map.specs.declared.record.Rec.{Rec}
 use Rattle.whatif.specs.declared.disk.Disk.{Disk}
 use Rattle.whatif.specs.declared.volume.Volume.{Volume}
 use Rattle.whatif.specs.Disks.{AreDisks, IsDisk}

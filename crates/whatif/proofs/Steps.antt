@@ -12,12 +12,12 @@ use Rattle.wol_promise.specs.Policy.{Look}
 use Rattle.wol_promise.proofs.Covers.{any_found}
 use Rattle.wol_promise.proofs.Lowering.{given_lowers, put_lowers, filter_listed}
 use Rattle.wol_promise.proofs.Lists.{all_map, all_member, member_map}
+use Rattle.block_cells.specs.Masks.{in_mask, IsMask}
+use Rattle.block_cells.specs.declared.record.Rec.{Rec}
+use Rattle.block_cells.proofs.Bits.{has_bit-or}
+use Rattle.block_cells.proofs.Marks.{in_mask-bit}
 use Rattle.redirect_map.specs.Index.{Contents, entry_at, changed, given_up, has_version, with_homed, IsAnswer, IsEntry, IsIndex, IsRecordOf}
-use Rattle.redirect_map.specs.Masks.{in_mask, IsMask}
-use Rattle.redirect_map.specs.declared.record.Rec.{Rec}
-use Rattle.redirect_map.proofs.Bits.{has_bit-or}
 use Rattle.redirect_map.proofs.Changing.{remarked-marks_of}
-use Rattle.redirect_map.proofs.Seen.{in_mask-bit}
 use Rattle.garbage_list.specs.Least.{first_version, can_go, can_go_home}
 use Rattle.garbage_list.proofs.Nexts.{First, Answered, Spot, answered, found_there, found_passes, first_of_all, least_of, spot_of_version, unanswered, version_in}
 use Rattle.whatif.specs.Machine.{Reach, Action, put_home, give_up, put_step, give_step, next_due, next_to_go, logger_at, step_at}

@@ -14,9 +14,9 @@ use Rattle.std.proofs.lemmas.List.Quantifiers.{position-Some}
 use Rattle.std.proofs.lemmas.Option.{none-some, same_Some}
 use Rattle.wol_model.specs.Placing.{Place, Home, Log, Full, place}
 use Rattle.wol_model.specs.Journal.{SpindleState}
+use Rattle.block_cells.specs.Runs.{runs_after, runs_of}
+use Rattle.block_cells.specs.declared.record.Rec.{Rec}
 use Rattle.redirect_map.specs.Index.{entry_of, unhomed, cover_at}
-use Rattle.redirect_map.specs.Runs.{runs_after, runs_of}
-use Rattle.redirect_map.specs.declared.record.Rec.{Rec}
 use Rattle.offload_policy.specs.Placing.{step_of, decided_by, is_open, place_of as place_of_step, AreRooms, IsRoom, log_or}
 use Rattle.offload_policy.specs.declared.Room.{Room}
 use Rattle.offload_policy.specs.declared.Room.TheVariants.{Yes}

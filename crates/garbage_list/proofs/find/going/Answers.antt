@@ -1,7 +1,7 @@
 use Rattle.std.proofs.Common.{Option, subst, true, false}
 use Rattle.std.proofs.lemmas.Bool.{and_from, and_right}
 use Rattle.wol_model.specs.Index.{Indexed, listed_in, has_going}
-use Rattle.redirect_map.specs.declared.record.Rec.{Rec}
+use Rattle.block_cells.specs.declared.record.Rec.{Rec}
 use Rattle.redirect_map.specs.Index.{entry_at, IsAnswer}
 use Rattle.garbage_list.proofs.Finding.{answer_there, lane_there, told_none, told_asleep, told_by}
 use Rattle.garbage_list.proofs.find.going.Goals as goal

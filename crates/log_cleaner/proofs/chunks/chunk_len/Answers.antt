@@ -1,7 +1,7 @@
 use Rattle.std.proofs.Common.{◌≡◌, ◌+◌, ℕ, true, sym, ap, subst, ◌∙◌, ⊎_elim, arith}
 use Rattle.std.proofs.lemmas.Bool.{cases_lt}
 use Rattle.wol_model.specs.Index.{is_covered, listed_in}
-use Rattle.redirect_map.specs.Masks.{in_mask}
+use Rattle.block_cells.specs.Masks.{in_mask}
 use Rattle.log_cleaner.proofs.Telling.{newest_covers, none_covers}
 use Rattle.log_cleaner.proofs.chunks.chunk_len.Goals as goal
 

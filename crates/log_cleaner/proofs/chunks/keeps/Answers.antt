@@ -1,6 +1,6 @@
 use Rattle.std.proofs.Common.{◌≡◌, ◌-◌, ◌&&◌, ◌<◌, ◌≤◌, ◌^◌, Bool, true, false, refl, sym, ◌∙◌, arith, leb}
 use Rattle.std.proofs.lemmas.Bool.{le-ltb}
-use Rattle.redirect_map.proofs.Bits.{has_bit-above}
+use Rattle.block_cells.proofs.Bits.{has_bit-above}
 use Rattle.log_cleaner.proofs.chunks.keeps.Goals as goal
 
 and_false : (t : Bool) → (t && false) ≡ false

@@ -1,5 +1,5 @@
 use Rattle.std.proofs.Common.{◌≡◌, ◌<◌, ◌≤◌, ◌+◌, ℕ, true}
-use Rattle.redirect_map.specs.Masks.{in_mask}
+use Rattle.block_cells.specs.Masks.{in_mask}
 use Rattle.log_cleaner.proofs.chunks.kept_end.Given as goal
 
 abbrev pub invariant-loop-next : goal.invariant-loop-next

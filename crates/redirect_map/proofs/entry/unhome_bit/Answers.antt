@@ -1,7 +1,7 @@
 use Rattle.std.proofs.Common.{◌+◌, ◌/◌, ◌^◌, ◌∙◌, ◌&&◌, ℕ, Bool, sym, ap, eqb, bit_and}
 use Rattle.std.proofs.lemmas.Bool.{eq-eqb, ne_eqb}
 use Rattle.wol_model.specs.Log.{has_bit}
-use Rattle.redirect_map.proofs.Counting.{at_bit}
+use Rattle.block_cells.proofs.Counting.{at_bit}
 use Rattle.redirect_map.proofs.Without.{without_same, without_none}
 use Rattle.redirect_map.proofs.entry.unhome_bit.Goals as goal
 

@@ -1,8 +1,8 @@
 use Rattle.std.proofs.Common.{◌≡◌, ◌∙◌, ◌-◌, ◌*◌, ◌%◌, ◌^◌, List, sym, ap, subst, Option, None, Some, IsSome, is_some, false, eqb}
 use Rattle.std.specs.List.{AllZip}
 use Rattle.std.proofs.lemmas.Bool.{false≢true}
+use Rattle.block_cells.specs.declared.blocks.Cell.{Cell}
 use Rattle.redirect_map.specs.declared.entry.Entry.{Entry}
-use Rattle.redirect_map.specs.declared.blocks.Cell.{Cell}
 use Rattle.redirect_map.specs.Kept.{IsWithout}
 use Rattle.redirect_map.specs.Listing.{place_in}
 use Rattle.redirect_map.proofs.Answering.{range_at}

@@ -1,8 +1,8 @@
 use Rattle.std.proofs.Common.{refl, ◌+◌, ◌∙◌, ◌&&◌, sym, eqb, ltb, arith}
 use Rattle.wol_model.specs.Log.{has_bit}
-use Rattle.redirect_map.specs.Masks.{in_mask}
+use Rattle.block_cells.specs.Masks.{in_mask}
+use Rattle.block_cells.proofs.Stepping.{next_block, no_block, all_blocks}
 use Rattle.redirect_map.proofs.Without.{without_same, without_none, without_more, entries_kept, cell_kept, unhomed_from}
-use Rattle.redirect_map.proofs.Stepping.{next_block, no_block, all_blocks}
 use Rattle.redirect_map.proofs.entry.unhome_blocks.Goals as goal
 
 pub loop-i-init : goal.loop-i-init

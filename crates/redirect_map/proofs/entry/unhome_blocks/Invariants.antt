@@ -1,6 +1,6 @@
 use Rattle.std.proofs.Common.{◌≡◌, ◌+◌, ◌&&◌, nat_lt}
 use Rattle.std.specs.List.{AllZip}
-use Rattle.redirect_map.specs.Masks.{in_mask}
+use Rattle.block_cells.specs.Masks.{in_mask}
 use Rattle.redirect_map.specs.Kept.{IsWithout}
 use Rattle.redirect_map.proofs.entry.unhome_blocks.Given as goal
 

@@ -1,7 +1,7 @@
 use Rattle.std.proofs.Common.{nat_eq, ◌+◌, ◌∙◌, ◌&&◌, ◌||◌, eqb, Bool, ap}
 use Rattle.std.specs.HashMap.{get}
+use Rattle.block_cells.proofs.Stepping.{more_bits}
 use Rattle.redirect_map.specs.Marked.{goes_of}
-use Rattle.redirect_map.proofs.Stepping.{more_bits}
 use Rattle.redirect_map.proofs.going.all_going.Goals as goal
 
 pub loop-i-preserved : goal.loop-i-preserved

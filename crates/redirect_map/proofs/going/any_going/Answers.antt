@@ -1,7 +1,7 @@
 use Rattle.std.proofs.Common.{◌≡◌, ◌<◌, ◌+◌, ◌-◌, ◌∙◌, ℕ, sym, ap, nat_eq, arith}
 use Rattle.std.specs.HashMap.{get}
+use Rattle.block_cells.proofs.Meeting.{any_in_range, none_in_range}
 use Rattle.redirect_map.specs.Marked.{goes_of}
-use Rattle.redirect_map.proofs.Meeting.{any_in_range, none_in_range}
 use Rattle.redirect_map.proofs.going.any_going.Goals as goal
 
 pub returns-then-going_bit : goal.returns-then-going_bit

@@ -1,6 +1,6 @@
 use Rattle.std.proofs.Common.{nat_eq, ◌+◌, ◌∙◌, sym, ap, arith, false}
 use Rattle.std.specs.HashMap.{get}
-use Rattle.redirect_map.specs.Cells.{is_held}
+use Rattle.block_cells.specs.Cells.{is_held}
 use Rattle.redirect_map.proofs.Dues.{due_off, due_on}
 use Rattle.redirect_map.proofs.going.due_bit.Goals as goal
 

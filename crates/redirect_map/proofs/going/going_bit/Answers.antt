@@ -1,6 +1,6 @@
 use Rattle.std.proofs.Common.{◌≡◌, nat_eq, ◌+◌, ◌∙◌, ◌&&◌, ◌||◌, not, sym, ap, true, false}
 use Rattle.std.specs.HashMap.{get}
-use Rattle.redirect_map.specs.Cells.{is_held}
+use Rattle.block_cells.specs.Cells.{is_held}
 use Rattle.redirect_map.proofs.Dues.{goes_off, goes_on}
 use Rattle.redirect_map.proofs.going.going_bit.Goals as goal
 

@@ -1,8 +1,8 @@
 use Rattle.std.proofs.Common.{nat_eq, not, ◌∙◌, ◌&&◌, ◌||◌, true, false}
 use Rattle.std.specs.HashMap.{get}
 use Rattle.std.proofs.lemmas.Bool.{and_parts}
+use Rattle.block_cells.specs.Cells.{is_held}
 use Rattle.redirect_map.specs.Kept.{keeps}
-use Rattle.redirect_map.specs.Cells.{is_held}
 use Rattle.redirect_map.specs.Marked.{is_home, is_due_of, goes_of}
 use Rattle.redirect_map.proofs.Dues.{kept_in_range}
 use Rattle.redirect_map.proofs.marking.exact_mask.Goals as goal

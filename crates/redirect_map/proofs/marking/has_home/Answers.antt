@@ -1,6 +1,6 @@
 use Rattle.std.proofs.Common.{◌∙◌, ◌+◌, ◌≡◌, ap, arith}
-use Rattle.redirect_map.specs.Masks.{in_mask}
-use Rattle.redirect_map.proofs.Bits.{lowest}
+use Rattle.block_cells.specs.Masks.{in_mask}
+use Rattle.block_cells.proofs.Bits.{lowest}
 use Rattle.redirect_map.proofs.marking.has_home.Goals as goal
 
 pub returns : goal.returns

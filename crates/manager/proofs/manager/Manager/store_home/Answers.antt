@@ -6,8 +6,8 @@ use Rattle.wol_model.specs.Index.{Indexed, listed_in, is_live}
 use Rattle.wol_model.specs.Log.{has_bit}
 use Rattle.wol_model.proofs.Counts.{both, either}
 use Rattle.wol_promise.proofs.Lists.{all_member}
+use Rattle.block_cells.proofs.Bits.{has_bit-or}
 use Rattle.redirect_map.specs.Index.{entry_at}
-use Rattle.redirect_map.proofs.Bits.{has_bit-or}
 use Rattle.manager.specs.Reclaim.{put_block}
 use Rattle.manager.specs.Stands.{IsInVolume}
 use Rattle.manager.specs.declared.part.Part.TheVariants.{Home}

@@ -4,8 +4,8 @@ use Rattle.std.proofs.lemmas.List.{length-append}
 use Rattle.std.specs.List.{AllByRecursion, AllZip, list_any, range_with_len}
 use Rattle.wol_model.specs.Log.{marks_of}
 use Rattle.wol_model.specs.Index.{Indexed, listed_in, is_covered}
-use Rattle.redirect_map.specs.Runs.{runs_of}
-use Rattle.redirect_map.specs.Masks.{in_mask}
+use Rattle.block_cells.specs.Runs.{runs_of}
+use Rattle.block_cells.specs.Masks.{in_mask}
 use Rattle.redirect_map.specs.Index.{Contents}
 use Rattle.redirect_map.specs.Kept.{seen, one_keeps, IsUnhomed, AreEntries, NoneHomed}
 use Rattle.redirect_map.proofs.Adding.{IsNew, new_entry, below_new, some_run, entries_added, seen_added}

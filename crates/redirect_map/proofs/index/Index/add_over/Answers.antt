@@ -4,8 +4,8 @@ use Rattle.std.proofs.lemmas.List.{length-append}
 use Rattle.std.specs.List.{AllByRecursion}
 use Rattle.wol_model.specs.Log.{marks_of}
 use Rattle.wol_model.specs.Index.{Indexed}
-use Rattle.redirect_map.specs.Runs.{runs_of}
-use Rattle.redirect_map.specs.Cells.{one_covers, version_in}
+use Rattle.block_cells.specs.Runs.{runs_of}
+use Rattle.block_cells.specs.Cells.{one_covers, version_in}
 use Rattle.redirect_map.specs.Index.{Contents}
 use Rattle.redirect_map.specs.Kept.{seen, AreEntries, NoneHomed}
 use Rattle.redirect_map.proofs.Adding.{IsNew, new_entry, below_new, some_run, entries_added, seen_added, zip_length}

@@ -1,7 +1,7 @@
 use Rattle.std.proofs.Common.{◌∙◌, Option, sym, ap, subst}
 use Rattle.wol_model.specs.Extents.{newest}
 use Rattle.wol_model.specs.Index.{Indexed}
-use Rattle.redirect_map.specs.Cells.{version_in}
+use Rattle.block_cells.specs.Cells.{version_in}
 use Rattle.redirect_map.specs.Index.{Contents, cover_at, IsAnswer}
 use Rattle.redirect_map.proofs.Newest.{same_newest}
 use Rattle.redirect_map.proofs.index.Index.newest_run.Goals as goal

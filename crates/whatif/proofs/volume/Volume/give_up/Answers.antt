@@ -4,8 +4,8 @@ use Rattle.std.specs.Prelude.{IfNone}
 use Rattle.std.specs.List.{AllByRecursion}
 use Rattle.wol_model.specs.Index.{Indexed, left, listed_in, goes}
 use Rattle.wol_model.specs.Log.{has_bit}
+use Rattle.block_cells.specs.Masks.{IsMask}
 use Rattle.redirect_map.specs.Index.{entry_at, IsAnswer}
-use Rattle.redirect_map.specs.Masks.{IsMask}
 use Rattle.garbage_list.specs.Least.{first_version, can_go}
 use Rattle.whatif.specs.Machine.{give_up, give_step, next_to_go}
 use Rattle.whatif.specs.Volumes.{IsLogged, look_in, reach_in, give_answer}

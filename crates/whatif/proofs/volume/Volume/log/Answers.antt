@@ -6,7 +6,7 @@ use Rattle.std.proofs.Math.ListN.{length-set}
 use Rattle.std.proofs.lemmas.Bool.{false≢true}
 use Rattle.wol_model.specs.Index.{Indexed, listed_in}
 use Rattle.wol_model.specs.Log.{marks_of}
-use Rattle.redirect_map.specs.Runs.{runs_of}
+use Rattle.block_cells.specs.Runs.{runs_of}
 use Rattle.wol_promise.specs.Policy.{Look}
 use Rattle.whatif.specs.Volumes.{IsLogged}
 use Rattle.whatif.proofs.Written.{entered, logged_look, logged_more, one_run, rec_at, some_kept}

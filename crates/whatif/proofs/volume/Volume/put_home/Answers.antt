@@ -5,9 +5,9 @@ use Rattle.std.specs.List.{AllByRecursion}
 use Rattle.wol_model.specs.Index.{Indexed, left, listed_in, is_due, is_homed, is_live}
 use Rattle.wol_model.specs.Log.{has_bit}
 use Rattle.wol_model.proofs.Counts.{both, either}
+use Rattle.block_cells.specs.Masks.{IsMask}
+use Rattle.block_cells.proofs.Bits.{has_bit-or}
 use Rattle.redirect_map.specs.Index.{entry_at, IsAnswer}
-use Rattle.redirect_map.specs.Masks.{IsMask}
-use Rattle.redirect_map.proofs.Bits.{has_bit-or}
 use Rattle.garbage_list.specs.Least.{first_version, can_go_home}
 use Rattle.whatif.specs.Machine.{put_home, put_step, next_due}
 use Rattle.whatif.specs.Volumes.{IsLogged, look_in, reach_in, put_answer}

@@ -1,0 +1,5 @@
+pub mod Bits
+pub mod Marks
+pub mod Meeting
+pub mod Counting
+pub mod Stepping

@@ -1,0 +1,9 @@
+use Rattle.std.proofs.Common.{◌≡◌, ◌+◌, ap, ◌∙◌, arith}
+use Rattle.block_cells.specs.Masks.{in_mask}
+use Rattle.block_cells.proofs.Bits.{lowest}
+use Rattle.block_cells.proofs.record.Rec.keeps.Goals as goal
+
+pub returns : goal.returns
+returns c =
+    let e : c.args.lbn + 0 ≡ c.args.lbn = omega arith in
+    lowest c.moved.result ∙ c.moved.ensures 0 ∙ ap (in_mask c.args.self.now.lbn c.args.self.now.keep) e

@@ -1,5 +1,0 @@
-use Rattle.redirect_map.proofs.Bits.{has_bit-set}
-use Rattle.redirect_map.proofs.blocks.with_bit.Goals as goal
-
-pub returns-then-on : goal.returns-then-on
-returns-then-on c = λ j. rw c.if-on.true (has_bit-set c.args.mask c.args.i j c.requires)

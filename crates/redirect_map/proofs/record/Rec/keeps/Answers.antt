@@ -1,9 +1,0 @@
-use Rattle.std.proofs.Common.{◌≡◌, ◌+◌, ap, ◌∙◌, arith}
-use Rattle.redirect_map.specs.Masks.{in_mask}
-use Rattle.redirect_map.proofs.Bits.{lowest}
-use Rattle.redirect_map.proofs.record.Rec.keeps.Goals as goal
-
-pub returns : goal.returns
-returns c =
-    let e : c.args.lbn + 0 ≡ c.args.lbn = omega arith in
-    lowest c.moved.result ∙ c.moved.ensures 0 ∙ ap (in_mask c.args.self.now.lbn c.args.self.now.keep) e
