@@ -1,6 +1,6 @@
 // What a replayed write stores, and the mark of what is read.
 ghost use Rattle.std.specs.Prelude.{◌≡◌, ◌+◌, ◌≤◌, ◌^◌, length, map};
-ghost use Rattle.std.specs.List.{range_with_len};
+ghost use Rattle.std.specs.List.{flat_map, range_with_len};
 ghost use Rattle.wol_model.specs.Trace.{block_mark, mark, payload_block};
 ghost use Rattle.msr_trace.specs.Payload.{stamp};
 
@@ -21,10 +21,28 @@ pub fn fill(line: u64, lbn: u64, out: &mut [Block])
 fn fill_block(line: u64, lbn: u64, block: &mut Block)
     ensures { block.new ≡ payload_block line lbn }
 {
-    let stamp = stamp_of(line, lbn);
+    repeat(&stamp_of(line, lbn), block);
+}
+
+// Fills a block with a stamp, in its place. It stands apart so that the stamp lies in memory and is copied whole: within its
+// caller it would be two numbers in registers, and be stored number by number.
+#[inline(never)]
+fn repeat(stamp: &[u8; 16], block: &mut Block)
+    ensures { block.new ≡ flat_map (λ _. stamp.now) (range_with_len 0 32) }
+{
     for i in 0..32 {
         let at: usize = 16 * i;
-        block[at..at + 16].copy_from_slice(&stamp);
+        put(stamp, &mut block[at..at + 16]);
+    }
+}
+
+// Writes a stamp where there is room for one, as one copy of 16 bytes.
+fn put(stamp: &[u8; 16], place: &mut [u8])
+    requires { length place.old ≡ 16 }
+    ensures { place.new ≡ stamp.now }
+{
+    if let Some(first) = place.first_chunk_mut::<16>() {
+        *first = *stamp;
     }
 }
 
