@@ -8,7 +8,7 @@ use Rattle.block_cells.specs.declared.record.Rec.{Rec}
 use Rattle.redirect_map.specs.Index.{has_version, entry_at, HasVersion, IsRecordOf, IsAnswer, IsIndex}
 use Rattle.redirect_map.proofs.Seen.{all_more, all_before_map, all_at, all_from_places}
 use Rattle.redirect_map.proofs.Versions.{entry_at-own}
-use Rattle.garbage_list.specs.Least.{first_version, told_of, is_awake, HasLane}
+use Rattle.garbage_list.specs.Least.{told_of, is_awake, HasLane, IsNext}
 
 -- none before the first that passes does
 least_of : (test : Indexed → Bool) (es : List Indexed) (e : Indexed) → AreRising (map (λ (d : Indexed). d.listed.version) es) → find test es ≡ Some e → AllByRecursion (λ d. test d ≡ true → e.listed.version ≤ d.listed.version) es
@@ -23,10 +23,9 @@ least_of test (x ∷ xs) e rising found = at (test x) refl found (least_of test 
         ((λ on. omega arith), all_more (λ (y : Indexed). x.listed.version < y.listed.version) (λ y. test y ≡ true → x.listed.version ≤ y.listed.version) (λ y less on. omega arith) xs (all_before_map (λ w. x.listed.version < w) (λ (y : Indexed). y.listed.version) xs rising.0))
     at false here left rest = ((λ on. absurd (false≢true (sym here ∙ on))), rest left)
 
-pub record First (test : Indexed → Bool) (es : List Indexed) (v : ℕ) : Type 0 where
-  pub value : Some v ≡ first_version test es
-  pub stated : IsSomeAnd (entry_at es v) (λ e. test e ≡ true)
-  pub least : AllByRecursion (λ d. test d ≡ true → v ≤ d.listed.version) es
+-- where none passes
+pub none_next : (test : Indexed → Bool) (es : List Indexed) → find test es ≡ None → IsNext test es None
+none_next test es none = record { value = ap (option_map (λ (e : Indexed). e.listed.version)) (sym none); stated = tt; least = tt }
 
 -- ---- What is told of one version
 
@@ -111,12 +110,12 @@ own_version v (x ∷ xs) e found = at (eqb x.listed.version v) refl found (own_v
     at false is same rest = rest same
 
 -- the version of which it is told, where none before passes
-pub first_told : (test : Indexed → Bool) (es : List Indexed) (v w : ℕ) → AreRising (map (λ (d : Indexed). d.listed.version) es) → Some w ≡ told_of test v (entry_at es v) → AllByRecursion (λ d. d.listed.version < v → test d ≡ false) es → First test es w
+pub first_told : (test : Indexed → Bool) (es : List Indexed) (v w : ℕ) → AreRising (map (λ (d : Indexed). d.listed.version) es) → Some w ≡ told_of test v (entry_at es v) → AllByRecursion (λ d. d.listed.version < v → test d ≡ false) es → IsNext test es (Some w)
 first_told test es v w rising told below =
     let hit = found_told test v w (entry_at es v) told in
     let found : find test es ≡ Some hit.0 = find_least test v es hit.0 rising hit.1 hit.2 below in
     let own : hit.0.listed.version ≡ w = own_version v es hit.0 hit.1 ∙ sym hit.3 in
-    subst (First test es) own
+    subst (λ (n : ℕ). IsNext test es (Some n)) own
     (record {
       value = ap (option_map (λ (e : Indexed). e.listed.version)) (sym found);
       stated = subst (λ (n : ℕ). IsSomeAnd (entry_at es n) (λ e. test e ≡ true)) (sym (own_version v es hit.0 hit.1)) (rw hit.1 hit.2);
@@ -190,6 +189,6 @@ none_listed [] none = tt
 none_listed (x ∷ xs) none = absurd (omega arith)
 
 -- where there is no record, none is found
-pub nothing_first : (test : Indexed → Bool) (es : List Indexed) → eqb (length es) 0 ≡ true → None ≡ first_version test es
+pub nothing_first : (test : Indexed → Bool) (es : List Indexed) → eqb (length es) 0 ≡ true → find test es ≡ None
 nothing_first test [] none = refl
 nothing_first test (x ∷ xs) none = let e : length (x ∷ xs) ≡ 0 = eqb-true (length (x ∷ xs)) 0 none in absurd (omega arith)

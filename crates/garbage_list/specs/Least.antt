@@ -1,7 +1,10 @@
 -- The records within reach that have something to give up, or to put home.
-use Rattle.std.specs.Prelude.{◌≡◌, None, Some, if◌then◌else◌, ◌<◌, ℕ, Bool, false, ◌&&◌, List, length, find, Option, option_map, slice_index_or}
-use Rattle.redirect_map.specs.Index.{entry_at}
-use Rattle.wol_model.specs.Index.{listed_in, Indexed, has_due, has_going}
+use Rattle.std.specs.Prelude.{◌≡◌, None, Some, if◌then◌else◌, ◌<◌, ◌≤◌, ℕ, Bool, true, false, ◌&&◌, List, length, find, Option, option_map, IfSome, IsSomeAnd, slice_index_or}
+use Rattle.std.specs.List.{AllByRecursion}
+use Rattle.wol_model.specs.Index.{listed_in, Indexed}
+use Rattle.redirect_map.specs.declared.going.Sought.{Sought}
+use Rattle.redirect_map.specs.declared.going.Sought.TheVariants.{Due, Going}
+use Rattle.redirect_map.specs.Index.{entry_at, has_sought}
 
 -- there is a flag for the record's lane
 abbrev pub HasLane : List Bool → Indexed → Type 0
@@ -11,13 +14,17 @@ HasLane lanes e = e.listed.lane < length lanes
 abbrev pub is_awake : List Bool → Indexed → Bool
 is_awake lanes e = slice_index_or lanes e.listed.lane false
 
--- and a block of the record may go
+-- and a block of the record is one that is sought
+abbrev pub has_awake : Sought → List Bool → List Indexed → Indexed → Bool
+has_awake sought lanes es e = is_awake lanes e && has_sought sought (listed_in es) e.listed
+
+-- a block of the record may go
 abbrev pub can_go : List Bool → List Indexed → Indexed → Bool
-can_go lanes es e = is_awake lanes e && has_going (listed_in es) e.listed
+can_go = has_awake Going
 
 -- or is due
 abbrev pub can_go_home : List Bool → List Indexed → Indexed → Bool
-can_go_home lanes es e = is_awake lanes e && has_due (listed_in es) e.listed
+can_go_home = has_awake Due
 
 -- the version of the first record that passes
 abbrev pub first_version : (Indexed → Bool) → List Indexed → Option ℕ
@@ -31,3 +38,11 @@ told_of test version (Some e) = if test e then Some version else None
 
 abbrev pub IsTold : (Indexed → Bool) → List Indexed → ℕ → Option ℕ → Type 0
 IsTold test es version answer = answer ≡ told_of test version (entry_at es version)
+
+-- the answer is the version of the first record that passes, which is the least one, as the list rises; and none exactly
+-- where no record does
+pub record IsNext (test : Indexed → Bool) (es : List Indexed) (answer : Option ℕ) : Type 0 where
+  pub value : answer ≡ first_version test es
+  pub stated : IfSome answer (λ v. IsSomeAnd (entry_at es v) (λ e. test e ≡ true))
+  pub least : IfSome answer
+      (λ v. AllByRecursion (λ e. test e ≡ true → v ≤ e.listed.version) es)

@@ -13,19 +13,11 @@ use Rattle.block_cells.specs.Runs.{runs_after, runs_of}
 use Rattle.block_cells.proofs.Bits.{has_bit-above, has_bit-zero, some_bit, small_from_bits}
 use Rattle.block_cells.proofs.Marks.{marks_at, marked-marks_of, length-marks_of}
 use Rattle.redirect_map.specs.declared.entry.Entry.{Entry}
-use Rattle.redirect_map.specs.Index.{entry_of, cover_at, unhomed}
+use Rattle.redirect_map.specs.Index.{entry_of, cover_at, unhomed, IsNew}
 use Rattle.redirect_map.specs.Kept.{seen, keeps, one_keeps, IsInRange, IsUnhomed, AreLive, AreEntries}
 use Rattle.redirect_map.proofs.Seen.{all_before_map}
 use Rattle.redirect_map.proofs.Answering.{wide}
 use Rattle.redirect_map.proofs.Changing.{remarked-marks_of}
-
--- what a record that is added has to be
-pub record IsNew (r : Rec) : Type 0 where
-  pub some : 1 ≤ r.count
-  pub count : r.count ≤ 128
-  pub within : r.lbn + r.count ≤ 2 ^ 32
-  pub keeps : 0 < r.keep
-  pub keep_within : r.keep < 2 ^ r.count
 
 unfoldable pub new_entry : Rec → Entry
 new_entry r = record { «record» = r; homed = 0 }

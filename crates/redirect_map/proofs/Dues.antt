@@ -5,7 +5,7 @@ use Rattle.std.specs.Int.{bit_not, w128}
 use Rattle.std.specs.List.{AllByRecursion, list_any, range_with_len}
 use Rattle.std.proofs.lemmas.Bool.{cases_lt, lt-ltb, le-ltb, leb-true, eqb-true, and_parts, false≢true, false_from_ne_true}
 use Rattle.wol_model.specs.Log.{has_bit}
-use Rattle.wol_model.specs.Index.{listed_in, is_covered, is_due, goes, has_due, has_going}
+use Rattle.wol_model.specs.Index.{listed_in, is_covered, is_due, goes}
 use Rattle.block_cells.specs.declared.record.Rec.{Rec}
 use Rattle.block_cells.specs.declared.blocks.Cell.{Cell}
 use Rattle.block_cells.specs.Masks.{in_mask, IsMask}
@@ -15,10 +15,12 @@ use Rattle.block_cells.proofs.Meeting.{any_in_range}
 use Rattle.block_cells.proofs.Marks.{in_mask-bit, length-marks_of}
 use Rattle.block_cells.proofs.Stepping.{mask_within}
 use Rattle.redirect_map.specs.declared.entry.Entry.{Entry}
-use Rattle.redirect_map.specs.Index.{entry_at}
+use Rattle.redirect_map.specs.declared.going.Sought.{Sought}
+use Rattle.redirect_map.specs.declared.going.Sought.TheVariants.{Due, Going}
+use Rattle.redirect_map.specs.Index.{entry_at, is_sought, has_sought}
 use Rattle.redirect_map.specs.Kept.{seen, keeps, one_keeps, IsInRange, AreEntries}
 use Rattle.redirect_map.specs.Cells.{cell_of}
-use Rattle.redirect_map.specs.Marked.{is_home, is_due_of, goes_of, AreBegun}
+use Rattle.redirect_map.specs.Marked.{is_home, is_due_of, goes_of, sought_of, AreBegun}
 use Rattle.redirect_map.proofs.Seen.{IsAt, covers_seen, homed_seen, newer_at, older_at}
 use Rattle.redirect_map.proofs.Answering.{range_at, any_block, of_entry, covered_seen, live_entry}
 use Rattle.redirect_map.proofs.Celled.{held_at, alone_at, cell_there}
@@ -97,18 +99,17 @@ goes_same items F k e b es table at =
     either true false h o = refl
     either false n h o = refl
 
--- the answers
-pub due_told : (items : List Entry) (version k : ℕ) (e : Entry) (F : ℕ → Option Cell) (answer : Bool) → AreEntries items → ((x : ℕ) → F x ≡ cell_of items x) → IsAt items version k e
-    → answer ≡ list_any (λ b. is_due_of e b (F b)) (range_with_len e.record.lbn e.record.count) → IfSome (entry_at (map seen items) version) (λ d. answer ≡ has_due (listed_in (map seen items)) d.listed)
-due_told items version k e F answer es table at is = of_entry items version k e (λ d. answer ≡ has_due (listed_in (map seen items)) d.listed) at
-    (is ∙ any_block (λ b. is_due_of e b (F b)) (is_due (listed_in (map seen items)) (seen e).listed) (λ b. due_same items F k e b es table at.at) (range_with_len e.record.lbn e.record.count)
-    ∙ ap (λ (n : ℕ). list_any (is_due (listed_in (map seen items)) (seen e).listed) (range_with_len e.record.lbn n)) (sym (length-marks_of e.record.count e.record.keep)))
+pub sought_same : (sought : Sought) (items : List Entry) (F : ℕ → Option Cell) (k : ℕ) (e : Entry) (b : ℕ) → AreEntries items → ((x : ℕ) → F x ≡ cell_of items x) → slice_get items k ≡ Some e
+    → sought_of sought e b (F b) ≡ is_sought sought (listed_in (map seen items)) (seen e).listed b
+sought_same Due = due_same
+sought_same Going = goes_same
 
-pub going_told : (items : List Entry) (version k : ℕ) (e : Entry) (F : ℕ → Option Cell) (answer : Bool) → AreEntries items → ((x : ℕ) → F x ≡ cell_of items x) → IsAt items version k e
-    → answer ≡ list_any (λ b. goes_of e b (F b)) (range_with_len e.record.lbn e.record.count) → IfSome (entry_at (map seen items) version) (λ d. answer ≡ has_going (listed_in (map seen items)) d.listed)
-going_told items version k e F answer es table at is = of_entry items version k e (λ d. answer ≡ has_going (listed_in (map seen items)) d.listed) at
-    (is ∙ any_block (λ b. goes_of e b (F b)) (goes (listed_in (map seen items)) (seen e).listed) (λ b. goes_same items F k e b es table at.at) (range_with_len e.record.lbn e.record.count)
-    ∙ ap (λ (n : ℕ). list_any (goes (listed_in (map seen items)) (seen e).listed) (range_with_len e.record.lbn n)) (sym (length-marks_of e.record.count e.record.keep)))
+-- the answer
+pub sought_told : (sought : Sought) (items : List Entry) (version k : ℕ) (e : Entry) (F : ℕ → Option Cell) (answer : Bool) → AreEntries items → ((x : ℕ) → F x ≡ cell_of items x) → IsAt items version k e
+    → answer ≡ list_any (λ b. sought_of sought e b (F b)) (range_with_len e.record.lbn e.record.count) → IfSome (entry_at (map seen items) version) (λ d. answer ≡ has_sought sought (listed_in (map seen items)) d.listed)
+sought_told sought items version k e F answer es table at is = of_entry items version k e (λ d. answer ≡ has_sought sought (listed_in (map seen items)) d.listed) at
+    (is ∙ any_block (λ b. sought_of sought e b (F b)) (is_sought sought (listed_in (map seen items)) (seen e).listed) (λ b. sought_same sought items F k e b es table at.at) (range_with_len e.record.lbn e.record.count)
+    ∙ ap (λ (n : ℕ). list_any (is_sought sought (listed_in (map seen items)) (seen e).listed) (range_with_len e.record.lbn n)) (sym (length-marks_of e.record.count e.record.keep)))
 
 none_past : (e : Entry) (i : ℕ) (c : Option Cell) → IsInRange e → (ltb i e.record.count && goes_of e (e.record.lbn + i) c) ≡ goes_of e (e.record.lbn + i) c
 none_past e i c r = ⊎_elim

@@ -6,7 +6,7 @@ use Rattle.std.specs.List.{AllByRecursion, AllZip, list_any, remove, find}
 use Rattle.std.proofs.lemmas.Bool.{cases_lt, cases_eq, ne_eqb, eq-eqb, eqb-true, lt-ltb, leb-true, false≢true, and_parts, not-true, false_from_ne_true, or_left, or_right}
 use Rattle.wol_model.specs.Log.{has_bit}
 use Rattle.wol_model.specs.Extents.{has_newer, has_older}
-use Rattle.wol_model.specs.Index.{listed_in, Indexed, listed_covers, AreRising, is_due, goes, is_live, is_homed, block_numbers, has_due, has_going}
+use Rattle.wol_model.specs.Index.{listed_in, Indexed, listed_covers, AreRising, is_due, goes, is_live, is_homed, block_numbers}
 use Rattle.std.proofs.lemmas.Option.{none-some, same_Some}
 use Rattle.version_marks.specs.Marks.{IsWithin, AreApart}
 use Rattle.block_cells.specs.declared.record.Rec.{Rec}
@@ -16,16 +16,19 @@ use Rattle.block_cells.specs.Cells.{is_held, one_covers, take_one, version_in}
 use Rattle.block_cells.proofs.Bits.{has_bit-zero, has_bit-above, has_bit-and, has_bit-or, has_bit-without}
 use Rattle.block_cells.proofs.Stepping.{next_block, no_block, all_blocks}
 use Rattle.redirect_map.specs.declared.entry.Entry.{Entry}
-use Rattle.redirect_map.specs.Index.{cover_at}
+use Rattle.redirect_map.specs.declared.going.Sought.{Sought}
+use Rattle.redirect_map.specs.declared.going.Sought.TheVariants.{Due, Going}
+use Rattle.redirect_map.specs.Index.{cover_at, is_sought, has_sought, IsFirst}
 use Rattle.redirect_map.specs.Kept.{seen, keeps, one_keeps, is_version, IsInRange, IsUnhomed, AreEntries, NoneHomed}
 use Rattle.redirect_map.specs.Cells.{cell_of}
-use Rattle.redirect_map.specs.Marked.{there_bit, lane_bit, is_home, is_due_of, goes_of, IsMarked, AreMarked, AreThere, begins, AreBegun}
+use Rattle.redirect_map.specs.Marked.{there_bit, lane_bit, is_home, is_due_of, goes_of, sought_of, IsMarked, AreMarked, AreThere, begins, AreBegun}
 use Rattle.redirect_map.proofs.Seen.{all_from_places, all_of_map, all_before_map, all_at, covers_seen, homed_seen, newer_at, older_at}
 use Rattle.redirect_map.proofs.Answering.{wide, range_at, any_block, no_any, same_version}
 use Rattle.redirect_map.proofs.Adding.{new_entry}
 use Rattle.redirect_map.proofs.Search.{place_unique}
 use Rattle.redirect_map.proofs.Without.{none_homed_at}
 use Rattle.redirect_map.proofs.Celled.{cell_there, held_at, alone_at, one_there}
+use Rattle.redirect_map.proofs.Dues.{sought_same}
 
 -- ---- One record by its masks
 
@@ -103,30 +106,30 @@ held_after v (Some c) some = at (ltb 1 c.keepers) some
 
 -- another record gives up the blocks of a mask
 pub marked_less : (F G : ℕ → Option Cell) (e : Entry) (m n first mask : ℕ) → IsMarked F m e → IsWithin m n → ((b : ℕ) → G b ≡ cond (in_mask first mask b) (take_one (F b)) (F b))
-    → ((b : ℕ) → keeps e b ≡ true → is_some (G b) ≡ true) → ((b : ℕ) → in_mask first mask b ≡ true → begins false e b (F b) ≡ true → has_bit n (lane_bit true e.record.lane) ≡ true) → IsMarked G n e
+    → ((b : ℕ) → keeps e b ≡ true → is_some (G b) ≡ true) → ((b : ℕ) → in_mask first mask b ≡ true → begins false e b (F b) ≡ true → has_bit n (lane_bit Going e.record.lane) ≡ true) → IsMarked G n e
 marked_less F G e m n first mask before more less kept begun = record {
   there = more there_bit before.there;
   due = λ b on. at_due b (in_mask first mask b) (subst (λ (o : Option Cell). is_due_of e b o ≡ true) (less b) on);
   going = λ b on. at_going b (in_mask first mask b) refl (subst (λ (o : Option Cell). goes_of e b o ≡ true) (less b) on) (λ keep. subst (λ (o : Option Cell). is_some o ≡ true) (less b) (kept b keep));
 }
   where
-    at_due : (b : ℕ) (t : Bool) → is_due_of e b (cond t (take_one (F b)) (F b)) ≡ true → has_bit n (lane_bit false e.record.lane) ≡ true
-    at_due b false on = more (lane_bit false e.record.lane) (before.due b on)
+    at_due : (b : ℕ) (t : Bool) → is_due_of e b (cond t (take_one (F b)) (F b)) ≡ true → has_bit n (lane_bit Due e.record.lane) ≡ true
+    at_due b false on = more (lane_bit Due e.record.lane) (before.due b on)
     at_due b true on =
         let parts = and_parts (keeps e b) (is_held e.record.version false (take_one (F b)) && not (is_home e b)) on in
         let rest = and_parts (is_held e.record.version false (take_one (F b))) (not (is_home e b)) parts.1 in
-        more (lane_bit false e.record.lane) (before.due b (λ i. parts.0 i && (held_before e.record.version (F b) rest.0 i && rest.1 i)))
+        more (lane_bit Due e.record.lane) (before.due b (λ i. parts.0 i && (held_before e.record.version (F b) rest.0 i && rest.1 i)))
 
-    at_going : (b : ℕ) (t : Bool) → in_mask first mask b ≡ t → goes_of e b (cond t (take_one (F b)) (F b)) ≡ true → (keeps e b ≡ true → is_some (cond t (take_one (F b)) (F b)) ≡ true) → has_bit n (lane_bit true e.record.lane) ≡ true
-    at_going b false out on some = more (lane_bit true e.record.lane) (before.going b on)
+    at_going : (b : ℕ) (t : Bool) → in_mask first mask b ≡ t → goes_of e b (cond t (take_one (F b)) (F b)) ≡ true → (keeps e b ≡ true → is_some (cond t (take_one (F b)) (F b)) ≡ true) → has_bit n (lane_bit Going e.record.lane) ≡ true
+    at_going b false out on some = more (lane_bit Going e.record.lane) (before.going b on)
     at_going b true inside on some =
         let parts = and_parts (keeps e b) (not (is_held e.record.version false (take_one (F b))) || (is_home e b && is_held e.record.version true (take_one (F b)))) on in
         held (is_held e.record.version false (take_one (F b))) refl parts.0 parts.1
       where
-        held : (h : Bool) → is_held e.record.version false (take_one (F b)) ≡ h → keeps e b ≡ true → (not h || (is_home e b && is_held e.record.version true (take_one (F b)))) ≡ true → has_bit n (lane_bit true e.record.lane) ≡ true
+        held : (h : Bool) → is_held e.record.version false (take_one (F b)) ≡ h → keeps e b ≡ true → (not h || (is_home e b && is_held e.record.version true (take_one (F b)))) ≡ true → has_bit n (lane_bit Going e.record.lane) ≡ true
         held false off keep rest =
             let old : is_held e.record.version false (F b) ≡ false = held_after e.record.version (F b) (some keep) ∙ off in
-            more (lane_bit true e.record.lane) (before.going b (λ i. keep i && (not (old i) || (is_home e b && is_held e.record.version true (F b)))))
+            more (lane_bit Going e.record.lane) (before.going b (λ i. keep i && (not (old i) || (is_home e b && is_held e.record.version true (F b)))))
         held true on_held keep rest = begun b inside rest
 
 home_less : (r : Rec) (o n : Entry) (b : ℕ) → IsUnhomed r o n → in_mask o.record.lbn n.homed b ≡ (is_home o b && not (in_mask r.lbn r.keep b))
@@ -148,11 +151,11 @@ not_held v r o less = ap (λ (t : Bool). t && true) (ne_eqb r.version v (λ same
 
 -- a newer record is added
 pub marked_under : (r : Rec) (F G : ℕ → Option Cell) (o n : Entry) (m k : ℕ) → IsUnhomed r o n → o.record.version < r.version → IsMarked F m o → IsWithin m k
-    → ((b : ℕ) → G b ≡ cond (in_mask r.lbn r.keep b) (one_covers r.version (F b)) (F b)) → ((b : ℕ) → in_mask r.lbn r.keep b ≡ true → begins true o b (F b) ≡ true → has_bit k (lane_bit true o.record.lane) ≡ true) → IsMarked G k n
+    → ((b : ℕ) → G b ≡ cond (in_mask r.lbn r.keep b) (one_covers r.version (F b)) (F b)) → ((b : ℕ) → in_mask r.lbn r.keep b ≡ true → begins true o b (F b) ≡ true → has_bit k (lane_bit Going o.record.lane) ≡ true) → IsMarked G k n
 marked_under r F G o n m k h older before more covers begun = record {
   there = more there_bit before.there;
-  due = λ b on. subst (λ (d : Rec). has_bit k (lane_bit false d.lane) ≡ true) (sym h.same) (at_due b (in_mask r.lbn r.keep b) refl (sym (due_same b) ∙ on));
-  going = λ b on. subst (λ (d : Rec). has_bit k (lane_bit true d.lane) ≡ true) (sym h.same) (at_going b (in_mask r.lbn r.keep b) refl (sym (going_same b) ∙ on));
+  due = λ b on. subst (λ (d : Rec). has_bit k (lane_bit Due d.lane) ≡ true) (sym h.same) (at_due b (in_mask r.lbn r.keep b) refl (sym (due_same b) ∙ on));
+  going = λ b on. subst (λ (d : Rec). has_bit k (lane_bit Going d.lane) ≡ true) (sym h.same) (at_going b (in_mask r.lbn r.keep b) refl (sym (going_same b) ∙ on));
 }
   where
     due_same : (b : ℕ) → is_due_of n b (G b) ≡ (keeps o b && (is_held o.record.version false (cond (in_mask r.lbn r.keep b) (one_covers r.version (F b)) (F b)) && not (is_home o b && not (in_mask r.lbn r.keep b))))
@@ -163,26 +166,26 @@ marked_under r F G o n m k h older before more covers begun = record {
     going_same b = ap (λ (d : Rec). in_mask d.lbn d.keep b && (not (is_held d.version false (G b)) || (in_mask d.lbn n.homed b && is_held d.version true (G b)))) h.same
         ∙ (λ i. keeps o b && (not (is_held o.record.version false (covers b i)) || (home_less r o n b h i && is_held o.record.version true (covers b i))))
 
-    at_due : (b : ℕ) (t : Bool) → in_mask r.lbn r.keep b ≡ t → (keeps o b && (is_held o.record.version false (cond t (one_covers r.version (F b)) (F b)) && not (is_home o b && not t))) ≡ true → has_bit k (lane_bit false o.record.lane) ≡ true
+    at_due : (b : ℕ) (t : Bool) → in_mask r.lbn r.keep b ≡ t → (keeps o b && (is_held o.record.version false (cond t (one_covers r.version (F b)) (F b)) && not (is_home o b && not t))) ≡ true → has_bit k (lane_bit Due o.record.lane) ≡ true
     at_due b true inside on =
         let parts = and_parts (keeps o b) (is_held o.record.version false (one_covers r.version (F b)) && not (is_home o b && false)) on in
         let held = and_parts (is_held o.record.version false (one_covers r.version (F b))) (not (is_home o b && false)) parts.1 in
         absurd (false≢true (sym (not_held o.record.version r (F b) older) ∙ held.0))
-    at_due b false out on = more (lane_bit false o.record.lane) (before.due b (ap (λ (t : Bool). keeps o b && (is_held o.record.version false (F b) && not t)) (sym (and_true (is_home o b))) ∙ on))
+    at_due b false out on = more (lane_bit Due o.record.lane) (before.due b (ap (λ (t : Bool). keeps o b && (is_held o.record.version false (F b) && not t)) (sym (and_true (is_home o b))) ∙ on))
 
     at_going : (b : ℕ) (t : Bool) → in_mask r.lbn r.keep b ≡ t → (keeps o b && (not (is_held o.record.version false (cond t (one_covers r.version (F b)) (F b))) || ((is_home o b && not t) && is_held o.record.version true (cond t (one_covers r.version (F b)) (F b))))) ≡ true
-        → has_bit k (lane_bit true o.record.lane) ≡ true
+        → has_bit k (lane_bit Going o.record.lane) ≡ true
     at_going b true inside on =
         let parts = and_parts (keeps o b) (not (is_held o.record.version false (one_covers r.version (F b))) || ((is_home o b && false) && is_held o.record.version true (one_covers r.version (F b)))) on in
         held (is_held o.record.version false (F b)) refl parts.0
       where
-        held : (t : Bool) → is_held o.record.version false (F b) ≡ t → keeps o b ≡ true → has_bit k (lane_bit true o.record.lane) ≡ true
+        held : (t : Bool) → is_held o.record.version false (F b) ≡ t → keeps o b ≡ true → has_bit k (lane_bit Going o.record.lane) ≡ true
         held true is keep = begun b inside is
-        held false is keep = more (lane_bit true o.record.lane) (before.going b (λ i. keep i && (not (is i) || (is_home o b && is_held o.record.version true (F b)))))
-    at_going b false out on = more (lane_bit true o.record.lane) (before.going b (ap (λ (t : Bool). keeps o b && (not (is_held o.record.version false (F b)) || (t && is_held o.record.version true (F b)))) (sym (and_true (is_home o b))) ∙ on))
+        held false is keep = more (lane_bit Going o.record.lane) (before.going b (λ i. keep i && (not (is i) || (is_home o b && is_held o.record.version true (F b)))))
+    at_going b false out on = more (lane_bit Going o.record.lane) (before.going b (ap (λ (t : Bool). keeps o b && (not (is_held o.record.version false (F b)) || (t && is_held o.record.version true (F b)))) (sym (and_true (is_home o b))) ∙ on))
 
 -- the record that was added
-pub marked_new : (r : Rec) (F G : ℕ → Option Cell) (m : ℕ) → ((b : ℕ) → G b ≡ cond (in_mask r.lbn r.keep b) (one_covers r.version (F b)) (F b)) → has_bit m there_bit ≡ true → has_bit m (lane_bit false r.lane) ≡ true → IsMarked G m (new_entry r)
+pub marked_new : (r : Rec) (F G : ℕ → Option Cell) (m : ℕ) → ((b : ℕ) → G b ≡ cond (in_mask r.lbn r.keep b) (one_covers r.version (F b)) (F b)) → has_bit m there_bit ≡ true → has_bit m (lane_bit Due r.lane) ≡ true → IsMarked G m (new_entry r)
 unfolding new_entry
 marked_new r F G m covers there due = record {
   there = there;
@@ -300,7 +303,7 @@ are_there items F M marked k e at = (marked k e at).there
 -- a record is added
 pub marks_added : (r : Rec) (old new all : List Entry) (F G : ℕ → Option Cell) (M N P : ℕ → ℕ) (mask : ℕ) → AllZip (IsUnhomed r) old new → all ≡ new ++ new_entry r ∷ [] → AllByRecursion (λ (d : Indexed). d.listed.version < r.version) (map seen old)
     → AreMarked old F M → ((v : ℕ) → IsWithin (M v) (N v)) → ((b : ℕ) → in_mask r.lbn r.keep b ≡ true → AreBegun true old F N b) → ((b : ℕ) → G b ≡ cond (in_mask r.lbn r.keep b) (one_covers r.version (F b)) (F b))
-    → ((v : ℕ) → P v ≡ cond (eqb v r.version) mask (cond (ltb v r.version) (N v) 0)) → has_bit mask there_bit ≡ true → has_bit mask (lane_bit false r.lane) ≡ true → AreMarked all G P
+    → ((v : ℕ) → P v ≡ cond (eqb v r.version) mask (cond (ltb v r.version) (N v) 0)) → has_bit mask there_bit ≡ true → has_bit mask (lane_bit Due r.lane) ≡ true → AreMarked all G P
 unfolding new_entry
 marks_added r old new all F G M N P mask zipped is below marked more begun covers pushed there due = subst (λ (es : List Entry). AreMarked es G P) (sym is) (λ j d found. ⊎_elim
     (λ before.
@@ -323,52 +326,22 @@ others_less items new F G M N first mask j i d marked more begun less table foun
 
 -- ---- What has no mark
 
-live_is_held : (items : List Entry) (k : ℕ) (e : Entry) (b : ℕ) → AreEntries items → slice_get items k ≡ Some e → is_live (listed_in (map seen items)) (seen e).listed b ≡ is_held e.record.version false (cell_of items b)
-live_is_held items k e b es at =
-    (λ i. covers_seen e b (range_at items k e es at) i && not (newer_at items k e b es.rising es.ranges at i)) ∙ sym (held_at items k e b es.rising at)
-
-due_of : (items : List Entry) (F : ℕ → Option Cell) (k : ℕ) (e : Entry) (b : ℕ) → AreEntries items → ((x : ℕ) → F x ≡ cell_of items x) → slice_get items k ≡ Some e → is_due (listed_in (map seen items)) (seen e).listed b ≡ true → is_due_of e b (F b) ≡ true
-due_of items F k e b es table at due =
-    let parts = and_parts (is_live (listed_in (map seen items)) (seen e).listed b) (not (is_homed (seen e).listed b)) due in
-    let covers = and_parts ((cover_at (seen e)).covers b) (not (has_newer (listed_covers (listed_in (map seen items))) e.record.version b)) parts.0 in
-    let keep : keeps e b ≡ true = sym (covers_seen e b (range_at items k e es at)) ∙ covers.0 in
-    let held : is_held e.record.version false (F b) ≡ true = ap (is_held e.record.version false) (table b) ∙ sym (live_is_held items k e b es at) ∙ parts.0 in
-    let away : not (is_home e b) ≡ true = ap not (sym (homed_seen e b (range_at items k e es at))) ∙ parts.1 in
-    λ i. keep i && (held i && away i)
-
-going_of : (items : List Entry) (F : ℕ → Option Cell) (k : ℕ) (e : Entry) (b : ℕ) → AreEntries items → ((x : ℕ) → F x ≡ cell_of items x) → slice_get items k ≡ Some e → goes (listed_in (map seen items)) (seen e).listed b ≡ true → goes_of e b (F b) ≡ true
-going_of items F k e b es table at go =
-    let r = range_at items k e es at in
-    let parts = and_parts ((cover_at (seen e)).covers b) (has_newer (listed_covers (listed_in (map seen items))) e.record.version b || (is_homed (seen e).listed b && not (has_older (listed_covers (listed_in (map seen items))) e.record.version b))) go in
-    let keep : keeps e b ≡ true = sym (covers_seen e b r) ∙ parts.0 in
-    let held : is_held e.record.version false (F b) ≡ not (one_keeps (drop (suc k) items) b) = ap (is_held e.record.version false) (table b) ∙ held_at items k e b es.rising at ∙ ap (λ (t : Bool). t && not (one_keeps (drop (suc k) items) b)) keep in
-    let alone : is_held e.record.version true (F b) ≡ (not (one_keeps (drop (suc k) items) b) && not (one_keeps (take k items) b)) =
-    ap (is_held e.record.version true) (table b) ∙ alone_at items k e b es.rising at ∙ ap (λ (t : Bool). t && not (one_keeps (take k items) b)) (held_at items k e b es.rising at ∙ ap (λ (t : Bool). t && not (one_keeps (drop (suc k) items) b)) keep) in
-    let rest : (one_keeps (drop (suc k) items) b || (is_home e b && not (one_keeps (take k items) b))) ≡ true =
-    (λ i. sym (newer_at items k e b es.rising es.ranges at) i || (sym (homed_seen e b r) i && not (sym (older_at items k e b es.rising es.ranges at) i))) ∙ parts.1 in
-    (λ i. keep i && (not (held i) || (is_home e b && alone i))) ∙ either (one_keeps (drop (suc k) items) b) (is_home e b) (one_keeps (take k items) b) rest
-  where
-    either : (n h o : Bool) → (n || (h && not o)) ≡ true → (true && (not (not n) || (h && (not n && not o)))) ≡ true
-    either true h o some = refl
-    either false h o some = some
-
 no_blocks : (p : ℕ → Bool) (bs : List ℕ) → ((b : ℕ) → p b ≡ true → ⊥) → list_any p bs ≡ false
 no_blocks p bs none = any_block p (λ b. false) (λ b. false_from_ne_true (p b) (none b)) bs ∙ no_any bs
 
 both_bits : (m bits i : ℕ) → AreApart m bits → has_bit m i ≡ true → has_bit bits i ≡ true → ⊥
 both_bits m bits i apart on wanted = false≢true (sym (apart i) ∙ (λ j. on j && wanted j))
 
-pub none_due : (items : List Entry) (F : ℕ → Option Cell) (M : ℕ → ℕ) (lanes : List Bool) (bits : ℕ) (C : ℕ → Type 0) → AreEntries items → ((x : ℕ) → F x ≡ cell_of items x) → AreMarked items F M
-    → ((lane : ℕ) → slice_index_or lanes lane false ≡ true → has_bit bits (lane_bit false lane) ≡ true) → ((w : ℕ) → C w → AreApart (M w) bits)
-    → (k : ℕ) (e : Entry) → slice_get items k ≡ Some e → C e.record.version → slice_index_or lanes e.record.lane false ≡ true → has_due (listed_in (map seen items)) (seen e).listed ≡ false
-none_due items F M lanes bits C es table marked wanted apart k e at asked awake = no_blocks (is_due (listed_in (map seen items)) (seen e).listed) (block_numbers (seen e).listed)
-    (λ b due. both_bits (M e.record.version) bits (lane_bit false e.record.lane) (apart e.record.version asked) ((marked k e at).due b (due_of items F k e b es table at due)) (wanted e.record.lane awake))
+marked_sought : (sought : Sought) (known : ℕ → Option Cell) (mask b : ℕ) (e : Entry) → IsMarked known mask e → sought_of sought e b (known b) ≡ true → has_bit mask (lane_bit sought e.record.lane) ≡ true
+marked_sought Due known mask b e marked on = marked.due b on
+marked_sought Going known mask b e marked on = marked.going b on
 
-pub none_going : (items : List Entry) (F : ℕ → Option Cell) (M : ℕ → ℕ) (lanes : List Bool) (bits : ℕ) (C : ℕ → Type 0) → AreEntries items → ((x : ℕ) → F x ≡ cell_of items x) → AreMarked items F M
-    → ((lane : ℕ) → slice_index_or lanes lane false ≡ true → has_bit bits (lane_bit true lane) ≡ true) → ((w : ℕ) → C w → AreApart (M w) bits)
-    → (k : ℕ) (e : Entry) → slice_get items k ≡ Some e → C e.record.version → slice_index_or lanes e.record.lane false ≡ true → has_going (listed_in (map seen items)) (seen e).listed ≡ false
-none_going items F M lanes bits C es table marked wanted apart k e at asked awake = no_blocks (goes (listed_in (map seen items)) (seen e).listed) (block_numbers (seen e).listed)
-    (λ b go. both_bits (M e.record.version) bits (lane_bit true e.record.lane) (apart e.record.version asked) ((marked k e at).going b (going_of items F k e b es table at go)) (wanted e.record.lane awake))
+none_sought : (sought : Sought) (items : List Entry) (F : ℕ → Option Cell) (M : ℕ → ℕ) (lanes : List Bool) (bits : ℕ) (C : ℕ → Type 0) → AreEntries items → ((x : ℕ) → F x ≡ cell_of items x) → AreMarked items F M
+    → ((lane : ℕ) → slice_index_or lanes lane false ≡ true → has_bit bits (lane_bit sought lane) ≡ true) → ((w : ℕ) → C w → AreApart (M w) bits)
+    → (k : ℕ) (e : Entry) → slice_get items k ≡ Some e → C e.record.version → slice_index_or lanes e.record.lane false ≡ true → has_sought sought (listed_in (map seen items)) (seen e).listed ≡ false
+none_sought sought items F M lanes bits C es table marked wanted apart k e at asked awake = no_blocks (is_sought sought (listed_in (map seen items)) (seen e).listed) (block_numbers (seen e).listed)
+    (λ b on. both_bits (M e.record.version) bits (lane_bit sought e.record.lane) (apart e.record.version asked)
+    (marked_sought sought F (M e.record.version) b e (marked k e at) (sought_same sought items F k e b es table at ∙ on)) (wanted e.record.lane awake))
 
 -- in the words of contracts
 pub all_seen : (items : List Entry) (P : Indexed → Type 0) → ((k : ℕ) (e : Entry) → slice_get items k ≡ Some e → P (seen e)) → AllByRecursion P (map seen items)
@@ -416,13 +389,13 @@ begun_not covered items F M b c d rising is found off k e at starts =
     absurd (false≢true (sym off ∙ ap (λ (x : Entry). covered || (eqb c.keepers 2 && is_home x b)) g ∙ (begun_version covered e b c on).1))
 
 pub begun_marked : (covered : Bool) (items : List Entry) (F : ℕ → Option Cell) (M N : ℕ → ℕ) (b : ℕ) (c : Cell) (d : Entry) → AreRising (map (λ (x : Entry). x.record.version) items) → F b ≡ Some c → Some d ≡ find (is_version c.version) items → AreThere items M
-    → (has_bit (M c.version) there_bit ≡ true → has_bit (N c.version) (lane_bit true d.record.lane) ≡ true) → AreBegun covered items F N b
+    → (has_bit (M c.version) there_bit ≡ true → has_bit (N c.version) (lane_bit Going d.record.lane) ≡ true) → AreBegun covered items F N b
 begun_marked covered items F M N b c d rising is found there going k e at starts =
     let on = subst (λ (x : Option Cell). begins covered e b x ≡ true) is starts in
     let hit = begun_entry covered items k e b c (Some d) rising at on found in
     let g : d ≡ e = cc in
     let own = (begun_version covered e b c on).0 in
-    ap (λ (v : ℕ). has_bit (N v) (lane_bit true e.record.lane)) own ∙ ap (λ (x : Entry). has_bit (N c.version) (lane_bit true x.record.lane)) (sym g) ∙ going (ap (λ (v : ℕ). has_bit (M v) there_bit) (sym own) ∙ there k e at)
+    ap (λ (v : ℕ). has_bit (N v) (lane_bit Going e.record.lane)) own ∙ ap (λ (x : Entry). has_bit (N c.version) (lane_bit Going x.record.lane)) (sym g) ∙ going (ap (λ (v : ℕ). has_bit (M v) there_bit) (sym own) ∙ there k e at)
 
 -- a mask with a bit more
 pub more_with : (M N : ℕ → ℕ) (v mask new bit w : ℕ) → mask ≡ M v → ((u : ℕ) → N u ≡ cond (eqb u v && not (eqb (M u) 0)) new (M u)) → ((j : ℕ) → has_bit new j ≡ (has_bit mask j || eqb j bit)) → IsWithin (M w) (N w)
@@ -446,44 +419,30 @@ pub begun_next : (covered : Bool) (items : List Entry) (F : ℕ → Option Cell)
 begun_next covered items F M N first mask i b more before here on = at (in_mask first mask b && ltb b (first + i)) (eqb b (first + i)) refl refl (next_block first mask i b ∙ on)
   where
     at : (s t : Bool) → (in_mask first mask b && ltb b (first + i)) ≡ s → eqb b (first + i) ≡ t → (s || (has_bit mask i && t)) ≡ true → AreBegun covered items F N b
-    at true t is same some = λ k e found starts. more e.record.version (lane_bit true e.record.lane) (before is k e found starts)
+    at true t is same some = λ k e found starts. more e.record.version (lane_bit Going e.record.lane) (before is k e found starts)
     at false true is same some = subst (λ (x : ℕ). AreBegun covered items F N x) (sym (eqb-true b (first + i) same)) (here (and_parts (has_bit mask i) true some).0)
     at false false is same some = absurd (false≢true (and_parts (has_bit mask i) false some).1)
 
 pub begun_all : (covered : Bool) (items : List Entry) (F : ℕ → Option Cell) (M : ℕ → ℕ) (first mask count i b : ℕ) → mask < 2 ^ count → count ≤ i → ((in_mask first mask b && ltb b (first + i)) ≡ true → AreBegun covered items F M b) → in_mask first mask b ≡ true → AreBegun covered items F M b
 begun_all covered items F M first mask count i b fits done before on = before (all_blocks first mask count i b fits done ∙ on)
 
-pub least_due : (items : List Entry) (F : ℕ → Option Cell) (M : ℕ → ℕ) (lanes : List Bool) (bits from : ℕ) (o : Option ℕ) → AreEntries items → ((x : ℕ) → F x ≡ cell_of items x) → AreMarked items F M → ((lane : ℕ) → slice_index_or lanes lane false ≡ true → has_bit bits (lane_bit false lane) ≡ true)
-    → IfSome o (λ v. (w : ℕ) → from ≤ w → w < v → AreApart (M w) bits)
-    → IfSome o (λ v. AllByRecursion (λ e. from ≤ e.listed.version → e.listed.version < v → slice_index_or lanes e.listed.lane false ≡ true → has_due (listed_in (map seen items)) e.listed ≡ false) (map seen items))
-least_due items F M lanes bits from None es table marked wanted apart = tt
-least_due items F M lanes bits from (Some v) es table marked wanted apart =
-    all_seen items (λ e. from ≤ e.listed.version → e.listed.version < v → slice_index_or lanes e.listed.lane false ≡ true → has_due (listed_in (map seen items)) e.listed ≡ false)
-    (λ k e at start less awake. none_due items F M lanes bits (λ w. (from ≤ w) × (w < v)) es table marked wanted (λ w c. apart w c.0 c.1) k e at (start, less) awake)
-
-pub no_due : (items : List Entry) (F : ℕ → Option Cell) (M : ℕ → ℕ) (lanes : List Bool) (bits from : ℕ) (o : Option ℕ) → AreEntries items → ((x : ℕ) → F x ≡ cell_of items x) → AreMarked items F M → ((lane : ℕ) → slice_index_or lanes lane false ≡ true → has_bit bits (lane_bit false lane) ≡ true)
-    → IfNone o ((w : ℕ) → from ≤ w → AreApart (M w) bits)
-    → IfNone o (AllByRecursion (λ e. from ≤ e.listed.version → slice_index_or lanes e.listed.lane false ≡ true → has_due (listed_in (map seen items)) e.listed ≡ false) (map seen items))
-no_due items F M lanes bits from (Some v) es table marked wanted apart = tt
-no_due items F M lanes bits from None es table marked wanted apart =
-    all_seen items (λ e. from ≤ e.listed.version → slice_index_or lanes e.listed.lane false ≡ true → has_due (listed_in (map seen items)) e.listed ≡ false)
-    (λ k e at start awake. none_due items F M lanes bits (λ w. from ≤ w) es table marked wanted apart k e at start awake)
-
-pub least_going : (items : List Entry) (F : ℕ → Option Cell) (M : ℕ → ℕ) (lanes : List Bool) (bits from : ℕ) (o : Option ℕ) → AreEntries items → ((x : ℕ) → F x ≡ cell_of items x) → AreMarked items F M → ((lane : ℕ) → slice_index_or lanes lane false ≡ true → has_bit bits (lane_bit true lane) ≡ true)
-    → IfSome o (λ v. (w : ℕ) → from ≤ w → w < v → AreApart (M w) bits)
-    → IfSome o (λ v. AllByRecursion (λ e. from ≤ e.listed.version → e.listed.version < v → slice_index_or lanes e.listed.lane false ≡ true → has_going (listed_in (map seen items)) e.listed ≡ false) (map seen items))
-least_going items F M lanes bits from None es table marked wanted apart = tt
-least_going items F M lanes bits from (Some v) es table marked wanted apart =
-    all_seen items (λ e. from ≤ e.listed.version → e.listed.version < v → slice_index_or lanes e.listed.lane false ≡ true → has_going (listed_in (map seen items)) e.listed ≡ false)
-    (λ k e at start less awake. none_going items F M lanes bits (λ w. (from ≤ w) × (w < v)) es table marked wanted (λ w c. apart w c.0 c.1) k e at (start, less) awake)
-
-pub no_going : (items : List Entry) (F : ℕ → Option Cell) (M : ℕ → ℕ) (lanes : List Bool) (bits from : ℕ) (o : Option ℕ) → AreEntries items → ((x : ℕ) → F x ≡ cell_of items x) → AreMarked items F M → ((lane : ℕ) → slice_index_or lanes lane false ≡ true → has_bit bits (lane_bit true lane) ≡ true)
-    → IfNone o ((w : ℕ) → from ≤ w → AreApart (M w) bits)
-    → IfNone o (AllByRecursion (λ e. from ≤ e.listed.version → slice_index_or lanes e.listed.lane false ≡ true → has_going (listed_in (map seen items)) e.listed ≡ false) (map seen items))
-no_going items F M lanes bits from (Some v) es table marked wanted apart = tt
-no_going items F M lanes bits from None es table marked wanted apart =
-    all_seen items (λ e. from ≤ e.listed.version → slice_index_or lanes e.listed.lane false ≡ true → has_going (listed_in (map seen items)) e.listed ≡ false)
-    (λ k e at start awake. none_going items F M lanes bits (λ w. from ≤ w) es table marked wanted apart k e at start awake)
+-- the answer of the marks
+pub first_sought : (sought : Sought) (items : List Entry) (F : ℕ → Option Cell) (M : ℕ → ℕ) (lanes : List Bool) (bits start : ℕ) (o : Option ℕ) → AreEntries items → ((x : ℕ) → F x ≡ cell_of items x) → AreMarked items F M
+    → ((lane : ℕ) → slice_index_or lanes lane false ≡ true → has_bit bits (lane_bit sought lane) ≡ true)
+    → IfSome o (λ v. (start ≤ v) × (bit_and (M v) bits ≡ 0 → ⊥)) → IfSome o (λ v. (w : ℕ) → start ≤ w → w < v → AreApart (M w) bits) → IfNone o ((w : ℕ) → start ≤ w → AreApart (M w) bits)
+    → IsFirst sought lanes (map seen items) start o
+first_sought sought items F M lanes bits start None es table marked wanted found least none = record {
+  from = tt;
+  least = tt;
+  none = all_seen items (λ e. start ≤ e.listed.version → slice_index_or lanes e.listed.lane false ≡ true → has_sought sought (listed_in (map seen items)) e.listed ≡ false)
+      (λ k e at late awake. none_sought sought items F M lanes bits (λ w. start ≤ w) es table marked wanted none k e at late awake);
+}
+first_sought sought items F M lanes bits start (Some v) es table marked wanted found least none = record {
+  from = found.0;
+  least = all_seen items (λ e. start ≤ e.listed.version → e.listed.version < v → slice_index_or lanes e.listed.lane false ≡ true → has_sought sought (listed_in (map seen items)) e.listed ≡ false)
+      (λ k e at late less awake. none_sought sought items F M lanes bits (λ w. (start ≤ w) × (w < v)) es table marked wanted (λ w c. least w c.0 c.1) k e at (late, less) awake);
+  none = tt;
+}
 
 -- the same marks
 marked_same : (items : List Entry) (F G : ℕ → Option Cell) (M N : ℕ → ℕ) → ((b : ℕ) → G b ≡ F b) → ((v : ℕ) → N v ≡ M v) → AreMarked items F M → AreMarked items G N
@@ -514,7 +473,7 @@ under_from first keep newer_first newer_keep moved b fits moved_fits bits none o
 
 -- a record whose blocks all have a newer record has none that is due
 pub marked_beneath : (known : ℕ → Option Cell) (mask version : ℕ) (e : Entry) → (e.record.version ≡ version → ⊥) → ((b : ℕ) → keeps e b ≡ true → version_in (known b) ≡ Some version)
-    → has_bit mask there_bit ≡ true → has_bit mask (lane_bit true e.record.lane) ≡ true → IsMarked known mask e
+    → has_bit mask there_bit ≡ true → has_bit mask (lane_bit Going e.record.lane) ≡ true → IsMarked known mask e
 marked_beneath known mask version e other newer there going_ = record {
   there = there;
   due = λ b on. absurd (false≢true (sym (by (known b) (newer b (and_parts (keeps e b) (is_held e.record.version false (known b) && not (is_home e b)) on).0))

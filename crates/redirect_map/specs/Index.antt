@@ -1,12 +1,15 @@
 -- What contracts see of an index: the records of a volume by rising version, each with its place in
 -- a log and its kept and homed blocks.
-use Rattle.std.specs.Prelude.{⊤, ◌≡◌, ◌<◌, ◌≤◌, ◌^◌, ◌+◌, ℕ, Bool, true, not, ◌&&◌, ◌==◌, List, map, find, length, Option, None, Some, IsSome, if◌then◌else◌}
-use Rattle.std.specs.List.{AllByRecursion}
+use Rattle.std.specs.Prelude.{⊤, ◌≡◌, ◌<◌, ◌≤◌, ◌^◌, ◌+◌, ◌++◌, ◌∷◌, [], ℕ, Bool, true, false, not, ◌&&◌, ◌==◌, List, map, find, length, Option, None, Some, IsSome, IfSome, IfNone, slice_index_or, if◌then◌else◌}
+use Rattle.std.specs.List.{AllByRecursion, list_any}
 use Rattle.wol_model.specs.Log.{marks_of}
 use Rattle.wol_model.specs.Extents.{Cover, remarked}
-use Rattle.wol_model.specs.Index.{Listed, Indexed, listed_in, AreRising, IsListed, cover_of, keeps_a_block}
+use Rattle.wol_model.specs.Index.{Listed, Indexed, listed_in, AreRising, IsListed, cover_of, keeps_a_block, is_due, goes, block_numbers}
 use Rattle.block_cells.specs.declared.record.Rec.{Rec}
 use Rattle.block_cells.specs.Masks.{in_mask}
+use Rattle.block_cells.specs.Runs.{runs_of}
+use Rattle.redirect_map.specs.declared.going.Sought.{Sought}
+use Rattle.redirect_map.specs.declared.going.Sought.TheVariants.{Due, Going}
 
 -- the records by rising version, and for how many runs of kept blocks there is room
 pub record Contents : Type 0 where
@@ -69,6 +72,26 @@ unhomed c e = record e {
       { homed = remarked e.listed.first e.listed.homed (λ b m. m && not (c.covers b)) };
 }
 
+-- what a record that is added has to be: 1 to 128 blocks below block number 2^32, of which one is kept
+pub record IsNew (r : Rec) : Type 0 where
+  pub some : 1 ≤ r.count
+  pub count : r.count ≤ 128
+  pub within : r.lbn + r.count ≤ 2 ^ 32
+  pub keeps : 0 < r.keep
+  pub keep_within : r.keep < 2 ^ r.count
+
+-- the record can be added: its version is above all others, and there is room for its runs
+pub record CanAdd (old : Contents) (r : Rec) : Type 0 where
+  pub newest : AllByRecursion (λ e. e.listed.version < r.version) old.entries
+  pub is_new : IsNew r
+  pub reserved : runs_of (marks_of r.count r.keep) ≤ old.reserved
+
+-- the record is listed behind all others, in which what it keeps is homed no more; it took no more room than that
+pub record IsAdded (old new : Contents) (r : Rec) : Type 0 where
+  pub entries : new.entries
+      ≡ map (unhomed (cover_at (entry_of r 0))) old.entries ++ entry_of r 0 ∷ []
+  pub room : old.reserved ≤ new.reserved + runs_of (marks_of r.count r.keep)
+
 -- the homed blocks are those of the mask
 abbrev pub with_homed : ℕ → Indexed → Indexed
 with_homed mask e =
@@ -95,3 +118,24 @@ pub record IsEntry (es : List Listed) (e : Listed) : Type 0 where
 pub record IsIndex (es : List Indexed) : Type 0 where
   pub rising : AreRising (map (λ e. e.listed.version) es)
   pub each : AllByRecursion (λ e. IsEntry (listed_in es) e.listed) es
+
+-- the block of the record is one that is sought: it is due, or may go
+abbrev pub is_sought : Sought → List Listed → Listed → ℕ → Bool
+is_sought Due = is_due
+is_sought Going = goes
+
+-- the record has such a block
+abbrev pub has_sought : Sought → List Listed → Listed → Bool
+has_sought sought es e = list_any (is_sought sought es e) (block_numbers e)
+
+-- the answer is no version before `start`, and no record on these lanes from there on has what is sought, before the
+-- version that is answered, or at all
+pub record IsFirst (sought : Sought) (lanes : List Bool) (es : List Indexed) (start : ℕ) (answer : Option ℕ) : Type 0 where
+  pub from : IfSome answer (λ v. start ≤ v)
+  pub least : IfSome answer (λ v. AllByRecursion
+      (λ e. start ≤ e.listed.version → e.listed.version < v
+      → slice_index_or lanes e.listed.lane false ≡ true
+      → has_sought sought (listed_in es) e.listed ≡ false) es)
+  pub none : IfNone answer (AllByRecursion
+      (λ e. start ≤ e.listed.version → slice_index_or lanes e.listed.lane false ≡ true
+      → has_sought sought (listed_in es) e.listed ≡ false) es)

@@ -7,6 +7,8 @@ use Rattle.block_cells.specs.declared.blocks.Cell.{Cell}
 use Rattle.block_cells.specs.Masks.{in_mask}
 use Rattle.block_cells.specs.Cells.{is_held, take_one}
 use Rattle.redirect_map.specs.declared.entry.Entry.{Entry}
+use Rattle.redirect_map.specs.declared.going.Sought.{Sought}
+use Rattle.redirect_map.specs.declared.going.Sought.TheVariants.{Due, Going}
 use Rattle.redirect_map.specs.Kept.{keeps}
 
 -- bits of a version's mask: the record is there; it may have a due block; it may have a block that
@@ -14,9 +16,9 @@ use Rattle.redirect_map.specs.Kept.{keeps}
 abbrev pub there_bit : ℕ
 there_bit = 126
 
-abbrev pub lane_bit : (going : Bool) → ℕ → ℕ
-lane_bit false lane = lane % 63
-lane_bit true lane = 63 + lane % 63
+abbrev pub lane_bit : Sought → ℕ → ℕ
+lane_bit Due lane = lane % 63
+lane_bit Going lane = 63 + lane % 63
 
 -- the block is noted to be home in the record
 abbrev pub is_home : Entry → ℕ → Bool
@@ -31,13 +33,18 @@ abbrev pub goes_of : Entry → ℕ → Option Cell → Bool
 goes_of e b c = keeps e b
     && (not (is_held e.record.version false c) || (is_home e b && is_held e.record.version true c))
 
+-- or is what is sought
+abbrev pub sought_of : Sought → Entry → ℕ → Option Cell → Bool
+sought_of Due = is_due_of
+sought_of Going = goes_of
+
 -- a version's mask has the bits that its entry needs
 pub record IsMarked (known : ℕ → Option Cell) (mask : ℕ) (e : Entry) : Type 0 where
   pub there : has_bit mask there_bit ≡ true
   pub due : (b : ℕ) → is_due_of e b (known b) ≡ true
-      → has_bit mask (lane_bit false e.record.lane) ≡ true
+      → has_bit mask (lane_bit Due e.record.lane) ≡ true
   pub going : (b : ℕ) → goes_of e b (known b) ≡ true
-      → has_bit mask (lane_bit true e.record.lane) ≡ true
+      → has_bit mask (lane_bit Going e.record.lane) ≡ true
 
 abbrev pub AreMarked : List Entry → (ℕ → Option Cell) → (ℕ → ℕ) → Type 0
 AreMarked es known masks =
@@ -58,7 +65,7 @@ begins false e b c = is_home e b && is_held e.record.version true (take_one c)
 abbrev pub AreBegun : Bool → List Entry → (ℕ → Option Cell) → (ℕ → ℕ) → ℕ → Type 0
 AreBegun covered es known masks b = (k : ℕ) (e : Entry) → slice_get es k ≡ Some e
     → begins covered e b (known b) ≡ true
-    → has_bit (masks e.record.version) (lane_bit true e.record.lane) ≡ true
+    → has_bit (masks e.record.version) (lane_bit Going e.record.lane) ≡ true
 
 -- no mask loses a bit
 abbrev pub KeepsBits : Contents → Contents → Type 0

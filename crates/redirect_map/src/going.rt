@@ -5,11 +5,20 @@ ghost use Rattle.std.specs.HashMap.{get};
 ghost use Rattle.wol_model.specs.Log.{has_bit};
 ghost use Rattle.block_cells.specs.Cells.{is_held};
 ghost use Rattle.redirect_map.specs.Kept.{IsInRange};
-ghost use Rattle.redirect_map.specs.Marked.{is_due_of, goes_of};
+ghost use Rattle.redirect_map.specs.Marked.{is_due_of, goes_of, sought_of};
 
 use crate::entry::Entry;
 use block_cells::{Cell, has, holds, newest_of, with_bit};
 use std::collections::HashMap;
+
+/// What is looked for in records.
+#[derive(Clone, Copy)]
+pub enum Sought {
+    /// Blocks that are due: live and not home yet.
+    Due,
+    /// Blocks that may be given up.
+    Going,
+}
 
 // Whether block i of the entry is due. Of a block that it doesn't keep, or that is home, nothing is looked up.
 fn due_bit(blocks: &HashMap<u64, Cell>, entry: &Entry, i: u32) -> bool
@@ -46,28 +55,27 @@ fn going_bit(blocks: &HashMap<u64, Cell>, entry: &Entry, i: u32) -> bool
     is_free(known, entry.record.version, has(entry.homed, i))
 }
 
-// Whether a block of the entry is due. The first one tells.
-pub fn any_due(blocks: &HashMap<u64, Cell>, entry: &Entry) -> bool
-    requires { IsInRange entry.now }
-    ensures { result ≡ list_any (λ b. is_due_of entry.now b (get nat_eq blocks.now b))
-        (range_with_len entry.now.record.lbn entry.now.record.count) }
+// Whether block i of the entry is one that is sought.
+fn sought_bit(blocks: &HashMap<u64, Cell>, entry: &Entry, i: u32, sought: Sought) -> bool
+    requires bit { i < 128 }
+    requires within { entry.now.record.lbn + i < 2 ^ 64 }
+    ensures { result ≡ sought_of sought entry.now (entry.now.record.lbn + i)
+        (get nat_eq blocks.now (entry.now.record.lbn + i)) }
 {
-    for i in 0..entry.record.count {
-        if due_bit(blocks, entry, i) {
-            return true;
-        }
+    match sought {
+        Sought::Due => due_bit(blocks, entry, i),
+        Sought::Going => going_bit(blocks, entry, i),
     }
-    false
 }
 
-// Whether a block of the entry may go. The first one tells.
-pub fn any_going(blocks: &HashMap<u64, Cell>, entry: &Entry) -> bool
+// Whether a block of the entry is one that is sought. The first one tells.
+pub fn any_sought(blocks: &HashMap<u64, Cell>, entry: &Entry, sought: Sought) -> bool
     requires { IsInRange entry.now }
-    ensures { result ≡ list_any (λ b. goes_of entry.now b (get nat_eq blocks.now b))
+    ensures { result ≡ list_any (λ b. sought_of sought entry.now b (get nat_eq blocks.now b))
         (range_with_len entry.now.record.lbn entry.now.record.count) }
 {
     for i in 0..entry.record.count {
-        if going_bit(blocks, entry, i) {
+        if sought_bit(blocks, entry, i, sought) {
             return true;
         }
     }

@@ -4,13 +4,13 @@ ghost use Rattle.std.specs.Option.{ForSome};
 ghost use Rattle.std.specs.List.{list_any, range_with_len, AllByRecursion};
 ghost use Rattle.wol_model.specs.Log.{has_bit, marks_of};
 ghost use Rattle.wol_model.specs.Extents.{newest};
-ghost use Rattle.wol_model.specs.Index.{listed_in, is_covered, is_live, is_older, is_homed, goes, has_due, has_going, keeps_a_block};
+ghost use Rattle.wol_model.specs.Index.{listed_in, is_covered, is_live, is_older, is_homed, goes, keeps_a_block};
 ghost use Rattle.block_cells.specs.Masks.{IsMask};
 ghost use Rattle.block_cells.specs.Runs.{runs_of};
-ghost use Rattle.redirect_map.specs.Index.{cover_at, entry_at, HasVersion, entry_of, IsRecordOf, IsAnswer, changed, unhomed, with_homed, given_up, IsIndex};
+ghost use Rattle.redirect_map.specs.Index.{cover_at, entry_at, HasVersion, entry_of, IsRecordOf, IsAnswer, changed, unhomed, with_homed, given_up, CanAdd, IsAdded, IsIndex, has_sought, IsFirst};
 
 use crate::entry::{Entry, unhome, with_homes};
-use crate::going::{all_going, any_due, any_going};
+use crate::going::{Sought, all_going, any_sought};
 use crate::list::Entries;
 use crate::marking::{
     exact_mask, lanes_mask, mark_all_exactly, mark_blocks, mark_given_up, new_mask, newest_versions,
@@ -108,19 +108,8 @@ impl Index {
 
     // The same, where older records may keep blocks of it.
     fn add_over(&mut self, entry: Rec)
-        requires newest { AllByRecursion (λ e. e.listed.version < entry.version) self.old.entries }
-        requires some { 1 ≤ entry.count }
-        requires count { entry.count ≤ 128 }
-        requires within { entry.lbn + entry.count ≤ 2 ^ 32 }
-        requires keeps { 0 < entry.keep }
-        requires keep_within { entry.keep < 2 ^ entry.count }
-        requires reserved { runs_of (marks_of entry.count entry.keep) ≤ self.old.reserved }
-
-        ensures entries { self.new.entries
-            ≡ map (unhomed (cover_at (entry_of entry 0))) self.old.entries
-            ++ entry_of entry 0 ∷ [] }
-        ensures room { self.old.reserved
-            ≤ self.new.reserved + runs_of (marks_of entry.count entry.keep) }
+        requires { CanAdd self.old entry }
+        ensures { IsAdded self.old self.new entry }
     {
         let covered = newest_versions(&self.blocks, &entry);
         mark_blocks(
@@ -150,21 +139,10 @@ impl Index {
 
     // The same, where no other record keeps a block of its range: all marks stay, and nothing is homed no more.
     fn add_apart(&mut self, entry: Rec)
-        requires newest { AllByRecursion (λ e. e.listed.version < entry.version) self.old.entries }
-        requires some { 1 ≤ entry.count }
-        requires count { entry.count ≤ 128 }
-        requires within { entry.lbn + entry.count ≤ 2 ^ 32 }
-        requires keeps { 0 < entry.keep }
-        requires keep_within { entry.keep < 2 ^ entry.count }
-        requires reserved { runs_of (marks_of entry.count entry.keep) ≤ self.old.reserved }
+        requires can { CanAdd self.old entry }
         requires apart { list_any (is_covered (listed_in self.old.entries))
             (range_with_len entry.lbn entry.count) ≡ false }
-
-        ensures entries { self.new.entries
-            ≡ map (unhomed (cover_at (entry_of entry 0))) self.old.entries
-            ++ entry_of entry 0 ∷ [] }
-        ensures room { self.old.reserved
-            ≤ self.new.reserved + runs_of (marks_of entry.count entry.keep) }
+        ensures { IsAdded self.old self.new entry }
     {
         self.marks.push(entry.version, new_mask(entry.lane));
         self.entries.push(Entry {
@@ -273,24 +251,14 @@ impl Index {
         self.entries.get(version).unwrap().homed
     }
 
-    /// Whether a block of this version's record is due.
-    pub fn has_due(&self, version: u64) -> bool
+    /// Whether a block of this version's record is one that is sought.
+    pub fn has(&self, version: u64, sought: Sought) -> bool
         requires { HasVersion self.now.entries version }
         ensures { IfSome (entry_at self.now.entries version)
-            (λ e. result ≡ has_due (listed_in self.now.entries) e.listed) }
+            (λ e. result ≡ has_sought sought (listed_in self.now.entries) e.listed) }
     {
         let entry = self.entries.get(version).unwrap();
-        any_due(&self.blocks, &entry)
-    }
-
-    /// Whether a block of this version's record may be given up.
-    pub fn has_going(&self, version: u64) -> bool
-        requires { HasVersion self.now.entries version }
-        ensures { IfSome (entry_at self.now.entries version)
-            (λ e. result ≡ has_going (listed_in self.now.entries) e.listed) }
-    {
-        let entry = self.entries.get(version).unwrap();
-        any_going(&self.blocks, &entry)
+        any_sought(&self.blocks, &entry, sought)
     }
 
     /// The blocks of this version's record that may be given up.
@@ -371,34 +339,27 @@ impl Index {
         }
     }
 
-    /// The least version from `from` on that is marked as one that may have a due block, on a lane that is
-    /// true in the list: none of these records with a lesser version has one, and where the answer is none no
+    /// The least version from `from` on that is marked as one that may have a block that is sought, on a lane that
+    /// is true in the list: none of these records with a lesser version has one, and where the answer is none no
     /// record from `from` on has one. Whether the record of the answer has one is for the caller to see.
-    pub fn first_due(&self, from: u64, lanes: &[bool]) -> Option<u64>
-        ensures from { IfSome result (λ v. from ≤ v) }
-        ensures least { IfSome result (λ v. AllByRecursion
-            (λ e. from ≤ e.listed.version → e.listed.version < v
-            → slice_index_or lanes.now e.listed.lane false ≡ true
-            → has_due (listed_in self.now.entries) e.listed ≡ false) self.now.entries) }
-        ensures none { IfNone result (AllByRecursion
-            (λ e. from ≤ e.listed.version → slice_index_or lanes.now e.listed.lane false ≡ true
-            → has_due (listed_in self.now.entries) e.listed ≡ false) self.now.entries) }
+    pub fn first(&self, from: u64, lanes: &[bool], sought: Sought) -> Option<u64>
+        ensures { IsFirst sought lanes.now self.now.entries from result }
     {
-        self.marks.first(from, lanes_mask(lanes, false))
+        self.marks.first(from, lanes_mask(lanes, sought))
     }
 
-    /// The same for blocks that may be given up.
-    pub fn first_going(&self, from: u64, lanes: &[bool]) -> Option<u64>
-        ensures from { IfSome result (λ v. from ≤ v) }
-        ensures least { IfSome result (λ v. AllByRecursion
-            (λ e. from ≤ e.listed.version → e.listed.version < v
-            → slice_index_or lanes.now e.listed.lane false ≡ true
-            → has_going (listed_in self.now.entries) e.listed ≡ false) self.now.entries) }
-        ensures none { IfNone result (AllByRecursion
-            (λ e. from ≤ e.listed.version → slice_index_or lanes.now e.listed.lane false ≡ true
-            → has_going (listed_in self.now.entries) e.listed ≡ false) self.now.entries) }
+    /// `first` for due blocks.
+    pub fn first_due(&self, from: u64, lanes: &[bool]) -> Option<u64>
+        ensures { IsFirst Sought.Due lanes.now self.now.entries from result }
     {
-        self.marks.first(from, lanes_mask(lanes, true))
+        self.first(from, lanes, Sought::Due)
+    }
+
+    /// `first` for blocks that may be given up.
+    pub fn first_going(&self, from: u64, lanes: &[bool]) -> Option<u64>
+        ensures { IsFirst Sought.Going lanes.now self.now.entries from result }
+    {
+        self.first(from, lanes, Sought::Going)
     }
 
     /// How many records there are.

@@ -15,4 +15,5 @@ mod list;
 mod marking;
 
 pub use block_cells::Rec;
+pub use going::Sought;
 pub use index::Index;

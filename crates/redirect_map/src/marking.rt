@@ -10,7 +10,7 @@ ghost use Rattle.redirect_map.specs.Cells.{AreTabled};
 ghost use Rattle.redirect_map.specs.Marked.{there_bit, lane_bit, is_home, begins, IsMarked, AreMarked, AreThere, AreBegun, KeepsBits};
 
 use crate::entry::Entry;
-use crate::going::{any_due, any_going};
+use crate::going::{Sought, any_sought};
 use crate::list::Entries;
 use block_cells::{Cell, Rec, moved, newest_of, with_bit};
 use std::collections::HashMap;
@@ -22,29 +22,32 @@ const LANES: usize = 63;
 const THERE: u32 = 126;
 
 // The bit of a lane's records that may have a block that goes, or a due one.
-fn lane_bit(going: bool, lane: usize) -> u32
-    ensures value { result ≡ lane_bit going lane }
+fn lane_bit(sought: Sought, lane: usize) -> u32
+    ensures value { result ≡ lane_bit sought lane }
     ensures low { result < 126 }
 {
     let rest = (lane % LANES) as u32;
-    if going { 63 + rest } else { rest }
+    match sought {
+        Sought::Due => rest,
+        Sought::Going => 63 + rest,
+    }
 }
 
 // The mask of a record that is there.
 fn record_mask(lane: u32, due: bool, going: bool) -> u128
     ensures there { has_bit result there_bit ≡ true }
-    ensures due { due ≡ true → has_bit result (lane_bit false lane) ≡ true }
-    ensures going { going ≡ true → has_bit result (lane_bit true lane) ≡ true }
+    ensures due { due ≡ true → has_bit result (lane_bit Sought.Due lane) ≡ true }
+    ensures going { going ≡ true → has_bit result (lane_bit Sought.Going lane) ≡ true }
 {
     let there = with_bit(0, THERE, true);
-    let mask = with_bit(there, lane_bit(false, lane as usize), due);
-    with_bit(mask, lane_bit(true, lane as usize), going)
+    let mask = with_bit(there, lane_bit(Sought::Due, lane as usize), due);
+    with_bit(mask, lane_bit(Sought::Going, lane as usize), going)
 }
 
 // The mask of a record that was added just now: all its blocks are due.
 pub fn new_mask(lane: u32) -> u128
     ensures there { has_bit result there_bit ≡ true }
-    ensures due { has_bit result (lane_bit false lane) ≡ true }
+    ensures due { has_bit result (lane_bit Sought.Due lane) ≡ true }
 {
     record_mask(lane, true, false)
 }
@@ -54,8 +57,8 @@ pub fn exact_mask(blocks: &HashMap<u64, Cell>, entry: &Entry) -> u128
     requires { IsInRange entry.now }
     ensures { IsMarked (get nat_eq blocks.now) result entry.now }
 {
-    let due = any_due(blocks, entry);
-    let going = any_going(blocks, entry);
+    let due = any_sought(blocks, entry, Sought::Due);
+    let going = any_sought(blocks, entry, Sought::Going);
     record_mask(entry.record.lane, due, going)
 }
 
@@ -92,11 +95,11 @@ fn has_home(entry: &Entry, lbn: u64) -> bool
 fn mark_going(marks: &mut VersionMarks, version: u64, lane: u32)
     ensures more { KeepsBits marks.old marks.new }
     ensures going { has_bit (mask_of marks.old version) there_bit ≡ true
-        → has_bit (mask_of marks.new version) (lane_bit true lane) ≡ true }
+        → has_bit (mask_of marks.new version) (lane_bit Sought.Going lane) ≡ true }
     ensures room { marks.new.room ≡ marks.old.room }
 {
     let old = marks.get(version);
-    let mask = with_bit(old, lane_bit(true, lane as usize), true);
+    let mask = with_bit(old, lane_bit(Sought::Going, lane as usize), true);
     if mask == old {
         return;
     }
@@ -317,14 +320,17 @@ fn with_rest(mask: u64, i: u32, on: bool) -> u64
 }
 
 // The bits of the lanes that are true in the list. Those of due records are the low ones.
-pub fn lanes_mask(lanes: &[bool], going: bool) -> u128
+pub fn lanes_mask(lanes: &[bool], sought: Sought) -> u128
     ensures { (lane : ℕ) → slice_index_or lanes.now lane false ≡ true
-        → has_bit result (lane_bit going lane) ≡ true }
+        → has_bit result (lane_bit sought lane) ≡ true }
 {
     let mut mask = 0;
     for (lane, on) in lanes.iter().enumerate() {
         mask = with_rest(mask, (lane % LANES) as u32, *on);
     }
     let low = u128::from(mask);
-    if going { low << 63 } else { low }
+    match sought {
+        Sought::Due => low,
+        Sought::Going => low << 63,
+    }
 }

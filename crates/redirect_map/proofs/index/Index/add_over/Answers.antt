@@ -8,7 +8,7 @@ use Rattle.block_cells.specs.Runs.{runs_of}
 use Rattle.block_cells.specs.Cells.{one_covers, version_in}
 use Rattle.redirect_map.specs.Index.{Contents}
 use Rattle.redirect_map.specs.Kept.{seen, AreEntries, NoneHomed}
-use Rattle.redirect_map.proofs.Adding.{IsNew, new_entry, below_new, some_run, entries_added, seen_added, zip_length}
+use Rattle.redirect_map.proofs.Adding.{new_entry, below_new, some_run, entries_added, seen_added, zip_length}
 use Rattle.redirect_map.proofs.Tabling.{all_added}
 use Rattle.redirect_map.proofs.Without.{none_homed_added}
 use Rattle.redirect_map.proofs.Celled.{keepers_few}
@@ -21,14 +21,13 @@ push-requires-2-clause-newest c = below_new c.args.entry c.self.inside.entries.i
 
 pub push-requires-2-clause-room : goal.push-requires-2-clause-room
 push-requires-2-clause-room c =
-    let new : IsNew c.args.entry = record { some = c.requires.some; count = c.requires.count; within = c.requires.within; keeps = c.requires.keeps; keep_within = c.requires.keep_within } in
     let room = subst (λ (v : Contents). runs_of (marks_of c.args.entry.count c.args.entry.keep) ≤ v.reserved) (sym c.self.view_is) c.requires.reserved in
-    let one = some_run c.args.entry new in
+    let one = some_run c.args.entry c.requires.is_new in
     omega (arith, room, one, c.unhome.ensures.room)
 
 pub mark_all_exactly-requires-clause-entries : goal.mark_all_exactly-requires-clause-entries
 unfolding new_entry
-mark_all_exactly-requires-clause-entries c = subst AreEntries (sym c.push-2.ensures.items) (entries_added c.args.entry c.self.inside.entries.items c.unhome.new.entries.items c.self.invariant.0 c.unhome.ensures.zip (record { some = c.requires.some; count = c.requires.count; within = c.requires.within; keeps = c.requires.keeps; keep_within = c.requires.keep_within }) (subst (λ (v : Contents). AllByRecursion (λ (d : Indexed). d.listed.version < c.args.entry.version) v.entries) (sym c.self.view_is) c.requires.newest))
+mark_all_exactly-requires-clause-entries c = subst AreEntries (sym c.push-2.ensures.items) (entries_added c.args.entry c.self.inside.entries.items c.unhome.new.entries.items c.self.invariant.0 c.unhome.ensures.zip c.requires.is_new (subst (λ (v : Contents). AllByRecursion (λ (d : Indexed). d.listed.version < c.args.entry.version) v.entries) (sym c.self.view_is) c.requires.newest))
 
 pub mark_all_exactly-requires-clause-marked : goal.mark_all_exactly-requires-clause-marked
 unfolding new_entry
@@ -40,7 +39,7 @@ mark_all_exactly-requires-clause-marked c = marks_added c.args.entry c.self.insi
 pub invariant_of-self : goal.invariant_of-self
 unfolding new_entry
 invariant_of-self c = (
-  subst AreEntries (sym c.push-2.ensures.items) (entries_added c.args.entry c.self.inside.entries.items c.unhome.new.entries.items c.self.invariant.0 c.unhome.ensures.zip (record { some = c.requires.some; count = c.requires.count; within = c.requires.within; keeps = c.requires.keeps; keep_within = c.requires.keep_within }) (subst (λ (v : Contents). AllByRecursion (λ (d : Indexed). d.listed.version < c.args.entry.version) v.entries) (sym c.self.view_is) c.requires.newest)),
+  subst AreEntries (sym c.push-2.ensures.items) (entries_added c.args.entry c.self.inside.entries.items c.unhome.new.entries.items c.self.invariant.0 c.unhome.ensures.zip c.requires.is_new (subst (λ (v : Contents). AllByRecursion (λ (d : Indexed). d.listed.version < c.args.entry.version) v.entries) (sym c.self.view_is) c.requires.newest)),
   all_added c.args.entry c.self.inside.entries.items c.unhome.new.entries.items c.push-2.new.self.items (get nat_eq c.self.inside.blocks) (get nat_eq c.cover.new.blocks) c.unhome.ensures.zip c.push-2.ensures.items c.self.invariant.1 c.cover.ensures.cells,
   c.mark_all_exactly.ensures.marked,
   (λ is. subst NoneHomed (sym c.push-2.ensures.items) (none_homed_added c.unhome.new.entries.items (new_entry c.args.entry) (c.unhome.ensures.none is) refl)),
@@ -48,27 +47,24 @@ invariant_of-self c = (
 
 pub push-requires : goal.push-requires
 push-requires c =
-    let new : IsNew c.args.entry = record { some = c.requires.some; count = c.requires.count; within = c.requires.within; keeps = c.requires.keeps; keep_within = c.requires.keep_within } in
     let room = subst (λ (v : Contents). runs_of (marks_of c.args.entry.count c.args.entry.keep) ≤ v.reserved) (sym c.self.view_is) c.requires.reserved in
-    let one = some_run c.args.entry new in
+    let one = some_run c.args.entry c.requires.is_new in
     omega (arith, room, one, c.mark_blocks.ensures.room)
 
-pub returns-clause-entries : goal.returns-clause-entries
+pub returns : goal.returns
 unfolding new_entry
-returns-clause-entries c = rw (← c.self.view_is) (ap (map seen) c.push-2.ensures.items ∙ seen_added c.args.entry c.self.inside.entries.items c.unhome.new.entries.items (record { some = c.requires.some; count = c.requires.count; within = c.requires.within; keeps = c.requires.keeps; keep_within = c.requires.keep_within }) c.unhome.ensures.zip)
-
-pub returns-clause-room : goal.returns-clause-room
-returns-clause-room c =
-    let new : IsNew c.args.entry = record { some = c.requires.some; count = c.requires.count; within = c.requires.within; keeps = c.requires.keeps; keep_within = c.requires.keep_within } in
-    let one = some_run c.args.entry new in
-    rw (← c.self.view_is) (omega (arith, one, c.unhome.ensures.room, c.push-2.ensures.room, c.cover.ensures.spare, c.requires.count, c.push.ensures.room, c.mark_blocks.ensures.room, c.mark_all_exactly.ensures.room))
+returns c = record {
+  entries = rw (← c.self.view_is) (ap (map seen) c.push-2.ensures.items ∙ seen_added c.args.entry c.self.inside.entries.items c.unhome.new.entries.items c.requires.is_new c.unhome.ensures.zip);
+  room =
+      let one = some_run c.args.entry c.requires.is_new in
+      rw (← c.self.view_is) (omega (arith, one, c.unhome.ensures.room, c.push-2.ensures.room, c.cover.ensures.spare, c.requires.is_new.count, c.push.ensures.room, c.mark_blocks.ensures.room, c.mark_all_exactly.ensures.room));
+}
 
 pub cover-requires-clause-spare : goal.cover-requires-clause-spare
 cover-requires-clause-spare c =
-    let new : IsNew c.args.entry = record { some = c.requires.some; count = c.requires.count; within = c.requires.within; keeps = c.requires.keeps; keep_within = c.requires.keep_within } in
     let room = subst (λ (v : Contents). runs_of (marks_of c.args.entry.count c.args.entry.keep) ≤ v.reserved) (sym c.self.view_is) c.requires.reserved in
-    let one = some_run c.args.entry new in
-    omega (arith, room, one, c.requires.count)
+    let one = some_run c.args.entry c.requires.is_new in
+    omega (arith, room, one, c.requires.is_new.count)
 
 pub cover-requires-clause-few : goal.cover-requires-clause-few
 unfolding new_entry

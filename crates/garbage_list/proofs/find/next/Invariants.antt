@@ -1,11 +1,11 @@
 use Rattle.std.proofs.Common.{◌≡◌, ◌<◌, ◌-◌, ◌^◌, false}
 use Rattle.std.specs.List.{AllByRecursion}
-use Rattle.garbage_list.specs.Least.{can_go_home}
-use Rattle.garbage_list.proofs.find.next_due.Given as goal
+use Rattle.garbage_list.specs.Least.{has_awake}
+use Rattle.garbage_list.proofs.find.next.Given as goal
 
 -- none of the versions so far
 abbrev pub invariant-loop-version : goal.invariant-loop-version
-invariant-loop-version l = AllByRecursion (λ e. e.listed.version < l.from → can_go_home l.lanes l.index.entries e ≡ false) l.index.entries
+invariant-loop-version l = AllByRecursion (λ e. e.listed.version < l.from → has_awake l.sought l.lanes l.index.entries e ≡ false) l.index.entries
 
 abbrev pub decreases-loop-version : goal.decreases-loop-version
 decreases-loop-version l = 2 ^ 64 - l.from
