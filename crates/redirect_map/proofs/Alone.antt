@@ -7,8 +7,8 @@ use Rattle.block_cells.specs.Masks.{IsMask}
 use Rattle.block_cells.proofs.Marks.{in_mask-bit}
 use Rattle.redirect_map.specs.declared.entry.Entry.{Entry}
 use Rattle.redirect_map.specs.Index.{entry_at}
-use Rattle.redirect_map.specs.Kept.{seen, one_keeps, AreEntries}
-use Rattle.redirect_map.proofs.Seen.{IsAt, covers_seen, newer_at, older_at}
+use Rattle.redirect_map.specs.Kept.{seen, one_keeps, AreEntries, IsAt}
+use Rattle.redirect_map.proofs.Seen.{covers_seen, newer_at, older_at}
 use Rattle.redirect_map.proofs.Answering.{range_at, of_entry, live_there, homed_there, live_entry}
 
 -- no other stands before it, or behind it

@@ -4,8 +4,7 @@ use Rattle.std.specs.Prelude.{slice_get, option_map, IfSome, IsSome}
 use Rattle.std.specs.List.{AllByRecursion, list_any, find}
 use Rattle.std.proofs.Math.Nat.{pow-le-pow_right}
 use Rattle.std.proofs.lemmas.Bool.{cases_lt, lt-ltb, leb-true, and_parts, false≢true, eq-eqb, ne_eqb}
-use Rattle.std.proofs.lemmas.List.{length-map}
-use Rattle.std.proofs.lemmas.Option.{slice_get-map, slice_get-get_or}
+use Rattle.std.proofs.lemmas.Option.{slice_get-map}
 use Rattle.wol_model.specs.Log.{has_bit}
 use Rattle.wol_model.specs.Extents.{has_newer}
 use Rattle.wol_model.specs.Index.{listed_in, Indexed, AreRising, cover_of, listed_covers, is_homed, is_live, is_older, is_covered, keeps_a_block}
@@ -15,9 +14,9 @@ use Rattle.block_cells.proofs.Meeting.{any_in_range}
 use Rattle.block_cells.proofs.Marks.{in_mask-bit, length-marks_of}
 use Rattle.redirect_map.specs.declared.entry.Entry.{Entry}
 use Rattle.redirect_map.specs.Index.{has_version, entry_at, HasVersion, IsRecordOf, IsAnswer, IsEntry, IsIndex}
-use Rattle.redirect_map.specs.Kept.{seen, keeps, one_keeps, IsKept, is_version, IsInRange, AreLive, AreEntries}
+use Rattle.redirect_map.specs.Kept.{seen, keeps, one_keeps, IsKept, is_version, IsInRange, AreLive, AreEntries, IsAt}
 use Rattle.redirect_map.proofs.Found.{find-map}
-use Rattle.redirect_map.proofs.Seen.{IsAt, all_at, all_from_places, all_of_map, all_before_map, covers_seen, homed_seen, newer_at, older_at, at_place}
+use Rattle.redirect_map.proofs.Seen.{all_at, all_from_places, all_of_map, all_before_map, covers_seen, homed_seen, newer_at, older_at, at_place}
 
 -- a mask of an entry is one of 128 bits
 pub wide : (mask count : ℕ) → mask < 2 ^ count → count ≤ 128 → mask < 2 ^ 128

@@ -16,8 +16,8 @@ use Rattle.block_cells.proofs.Meeting.{none_in_range}
 use Rattle.block_cells.proofs.Marks.{marked-marks_of, in_mask-bit, length-marks_of}
 use Rattle.redirect_map.specs.declared.entry.Entry.{Entry}
 use Rattle.redirect_map.specs.Index.{entry_at, changed, with_homed, given_up}
-use Rattle.redirect_map.specs.Kept.{seen, keeps, one_keeps, IsInRange, AreLive, AreEntries}
-use Rattle.redirect_map.proofs.Seen.{IsAt, all_at, all_before_map}
+use Rattle.redirect_map.specs.Kept.{seen, keeps, one_keeps, IsInRange, AreLive, AreEntries, IsAt}
+use Rattle.redirect_map.proofs.Seen.{all_at, all_before_map}
 use Rattle.redirect_map.proofs.Answering.{wide, range_at, live_there, live_entry, keeps_some}
 
 -- ---- One entry in place of another

@@ -18,10 +18,10 @@ use Rattle.redirect_map.specs.declared.entry.Entry.{Entry}
 use Rattle.redirect_map.specs.declared.going.Sought.{Sought}
 use Rattle.redirect_map.specs.declared.going.Sought.TheVariants.{Due, Going}
 use Rattle.redirect_map.specs.Index.{entry_at, is_sought, has_sought}
-use Rattle.redirect_map.specs.Kept.{seen, keeps, one_keeps, IsInRange, AreEntries}
+use Rattle.redirect_map.specs.Kept.{seen, keeps, one_keeps, IsInRange, AreEntries, IsAt}
 use Rattle.redirect_map.specs.Cells.{cell_of}
 use Rattle.redirect_map.specs.Marked.{is_home, is_due_of, goes_of, sought_of, AreBegun}
-use Rattle.redirect_map.proofs.Seen.{IsAt, covers_seen, homed_seen, newer_at, older_at}
+use Rattle.redirect_map.proofs.Seen.{covers_seen, homed_seen, newer_at, older_at}
 use Rattle.redirect_map.proofs.Answering.{range_at, any_block, of_entry, covered_seen, live_entry}
 use Rattle.redirect_map.proofs.Celled.{held_at, alone_at, cell_there}
 use Rattle.redirect_map.proofs.Tabling.{GoesAll}

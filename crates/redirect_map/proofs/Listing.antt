@@ -1,6 +1,6 @@
 -- A list of entries with dead places, and what it lists.
-use Rattle.std.proofs.Common.{◌≡◌, ⊎_elim, ◌<◌, ◌≤◌, ◌+◌, ◌-◌, ℕ, zero, suc, Bool, true, false, cond, not, ◌&&◌, List, [], ◌∷◌, ◌++◌, map, length, take, drop, get_or, Option, None, Some, IsSome, refl, sym, ap, ◌∙◌, subst, arith, eqb, ltb, leb}
-use Rattle.std.specs.Prelude.{slice_get, option_map, IfSome}
+use Rattle.std.proofs.Common.{◌≡◌, ◌<◌, ◌≤◌, ◌+◌, ◌-◌, ℕ, zero, suc, Bool, true, false, cond, not, ◌&&◌, List, [], ◌∷◌, ◌++◌, map, length, take, drop, get_or, Option, None, Some, IsSome, refl, sym, ap, ◌∙◌, subst, arith, eqb, ltb, leb}
+use Rattle.std.specs.Prelude.{slice_get, option_map}
 use Rattle.std.specs.List.{AllByRecursion, list_any, find, filter, remove}
 use Rattle.std.proofs.Math.ListN.{set}
 use Rattle.std.proofs.Math.Bool.{and-false}
@@ -16,10 +16,10 @@ use Rattle.block_cells.proofs.Bits.{has_bit-zero}
 use Rattle.redirect_map.specs.declared.entry.Entry.{Entry}
 use Rattle.redirect_map.specs.Cells.{cell_of}
 use Rattle.redirect_map.specs.Index.{has_version}
-use Rattle.redirect_map.specs.Kept.{is_version, seen, keeps, one_keeps, IsKept, AreEntries}
+use Rattle.redirect_map.specs.Kept.{is_version, seen, keeps, one_keeps, IsKept, AreEntries, IsAt}
 use Rattle.redirect_map.specs.Listing.{is_listed, is_dead, place_in, ArePlaces}
 use Rattle.redirect_map.proofs.Found.{find-map}
-use Rattle.redirect_map.proofs.Seen.{IsAt, all_at, all_before_map}
+use Rattle.redirect_map.proofs.Seen.{all_at, all_before_map}
 use Rattle.redirect_map.proofs.Celled.{IsNewest}
 use Rattle.redirect_map.proofs.Newest.{newest_here}
 use Rattle.redirect_map.proofs.Changing.{versions_set}

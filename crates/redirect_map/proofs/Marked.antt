@@ -1,12 +1,11 @@
 -- Records that may have a due block, or one that goes, and their marks.
-use Rattle.std.proofs.Common.{◌≡◌, ◌⊎◌, inl, inr, ⊎_elim, ◌<◌, ◌≤◌, ◌+◌, ◌-◌, ◌^◌, ℕ, zero, suc, Bool, true, false, cond, not, ◌&&◌, ◌||◌, List, [], ◌∷◌, ◌++◌, map, take, drop, set, Option, Some, None, refl, sym, ap, ◌∙◌, subst, arith, eqb, ltb, leb, bit_and, bit_or, is_some, slice_index_or}
+use Rattle.std.proofs.Common.{◌≡◌, ◌⊎◌, inl, inr, ⊎_elim, ◌<◌, ◌≤◌, ◌+◌, ◌-◌, ◌^◌, ℕ, zero, suc, Bool, true, false, cond, not, ◌&&◌, ◌||◌, List, [], ◌∷◌, ◌++◌, map, set, Option, Some, None, refl, sym, ap, ◌∙◌, subst, arith, eqb, ltb, leb, bit_and, bit_or, is_some, slice_index_or}
 use Rattle.std.specs.Prelude.{slice_get, IfSome, IfNone}
 use Rattle.std.specs.Int.{bit_not, w128}
 use Rattle.std.specs.List.{AllByRecursion, AllZip, list_any, remove, find}
 use Rattle.std.proofs.lemmas.Bool.{cases_lt, cases_eq, ne_eqb, eq-eqb, eqb-true, lt-ltb, leb-true, false≢true, and_parts, not-true, false_from_ne_true, or_left, or_right}
 use Rattle.wol_model.specs.Log.{has_bit}
-use Rattle.wol_model.specs.Extents.{has_newer, has_older}
-use Rattle.wol_model.specs.Index.{listed_in, Indexed, listed_covers, AreRising, is_due, goes, is_live, is_homed, block_numbers}
+use Rattle.wol_model.specs.Index.{listed_in, Indexed, AreRising, block_numbers}
 use Rattle.std.proofs.lemmas.Option.{none-some, same_Some}
 use Rattle.version_marks.specs.Marks.{IsWithin, AreApart}
 use Rattle.block_cells.specs.declared.record.Rec.{Rec}
@@ -18,16 +17,16 @@ use Rattle.block_cells.proofs.Stepping.{next_block, no_block, all_blocks}
 use Rattle.redirect_map.specs.declared.entry.Entry.{Entry}
 use Rattle.redirect_map.specs.declared.going.Sought.{Sought}
 use Rattle.redirect_map.specs.declared.going.Sought.TheVariants.{Due, Going}
-use Rattle.redirect_map.specs.Index.{cover_at, is_sought, has_sought, IsFirst}
-use Rattle.redirect_map.specs.Kept.{seen, keeps, one_keeps, is_version, IsInRange, IsUnhomed, AreEntries, NoneHomed}
+use Rattle.redirect_map.specs.Index.{is_sought, has_sought, IsFirst}
+use Rattle.redirect_map.specs.Kept.{seen, keeps, is_version, IsInRange, IsUnhomed, AreEntries, NoneHomed}
 use Rattle.redirect_map.specs.Cells.{cell_of}
 use Rattle.redirect_map.specs.Marked.{there_bit, lane_bit, is_home, is_due_of, goes_of, sought_of, IsMarked, AreMarked, AreThere, begins, AreBegun}
-use Rattle.redirect_map.proofs.Seen.{all_from_places, all_of_map, all_before_map, all_at, covers_seen, homed_seen, newer_at, older_at}
-use Rattle.redirect_map.proofs.Answering.{wide, range_at, any_block, no_any, same_version}
+use Rattle.redirect_map.proofs.Seen.{all_from_places, all_of_map, all_before_map, all_at}
+use Rattle.redirect_map.proofs.Answering.{wide, any_block, no_any, same_version}
 use Rattle.redirect_map.proofs.Adding.{new_entry}
 use Rattle.redirect_map.proofs.Search.{place_unique}
 use Rattle.redirect_map.proofs.Without.{none_homed_at}
-use Rattle.redirect_map.proofs.Celled.{cell_there, held_at, alone_at, one_there}
+use Rattle.redirect_map.proofs.Celled.{cell_there, one_there}
 use Rattle.redirect_map.proofs.Dues.{sought_same}
 
 -- ---- One record by its masks

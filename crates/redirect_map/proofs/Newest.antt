@@ -15,9 +15,9 @@ use Rattle.block_cells.proofs.Bits.{has_bit-above, has_bit-zero, has_bit-without
 use Rattle.block_cells.proofs.Marks.{in_mask-bit}
 use Rattle.redirect_map.specs.declared.entry.Entry.{Entry}
 use Rattle.redirect_map.specs.Index.{cover_at, entry_at, IsAnswer, IsRecordOf}
-use Rattle.redirect_map.specs.Kept.{seen, keeps, one_keeps, is_version, IsInRange, AreEntries}
+use Rattle.redirect_map.specs.Kept.{seen, keeps, one_keeps, is_version, IsInRange, AreEntries, IsAt}
 use Rattle.redirect_map.specs.Cells.{cell_of}
-use Rattle.redirect_map.proofs.Seen.{IsAt, all_at, all_before_map, covers_seen}
+use Rattle.redirect_map.proofs.Seen.{all_at, all_before_map, covers_seen}
 use Rattle.redirect_map.proofs.Answering.{same_version, record_seen, range_at, covered_seen, any_block, of_entry, live_there, older_there}
 use Rattle.redirect_map.proofs.Search.{place_unique}
 use Rattle.redirect_map.proofs.Celled.{IsNewest, newest_place, cell_there, held_at, alone_at}

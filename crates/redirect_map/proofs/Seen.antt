@@ -1,5 +1,5 @@
 -- What contracts see of the program's entries.
-use Rattle.std.proofs.Common.{◌≡◌, ◌<◌, ◌+◌, ℕ, zero, suc, Bool, true, false, cond, ◌&&◌, ◌||◌, List, [], ◌∷◌, map, length, take, drop, get_or, Some, refl, sym, ap, ◌∙◌, subst, arith, ltb}
+use Rattle.std.proofs.Common.{◌≡◌, ◌<◌, ℕ, zero, suc, Bool, true, false, cond, ◌&&◌, ◌||◌, List, [], ◌∷◌, map, length, take, drop, get_or, Some, refl, sym, ap, ◌∙◌, subst, arith, ltb}
 use Rattle.std.specs.Prelude.{slice_get, option_map}
 use Rattle.std.specs.List.{AllByRecursion, find}
 use Rattle.std.proofs.lemmas.Bool.{lt-ltb, le-ltb, eqb-true}
@@ -9,8 +9,8 @@ use Rattle.wol_model.specs.Index.{listed_in, AreRising, listed_covers, is_homed}
 use Rattle.block_cells.specs.Masks.{in_mask}
 use Rattle.block_cells.proofs.Marks.{marked-marks_of}
 use Rattle.redirect_map.specs.declared.entry.Entry.{Entry}
-use Rattle.redirect_map.specs.Index.{cover_at, has_version, entry_at}
-use Rattle.redirect_map.specs.Kept.{seen, keeps, one_keeps, is_version, IsInRange}
+use Rattle.redirect_map.specs.Index.{cover_at, has_version}
+use Rattle.redirect_map.specs.Kept.{seen, keeps, one_keeps, is_version, IsInRange, IsAt}
 use Rattle.redirect_map.proofs.Found.{find-map}
 
 pub covers_seen : (e : Entry) (b : ℕ) → IsInRange e → (cover_at (seen e)).covers b ≡ keeps e b
@@ -91,12 +91,6 @@ older_at (x ∷ xs) zero e b rising ranges at =
 older_at (x ∷ xs) (suc k) e b rising ranges at =
     let less : x.record.version < e.record.version = all_at (λ (d : Entry). x.record.version < d.record.version) xs k e (all_before_map (λ w. x.record.version < w) (λ (d : Entry). d.record.version) xs rising.0) at in
     λ i. (ap (λ (t : Bool). (cover_at (seen x)).covers b && t) (lt-ltb x.record.version e.record.version less) ∙ and_true ((cover_at (seen x)).covers b) ∙ covers_seen x b ranges.0) i || older_at xs k e b rising.1 ranges.1 at i
-
--- the entry that is found stands at its place
-pub record IsAt (items : List Entry) (version k : ℕ) (e : Entry) : Type 0 where
-  pub at : slice_get items k ≡ Some e
-  pub version_is : e.record.version ≡ version
-  pub found : entry_at (map seen items) version ≡ Some (seen e)
 
 find_passes : {X : Type 0} (p : X → Bool) (xs : List X) (x : X) → find p xs ≡ Some x → p x ≡ true
 find_passes p [] x e = absurd (cc)

@@ -16,9 +16,9 @@ use Rattle.block_cells.proofs.Bits.{has_bit-zero, has_bit-without}
 use Rattle.block_cells.proofs.Marks.{in_mask-bit}
 use Rattle.redirect_map.specs.declared.entry.Entry.{Entry}
 use Rattle.redirect_map.specs.Index.{entry_at, cover_at}
-use Rattle.redirect_map.specs.Kept.{seen, keeps, one_keeps, IsInRange, IsUnhomed, AreEntries}
+use Rattle.redirect_map.specs.Kept.{seen, keeps, one_keeps, IsInRange, IsUnhomed, AreEntries, IsAt}
 use Rattle.redirect_map.specs.Cells.{cell_of}
-use Rattle.redirect_map.proofs.Seen.{IsAt, covers_seen, newer_at, older_at}
+use Rattle.redirect_map.proofs.Seen.{covers_seen, newer_at, older_at}
 use Rattle.redirect_map.proofs.Answering.{range_at, wide}
 use Rattle.redirect_map.proofs.Changing.{trimmed, within_count}
 use Rattle.redirect_map.proofs.Adding.{new_entry}

@@ -1,12 +1,12 @@
 -- What the program's own entries keep.
-use Rattle.std.specs.Prelude.{◌≡◌, ◌<◌, ◌≤◌, ◌^◌, ◌+◌, ◌==◌, nat_lt, ⊤, ℕ, Bool, true, false, not, ◌&&◌, List, [], ◌∷◌, map}
+use Rattle.std.specs.Prelude.{◌≡◌, ◌<◌, ◌≤◌, ◌^◌, ◌+◌, ◌==◌, nat_lt, ⊤, ℕ, Bool, true, false, not, ◌&&◌, List, [], ◌∷◌, map, slice_get, Some}
 use Rattle.std.specs.List.{list_any, AllByRecursion}
 use Rattle.wol_model.specs.Log.{has_bit}
 use Rattle.wol_model.specs.Index.{Indexed, AreRising}
 use Rattle.block_cells.specs.declared.record.Rec.{Rec}
 use Rattle.block_cells.specs.Masks.{in_mask}
 use Rattle.redirect_map.specs.declared.entry.Entry.{Entry}
-use Rattle.redirect_map.specs.Index.{entry_of}
+use Rattle.redirect_map.specs.Index.{entry_of, entry_at}
 
 -- an entry as contracts see it
 abbrev pub seen : Entry → Indexed
@@ -61,3 +61,9 @@ pub record IsUnhomed (r : Rec) (old new : Entry) : Type 0 where
 pub record IsWithout (S : ℕ → Bool) (old new : Entry) : Type 0 where
   pub same : new.record ≡ old.record
   pub homed : (i : ℕ) → has_bit new.homed i ≡ (has_bit old.homed i && not (S (old.record.lbn + i)))
+
+-- the entry stands at place k, and is the one of this version
+pub record IsAt (es : List Entry) (version k : ℕ) (e : Entry) : Type 0 where
+  pub at : slice_get es k ≡ Some e
+  pub version_is : e.record.version ≡ version
+  pub found : entry_at (map seen es) version ≡ Some (seen e)

@@ -204,7 +204,7 @@ impl Index {
         ensures { IfSome (entry_at self.now.entries version)
             (λ e. IsMask e.listed.first (is_live (listed_in self.now.entries) e.listed) result) }
     {
-        let record = self.entries.get(version).unwrap().record;
+        let record = self.entries.listed(version).record;
 
         // All blocks of the only record are live.
         if self.entries.len() == 1 {
@@ -221,7 +221,7 @@ impl Index {
             (λ b. is_live (listed_in self.now.entries) e.listed b
             && not (is_older (listed_in self.now.entries) e.listed b)) result) }
     {
-        let record = self.entries.get(version).unwrap().record;
+        let record = self.entries.listed(version).record;
         held(&self.blocks, &record, true)
     }
 
@@ -231,7 +231,7 @@ impl Index {
         ensures { IfSome (entry_at self.now.entries version)
             (λ e. IsMask e.listed.first (is_older (listed_in self.now.entries) e.listed) result) }
     {
-        let one = self.entries.get(version).unwrap().record;
+        let one = self.entries.listed(version).record;
         let (live, alone) = held_both(&self.blocks, &one);
         if one.keep & !live == 0 {
             return one.keep & !alone;
@@ -248,7 +248,7 @@ impl Index {
             (λ e. (i : ℕ) → has_bit result i ≡ true
             → is_live (listed_in self.now.entries) e.listed (e.listed.first + i) ≡ true) }
     {
-        self.entries.get(version).unwrap().homed
+        self.entries.listed(version).homed
     }
 
     /// Whether a block of this version's record is one that is sought.
@@ -257,7 +257,7 @@ impl Index {
         ensures { IfSome (entry_at self.now.entries version)
             (λ e. result ≡ has_sought sought (listed_in self.now.entries) e.listed) }
     {
-        let entry = self.entries.get(version).unwrap();
+        let entry = self.entries.listed(version);
         any_sought(&self.blocks, &entry, sought)
     }
 
@@ -267,7 +267,7 @@ impl Index {
         ensures { IfSome (entry_at self.now.entries version)
             (λ e. IsMask e.listed.first (goes (listed_in self.now.entries) e.listed) result) }
     {
-        let entry = self.entries.get(version).unwrap();
+        let entry = self.entries.listed(version);
 
         // Of the only record those may go that are home.
         if self.entries.len() == 1 {
@@ -287,7 +287,7 @@ impl Index {
         ensures entries { self.new.entries ≡ changed version (with_homed mask) self.old.entries }
         ensures room { self.new.reserved ≡ self.old.reserved }
     {
-        let mut entry = self.entries.get(version).unwrap();
+        let mut entry = self.entries.listed(version);
         entry.homed = mask;
         self.homes = with_homes(self.homes, mask);
         self.marks.set(version, exact_mask(&self.blocks, &entry));
@@ -308,7 +308,7 @@ impl Index {
             (changed version (given_up mask) self.old.entries) }
         ensures room { self.old.reserved ≤ self.new.reserved }
     {
-        let mut entry = self.entries.get(version).unwrap();
+        let mut entry = self.entries.listed(version);
 
         // A homed block that goes is kept by no other record.
         let alone = entry.homed;

@@ -4,7 +4,8 @@ ghost use Rattle.std.specs.Prelude.{◌≡◌, ◌<◌, ◌≤◌, ◌+◌, ◌-
 ghost use Rattle.std.specs.List.{AllByRecursion, list_any, range_with_len, remove};
 ghost use Rattle.std.specs.VecDeque.{deque_len, deque_capacity};
 ghost use Rattle.wol_model.specs.Index.{AreRising};
-ghost use Rattle.redirect_map.specs.Kept.{is_version, keeps, IsKept};
+ghost use Rattle.redirect_map.specs.Index.{HasVersion};
+ghost use Rattle.redirect_map.specs.Kept.{seen, is_version, keeps, IsKept, IsInRange, AreEntries, IsAt};
 ghost use Rattle.redirect_map.specs.Listing.{is_listed, is_dead, place_in, ArePlaces};
 
 use crate::entry::{Entry, any_meets, kept_from, place_of, with_version};
@@ -71,6 +72,16 @@ impl Entries {
             return None;
         }
         Some(entry)
+    }
+
+    /// The entry of this version, which is there.
+    pub fn listed(&self, version: u64) -> Entry
+        requires entries { AreEntries self.now.items }
+        requires there { HasVersion (map seen self.now.items) version }
+        ensures at { IsAt self.now.items version (place_in version self.now.items) result }
+        ensures range { IsInRange result }
+    {
+        self.get(version).unwrap()
     }
 
     /// Puts the entry in place of that of this version, which it has too.

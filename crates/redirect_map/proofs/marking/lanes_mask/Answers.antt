@@ -1,4 +1,4 @@
-use Rattle.std.proofs.Common.{◌≡◌, ⊎_elim, ◌<◌, ◌∙◌, ◌%◌, ◌*◌, ◌^◌, length, Bool, true, false, sym, ap, arith}
+use Rattle.std.proofs.Common.{⊎_elim, ◌<◌, ◌∙◌, ◌%◌, ◌*◌, ◌^◌, length, false, sym, ap, arith}
 use Rattle.std.proofs.lemmas.Bool.{cases_lt, false≢true}
 use Rattle.std.proofs.lemmas.List.{get_or_past}
 use Rattle.std.proofs.Math.Nat.{mod-lt}

@@ -1,4 +1,4 @@
-use Rattle.std.proofs.Common.{◌≡◌, nat_eq, ℕ, true, false, Option, None, ◌<◌, ◌≤◌, ◌∙◌, refl, sym, ap, subst, map, length, arith, [], ◌∷◌}
+use Rattle.std.proofs.Common.{◌≡◌, nat_eq, ℕ, true, false, ◌<◌, ◌≤◌, ◌∙◌, refl, sym, ap, subst, map, length, arith, [], ◌∷◌}
 use Rattle.std.specs.HashMap.{get}
 use Rattle.std.proofs.lemmas.List.{length-append}
 use Rattle.std.specs.List.{AllByRecursion, AllZip, list_any, range_with_len}
