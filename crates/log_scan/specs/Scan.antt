@@ -1,12 +1,16 @@
 -- What a scan finds.
-use Rattle.std.specs.Prelude.{◌≡◌, ◌≢◌, ◌⊎◌, ◌<◌, ◌≤◌, ◌+◌, ℕ, List, [], ◌∷◌, length, drop, slice_get, MatchOption, Some}
+use Rattle.std.specs.Prelude.{◌≡◌, ◌≢◌, ◌⊎◌, ◌<◌, ◌≤◌, ◌+◌, ℕ, List, [], ◌∷◌, length, drop, slice_get, MatchOption, Some, Result, OnOk, IsErrOf}
 use Rattle.std.specs.List.{AllByRecursion}
-use Rattle.wol_disk.specs.Disk.{Block}
+use Rattle.wol_disk.specs.Disk.{Block, State, LeavesOnly, Rose, IsImageOf}
 use Rattle.wol_model.specs.Heads.{RecordHead, IsRecordHead, SegmentHead, SpellsRecord, SpellsSegment, gate_block}
 use Rattle.wol_model.specs.Log.{Record, IsIdle, IsLog, StandsBehind, position_of, end_of}
+use Rattle.spin_model.specs.Spun.{volume_of, state_of}
+use Rattle.spin_model.specs.declared.spun.Spun.{Spun}
 use Rattle.log_layout.specs.Values.{record_head}
 use Rattle.log_scan.specs.declared.Found.{Found}
 use Rattle.log_scan.specs.declared.Scan.{Scan}
+use Rattle.log_scan.specs.declared.ScanFault.{ScanFault}
+use Rattle.log_scan.specs.declared.ScanFault.TheVariants.{Damaged, Failed}
 
 -- this is the head of record k, and its position
 pub record IsFoundAt (rs : List Record) (k : ℕ) (f : Found) : Type 0 where
@@ -41,6 +45,23 @@ pub record IsScan (blocks : ℕ) (s : Scan) : Type 0 where
   pub few : length s.records.items < s.end
   pub heads : MatchOption s.owner (s.records.items ≡ [])
       (λ owner. AllByRecursion (IsInside blocks owner) s.records.items)
+
+-- ---- Reads
+
+-- What calls that only read leave of a part, whatever they answer: its images as they were, and its
+-- count of failed calls too, unless one is told.
+pub record ReadsOnly {D T : Type 0} (state : D → State) (old new : Spun D)
+    (res : Result T ScanFault) : Type 0 where
+  pub values : (state_of state new).values ≡ (state_of state old).values
+  pub size : (state_of state new).size ≡ (state_of state old).size
+  pub volume : volume_of new ≡ volume_of old
+  pub cause : IsErrOf res Failed
+      → Rose (state_of state old).faults (state_of state new).faults
+  pub calm : OnOk res ((state_of state new).faults ≡ (state_of state old).faults)
+  pub quiet : (block : ℕ) → IsErrOf res (Damaged block)
+      → (state_of state new).faults ≡ (state_of state old).faults
+  pub any_moment : LeavesOnly (state_of state old) (state_of state new)
+      (IsImageOf (state_of state old).values)
 
 -- ---- Damage
 

@@ -2,7 +2,7 @@
 ghost use Rattle.std.specs.Prelude.{◌≡◌, ◌≤◌, ◌<◌, ◌^◌, ℕ, List, Some, option_map, IfOk, OnOk, IsErrOf};
 ghost use Rattle.wol_disk.specs.Disk.{Block, Values, only, settled, reads, LeavesOnly, Rose, IsImageOf};
 ghost use Rattle.spin_model.specs.Spun.{volume_of, state_of, token_volume};
-ghost use Rattle.log_scan.specs.Scan.{IsScan, IsScanOf, IsDamaged, IsFirstFault};
+ghost use Rattle.log_scan.specs.Scan.{IsScan, IsScanOf, IsDamaged, IsFirstFault, ReadsOnly};
 ghost use Rattle.log_scan.specs.declared.ScanFault.TheVariants as fault;
 
 use crate::reading::{read_block, read_records};
@@ -28,17 +28,7 @@ fn read_segment<D: Disk>(
     ensures damaged { (bs : List Block) (block : ℕ)
         → (state_of D.state part.old).values ≡ Some (only bs)
         → IsErrOf result (fault.Damaged block) → IsDamaged bs × IsFirstFault bs block }
-    ensures values { (state_of D.state part.new).values ≡ (state_of D.state part.old).values }
-    ensures size { (state_of D.state part.new).size ≡ (state_of D.state part.old).size }
-    ensures volume { volume_of part.new ≡ volume_of part.old }
-    ensures cause { IsErrOf result fault.Failed
-        → Rose (state_of D.state part.old).faults (state_of D.state part.new).faults }
-    ensures calm { OnOk result
-        ((state_of D.state part.new).faults ≡ (state_of D.state part.old).faults) }
-    ensures quiet { (block : ℕ) → IsErrOf result (fault.Damaged block)
-        → (state_of D.state part.new).faults ≡ (state_of D.state part.old).faults }
-    ensures any_moment { LeavesOnly (state_of D.state part.old) (state_of D.state part.new)
-        (IsImageOf (state_of D.state part.old).values) }
+    ensures kept { ReadsOnly D.state part.old part.new result }
 {
     let block = match read_block(part, token, 0) {
         Ok(block) => block,

@@ -1,14 +1,14 @@
 // The blocks of a segment, read from its head on.
-ghost use Rattle.std.specs.Prelude.{⊤, ◌≡◌, ◌+◌, ◌<◌, ◌≤◌, ◌^◌, ℕ, List, [], length, Some, MatchOption, IfOk, OnOk, IsErr, IsErrOf};
+ghost use Rattle.std.specs.Prelude.{⊤, ◌≡◌, ◌+◌, ◌<◌, ◌≤◌, ◌^◌, ℕ, List, [], length, Some, MatchOption, IfOk, IsErr, IsErrOf};
 ghost use Rattle.std.specs.List.{AllByRecursion};
-ghost use Rattle.wol_disk.specs.Disk.{Block, only, LeavesOnly, Rose, Passes, IsImageOf};
+ghost use Rattle.wol_disk.specs.Disk.{Block, only, Passes};
 ghost use Rattle.wol_model.specs.Heads.{IsRecordHead};
 ghost use Rattle.wol_model.specs.Log.{Record, IsLog, end_of};
 ghost use Rattle.spin_model.specs.Spun.{volume_of, state_of, token_volume};
 ghost use Rattle.log_layout.specs.Values.{record_head};
 ghost use Rattle.log_scan.specs.declared.Found.{Found as FoundAt};
 ghost use Rattle.log_scan.specs.declared.ScanFault.TheVariants as fault;
-ghost use Rattle.log_scan.specs.Scan.{AreFound, IsInside, IsFaultAt};
+ghost use Rattle.log_scan.specs.Scan.{AreFound, IsInside, IsFaultAt, ReadsOnly};
 ghost use Rattle.log_scan.specs.Reading.{StandsAt, IsGateAt, IsHeadAt, IsReading};
 
 use crate::{Found, ScanFault};
@@ -52,17 +52,7 @@ fn next_head<D: Disk>(
     ensures damaged { (bs : List Block) (block : ℕ)
         → (state_of D.state part.old).values ≡ Some (only bs)
         → IsErrOf result (fault.Damaged block) → (block ≡ at) × IsFaultAt bs owner at }
-    ensures values { (state_of D.state part.new).values ≡ (state_of D.state part.old).values }
-    ensures size { (state_of D.state part.new).size ≡ (state_of D.state part.old).size }
-    ensures volume { volume_of part.new ≡ volume_of part.old }
-    ensures cause { IsErrOf result fault.Failed
-        → Rose (state_of D.state part.old).faults (state_of D.state part.new).faults }
-    ensures calm { OnOk result
-        ((state_of D.state part.new).faults ≡ (state_of D.state part.old).faults) }
-    ensures quiet { (block : ℕ) → IsErrOf result (fault.Damaged block)
-        → (state_of D.state part.new).faults ≡ (state_of D.state part.old).faults }
-    ensures any_moment { LeavesOnly (state_of D.state part.old) (state_of D.state part.new)
-        (IsImageOf (state_of D.state part.old).values) }
+    ensures kept { ReadsOnly D.state part.old part.new result }
 {
     let block = match read_block(part, token, at) {
         Ok(block) => block,
@@ -105,17 +95,7 @@ pub fn read_records<D: Disk>(
         → (state_of D.state part.old).values ≡ Some (only bs) → IsReading bs owner 1 []
         → IsErrOf result (fault.Damaged block)
         → IsFaultAt bs owner block × ((found : List FoundAt) × IsReading bs owner block found) }
-    ensures values { (state_of D.state part.new).values ≡ (state_of D.state part.old).values }
-    ensures size { (state_of D.state part.new).size ≡ (state_of D.state part.old).size }
-    ensures volume { volume_of part.new ≡ volume_of part.old }
-    ensures cause { IsErrOf result fault.Failed
-        → Rose (state_of D.state part.old).faults (state_of D.state part.new).faults }
-    ensures calm { OnOk result
-        ((state_of D.state part.new).faults ≡ (state_of D.state part.old).faults) }
-    ensures quiet { (block : ℕ) → IsErrOf result (fault.Damaged block)
-        → (state_of D.state part.new).faults ≡ (state_of D.state part.old).faults }
-    ensures any_moment { LeavesOnly (state_of D.state part.old) (state_of D.state part.new)
-        (IsImageOf (state_of D.state part.old).values) }
+    ensures kept { ReadsOnly D.state part.old part.new result }
 {
     let mut records = Vec::new(alloc);
     let mut at = 1;

@@ -13,4 +13,4 @@ pub returns-in-Ok-clause-any_moment : goal.returns-in-Ok-clause-any_moment
 returns-in-Ok-clause-any_moment g c =
     let sound = g.met.D.Disk.sound in
     let synced = sync_goes_on c.sync.result (begun (sound (disk_of c.args.part.now))) (sound (disk_of c.args.part.now)) c.sync.ensures.ok c.sync.ensures.err c.sync.ensures.passes in
-    then_leaves synced c.read_segment.ensures.any_moment (now_leaves synced (sound (disk_of c.sync.new.self)))
+    then_leaves synced c.read_segment.ensures.kept.any_moment (now_leaves synced (sound (disk_of c.sync.new.self)))

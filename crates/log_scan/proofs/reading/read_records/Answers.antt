@@ -46,11 +46,11 @@ loop-at-preserved g c =
       few = omega (arith, i.few, c.in-Ok-push.ensures.len, shape.0.count.0);
       heads = subst (λ (l : List Found). AllByRecursion (IsInside c.args.blocks c.args.owner) l) (sym items)
           (all_push (IsInside c.args.blocks c.args.owner) c.loop-at.records.items new i.heads (record { behind = i.inside.0; in_range = shape.0; owned = shape.1; fits = shape.2 }));
-      volume = c.next_head.ensures.volume ∙ i.volume;
-      size = c.next_head.ensures.size ∙ i.size;
-      calm = c.in-Ok.ensures.calm ∙ i.calm;
-      values = c.next_head.ensures.values ∙ i.values;
-      moments = still_more i.moments i.values c.next_head.ensures.any_moment;
+      volume = c.next_head.ensures.kept.volume ∙ i.volume;
+      size = c.next_head.ensures.kept.size ∙ i.size;
+      calm = c.in-Ok.ensures.kept.calm ∙ i.calm;
+      values = c.next_head.ensures.kept.values ∙ i.values;
+      moments = still_more i.moments i.values c.next_head.ensures.kept.any_moment;
       reading = λ bs is start.
           let P : Option RecHead → Type 0 = λ o. MatchOption o (IsGateAt bs at) (λ h. IsHeadAt bs c.args.owner at (record_head h)) in
           let there : IsHeadAt bs c.args.owner at (record_head c.in-Some.head) = subst P c.in-Some.is (c.in-Ok.ensures.found bs (i.values ∙ is)) in
