@@ -7,3 +7,4 @@ pub mod Uses
 pub mod Places
 pub mod Results
 pub mod Trimming
+pub mod Turned

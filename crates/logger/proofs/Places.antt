@@ -28,6 +28,11 @@ module _ {D : Type 0} where
   pub index_there : (hs items : List (HeldSegment D)) (place index : ℕ) (s : HeldSegment D) → hs ≡ items → slice_get items place ≡ Some s → s.index ≡ index → (x : ℕ) × HasIndex hs x index
   index_there hs items place index s are there named = (place, record { segment = s; there = subst (λ (xs : List (HeldSegment D)). slice_get xs place ≡ Some s) (sym are) there; named = named })
 
+  -- the segment at the place of an index has it
+  pub has_index : (hs items : List (HeldSegment D)) (place index : ℕ) (o : HeldSegment D) → hs ≡ items → HasIndex hs place index → slice_get items place ≡ Some o → o.index ≡ index
+  has_index hs items place index o are at there =
+      let here : slice_get items place ≡ Some at.segment = subst (λ (xs : List (HeldSegment D)). slice_get xs place ≡ Some at.segment) are at.there in ap (λ (h : HeldSegment D). h.index) (same_Some o at.segment (sym there ∙ here)) ∙ at.named
+
   -- the segment o is there, and has this index
   pub record Found (items : List (HeldSegment D)) (place index : ℕ) (o : HeldSegment D) : Type 0 where
     pub there : slice_get items place ≡ Some o
@@ -37,7 +42,7 @@ module _ {D : Type 0} where
   pub found : (hs items : List (HeldSegment D)) (place index : ℕ) (o : HeldSegment D) → hs ≡ items → HasIndex hs place index → o ≡ get_or items place o → Found items place index o
   found hs items place index o are at is =
       let there : slice_get items place ≡ Some at.segment = subst (λ (xs : List (HeldSegment D)). slice_get xs place ≡ Some at.segment) are at.there in
-      let here = there_get items place o (within items place at.segment there) is in record { there = here; named = ap (λ (h : HeldSegment D). h.index) (same_Some o at.segment (sym here ∙ there)) ∙ at.named }
+      let here = there_get items place o (within items place at.segment there) is in record { there = here; named = has_index hs items place index o are at here }
 
   -- the place of an index is that of any segment that has it
   pub place_is : (hs items : List (HeldSegment D)) (ws : List ℕ) (p q index : ℕ) (s : HeldSegment D) → hs ≡ items → HasIndex hs p index → slice_get items q ≡ Some s → s.index ≡ index → AreApart (map (λ (h : HeldSegment D). h.index) items ++ ws) → slice_get items p ≡ Some s

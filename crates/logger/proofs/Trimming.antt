@@ -1,7 +1,8 @@
 -- Blocks given up, and what became of the segment.
-use Rattle.std.proofs.Common.{◌≡◌, inl, inr, ⊎_elim, ℕ, true, false, List, ◌++◌, map, set, remove, slice_get, Option, Some, None, Result, Ok, Err, IfOk, IsErr, is_ok, refl, sym, ap, subst, ◌∙◌}
+use Rattle.std.proofs.Common.{◌≡◌, inl, inr, ⊎_elim, ℕ, false, List, ◌++◌, map, set, slice_get, Option, Some, None, Result, Ok, Err, IfOk, IsErr, is_ok, refl, sym, ap, subst, ◌∙◌}
 use Rattle.std.specs.Prelude.{◌-◌, ◌==◌, if◌then◌else◌}
 use Rattle.std.specs.List.{AllByRecursion}
+use Rattle.std.proofs.lemmas.Option.{none-some}
 use Rattle.wol_disk.specs.Disk.{State, LeavesOnly, Rose}
 use Rattle.wol_disk.specs.declared.disk.Failed.{Failed}
 use Rattle.wol_disk.proofs.Moments.{then_leaves, widened}
@@ -23,6 +24,19 @@ use Rattle.logger.specs.declared.lane.Lane.{Lane}
 use Rattle.logger.specs.declared.lane.Spot.{Spot}
 use Rattle.logger.proofs.Held.{all_get, all_set, map-set}
 use Rattle.logger.proofs.Uses.{held_same}
+
+-- what a trim freed
+abbrev pub freed_of : {F E : Type 0} → Result (Option F) E → Option F
+freed_of (Ok o) = o
+freed_of (Err e) = None
+
+pub kept_none : {F E : Type 0} (res : Result (Option F) E) → IfOk res (λ x. x ≡ None) → freed_of res ≡ None
+kept_none (Ok x) none = none
+kept_none (Err x) none = refl
+
+pub none_of_err : {F E : Type 0} (res : Result (Option F) E) → IsErr res → freed_of res ≡ None
+none_of_err (Ok x) err = cc
+none_of_err (Err x) err = refl
 
 module _ {D : Type 0} (state : D → State) where
   -- a segment before and after a trim that succeeded, none of whose records keeps a block then
@@ -69,22 +83,6 @@ module _ {D : Type 0} (state : D → State) where
   cut_as o n pos head keep (Err x) (Ok y) same c = cc
   cut_as o n pos head keep (Err x) (Err y) same c = record { index = c.index; same = c.same; end = c.end; ok = c.ok; whole = c.whole; valid = c.valid; fewer = c.fewer; broken = c.broken; any_moment = c.any_moment; cause = c.cause; calm = c.calm }
 
-  kept_none : (res : Result (Option (FreeSegment D)) Failed) (f : FreeSegment D) → IfOk res (λ x. x ≡ None) → res ≡ Ok (Some f) → ⊥
-  kept_none (Ok x) f none is = let y = none in cc
-  kept_none (Err x) f none is = cc
-
-  -- the segment that was freed
-  pub record WasFreed (hs hs' : List (HeldSegment D)) (place pos : ℕ) (head : RecordHead) (keep : ℕ) (free : FreeSegment D) : Type 0 where
-    pub segment : HeldSegment D
-    pub there : slice_get hs place ≡ Some segment
-    pub gone : hs' ≡ remove hs place
-    pub gave : GaveUp state segment (blocks_of segment.segment) free pos head keep
-
-  pub was_freed : (hs hs' : List (HeldSegment D)) (place pos : ℕ) (head : RecordHead) (keep : ℕ) (res : Result (Option (FreeSegment D)) Failed) (f : FreeSegment D) → Cut state hs hs' place pos head keep res → res ≡ Ok (Some f) → WasFreed hs hs' place pos head keep f
-  was_freed hs hs' place pos head keep res f (stays o n there held shape none cut) is = absurd (kept_none res f none is)
-  was_freed hs hs' place pos head keep res f (freed o free there gone ok gave) is = record { segment = o; there = there; gone = gone; gave = subst (λ (x : FreeSegment D). GaveUp state o (blocks_of o.segment) x pos head keep) (let both : Ok (Some free) ≡ Ok (Some f) = sym ok ∙ is in cc) gave }
-  was_freed hs hs' place pos head keep res f (could_not o n there held shape err st) is = absurd (let no : is_ok res ≡ true = ap is_ok is in cc)
-
   -- the segment that is still held
   pub record IsChanged (hs hs' : List (HeldSegment D)) (place : ℕ) : Type 0 where
     pub old : HeldSegment D
@@ -95,16 +93,16 @@ module _ {D : Type 0} (state : D → State) where
     pub index : new.index ≡ old.index
     pub same : IsSame old.segment new.segment
 
-  pub is_changed : (hs hs' : List (HeldSegment D)) (place pos : ℕ) (head : RecordHead) (keep : ℕ) (res : Result (Option (FreeSegment D)) Failed) → Cut state hs hs' place pos head keep res → ((f : FreeSegment D) → res ≡ Ok (Some f) → ⊥) → IsChanged hs hs' place
+  pub is_changed : (hs hs' : List (HeldSegment D)) (place pos : ℕ) (head : RecordHead) (keep : ℕ) (res : Result (Option (FreeSegment D)) Failed) → Cut state hs hs' place pos head keep res → freed_of res ≡ None → IsChanged hs hs' place
   is_changed hs hs' place pos head keep res (stays o n there held shape none cut) never = record { old = o; new = n; there = there; held = held; shape = shape; index = cut.index; same = cut.same }
-  is_changed hs hs' place pos head keep res (freed o free there gone ok gave) never = absurd (never free ok)
+  is_changed hs hs' place pos head keep res (freed o free there gone ok gave) never = absurd (none-some free (sym never ∙ ap freed_of ok))
   is_changed hs hs' place pos head keep res (could_not o n there held shape err st) never = record { old = o; new = n; there = there; held = held; shape = shape; index = st.index; same = st.same }
 
   -- what the call did to the lane
   pub trimmed_stays : {T E : Type 0} (old new : Lane D) (spot : Spot) (p : ℕ) (head : RecordHead) (keep : ℕ) (res : Result (Option (FreeSegment D)) Failed) (r : Result T E) → Cut state (held_in old) (held_in new) p spot.pos head keep res → is_ok res ≡ is_ok r
-      → ((f : FreeSegment D) → res ≡ Ok (Some f) → ⊥) → ((o : HeldSegment D) → slice_get (held_in old) p ≡ Some o → o.index ≡ spot.segment) → pass_mine (pool_of new) ≡ pass_mine (pool_of old) → Trimmed state old new spot head keep r
+      → freed_of res ≡ None → ((o : HeldSegment D) → slice_get (held_in old) p ≡ Some o → o.index ≡ spot.segment) → pass_mine (pool_of new) ≡ pass_mine (pool_of old) → Trimmed state old new spot head keep r
   trimmed_stays old new spot p head keep res r (stays o n there held shape none cut) kind never named mine = in_place p o n there (named o there) held mine (cut_as o n spot.pos head keep res r kind cut)
-  trimmed_stays old new spot p head keep res r (freed o free there gone ok gave) kind never named mine = absurd (never free ok)
+  trimmed_stays old new spot p head keep res r (freed o free there gone ok gave) kind never named mine = absurd (none-some free (sym never ∙ ap freed_of ok))
   trimmed_stays old new spot p head keep res r (could_not o n there held shape err st) kind never named mine = not_freed p o n there (named o there) held mine (failed r (sym kind ∙ is_err_of res err)) st
     where
       is_err_of : (w : Result (Option (FreeSegment D)) Failed) → IsErr w → is_ok w ≡ false

@@ -1,19 +1,21 @@
 -- What a lane's passes made in a call, and what its segments are to it then.
-use Rattle.std.proofs.Common.{◌≡◌, ◌≢◌, inl, inr, ◌<◌, ℕ, true, List, [], ◌∷◌, ◌++◌, map, vec_len, slice_index_or, Option, Some, None, IfSome, option_to_list, refl, sym, ap, subst, ◌∙◌, append_assoc}
+use Rattle.std.proofs.Common.{◌≡◌, ◌≢◌, inl, inr, ◌<◌, ℕ, true, false, List, [], ◌∷◌, ◌++◌, map, vec_len, slice_index_or, Option, Some, None, IfSome, option_to_list, refl, sym, ap, subst, ◌∙◌, append_assoc}
 use Rattle.std.specs.List.{AllByRecursion}
 use Rattle.wol_disk.specs.Disk.{State}
 use Rattle.turn_lock.specs.Histories.{Entry}
 use Rattle.turn_lock.specs.LockIds.{LockId}
-use Rattle.turn_lock.specs.Passes.{lock_id, pass_lock, pass_number, pass_mine, IsSamePass}
+use Rattle.turn_lock.specs.Passes.{lock_id, pass_lock, pass_number, pass_mine, IsFree, IsSamePass}
 use Rattle.turn_lock.specs.declared.pass.PassOf.{PassOf}
 use Rattle.wol_model.specs.Journal.{Needed, Done}
-use Rattle.spin_model.specs.Operations.{operation_of}
+use Rattle.spin_model.specs.Operations.{operation_of, has_token}
+use Rattle.spin_model.specs.declared.spindle.Spindle.{Spindle}
+use Rattle.spin_model.specs.declared.spindle.SpindleBase.{SpindleBase}
 use Rattle.seg_pool.specs.Operations.{holds}
 use Rattle.seg_pool.specs.declared.base.PoolBase.{PoolBase}
 use Rattle.seg_pool.specs.declared.pool.Pool.{Pool}
 use Rattle.log_segment.specs.Segment.{IsSegment, IsBlank, IsSame}
 use Rattle.log_segment.specs.declared.free.FreeSegment.{FreeSegment}
-use Rattle.logger.specs.Lanes.{AreAccesses, IsHeld, IsTaken, IsAt, IsSameLane}
+use Rattle.logger.specs.Lanes.{AreAccesses, IsHeld, IsTaken, IsAt}
 use Rattle.logger.specs.declared.lane.HeldSegment.{HeldSegment}
 use Rattle.logger.specs.declared.lane.Lane.{Lane}
 use Rattle.logger.specs.declared.shared.Shared.{Shared}
@@ -34,13 +36,24 @@ accesses_then old new n is all = subst AreAccesses (sym is) (more old all)
 pub accesses_over : (old mid new : List Entry) (n m : ℕ) → mid ≡ old ++ (n, operation_of Needed) ∷ [] → m ≡ n → new ≡ mid ++ (m, operation_of Done) ∷ [] → AreAccesses old → AreAccesses new
 accesses_over old mid new n m first same second = accesses_then old new n (two_entries old mid new n m (operation_of Needed) (operation_of Done) first same second)
 
--- a lane whose passes are the same is at the same locks
-pub at_same : {D : Type 0} (shared : Shared D) (old new : Lane D) → IsSameLane old new → IsAt shared old → IsAt shared new
-at_same shared old new same at = record {
-  pool_in = subst (λ n. n < vec_len shared.pools) (sym same.logger) at.pool_in;
-  spindle_in = subst (λ n. n < vec_len shared.spindles) (sym same.logger) at.spindle_in;
-  pool = λ d. same.pool.0 ∙ (at.pool d ∙ ap (λ n. lock_id (slice_index_or shared.pools.items n d)) (sym same.logger));
-  spindle = λ d. same.spindle.0 ∙ (at.spindle d ∙ ap (λ n. lock_id (slice_index_or shared.spindles.items n d)) (sym same.logger));
+-- the spindle's pass after a call in which the disk was needed, and was done
+pub record IsOver (old new : PassOf Spindle SpindleBase) : Type 0 where
+  pub free : IsFree new
+  pub same : IsSamePass old new
+  pub settled : has_token (pass_mine new) ≡ false
+  pub mine : pass_mine new ≡ pass_mine old ++ (pass_number old, operation_of Needed) ∷ (pass_number old, operation_of Done) ∷ []
+
+pub over : (old mid new : PassOf Spindle SpindleBase) → IsSamePass old mid → pass_mine mid ≡ pass_mine old ++ (pass_number old, operation_of Needed) ∷ [] → IsFree new → IsSamePass mid new → has_token (pass_mine new) ≡ false → pass_mine new ≡ pass_mine mid ++ (pass_number mid, operation_of Done) ∷ []
+    → IsOver old new
+over old mid new same first free again settled second = record { free = free; same = (again.0 ∙ same.0, again.1 ∙ same.1); settled = settled; mine = two_entries _ _ _ _ _ _ _ first same.1 second }
+
+-- a lane whose passes are of the same locks is where it was
+pub at_passes : {D : Type 0} (shared : Shared D) (old new : Lane D) → new.logger ≡ old.logger → pass_lock new.pool ≡ pass_lock old.pool → pass_lock new.spindle ≡ pass_lock old.spindle → IsAt shared old → IsAt shared new
+at_passes shared old new logger pool spindle at = record {
+  pool_in = subst (λ n. n < vec_len shared.pools) (sym logger) at.pool_in;
+  spindle_in = subst (λ n. n < vec_len shared.spindles) (sym logger) at.spindle_in;
+  pool = λ d. pool ∙ (at.pool d ∙ ap (λ n. lock_id (slice_index_or shared.pools.items n d)) (sym logger));
+  spindle = λ d. spindle ∙ (at.spindle d ∙ ap (λ n. lock_id (slice_index_or shared.spindles.items n d)) (sym logger));
 }
 
 module _ {D : Type 0} (state : D → State) (logger owner segments : ℕ) where

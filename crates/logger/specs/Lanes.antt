@@ -1,5 +1,5 @@
 -- A lane as its manager sees it: the segments that one volume holds on one logger.
-use Rattle.std.specs.Prelude.{◌≡◌, ◌<◌, ◌≤◌, ◌⊎◌, ◌+◌, ◌-◌, ◌==◌, if◌then◌else◌, ◌∷◌, ◌++◌, ℕ, Bool, true, false, List, [], map, All, length, take, drop, slice_get, slice_set, remove, vec_len, vec_capacity, slice_index_or, Contains, Option, None, Some, IfSome, is_some, Result, Ok, Err, OnOk, OnErr, IsOk, IsErr}
+use Rattle.std.specs.Prelude.{◌≡◌, ◌<◌, ◌≤◌, ◌⊎◌, ◌+◌, ◌-◌, ◌^◌, ◌==◌, if◌then◌else◌, ◌∷◌, ◌++◌, ℕ, Bool, true, false, List, [], map, All, length, take, drop, slice_get, slice_set, remove, vec_len, vec_capacity, slice_index_or, Contains, Option, None, Some, IfSome, is_some, Result, Ok, Err, OnOk, OnErr, IsOk, IsErr}
 use Rattle.std.specs.List.{AllByRecursion}
 use Rattle.std.specs.Option.{option_to_list}
 use Rattle.wol_disk.specs.Disk.{Block, State, Values, LeavesOnly, Rose}
@@ -21,7 +21,7 @@ use Rattle.seg_pool.specs.Operations as pool
 use Rattle.seg_pool.specs.declared.base.PoolBase.{PoolBase}
 use Rattle.seg_pool.specs.declared.pool.Pool.{Pool}
 use Rattle.log_segment.specs.Kept.{IsKeptOrTrimmed}
-use Rattle.log_segment.specs.Records.{IsSameHead, trimmed, count_valid}
+use Rattle.log_segment.specs.Records.{IsSameHead, AreItems, count_of, trimmed, count_valid}
 use Rattle.log_segment.specs.Segment.{IsSegment, IsWhole, IsBroken, IsBlank, IsSame, Holds, room_of, disk_of, free_disk, free_volume, free_blocks, segment_volume, owner_of, blocks_of, place_of, valid_of}
 use Rattle.log_segment.specs.declared.free.FreeSegment.{FreeSegment}
 use Rattle.log_segment.specs.declared.item.Item.{Item}
@@ -184,6 +184,13 @@ abbrev pub first_count : List Item → ℕ
 first_count [] = 0
 first_count (i ∷ items) = i.count
 
+-- a group of writes: it has some, the blocks are theirs, and their versions stay below the last
+pub record IsGroup (first : ℕ) (group : List Item) (from : List Block) : Type 0 where
+  pub version : (1 ≤ first) × (first + length group ≤ 2 ^ 63)
+  pub some : 1 ≤ length group
+  pub items : AreItems group
+  pub blocks : count_of group ≡ length from
+
 -- an answered write stands at this spot, and a refused one names this segment
 abbrev pub IsSpot : (index pos : ℕ) → Result Spot (ℕ × Failed) → Type 0
 IsSpot index pos (Ok spot) = (spot.segment ≡ index) × (spot.pos ≡ pos)
@@ -245,6 +252,18 @@ pub data Wrote {D : Type 0} (state : D → State) (old new : Lane D) (count : �
       → taken_in new ≡ None
       → Claimed state (lane_owner old) f n.segment added res → IsSpot index 1 res
       → Wrote state old new count added res
+
+-- What else each write leaves: a lane at the same locks, which holds all that its pass does, asked
+-- the pool for nothing and used the spindle once.
+pub record HasWritten {D : Type 0} (state : D → State) (shared : Shared D) (old new : Lane D)
+    (count : ℕ) (added : List Record) (res : Result Spot (ℕ × Failed)) : Type 0 where
+  pub lane : IsLane state new
+  pub same : IsSameLane old new
+  pub all : HoldsAll old → HoldsAll new
+  pub at : IsAt shared new
+  pub pool : pass_mine (pool_of new) ≡ pass_mine (pool_of old)
+  pub used : HasUsed old new
+  pub moved : Wrote state old new count added res
 
 -- ---- Reads
 

@@ -5,7 +5,7 @@ ghost use Rattle.spin_model.specs.Spun.{token_volume};
 ghost use Rattle.log_segment.specs.Records.{new_record, group_of, count_of, AreItems};
 ghost use Rattle.log_segment.specs.Segment.{IsFree, room_of, free_volume, free_blocks};
 ghost use Rattle.logger.specs.declared.lane.HeldSegment.{HeldSegment};
-ghost use Rattle.logger.specs.Lanes.{IsLane, HoldsAll, IsAt, IsSameLane, HasRoom, HasNoRoom, IsFirstWithRoom, AreWhole, HasUsed, IsFit, Claimed, Wrote, lane_owner, held_in, taken_in, pool_of, pool_blocks, first_count, spot_result};
+ghost use Rattle.logger.specs.Lanes.{IsLane, HoldsAll, IsAt, IsSameLane, HasRoom, HasNoRoom, IsFirstWithRoom, AreWhole, HasUsed, IsFit, IsGroup, Claimed, Wrote, HasWritten, lane_owner, held_in, taken_in, pool_of, pool_blocks, first_count, spot_result};
 
 use crate::lane::{HeldSegment, Lane, Spot};
 use crate::secure::first_with_room;
@@ -37,10 +37,7 @@ fn claim_and_append<D: Disk>(
 ) -> (Segment<D>, Result<u32, Failed>)
     requires shape { IsFree D.state free }
     requires volume { token_volume token.now ≡ free_volume free }
-    requires version { (1 ≤ version) × (version + length items.now ≤ 2 ^ 63) }
-    requires some { 1 ≤ length items.now }
-    requires items { AreItems items.now }
-    requires blocks { count_of items.now ≡ length from.now }
+    requires group { IsGroup version items.now from.now }
     requires room { length from.now + (length items.now - 1) + 2 ≤ free_blocks free }
     ensures claimed { Claimed D.state owner free result.0
         (group_of owner version items.now from.now) result.1 }
@@ -76,13 +73,7 @@ impl<D: Disk> Lane<D> {
         requires version { (1 ≤ version) × (version < 2 ^ 63) }
         requires count { (1 ≤ length from.now) × (length from.now ≤ 128) }
         requires range { lbn + length from.now ≤ 2 ^ 32 }
-        ensures lane { IsLane D.state self.new }
-        ensures same { IsSameLane self.old self.new }
-        ensures all { HoldsAll self.old → HoldsAll self.new }
-        ensures at { IsAt shared.now self.new }
-        ensures pool { pass_mine (pool_of self.new) ≡ pass_mine (pool_of self.old) }
-        ensures used { HasUsed self.old self.new }
-        ensures moved { Wrote D.state self.old self.new (length from.now)
+        ensures moved { HasWritten D.state shared.now self.old self.new (length from.now)
             (new_record (lane_owner self.old) version lbn from.now ∷ []) result }
     {
         let item = Item {
@@ -145,16 +136,8 @@ impl<D: Disk> Lane<D> {
         requires place { IsFirstWithRoom (first_count items.now) (held_in self.old) place }
         requires room { (o : HeldSegment D) → slice_get (held_in self.old) place ≡ Some o
             → length from.now + (length items.now - 1) ≤ room_of o.segment }
-        requires version { (1 ≤ version) × (version + length items.now ≤ 2 ^ 63) }
-        requires some { 1 ≤ length items.now }
-        requires items { AreItems items.now }
-        requires blocks { count_of items.now ≡ length from.now }
-        ensures lane { IsLane D.state self.new }
-        ensures same { IsSameLane self.old self.new }
-        ensures all { HoldsAll self.old → HoldsAll self.new }
-        ensures pool { pass_mine (pool_of self.new) ≡ pass_mine (pool_of self.old) }
-        ensures used { HasUsed self.old self.new }
-        ensures moved { Wrote D.state self.old self.new (first_count items.now)
+        requires group { IsGroup version items.now from.now }
+        ensures { HasWritten D.state shared.now self.old self.new (first_count items.now)
             (group_of (lane_owner self.old) version items.now from.now) result }
     {
         let lock = &shared.spindles[self.logger as usize];
@@ -180,16 +163,8 @@ impl<D: Disk> Lane<D> {
         requires taken { IsSome (taken_in self.old) }
         requires none { HasNoRoom (first_count items.now) (held_in self.old) }
         requires room { length from.now + (length items.now - 1) + 2 ≤ pool_blocks self.old }
-        requires version { (1 ≤ version) × (version + length items.now ≤ 2 ^ 63) }
-        requires some { 1 ≤ length items.now }
-        requires items { AreItems items.now }
-        requires blocks { count_of items.now ≡ length from.now }
-        ensures lane { IsLane D.state self.new }
-        ensures same { IsSameLane self.old self.new }
-        ensures all { HoldsAll self.old → HoldsAll self.new }
-        ensures pool { pass_mine (pool_of self.new) ≡ pass_mine (pool_of self.old) }
-        ensures used { HasUsed self.old self.new }
-        ensures moved { Wrote D.state self.old self.new (first_count items.now)
+        requires group { IsGroup version items.now from.now }
+        ensures { HasWritten D.state shared.now self.old self.new (first_count items.now)
             (group_of (lane_owner self.old) version items.now from.now) result }
     {
         let before = mem::replace(&mut self.taken, None);

@@ -1,16 +1,13 @@
-use Rattle.std.proofs.Common.{◌≤◌, ◌+◌, ◌++◌, ℕ, List, map, length, vec_capacity, option_to_list, ap, ◌∙◌, sym, refl, subst, arith}
-use Rattle.wol_model.specs.Blocks.{AreApart}
-use Rattle.turn_lock.specs.LockIds.{LockId}
-use Rattle.spin_model.specs.declared.spindle.SpindleBase.{SpindleBase}
+use Rattle.std.proofs.Common.{◌≤◌, ◌+◌, set, length, vec_capacity, ◌∙◌, sym, refl, subst, arith}
 use Rattle.log_segment.specs.Segment.{IsWhole, blocks_of}
-use Rattle.log_segment.specs.declared.free.FreeSegment.{FreeSegment}
 use Rattle.logger.specs.Lanes.{IsHeld}
 use Rattle.logger.specs.declared.lane.HeldSegment.{HeldSegment}
-use Rattle.logger.proofs.AllHeld.{HoldsIn}
-use Rattle.logger.proofs.Held.{all_get, all_set, within, map-set}
+use Rattle.logger.proofs.Held.{all_get, within}
 use Rattle.logger.proofs.Places.{index_there, found, same_segment}
 use Rattle.logger.proofs.Results.{on_err}
-use Rattle.logger.proofs.Uses.{accesses_over, held_same}
+use Rattle.logger.proofs.Trimming.{IsChanged}
+use Rattle.logger.proofs.Turned.{lane_changed, all_changed}
+use Rattle.logger.proofs.Uses.{over, at_passes}
 use Rattle.logger.proofs.lane.Lane.read.Goals as goal
 
 pub place_of_index-place-requires : goal.place_of_index-place-requires
@@ -46,32 +43,20 @@ read-read-requires-clause-fits g c =
 
 pub returns-clause-lane : goal.returns-clause-lane
 returns-clause-lane g c =
-    let l = c.requires.lane in let self = c.args.self.now in let items = self.held.items in let p = c.place_of_index-place.result in let o = c.index_mut-held.result.now in let a = c.read-read.ensures in
+    let self = c.args.self.now in let items = self.held.items in let p = c.place_of_index-place.result in let o = c.index_mut-held.result.now in let a = c.read-read.ensures in
     let f = found c.deref.result.now items p c.args.spot.now.segment o c.deref.ensures.value c.place_of_index-place.ensures c.index_mut-held.ensures.value in
-    let held = all_get (IsHeld g.D.Disk.state self.logger self.owner (vec_capacity self.held) self.pool) items p o l.each f.there in
-    let n : HeldSegment g.row.D.Denot = record { index = o.index; segment = c.read-read.new.self } in record {
-      pool_free = l.pool_free;
-      spindle_free = c.give_token.ensures.free;
-      pool_volume = l.pool_volume;
-      spindle_volume = ap (λ (i : LockId SpindleBase). i.base.volume) (c.give_token.ensures.same.0 ∙ c.take_token-token.ensures.same.0) ∙ l.spindle_volume;
-      settled = c.give_token.ensures.has_none;
-      accesses = accesses_over _ _ _ _ _ c.take_token-token.ensures.mine c.take_token-token.ensures.same.1 c.give_token.ensures.mine l.accesses;
-      each = all_set (IsHeld g.D.Disk.state self.logger self.owner (vec_capacity self.held) self.pool) items p n l.each (held_same g.D.Disk.state self.logger self.owner (vec_capacity self.held) self.pool o n held refl a.shape a.same);
-      unclaimed = l.unclaimed;
-      apart = subst (λ (is : List ℕ). AreApart (is ++ map (λ (t : ℕ × FreeSegment g.row.D.Denot). t.0) (option_to_list self.taken))) (sym (map-set (λ (h : HeldSegment g.row.D.Denot). h.index) items p o n f.there refl)) l.apart;
-      room = l.room;
-      handing = l.handing;
-    }
+    let ch : IsChanged g.D.Disk.state items (set items p (record { index = o.index; segment = c.read-read.new.self })) p = record { old = o; new = record { index = o.index; segment = c.read-read.new.self }; there = f.there; held = refl; shape = a.shape; index = refl; same = a.same } in
+    lane_changed g.D.Disk.state self c.requires.lane _ c.give_token.new.pass p (over self.spindle c.take_token-token.new.pass c.give_token.new.pass c.take_token-token.ensures.same c.take_token-token.ensures.mine c.give_token.ensures.free c.give_token.ensures.same c.give_token.ensures.has_none c.give_token.ensures.mine) refl ch
 
 pub returns-clause-at : goal.returns-clause-at
-returns-clause-at g c = let a = c.requires.at in record { pool_in = a.pool_in; spindle_in = a.spindle_in; pool = a.pool; spindle = λ d. (c.give_token.ensures.same.0 ∙ c.take_token-token.ensures.same.0) ∙ a.spindle d }
+returns-clause-at g c = at_passes c.args.shared.now c.args.self.now _ refl refl (c.give_token.ensures.same.0 ∙ c.take_token-token.ensures.same.0) c.requires.at
 
 pub returns-clause-all : goal.returns-clause-all
-returns-clause-all g c all =
-    let self = c.args.self.now in let items = self.held.items in let p = c.place_of_index-place.result in let o = c.index_mut-held.result.now in
+returns-clause-all g c =
+    let self = c.args.self.now in let items = self.held.items in let p = c.place_of_index-place.result in let o = c.index_mut-held.result.now in let a = c.read-read.ensures in
     let f = found c.deref.result.now items p c.args.spot.now.segment o c.deref.ensures.value c.place_of_index-place.ensures c.index_mut-held.ensures.value in
-    let n : HeldSegment g.row.D.Denot = record { index = o.index; segment = c.read-read.new.self } in
-    subst (λ (is : List ℕ). HoldsIn self.pool (is ++ map (λ (t : ℕ × FreeSegment g.row.D.Denot). t.0) (option_to_list self.taken))) (sym (map-set (λ (h : HeldSegment g.row.D.Denot). h.index) items p o n f.there refl)) all
+    let ch : IsChanged g.D.Disk.state items (set items p (record { index = o.index; segment = c.read-read.new.self })) p = record { old = o; new = record { index = o.index; segment = c.read-read.new.self }; there = f.there; held = refl; shape = a.shape; index = refl; same = a.same } in
+    all_changed g.D.Disk.state self c.requires.lane _ p ch
 
 pub returns-clause-moved : goal.returns-clause-moved
 returns-clause-moved g c =

@@ -1,4 +1,4 @@
-use Rattle.std.proofs.Common.{◌≤◌, ◌++◌, ◌∷◌, [], ℕ, List, map, length, vec_capacity, is_some, Option, IfSome, option_to_list, ap, ◌∙◌, sym, subst}
+use Rattle.std.proofs.Common.{◌≤◌, ◌++◌, ◌∷◌, [], ℕ, List, map, length, vec_capacity, is_some, Option, IfSome, option_to_list, ap, ◌∙◌, sym, refl, subst}
 use Rattle.std.specs.List.{AllByRecursion}
 use Rattle.wol_model.specs.Blocks.{AreApart}
 use Rattle.turn_lock.specs.LockIds.{LockId}
@@ -13,7 +13,7 @@ use Rattle.logger.proofs.AllHeld.{all_taking, HoldsIn}
 use Rattle.logger.proofs.Held.{all_map}
 use Rattle.logger.proofs.Places.{took, apart_taking}
 use Rattle.logger.proofs.Rooms.{found_none}
-use Rattle.logger.proofs.Uses.{held_on}
+use Rattle.logger.proofs.Uses.{held_on, at_passes}
 use Rattle.logger.proofs.lane.Lane.secure.Goals as goal
 
 pub first_with_room-requires : goal.first_with_room-requires
@@ -43,7 +43,7 @@ returns-clause-lane g c =
     }
 
 pub returns-clause-at : goal.returns-clause-at
-returns-clause-at g c = let a = c.requires.at in record { pool_in = a.pool_in; spindle_in = a.spindle_in; pool = λ d. c.take_item-taken.ensures.same.0 ∙ a.pool d; spindle = a.spindle }
+returns-clause-at g c = at_passes c.args.shared.now c.args.self.now _ refl c.take_item-taken.ensures.same.0 refl c.requires.at
 
 pub returns-clause-all : goal.returns-clause-all
 returns-clause-all g c all =

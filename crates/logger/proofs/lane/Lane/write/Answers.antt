@@ -9,10 +9,16 @@ use Rattle.logger.proofs.lane.Lane.write.Goals as goal
 pub write_group-requires-clause-fits : goal.write_group-requires-clause-fits
 write_group-requires-clause-fits g c = some_fit (length c.args.from.now) c.args.self.now c.requires.fits
 
-pub returns-clause-moved : goal.returns-clause-moved
-returns-clause-moved g c =
-    let item : Item = record { lbn = c.args.lbn; count = length c.args.from.now } in
-    subst (λ (added : List Record). Wrote g.D.Disk.state c.args.self.now c.write_group.new.self (length c.args.from.now) added c.write_group.result) (group_of_one c.args.self.now.owner c.args.version item c.args.from.now refl) c.write_group.ensures.moved
-
-pub returns-clause-all : goal.returns-clause-all
-returns-clause-all g c = c.write_group.ensures.all
+pub returns : goal.returns
+returns g c =
+    let item : Item = record { lbn = c.args.lbn; count = length c.args.from.now } in let w = c.write_group.ensures in record {
+      moved = record {
+        lane = w.lane;
+        same = w.same;
+        all = w.all;
+        at = w.at;
+        pool = w.pool;
+        used = w.used;
+        moved = subst (λ (added : List Record). Wrote g.D.Disk.state c.args.self.now c.write_group.new.self (length c.args.from.now) added c.write_group.result) (group_of_one c.args.self.now.owner c.args.version item c.args.from.now refl) w.moved;
+      };
+    }

@@ -5,7 +5,6 @@ use Rattle.logger.specs.Lanes.{IsHeld, IsFirstWithRoom, HasNoRoom, held_in, take
 use Rattle.logger.specs.declared.lane.HeldSegment.{HeldSegment}
 use Rattle.logger.proofs.Held.{all_map}
 use Rattle.logger.proofs.Rooms.{first_is, taken_then, group_room}
-use Rattle.logger.proofs.Uses.{at_same}
 use Rattle.logger.proofs.lane.Lane.write_group.Goals as goal
 
 pub first_with_room-requires : goal.first_with_room-requires
@@ -42,14 +41,8 @@ write_taken-requires-clause-room g c =
     (subst (λ (n : ℕ). HasNoRoom n c.deref.result.now) (first_is c.args.items.now _ c.requires.some) c.in-None.ensures) in
     let fit = c.requires.fits.1.unclaimed none in let le = c.requires.fits.2 in omega (arith, fit, le)
 
-pub returns-in-Some-clause-at : goal.returns-in-Some-clause-at
-returns-in-Some-clause-at g c = at_same c.args.shared.now c.args.self.now c.write_held.new.self c.write_held.ensures.same c.requires.at
+pub write_held-requires-clause-group : goal.write_held-requires-clause-group
+write_held-requires-clause-group g c = let r = c.requires in record { version = r.version; some = r.some; items = r.items; blocks = r.blocks }
 
-pub returns-in-None-clause-at : goal.returns-in-None-clause-at
-returns-in-None-clause-at g c = at_same c.args.shared.now c.args.self.now c.write_taken.new.self c.write_taken.ensures.same c.requires.at
-
-pub returns-in-Some-clause-all : goal.returns-in-Some-clause-all
-returns-in-Some-clause-all g c = c.write_held.ensures.all
-
-pub returns-in-None-clause-all : goal.returns-in-None-clause-all
-returns-in-None-clause-all g c = c.write_taken.ensures.all
+pub write_taken-requires-clause-group : goal.write_taken-requires-clause-group
+write_taken-requires-clause-group g c = let r = c.requires in record { version = r.version; some = r.some; items = r.items; blocks = r.blocks }

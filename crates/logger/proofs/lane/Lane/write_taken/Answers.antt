@@ -13,7 +13,7 @@ use Rattle.logger.proofs.AllHeld.{HoldsIn}
 use Rattle.logger.proofs.Held.{all_push}
 use Rattle.logger.proofs.Places.{if_some, room_left, claimed_indexes}
 use Rattle.logger.proofs.Results.{claimed_spot, spot_is}
-use Rattle.logger.proofs.Uses.{accesses_over, two_entries}
+use Rattle.logger.proofs.Uses.{over, accesses_then, at_passes}
 use Rattle.logger.proofs.lane.Lane.write_taken.Goals as goal
 
 pub claim_and_append-segment-requires-clause-shape : goal.claim_and_append-segment-requires-clause-shape
@@ -36,41 +36,37 @@ claim_and_append-segment-requires-clause-room g c =
 pub push_reserved-requires : goal.push_reserved-requires
 push_reserved-requires g c = room_left g.D.Disk.state c.args.self.now (c.in-Some.index, c.in-Some.free) c.requires.lane (sym c.replace-before.ensures.value ∙ c.in-Some.is)
 
-pub returns-clause-lane : goal.returns-clause-lane
-returns-clause-lane g c =
-    let state = g.D.Disk.state in let l = c.requires.lane in let self = c.args.self.now in let push = c.push_reserved.ensures in let pushed = c.push_reserved.new.self in let made = c.claim_and_append-segment.ensures.claimed in
+pub returns : goal.returns
+returns g c =
+    let state = g.D.Disk.state in let l = c.requires.lane in let self = c.args.self.now in let push = c.push_reserved.ensures in let pushed = c.push_reserved.new.self in let made = c.claim_and_append-segment in let new = made.ensures.claimed in let w = made.result.1 in
+    let n : HeldSegment g.row.D.Denot = record { index = c.in-Some.index; segment = made.result.0 } in
     let has = sym c.replace-before.ensures.value ∙ c.in-Some.is in
     let is = if_some (IsTaken state self.logger (vec_capacity self.held) self.pool) self.taken (c.in-Some.index, c.in-Some.free) l.unclaimed has in
-    let n : HeldSegment g.row.D.Denot = record { index = c.in-Some.index; segment = c.claim_and_append-segment.result.0 } in
+    let ov = over self.spindle c.take_token-token.new.pass c.give_token.new.pass c.take_token-token.ensures.same c.take_token-token.ensures.mine c.give_token.ensures.free c.give_token.ensures.same c.give_token.ensures.has_none c.give_token.ensures.mine in
     let each = all_push (IsHeld state self.logger self.owner (vec_capacity self.held) self.pool) self.held.items n l.each
-    (record { shape = made.shape; volume = made.volume ∙ is.blank.of; owned = made.owned; blocks = made.blocks ∙ is.blank.long; below = is.below; holding = is.holding }) in record {
-      pool_free = l.pool_free;
-      spindle_free = c.give_token.ensures.free;
-      pool_volume = l.pool_volume;
-      spindle_volume = ap (λ (i : LockId SpindleBase). i.base.volume) (c.give_token.ensures.same.0 ∙ c.take_token-token.ensures.same.0) ∙ l.spindle_volume;
-      settled = c.give_token.ensures.has_none;
-      accesses = accesses_over _ _ _ _ _ c.take_token-token.ensures.mine c.take_token-token.ensures.same.1 c.give_token.ensures.mine l.accesses;
-      each = subst (λ (m : ℕ). AllByRecursion (IsHeld state self.logger self.owner m self.pool) pushed.items) (sym push.capacity) (subst (AllByRecursion (IsHeld state self.logger self.owner (vec_capacity self.held) self.pool)) (sym push.items) each);
-      unclaimed = subst (λ (o : Option (ℕ × FreeSegment g.row.D.Denot)). IfSome o (IsTaken state self.logger (vec_capacity pushed) self.pool)) (sym c.replace-before.ensures.after) tt;
-      apart = subst AreApart (claimed_indexes self.held.items pushed.items n self.taken c.replace-before.new.dest (c.in-Some.index, c.in-Some.free) push.items refl has c.replace-before.ensures.after) l.apart;
-      room = (let room = l.room in omega (arith, room, push.capacity));
-      handing = (l.handing.0, omega (arith, l.handing.1, push.capacity));
+    (record { shape = new.shape; volume = new.volume ∙ is.blank.of; owned = new.owned; blocks = new.blocks ∙ is.blank.long; below = is.below; holding = is.holding }) in
+    let indexes = claimed_indexes self.held.items pushed.items n self.taken c.replace-before.new.dest (c.in-Some.index, c.in-Some.free) push.items refl has c.replace-before.ensures.after in
+    let added = group_of self.owner c.args.version c.args.items.now c.args.from.now in record {
+      lane = record {
+        pool_free = l.pool_free;
+        spindle_free = ov.free;
+        pool_volume = l.pool_volume;
+        spindle_volume = ap (λ (i : LockId SpindleBase). i.base.volume) ov.same.0 ∙ l.spindle_volume;
+        settled = ov.settled;
+        accesses = accesses_then _ _ _ ov.mine l.accesses;
+        each = subst (λ (m : ℕ). AllByRecursion (IsHeld state self.logger self.owner m self.pool) pushed.items) (sym push.capacity) (subst (AllByRecursion (IsHeld state self.logger self.owner (vec_capacity self.held) self.pool)) (sym push.items) each);
+        unclaimed = subst (λ (o : Option (ℕ × FreeSegment g.row.D.Denot)). IfSome o (IsTaken state self.logger (vec_capacity pushed) self.pool)) (sym c.replace-before.ensures.after) tt;
+        apart = subst AreApart indexes l.apart;
+        room = (let room = l.room in omega (arith, room, push.capacity));
+        handing = (l.handing.0, omega (arith, l.handing.1, push.capacity));
+      };
+      same = record { logger = refl; owner = refl; segments = push.capacity; pool = (refl, refl); spindle = ov.same };
+      all = λ all. subst (HoldsIn self.pool) indexes all;
+      at = at_passes c.args.shared.now self _ refl refl ov.same.0 c.requires.at;
+      pool = refl;
+      used = ov.mine;
+      moved =
+          to_taken c.in-Some.index c.in-Some.free n c.requires.none has push.items refl c.replace-before.ensures.after
+          (subst (λ (r : Result Spot (ℕ × Failed)). Claimed state self.owner c.in-Some.free made.result.0 added r) (sym c.spot_of.ensures) (claimed_spot state self.owner c.in-Some.free made.result.0 added c.in-Some.index w new))
+          (subst (IsSpot c.in-Some.index 1) (sym c.spot_of.ensures) (spot_is c.in-Some.index 1 w made.ensures.position));
     }
-
-pub returns-clause-all : goal.returns-clause-all
-returns-clause-all g c all =
-    let self = c.args.self.now in let has = sym c.replace-before.ensures.value ∙ c.in-Some.is in
-    let n : HeldSegment g.row.D.Denot = record { index = c.in-Some.index; segment = c.claim_and_append-segment.result.0 } in
-    subst (HoldsIn self.pool) (claimed_indexes self.held.items c.push_reserved.new.self.items n self.taken c.replace-before.new.dest (c.in-Some.index, c.in-Some.free) c.push_reserved.ensures.items refl has c.replace-before.ensures.after) all
-
-pub returns-clause-used : goal.returns-clause-used
-returns-clause-used g c = two_entries _ _ _ _ _ _ _ c.take_token-token.ensures.mine c.take_token-token.ensures.same.1 c.give_token.ensures.mine
-
-pub returns-clause-moved : goal.returns-clause-moved
-returns-clause-moved g c =
-    let state = g.D.Disk.state in let self = c.args.self.now in let free = c.in-Some.free in let made = c.claim_and_append-segment in let w = made.result.1 in
-    let n : HeldSegment g.row.D.Denot = record { index = c.in-Some.index; segment = made.result.0 } in
-    let added = group_of self.owner c.args.version c.args.items.now c.args.from.now in
-    to_taken c.in-Some.index free n c.requires.none (sym c.replace-before.ensures.value ∙ c.in-Some.is) c.push_reserved.ensures.items refl c.replace-before.ensures.after
-    (subst (λ (r : Result Spot (ℕ × Failed)). Claimed state self.owner free made.result.0 added r) (sym c.spot_of.ensures) (claimed_spot state self.owner free made.result.0 added c.in-Some.index w made.ensures.claimed))
-    (subst (IsSpot c.in-Some.index 1) (sym c.spot_of.ensures) (spot_is c.in-Some.index 1 w made.ensures.position))
