@@ -2,4 +2,5 @@ pub mod Alternating
 pub mod Owning
 pub mod Steps
 pub mod Tokens
+pub mod Turning
 pub mod Using

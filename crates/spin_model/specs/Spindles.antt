@@ -1,11 +1,11 @@
 -- What a spindle shows, and what it stands for.
-use Rattle.std.specs.Prelude.{◌≡◌, ℕ, Bool, List, length, Result, Ok, Err}
+use Rattle.std.specs.Prelude.{◌≡◌, ℕ, Bool, List, [], ◌∷◌, ◌++◌, length, Result, Ok, Err}
 use Rattle.turn_lock.specs.Histories.{Entry}
 use Rattle.wol_disk.specs.declared.disk.NoMemory.{NoMemory}
-use Rattle.wol_model.specs.Journal.{Use, Began, Stayed, SpindleState, new_spindle, spindle_after, AreUses}
+use Rattle.wol_model.specs.Journal.{Use, Began, Stayed, SpindleState, new_spindle, spindle_after, MayUse, AreUses}
 use Rattle.wol_model.specs.declared.journal.Turned.{Turned}
 use Rattle.spin_model.specs.declared.spindle.SpindleBase.{SpindleBase}
-use Rattle.spin_model.specs.Operations.{uses_of, entries_of}
+use Rattle.spin_model.specs.Operations.{operation_of, uses_of, entries_of}
 
 -- a spindle as callers see it; moments are in units of 100 ns
 pub record SpindleView : Type 0 where
@@ -42,6 +42,11 @@ pub record StandsFor (s : SpindleView) (b : SpindleBase) (entries : List Entry) 
   pub spelled : entries_of (uses_of entries) ≡ entries
   pub legal : AreUses b.timeout new_spindle (uses_of entries)
   pub shows : Shows s (state_after b entries)
+
+-- whatever entries it stood for, it stands for one more of this use where the pass may make that
+abbrev pub HasMade : Use → SpindleView → SpindleView → Type 0
+HasMade u old new = (b : SpindleBase) (entries : List Entry) (n : ℕ) → StandsFor old b entries
+    → MayUse (state_after b entries) n u → StandsFor new b (entries ++ (n, operation_of u) ∷ [])
 
 -- the base of a new spindle's lock
 abbrev pub base_of : SpindleView → SpindleBase

@@ -1,11 +1,11 @@
 // A disk's spindle, awake or in standby, with its journal.
 ghost use Rattle.std.specs.Prelude.{true, false, not, nat_le, ◌==◌, ◌&&◌, if◌then◌else◌, OnOk, ◌≡◌, ◌<◌, ◌≤◌, ◌+◌, ◌-◌, ◌^◌, ◌∷◌, [], ◌++◌, ℕ, List, map, max, vec_len, vec_capacity, IsTrue, ◌↔◌, OnErr, IfOk};
-ghost use Rattle.wol_model.specs.Journal.{Started, Needed, Done, MayUse, IsJournal, is_empty};
+ghost use Rattle.wol_model.specs.Journal.{Started, Needed, Done, IsJournal, is_empty};
 ghost use Rattle.wol_model.specs.declared.journal.Turned.TheVariants.{Down, Up};
 ghost use Rattle.turn_lock.specs.Histories.{Entry};
 ghost use Rattle.spin_model.specs.Spun.{token_volume};
 ghost use Rattle.spin_model.specs.Operations.{operation_of};
-ghost use Rattle.spin_model.specs.Spindles.{SpindleView, StandsFor, IsSameSpindle, base_of, state_after, begun};
+ghost use Rattle.spin_model.specs.Spindles.{SpindleView, StandsFor, HasMade, IsSameSpindle, base_of, state_after, begun};
 
 use crate::Awake;
 use std::alloc::Global;
@@ -107,9 +107,7 @@ impl Spindle {
         ensures volume { token_volume result ≡ self.old.volume }
         ensures same { IsSameSpindle self.old self.new }
         ensures out { self.new.out ≡ self.old.out + 1 }
-        ensures stands { (b : SpindleBase) (es : List Entry) (n : ℕ) → StandsFor self.old b es
-            → MayUse (state_after b es) n Needed
-            → StandsFor self.new b (es ++ (n, operation_of Needed) ∷ []) }
+        ensures stands { HasMade Needed self.old self.new }
     {
         self.wake();
         self.last_use = self.moment;
@@ -123,11 +121,21 @@ impl Spindle {
         requires out { 0 < self.old.out }
         ensures same { IsSameSpindle self.old self.new }
         ensures out { self.new.out + 1 ≡ self.old.out }
-        ensures stands { (b : SpindleBase) (es : List Entry) (n : ℕ) → StandsFor self.old b es
-            → MayUse (state_after b es) n Done
-            → StandsFor self.new b (es ++ (n, operation_of Done) ∷ []) }
+        ensures stands { HasMade Done self.old self.new }
     {
+        self.count_back(&token);
         token.spend();
+    }
+
+    /// The same where the caller spends the token, since a closure can't hold one.
+    pub(crate) fn count_back(&mut self, token: &Awake)
+        requires volume { token_volume token.now ≡ self.old.volume }
+        requires out { 0 < self.old.out }
+        ensures same { IsSameSpindle self.old self.new }
+        ensures out { self.new.out + 1 ≡ self.old.out }
+        ensures stands { HasMade Done self.old self.new }
+    {
+        let _ = token;
         self.out -= 1;
     }
 

@@ -1,15 +1,17 @@
 // Turns of a spindle's lock, one use each.
-ghost use Rattle.std.specs.Prelude.{true, false, ◌≡◌, ◌∷◌, [], ◌++◌, List, IfOk};
+ghost use Rattle.std.specs.Prelude.{true, false, ◌≡◌, ◌<◌, ◌^◌, ◌∷◌, [], ◌++◌, List, IfOk};
 ghost use Rattle.turn_lock.specs.Histories.{Entry, Begins};
-ghost use Rattle.turn_lock.specs.Passes.{pass_lock, pass_number, pass_seen, pass_mine, IsPassOf, IsFree, IsSamePass};
+ghost use Rattle.turn_lock.specs.Passes.{pass_lock, pass_number, pass_seen, pass_mine, IsPassOf, IsFree, IsInTurnWith, IsSamePass};
 ghost use Rattle.wol_model.specs.Journal.{Started, Needed, Done};
 ghost use Rattle.spin_model.specs.Spun.{token_volume};
 ghost use Rattle.spin_model.specs.Operations.{operation_of, has_token};
-ghost use Rattle.spin_model.specs.Spindles.{state_after, begun};
+ghost use Rattle.spin_model.specs.Spindles.{SpindleView, StandsFor, HasMade, state_after, begun};
+ghost use Rattle.spin_model.specs.Turns.{HasLeft};
 
 use crate::{Awake, Spindle};
+use std::marker::Brand;
 use std::sync::Wait;
-use turn_lock::{Pass, TurnLock};
+use turn_lock::{Named, Pass, TurnLock};
 use wol_disk::NoMemory;
 
 const STARTED: u64 = 1;
@@ -21,6 +23,20 @@ const NEEDED: u64 = 3;
 const DONE: u64 = 4;
 
 const STAYED: u64 = 5;
+
+// Ends a turn in which the spindle stayed in its place. The operation goes through this call, so that the caller's proof
+// can name it.
+fn leave<N: Named>(lock: &TurnLock<Spindle>, pass: &mut Pass<Spindle>, operation: &[u64])
+    requires name { N.operation ≡ operation.now }
+    requires own { IsPassOf lock.now pass.old }
+    requires value { (s : SpindleView) × IsInTurnWith s pass.old
+        × StandsFor s (pass_lock pass.old).base
+        (pass_seen pass.old ++ (pass_number pass.old, operation.now) ∷ []) }
+    ensures { HasLeft operation.entry.now pass.old pass.new }
+{
+    let _ = operation;
+    lock.leave_in_place::<N>(pass);
+}
 
 /// One turn, in which the account starts at `t0` where the disk never went down before.
 pub fn start_turn<R: Wait>(rt: &R, lock: &TurnLock<Spindle>, pass: &mut Pass<Spindle>, t0: u64)
@@ -34,9 +50,14 @@ pub fn start_turn<R: Wait>(rt: &R, lock: &TurnLock<Spindle>, pass: &mut Pass<Spi
         × (pass_seen pass.new ≡ before ++ (pass_number pass.old, operation_of (Started t0)) ∷ []) }
     ensures token { has_token (pass_mine pass.new) ≡ has_token (pass_mine pass.old) }
 {
-    let mut turn = lock.enter(rt, pass);
-    turn.value.start(t0);
-    lock.leave_as(turn, pass, &[STARTED, t0]);
+    lock.enter_in_place(rt, pass);
+    lock.change(
+        pass,
+        |spindle: &mut Spindle|
+            ensures { HasMade (Started t0) spindle.old spindle.new }
+        { spindle.start(t0) },
+    );
+    leave::<Brand>(lock, pass, &[STARTED, t0]);
 }
 
 /// One turn, in which the moment `t` comes and the disk may go down. The answer is whether it is awake.
@@ -60,15 +81,21 @@ pub fn begin_turn<R: Wait>(
     ensures answer { IfOk result
         (λ awake. awake ≡ (state_after (pass_lock pass.new).base (pass_seen pass.new)).awake) }
 {
-    let mut turn = lock.enter(rt, pass);
-    let answer = turn.value.begin(t);
+    lock.enter_in_place(rt, pass);
+    let answer = lock.change(
+        pass,
+        |spindle: &mut Spindle|
+            ensures made { HasMade (begun t result) spindle.old spindle.new }
+            ensures answer { IfOk result (λ awake. awake ≡ spindle.new.awake) }
+        { spindle.begin(t) },
+    );
     match answer {
         Ok(awake) => {
-            lock.leave_as(turn, pass, &[BEGAN, t]);
+            leave::<Brand>(lock, pass, &[BEGAN, t]);
             Ok(awake)
         }
         Err(refusal) => {
-            lock.leave_as(turn, pass, &[STAYED]);
+            leave::<Brand>(lock, pass, &[STAYED]);
             Err(refusal)
         }
     }
@@ -89,9 +116,16 @@ pub fn take_token<R: Wait>(rt: &R, lock: &TurnLock<Spindle>, pass: &mut Pass<Spi
     ensures has_one { has_token (pass_mine pass.new) ≡ true }
     ensures volume { token_volume result ≡ (pass_lock pass.old).base.volume }
 {
-    let mut turn = lock.enter(rt, pass);
-    let token = turn.value.need();
-    lock.leave_as(turn, pass, &[NEEDED]);
+    lock.enter_in_place(rt, pass);
+    let token = lock.change(
+        pass,
+        |spindle: &mut Spindle|
+            requires { spindle.now.out < 2 ^ 32 }
+            ensures made { HasMade Needed spindle.old spindle.new }
+            ensures volume { token_volume result ≡ spindle.old.volume }
+        { spindle.need() },
+    );
+    leave::<Brand>(lock, pass, &[NEEDED]);
     token
 }
 
@@ -109,7 +143,16 @@ pub fn give_token<R: Wait>(rt: &R, lock: &TurnLock<Spindle>, pass: &mut Pass<Spi
         × (pass_seen pass.new ≡ before ++ (pass_number pass.old, operation_of Done) ∷ []) }
     ensures has_none { has_token (pass_mine pass.new) ≡ false }
 {
-    let mut turn = lock.enter(rt, pass);
-    turn.value.done(token);
-    lock.leave_as(turn, pass, &[DONE]);
+    lock.enter_in_place(rt, pass);
+    let lent = &token;
+    lock.change(
+        pass,
+        |spindle: &mut Spindle|
+            requires volume { token_volume lent.now ≡ spindle.now.volume }
+            requires out { 0 < spindle.now.out }
+            ensures { HasMade Done spindle.old spindle.new }
+        { spindle.count_back(lent) },
+    );
+    leave::<Brand>(lock, pass, &[DONE]);
+    token.spend();
 }

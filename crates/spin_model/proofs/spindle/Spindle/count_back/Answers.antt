@@ -3,7 +3,7 @@ use Rattle.wol_model.specs.Journal.{Done}
 use Rattle.spin_model.specs.Operations.{operation_of}
 use Rattle.spin_model.specs.Spindles.{SpindleView, StandsFor}
 use Rattle.spin_model.proofs.Steps.{stands_done}
-use Rattle.spin_model.proofs.spindle.Spindle.done.Goals as goal
+use Rattle.spin_model.proofs.spindle.Spindle.count_back.Goals as goal
 
 pub returns-clause-stands : goal.returns-clause-stands
 returns-clause-stands c b es n st may =
