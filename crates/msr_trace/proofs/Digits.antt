@@ -1,6 +1,6 @@
 -- A number read digit by digit.
-use Rattle.std.proofs.Common.{◌≡◌, ℕ, ◌+◌, ◌*◌, ◌^◌, ◌≤◌, ◌<◌, ◌&&◌, Bool, true, false, nat_lt, List, [], ◌∷◌, length, get_or, drop, None, Some, inl, inr, refl, lit<, ◌∙◌, arith}
-use Rattle.std.proofs.lemmas.Bool.{cases_Bool, ltb-false, lt-ltb, le-ltb}
+use Rattle.std.proofs.Common.{◌≡◌, ℕ, ◌+◌, ◌-◌, ◌*◌, ◌^◌, ◌≤◌, ◌<◌, ◌&&◌, Bool, true, false, nat_lt, List, [], ◌∷◌, ◌++◌, length, get_or, drop, None, Some, inl, inr, refl, lit<, ◌∙◌, arith}
+use Rattle.std.proofs.lemmas.Bool.{cases_Bool, and_parts, ltb-true, ltb-false, lt-ltb, le-ltb}
 use Rattle.std.proofs.lemmas.List.{at_drop_more}
 use Rattle.std.proofs.Math.Nat.{pow-le-pow_right}
 use Rattle.std.proofs.lemmas.Grind.{pow_more}
@@ -66,3 +66,71 @@ small_end n i small short =
 -- with a digit more
 pub small_more : (n next i : ℕ) → n < 10 ^ i → next < n * 10 + 10 → next < 10 ^ (i + 1)
 small_more n next i small less = rw (pow_more 10 i) (omega (arith, small, less))
+
+-- ---- Runs of digits
+
+abbrev pub are_digits : List ℕ → Bool
+are_digits bytes = list_all (λ b. is_digit b 10) bytes
+
+-- what is known of the digits from a place on, of which none is read yet, and what comes of the first one
+pub record First (n i : ℕ) (digits : List ℕ) : Type 0 where
+  pub digit : is_digit (get_or digits i 0) 10 ≡ true
+  pub small : n * 10 + digit_value (get_or digits i 0) < 2 ^ 64
+  pub others : are_digits (drop (i + 1) digits) ≡ true
+  pub value : digits_value_after 10 n (drop i digits) ≡ digits_value_after 10 (n * 10 + digit_value (get_or digits i 0)) (drop (i + 1) digits)
+
+pub first_digit : (n i : ℕ) (digits : List ℕ) → i < length digits → are_digits (drop i digits) ≡ true → digits_value_after 10 n (drop i digits) < 2 ^ 64 → First n i digits
+first_digit n i digits h all small =
+    let both = and_parts (is_digit (get_or digits i 0) 10) (are_digits (drop (i + 1) digits)) (rw (at_drop_more are_digits digits i 0 h) at all) in
+    let value = at_drop_more (digits_value_after 10 n) digits i 0 h in
+    let more = grows (n * 10 + digit_value (get_or digits i 0)) (drop (i + 1) digits) in
+    record { digit = both.0; small = omega (arith, more, rw value at small); others = both.1; value = value }
+
+all_append : (xs ys : List ℕ) → are_digits (xs ++ ys) ≡ (are_digits xs && are_digits ys)
+all_append [] ys = refl
+all_append (x ∷ xs) ys = elim (cases_Bool (is_digit x 10)) [
+  | inl digit ↦ rw digit (all_append xs ys)
+  | inr other ↦ rw other refl
+]
+
+run_on : (n : ℕ) (run behind : List ℕ) → are_digits run ≡ true → value_after n (run ++ behind) ≡ value_after (digits_value_after 10 n run) behind
+run_on n [] behind h = refl
+run_on n (b ∷ run) behind h =
+    let both = and_parts (is_digit b 10) (are_digits run) h in
+    rw both.0 (run_on (n * 10 + digit_value b) run behind both.1)
+
+-- digits at the front go on with what they write
+pub run_goes_on : (n : ℕ) (text run behind : List ℕ) → text ≡ run ++ behind → are_digits run ≡ true → value_after n text ≡ value_after (digits_value_after 10 n run) behind
+run_goes_on n text run behind is h = rw is (run_on n run behind h)
+
+-- others end the reading
+pub run_stops : (n : ℕ) (text run behind : List ℕ) → text ≡ run ++ behind → are_digits run ≡ false → value_after n text ≡ None
+run_stops n text run behind is h =
+    let none : are_digits text ≡ false = rw is (all_append run behind ∙ rw h refl) in
+    rw none refl
+
+run_fits : (n i : ℕ) (run : List ℕ) → are_digits run ≡ true → n < 10 ^ i → digits_value_after 10 n run < 10 ^ (i + length run)
+run_fits n i [] h small = let e : i + 0 ≡ i = omega arith in rw e small
+run_fits n i (b ∷ run) h small =
+    let both = and_parts (is_digit b 10) (are_digits run) h in
+    let digit : digit_value b < 10 = ltb-true (digit_value b) 10 both.0 in
+    let more : n * 10 + digit_value b < 10 ^ (i + 1) = rw (pow_more 10 i) (omega (arith, small, digit)) in
+    let e : i + 1 + length run ≡ i + length (b ∷ run) = omega arith in
+    rw e at (run_fits (n * 10 + digit_value b) (i + 1) run both.1 more)
+
+-- with a run of digits more there are still fewer than 20 in all
+pub run_small : (n count : ℕ) (digits run behind : List ℕ) → length digits < 20 → n < 10 ^ (19 - length digits)
+    → length run ≡ count → length behind + count ≡ length digits → are_digits run ≡ true
+    → digits_value_after 10 n run < 10 ^ (19 - length behind)
+run_small n count digits run behind short small front back h =
+    let e : 19 - length digits + length run ≡ 19 - length behind = omega (arith, short, front, back) in
+    rw e at (run_fits n (19 - length digits) run h small)
+
+pub run_word : (n count : ℕ) (digits run behind : List ℕ) → length digits < 20 → n < 10 ^ (19 - length digits)
+    → length run ≡ count → length behind + count ≡ length digits → are_digits run ≡ true
+    → digits_value_after 10 n run < 2 ^ 64
+run_word n count digits run behind short small front back h =
+    small_end (digits_value_after 10 n run) (19 - length behind) (run_small n count digits run behind short small front back h) (omega arith)
+
+pub none_small : (i : ℕ) → 0 < 10 ^ i
+none_small i = let one : 10 ^ 0 ≤ 10 ^ i = pow-le-pow_right {n = 10} (lit< tt) {i = 0} {j = i} (omega arith) in omega (arith, one)

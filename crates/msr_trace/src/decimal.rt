@@ -1,5 +1,8 @@
 // Numbers in decimal digits.
-ghost use Rattle.std.specs.Prelude.{◌≡◌, ◌+◌, ◌*◌, ◌<◌, ◌≤◌, length, IfSome};
+ghost use Rattle.std.specs.Prelude.{◌≡◌, ◌+◌, ◌-◌, ◌*◌, ◌^◌, ◌<◌, ◌≤◌, true, length, IfSome};
+ghost use Rattle.std.specs.Char.{is_digit, digit_value};
+ghost use Rattle.std.specs.List.{list_all};
+ghost use Rattle.std.specs.Str.Parse.{digits_value_after};
 ghost use Rattle.msr_trace.specs.Numbers.{number_of, value_after, with_digit};
 
 /// The number that one to 20 digits from 0 to 9 write, if it is below 2^64. Leading zeros are allowed.
@@ -23,13 +26,82 @@ fn few(field: &[u8]) -> Option<u64>
     ensures { result ≡ value_after 0 field.now }
 {
     let mut value = 0u64;
-    for byte in field {
-        let Some(next) = with_small(value, *byte) else {
+    let mut rest = field;
+    while rest.len() >= 8 {
+        let (run, behind) = rest.split_at(8);
+        if !are_digits(run) {
+            return None;
+        }
+        value = with_run(value, run);
+        rest = behind;
+    }
+    few_after(value, rest)
+}
+
+// The number that digits write behind those of a number, of which there are fewer than 20 in all.
+fn few_after(value: u64, digits: &[u8]) -> Option<u64>
+    requires short { length digits.now < 20 }
+    requires small { value < 10 ^ (19 - length digits.now) }
+    ensures { result ≡ value_after value digits.now }
+{
+    if digits.len() < 4 {
+        return one_by_one(value, digits);
+    }
+    let (run, behind) = digits.split_at(4);
+    if !are_digits(run) {
+        return None;
+    }
+    one_by_one(with_run(value, run), behind)
+}
+
+// The same, a digit at a time.
+fn one_by_one(value: u64, digits: &[u8]) -> Option<u64>
+    requires short { length digits.now < 20 }
+    requires small { value < 10 ^ (19 - length digits.now) }
+    ensures { result ≡ value_after value digits.now }
+{
+    let mut number = value;
+    for byte in digits {
+        let Some(next) = with_small(number, *byte) else {
             return None;
         };
-        value = next;
+        number = next;
     }
-    Some(value)
+    Some(number)
+}
+
+// Whether all bytes are digits. All are looked at, so that a run of a known length is one comparison.
+#[inline(always)]
+fn are_digits(bytes: &[u8]) -> bool
+    ensures { result ≡ list_all (λ b. is_digit b 10) bytes.now }
+{
+    let mut all = true;
+    for byte in bytes {
+        all &= byte.is_ascii_digit();
+    }
+    all
+}
+
+// A number with digits more.
+#[inline(always)]
+fn with_run(value: u64, digits: &[u8]) -> u64
+    requires digits { list_all (λ b. is_digit b 10) digits.now ≡ true }
+    requires small { digits_value_after 10 value digits.now < 2 ^ 64 }
+    ensures { result ≡ digits_value_after 10 value digits.now }
+{
+    let mut number = value;
+    for byte in digits {
+        number = number * 10 + value_of(*byte);
+    }
+    number
+}
+
+#[inline(always)]
+fn value_of(digit: u8) -> u64
+    requires { is_digit digit 10 ≡ true }
+    ensures { result ≡ digit_value digit }
+{
+    u64::from(digit - b'0')
 }
 
 // The number that any number of digits write, if it is below 2^64.

@@ -1,26 +1,23 @@
-use Rattle.std.proofs.Common.{◌∙◌, ◌+◌, drop, get_or, length, sym, arith}
-use Rattle.std.proofs.lemmas.List.{at_drop_all, at_drop_more}
-use Rattle.msr_trace.specs.Numbers.{value_after}
-use Rattle.msr_trace.proofs.Digits.{small_end, small_enough, small_more, value_ends, value_goes_on, value_stops_at}
+use Rattle.std.proofs.Common.{◌∙◌, ◌≡◌, ◌<◌, ◌-◌, true, length, refl, sym, arith}
+use Rattle.msr_trace.proofs.Digits.{are_digits, none_small, run_goes_on, run_small, run_word}
 use Rattle.msr_trace.proofs.decimal.few.Goals as goal
 
-pub with_small-requires : goal.with_small-requires
-with_small-requires c = small_enough c.loop-byte.value c.loop-byte.byte-index (length c.args.field.now) c.loop-byte.invariant.small c.loop-byte-test.true c.requires
+pub loop-rest-init : goal.loop-rest-init
+loop-rest-init c = record { goes_on = refl; small = none_small (19 - length c.args.field.now); short = omega arith }
 
-pub returns-in_default : goal.returns-in_default
-returns-in_default c = sym (c.loop-byte.invariant.goes_on ∙ value_stops_at c.loop-byte.value c.loop-byte.byte-index c.args.field.now c.loop-byte-test.true (sym c.with_small.ensures.value ∙ c.in_default.is))
+pub with_run-value-requires-clause-small : goal.with_run-value-requires-clause-small
+with_run-value-requires-clause-small c =
+    let short : length c.loop-rest.rest.now < 20 = omega (arith, c.requires, c.loop-rest.invariant.short) in
+    run_word c.loop-rest.value 8 c.loop-rest.rest.now c.split_at.result.0.now c.split_at.result.1.now short c.loop-rest.invariant.small c.split_at.ensures.front_len c.split_at.ensures.back_len (sym c.are_digits.ensures ∙ c.if-not-are_digits.false)
 
-pub loop-byte-preserved : goal.loop-byte-preserved
-loop-byte-preserved c =
-    let field = c.args.field.now in
-    let i = c.loop-byte.byte-index in
+pub loop-rest-preserved : goal.loop-rest-preserved
+loop-rest-preserved c =
+    let run = c.split_at.result.0.now in
+    let behind = c.split_at.result.1.now in
+    let digits : are_digits run ≡ true = sym c.are_digits.ensures ∙ c.if-not-are_digits.false in
+    let short : length c.loop-rest.rest.now < 20 = omega (arith, c.requires, c.loop-rest.invariant.short) in
     record {
-      goes_on = c.loop-byte.invariant.goes_on ∙ at_drop_more (value_after c.loop-byte.value) field i 0 c.loop-byte-test.true
-          ∙ value_goes_on c.loop-byte.value c.in-Some.next (get_or field i 0) (drop (i + 1) field) (sym c.with_small.ensures.value ∙ c.in-Some.is);
-      small = small_more c.loop-byte.value c.in-Some.next i c.loop-byte.invariant.small c.in-Some.ensures.bound;
+      goes_on = c.loop-rest.invariant.goes_on ∙ rw c.with_run-value.ensures (run_goes_on c.loop-rest.value c.loop-rest.rest.now run behind c.split_at.ensures.by_index.0 digits);
+      small = rw c.with_run-value.ensures (run_small c.loop-rest.value 8 c.loop-rest.rest.now run behind short c.loop-rest.invariant.small c.split_at.ensures.front_len c.split_at.ensures.back_len digits);
+      short = omega (arith, c.split_at.ensures.back_len, c.loop-rest.invariant.short);
     }
-
-pub returns : goal.returns
-returns c =
-    sym (c.loop-byte.invariant.goes_on ∙ at_drop_all (value_after c.loop-byte.value) c.args.field.now c.loop-byte.byte-index c.loop-byte-test.false
-    ∙ value_ends c.loop-byte.value (small_end c.loop-byte.value c.loop-byte.byte-index c.loop-byte.invariant.small (omega (arith, c.requires))))
