@@ -1,19 +1,17 @@
 // Reads: each run of blocks comes from home or from its newest record.
-ghost use Rattle.std.specs.Prelude.{◌≡◌, ◌↔◌, ◌+◌, ◌≤◌, ◌^◌, ◌<◌, ℕ, List, [], length, slice_range, OnOk, IfOk, IfErr, IsTrue, IsSome, is_ok, None, Some};
+ghost use Rattle.std.specs.Prelude.{◌≡◌, ◌↔◌, ◌+◌, ◌≤◌, ◌<◌, [], length, OnOk, IfOk, IfErr, IsSome, is_ok, None, Some};
 ghost use Rattle.std.specs.List.{count_by, range_with_len};
 ghost use Rattle.spin_model.specs.Spun.{state_of};
 ghost use Rattle.wol_model.specs.Blocks.{after};
-ghost use Rattle.wol_model.specs.History.{worker, writes};
+ghost use Rattle.wol_model.specs.History.{worker};
 ghost use Rattle.wol_model.specs.Index.{listed_in, is_covered};
 ghost use Rattle.wol_promise.specs.Policy.{woken};
-ghost use Rattle.wol_promise.specs.Ruled.{Noted, entries_of};
 ghost use Rattle.manager.specs.Answers.{was_read};
 ghost use Rattle.manager.specs.Causes.{PartRose, NoneRose};
-ghost use Rattle.manager.specs.Reading.{IsSource, IsReadThrough, HasOnlyRead, NeedsSources, NeedsFirstOf};
+ghost use Rattle.manager.specs.Reading.{CanReadRun, HasReadRun, ReadsBlocks, AreCounted, IsReadThrough, HasOnlyRead, NeedsSources, NeedsFirstOf};
 ghost use Rattle.manager.specs.Seen.{look_of_manager};
-ghost use Rattle.manager.specs.Stands.{Keeps, CanServe, IsReady, IsHome, IsSameManager, Leaves};
+ghost use Rattle.manager.specs.Stands.{CanServe, IsReady, IsHome, IsSameManager, Leaves};
 ghost use Rattle.manager.specs.Stops.{StopsWith};
-ghost use Rattle.manager.specs.declared.base.ManagerBase.{ManagerBase};
 ghost use Rattle.manager.specs.declared.part.Part.{Part};
 
 use crate::{Manager, Part, ReadRefusal, Sources};
@@ -98,20 +96,9 @@ impl<D: Disk> Manager<D> {
         lbn: u64,
         out: &mut [Block],
     ) -> Result<(), Part>
-        requires serves { CanServe D.state shared.now self.old }
-        requires some { 1 ≤ length out.old }
-        requires fits { lbn + length out.old ≤ (state_of D.state self.old.home).size }
-        requires source { IsSource self.old.index.entries lbn (length out.old) None }
-        ensures ready { IsReady D.state self.new }
-        ensures at { IsHome shared.now self.new }
-        ensures read { IsReadThrough D.state self.old self.new }
-        ensures look { look_of_manager self.new
-            ≡ woken (look_of_manager self.old) lbn (length out.old) }
-        ensures needs { NeedsSources self.old self.new lbn (length out.old) }
-        ensures content { IsTrue D.tells → (b : ManagerBase) (notes : List Noted)
-            → Keeps D.tells D.state self.old b notes
-            → OnOk result (out.new ≡ slice_range
-            (after b.volume.began.array (writes (entries_of notes))) lbn (lbn + length out.old)) }
+        requires { CanReadRun D.state shared.now self.old lbn (length out.old) None }
+        ensures run { HasReadRun D.state shared.now lbn (length out.old) self.old self.new }
+        ensures content { ReadsBlocks D.tells D.state self.old lbn (length out.old) out.new result }
         ensures cause { IfErr result (PartRose D.state self.old self.new) }
         ensures calm { OnOk result (NoneRose D.state self.old self.new) }
     {
@@ -131,20 +118,9 @@ impl<D: Disk> Manager<D> {
         lbn: u64,
         out: &mut [Block],
     ) -> Result<(), Part>
-        requires serves { CanServe D.state shared.now self.old }
-        requires some { 1 ≤ length out.old }
-        requires fits { lbn + length out.old ≤ (state_of D.state self.old.home).size }
-        requires source { IsSource self.old.index.entries lbn (length out.old) (Some «record».now) }
-        ensures ready { IsReady D.state self.new }
-        ensures at { IsHome shared.now self.new }
-        ensures read { IsReadThrough D.state self.old self.new }
-        ensures look { look_of_manager self.new
-            ≡ woken (look_of_manager self.old) lbn (length out.old) }
-        ensures needs { NeedsSources self.old self.new lbn (length out.old) }
-        ensures content { IsTrue D.tells → (b : ManagerBase) (notes : List Noted)
-            → Keeps D.tells D.state self.old b notes
-            → OnOk result (out.new ≡ slice_range
-            (after b.volume.began.array (writes (entries_of notes))) lbn (lbn + length out.old)) }
+        requires { CanReadRun D.state shared.now self.old lbn (length out.old) (Some «record».now) }
+        ensures run { HasReadRun D.state shared.now lbn (length out.old) self.old self.new }
+        ensures content { ReadsBlocks D.tells D.state self.old lbn (length out.old) out.new result }
         ensures cause { IfErr result (PartRose D.state self.old self.new) }
         ensures calm { OnOk result (NoneRose D.state self.old self.new) }
     {
@@ -173,24 +149,11 @@ impl<D: Disk> Manager<D> {
         lbn: u64,
         out: &mut [Block],
     ) -> Result<Sources, Part>
-        requires serves { CanServe D.state shared.now self.old }
-        requires some { (1 ≤ length out.old) × (length out.old ≤ 128) }
-        requires fits { lbn + length out.old ≤ (state_of D.state self.old.home).size }
-        requires source { IsSource self.old.index.entries lbn (length out.old) source }
-        ensures ready { IsReady D.state self.new }
-        ensures at { IsHome shared.now self.new }
-        ensures read { IsReadThrough D.state self.old self.new }
-        ensures look { look_of_manager self.new
-            ≡ woken (look_of_manager self.old) lbn (length out.old) }
-        ensures needs { NeedsSources self.old self.new lbn (length out.old) }
-        ensures content { IsTrue D.tells → (b : ManagerBase) (notes : List Noted)
-            → Keeps D.tells D.state self.old b notes
-            → OnOk result (out.new ≡ slice_range
-            (after b.volume.began.array (writes (entries_of notes))) lbn (lbn + length out.old)) }
-        ensures logged { IfOk result (λ s.
-            s.logged ≡ count_by (is_covered (listed_in self.old.index.entries))
-            (range_with_len lbn (length out.old))) }
-        ensures all { IfOk result (λ s. s.home + s.logged ≡ length out.old) }
+        requires run { CanReadRun D.state shared.now self.old lbn (length out.old) source }
+        requires few { length out.old ≤ 128 }
+        ensures run { HasReadRun D.state shared.now lbn (length out.old) self.old self.new }
+        ensures content { ReadsBlocks D.tells D.state self.old lbn (length out.old) out.new result }
+        ensures counted { IfOk result (AreCounted self.old.index.entries lbn (length out.old)) }
         ensures cause { IfErr result (PartRose D.state self.old self.new) }
         ensures calm { OnOk result (NoneRose D.state self.old self.new) }
     {
@@ -231,14 +194,8 @@ impl<D: Disk> Manager<D> {
             (look_of_manager self.new ≡ woken (look_of_manager self.old) lbn (length out.old)) }
         ensures needs { NeedsFirstOf self.old self.new lbn (length out.old) }
         ensures needs_all { OnOk result (NeedsSources self.old self.new lbn (length out.old)) }
-        ensures content { IsTrue D.tells → (b : ManagerBase) (notes : List Noted)
-            → Keeps D.tells D.state self.old b notes
-            → OnOk result (out.new ≡ slice_range
-            (after b.volume.began.array (writes (entries_of notes))) lbn (lbn + length out.old)) }
-        ensures logged { IfOk result (λ s.
-            s.logged ≡ count_by (is_covered (listed_in self.old.index.entries))
-            (range_with_len lbn (length out.old))) }
-        ensures all { IfOk result (λ s. s.home + s.logged ≡ length out.old) }
+        ensures content { ReadsBlocks D.tells D.state self.old lbn (length out.old) out.new result }
+        ensures counted { IfOk result (AreCounted self.old.index.entries lbn (length out.old)) }
         ensures cause { IfErr result (PartRose D.state self.old self.new) }
         ensures calm { OnOk result (NoneRose D.state self.old self.new) }
     {

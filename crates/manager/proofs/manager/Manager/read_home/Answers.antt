@@ -13,26 +13,29 @@ use Rattle.listed_records.proofs.Contents.{bare_run_of}
 use Rattle.wol_promise.proofs.Woken.{woken_home, bare_reads_home, bare_reads_lane}
 use Rattle.manager.proofs.manager.Manager.read_home.Goals as goal
 
-pub returns-clause-read : goal.returns-clause-read
-returns-clause-read g c = let e = c.fetch_at-answer.ensures in record {
-  same = record { id = refl; most = refl };
-  home = record { volume = e.volume; size = e.size; values = e.values; any_moment = e.any_moment; faults = counted_of c.fetch_at-answer.result _ _ e.calm e.cause };
-  spindle = e.same;
-  lanes = lanes_self g.D.Disk.state g.met.D.Disk.sound c.args.self.now.lanes.items;
-  index = refl;
-  next = refl;
-  rooms = refl;
-  down = refl;
-}
-
-pub returns-clause-look : goal.returns-clause-look
-returns-clause-look g c = sym (woken_home (look_of_manager c.args.self.now) c.args.lbn (length c.args.out.now) c.requires.some (bare_run_of c.args.self.now.index.entries c.args.lbn (length c.args.out.now) c.requires.source))
-
-pub returns-clause-needs : goal.returns-clause-needs
-returns-clause-needs g c = let m = c.args.self.now in let bare = bare_run_of m.index.entries c.args.lbn (length c.args.out.now) c.requires.source in record {
-  home = rw (bare_reads_home (listed_in m.index.entries) c.args.lbn (length c.args.out.now) c.requires.some bare) (needs_one m.spindle c.fetch_at-answer.new.spindle _ _ c.fetch_at-answer.ensures.used);
-  lanes = λ k o n was is. rw (bare_reads_lane (listed_in m.index.entries) c.args.lbn (length c.args.out.now) c.requires.some bare k) (needs_none (spindle_of o) (spindle_of n) (same_lane_spindle m.lanes.items k o n was is));
-}
+pub returns-clause-run : goal.returns-clause-run
+returns-clause-run g c =
+    let m = c.args.self.now in let e = c.fetch_at-answer.ensures in let n = length c.args.out.now in
+    let bare = bare_run_of m.index.entries c.args.lbn n c.requires.source in
+    record {
+      ready = ready_homed g.D.Disk.state m c.fetch_at-answer.new.part c.fetch_at-answer.new.spindle m.down e.volume e.size e.same e.free e.settled e.used c.requires.serves.up c.requires.serves.ready;
+      at = let a = c.requires.serves.at in record { spindle_in = a.spindle_in; spindle_is = λ d. e.same.0 ∙ a.spindle_is d; lanes_ = a.lanes_ };
+      read = record {
+        same = record { id = refl; most = refl };
+        home = record { volume = e.volume; size = e.size; values = e.values; any_moment = e.any_moment; faults = counted_of c.fetch_at-answer.result _ _ e.calm e.cause };
+        spindle = e.same;
+        lanes = lanes_self g.D.Disk.state g.met.D.Disk.sound m.lanes.items;
+        index = refl;
+        next = refl;
+        rooms = refl;
+        down = refl;
+      };
+      look = sym (woken_home (look_of_manager m) c.args.lbn n c.requires.some bare);
+      needs = record {
+        home = rw (bare_reads_home (listed_in m.index.entries) c.args.lbn n c.requires.some bare) (needs_one m.spindle c.fetch_at-answer.new.spindle _ _ e.used);
+        lanes = λ k o n' was is. rw (bare_reads_lane (listed_in m.index.entries) c.args.lbn n c.requires.some bare k) (needs_none (spindle_of o) (spindle_of n') (same_lane_spindle m.lanes.items k o n' was is));
+      };
+    }
 
 pub returns-clause-content : goal.returns-clause-content
 returns-clause-content g c told b notes keeps =
@@ -42,10 +45,6 @@ returns-clause-content g c told b notes keeps =
     on_ok_like c.fetch_at-answer.result c.at_part.result c.at_part.ensures.like
     (λ is. is ∙ home_content g.D.Disk.tells g.D.Disk.state m b notes keeps c.requires.serves.up told t.0 t.1 c.args.lbn (length c.args.out.now) c.requires.source)
     (let P : Option (List (Values Block)) → Type 0 = λ o. OnOk c.fetch_at-answer.result (IfSome o (λ vs. out ≡ take (length c.args.out.now) (drop c.args.lbn (reads vs)))) in subst P t.1 c.fetch_at-answer.ensures.content)
-
-pub returns-clause-ready : goal.returns-clause-ready
-returns-clause-ready g c = let e = c.fetch_at-answer.ensures in let m = c.args.self.now in
-    ready_homed g.D.Disk.state m c.fetch_at-answer.new.part c.fetch_at-answer.new.spindle m.down e.volume e.size e.same e.free e.settled e.used c.requires.serves.up c.requires.serves.ready
 
 pub returns-clause-calm : goal.returns-clause-calm
 returns-clause-calm g c = on_ok_like c.fetch_at-answer.result c.at_part.result c.at_part.ensures.like (λ same. none_home g.D.Disk.state c.args.self.now _ c.requires.serves.ready same refl) c.fetch_at-answer.ensures.calm

@@ -10,7 +10,7 @@ use Rattle.manager.specs.Seen.{down_of, look_of_manager}
 use Rattle.manager.specs.Stands.{IsReady, IsReadyLane}
 use Rattle.volume_parts.proofs.Calm.{calm_read}
 use Rattle.manager.proofs.Calm.{none_lane, segment_rose}
-use Rattle.listed_records.proofs.Elements.{refill_set, all_at}
+use Rattle.listed_records.proofs.Elements.{refill_set, all_at, all_set}
 use Rattle.manager.proofs.ReadContent.{log_content}
 use Rattle.manager.proofs.ReadRuns.{spotted, spotted_in, ready_after, segment_after}
 use Rattle.volume_parts.proofs.PartReads.{lane_read, whole_after, counted_after, stays_after, home_self, lanes_set, on_ok_like, err_like, needs_set, needs_none}
@@ -54,48 +54,35 @@ read-answer-requires-clause-spot g c =
     let s = spotted_in g.D.Disk.state m c.requires.serves.ready c.requires.serves.up c.args.record.now c.args.lbn (length c.args.out.now) c.requires.some c.requires.source c.index_mut-lane.result.now c.index_mut-lane.ensures.value in
     record { place = s.place; segment = s.segment; there = s.there; named = s.index; whole = segment_after s; fits = s.fits }
 
-pub returns-clause-ready : goal.returns-clause-ready
-returns-clause-ready g c =
-    let m = c.args.self.now in let state = g.D.Disk.state in let k = c.args.record.now.lane in let l = c.index_mut-lane.result.now in let e = c.read-answer.ensures in let l' = c.read-answer.new.self in
-    let s = spotted_in state m c.requires.serves.ready c.requires.serves.up c.args.record.now c.args.lbn (length c.args.out.now) c.requires.some c.requires.source l c.index_mut-lane.ensures.value in
+pub returns-clause-run : goal.returns-clause-run
+returns-clause-run g c =
+    let m = c.args.self.now in let state = g.D.Disk.state in let k = c.args.record.now.lane in let l = c.index_mut-lane.result.now in let e = c.read-answer.ensures in let l' = c.read-answer.new.self in let n = length c.args.out.now in
+    let s = spotted_in state m c.requires.serves.ready c.requires.serves.up c.args.record.now c.args.lbn n c.requires.some c.requires.source l c.index_mut-lane.ensures.value in
     let was = all_at (IsReadyLane state m.id m.most) m.lanes.items k l s.lane_is c.requires.serves.ready.ready.each in
-    subst (λ (ups : List Bool). IsReady state (record m { lanes = with_item m.lanes k l'; ups = record { items = ups } })) (sym (refill_set m.ups.items c.deref_mut.result.now k true c.deref_mut.ensures.value))
-    (ready_after state m c.requires.serves.ready c.requires.serves.up k l l' (slice_set m.ups.items k true) s.lane_is e.same e.lane e.all e.taken
-    (whole_after state g.met.D.Disk.sound l l' _ _ _ _ c.read-answer.result was.lane e.lane s.whole e.same e.moved) (stays_after state g.met.D.Disk.sound l l' _ _ _ _ c.read-answer.result was.lane e.lane s.whole e.same e.moved)
-    (counted_after state g.met.D.Disk.sound l l' _ _ _ _ c.read-answer.result was.lane e.lane s.whole e.same e.moved k m.index.entries ((c.requires.serves.ready.up c.requires.serves.up).counted k l s.lane_is)) (length-set m.ups.items k true))
-
-pub returns-clause-read : goal.returns-clause-read
-returns-clause-read g c =
-    let m = c.args.self.now in let state = g.D.Disk.state in let k = c.args.record.now.lane in let l = c.index_mut-lane.result.now in let e = c.read-answer.ensures in let l' = c.read-answer.new.self in
-    let s = spotted_in state m c.requires.serves.ready c.requires.serves.up c.args.record.now c.args.lbn (length c.args.out.now) c.requires.some c.requires.source l c.index_mut-lane.ensures.value in
-    let was = all_at (IsReadyLane state m.id m.most) m.lanes.items k l s.lane_is c.requires.serves.ready.ready.each in
+    let lt = slice_get_within m.lanes.items k l s.lane_is in
+    let run = lane_run_of m.index.entries c.args.lbn n c.args.record.now c.requires.source in
     record {
-      same = record { id = refl; most = refl };
-      home = home_self state g.met.D.Disk.sound m.home;
-      spindle = (refl, refl);
-      lanes = lanes_set state g.met.D.Disk.sound m.lanes.items k l l' s.lane_is (lane_read state g.met.D.Disk.sound l l' _ _ _ _ c.read-answer.result was.lane e.lane s.whole e.same e.moved e.taken e.pool);
-      index = refl;
-      next = refl;
-      rooms = refl;
-      down = refl;
-    }
-
-pub returns-clause-look : goal.returns-clause-look
-returns-clause-look g c =
-    let m = c.args.self.now in let k = c.args.record.now.lane in
-    let s = spotted_in g.D.Disk.state m c.requires.serves.ready c.requires.serves.up c.args.record.now c.args.lbn (length c.args.out.now) c.requires.some c.requires.source c.index_mut-lane.result.now c.index_mut-lane.ensures.value in
-    let lt = slice_get_within m.lanes.items k c.index_mut-lane.result.now s.lane_is in
-    (λ i. record { home_up = m.home_up; ups = refill_set m.ups.items c.deref_mut.result.now k true c.deref_mut.ensures.value i; next = m.next; listed = listed_in m.index.entries; down = down_of m.down })
-    ∙ sym (woken_log (look_of_manager m) c.args.lbn (length c.args.out.now) k c.requires.some (omega (arith, lt, c.requires.serves.ready.ready.flags)) (lane_run_of m.index.entries c.args.lbn (length c.args.out.now) c.args.record.now c.requires.source))
-
-pub returns-clause-needs : goal.returns-clause-needs
-returns-clause-needs g c =
-    let m = c.args.self.now in let k = c.args.record.now.lane in let l = c.index_mut-lane.result.now in
-    let run = lane_run_of m.index.entries c.args.lbn (length c.args.out.now) c.args.record.now c.requires.source in
-    let s = spotted_in g.D.Disk.state m c.requires.serves.ready c.requires.serves.up c.args.record.now c.args.lbn (length c.args.out.now) c.requires.some c.requires.source l c.index_mut-lane.ensures.value in
-    record {
-      home = rw (log_reads_home (listed_in m.index.entries) c.args.lbn (length c.args.out.now) c.requires.some k run) (needs_none m.spindle m.spindle refl);
-      lanes = λ j o n was is. rw (log_reads_lane (listed_in m.index.entries) c.args.lbn (length c.args.out.now) c.requires.some k run j) (needs_set m.lanes.items k l c.read-answer.new.self s.lane_is c.read-answer.ensures.used j o n was is);
+      ready = subst (λ (ups : List Bool). IsReady state (record m { lanes = with_item m.lanes k l'; ups = record { items = ups } })) (sym (refill_set m.ups.items c.deref_mut.result.now k true c.deref_mut.ensures.value))
+          (ready_after state m c.requires.serves.ready c.requires.serves.up k l l' (slice_set m.ups.items k true) s.lane_is e.same e.lane e.all e.taken
+          (whole_after state g.met.D.Disk.sound l l' _ _ _ _ c.read-answer.result was.lane e.lane s.whole e.same e.moved) (stays_after state g.met.D.Disk.sound l l' _ _ _ _ c.read-answer.result was.lane e.lane s.whole e.same e.moved)
+          (counted_after state g.met.D.Disk.sound l l' _ _ _ _ c.read-answer.result was.lane e.lane s.whole e.same e.moved k m.index.entries ((c.requires.serves.ready.up c.requires.serves.up).counted k l s.lane_is)) (length-set m.ups.items k true));
+      at = let a = c.requires.serves.at in record { spindle_in = a.spindle_in; spindle_is = a.spindle_is; lanes_ = all_set (IsAt c.args.shared.now) m.lanes.items k l' a.lanes_ e.at };
+      read = record {
+        same = record { id = refl; most = refl };
+        home = home_self state g.met.D.Disk.sound m.home;
+        spindle = (refl, refl);
+        lanes = lanes_set state g.met.D.Disk.sound m.lanes.items k l l' s.lane_is (lane_read state g.met.D.Disk.sound l l' _ _ _ _ c.read-answer.result was.lane e.lane s.whole e.same e.moved e.taken e.pool);
+        index = refl;
+        next = refl;
+        rooms = refl;
+        down = refl;
+      };
+      look = (λ i. record { home_up = m.home_up; ups = refill_set m.ups.items c.deref_mut.result.now k true c.deref_mut.ensures.value i; next = m.next; listed = listed_in m.index.entries; down = down_of m.down })
+          ∙ sym (woken_log (look_of_manager m) c.args.lbn n k c.requires.some (omega (arith, lt, c.requires.serves.ready.ready.flags)) run);
+      needs = record {
+        home = rw (log_reads_home (listed_in m.index.entries) c.args.lbn n c.requires.some k run) (needs_none m.spindle m.spindle refl);
+        lanes = λ j o o' was is. rw (log_reads_lane (listed_in m.index.entries) c.args.lbn n c.requires.some k run j) (needs_set m.lanes.items k l l' s.lane_is e.used j o o' was is);
+      };
     }
 
 pub returns-clause-content : goal.returns-clause-content

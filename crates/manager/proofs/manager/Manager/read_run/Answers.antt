@@ -1,15 +1,15 @@
 -- The covered blocks of a run are all of them or none.
-use Rattle.std.proofs.Common.{length, sym, subst}
+use Rattle.std.proofs.Common.{length, sym, subst, arith}
 use Rattle.manager.specs.Reading.{IsSource}
 use Rattle.listed_records.proofs.Contents.{bare_count, log_count}
 use Rattle.manager.proofs.manager.Manager.read_run.Goals as goal
 
-pub returns-in_ok-read_home-in-None-clause-logged : goal.returns-in_ok-read_home-in-None-clause-logged
-returns-in_ok-read_home-in-None-clause-logged g c =
+pub returns-in_ok-read_home-in-None-clause-counted : goal.returns-in_ok-read_home-in-None-clause-counted
+returns-in_ok-read_home-in-None-clause-counted g c =
     let es = c.args.self.now.index.entries in
-    sym (bare_count es c.args.lbn (length c.args.out.now) (subst (IsSource es c.args.lbn (length c.args.out.now)) c.in-None.is c.requires.source))
+    (sym (bare_count es c.args.lbn (length c.args.out.now) (subst (IsSource es c.args.lbn (length c.args.out.now)) c.in-None.is c.requires.run.source)), omega arith)
 
-pub returns-in_ok-read_log-in-Some-clause-logged : goal.returns-in_ok-read_log-in-Some-clause-logged
-returns-in_ok-read_log-in-Some-clause-logged g c =
+pub returns-in_ok-read_log-in-Some-clause-counted : goal.returns-in_ok-read_log-in-Some-clause-counted
+returns-in_ok-read_log-in-Some-clause-counted g c =
     let es = c.args.self.now.index.entries in
-    sym (log_count es c.args.lbn (length c.args.out.now) c.in-Some.record (subst (IsSource es c.args.lbn (length c.args.out.now)) c.in-Some.is c.requires.source))
+    (sym (log_count es c.args.lbn (length c.args.out.now) c.in-Some.record (subst (IsSource es c.args.lbn (length c.args.out.now)) c.in-Some.is c.requires.run.source)), omega arith)
