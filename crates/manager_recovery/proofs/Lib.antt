@@ -2,9 +2,11 @@ pub mod BackRead
 pub mod Beginning
 pub mod ByLogger
 pub mod CalmOpening
+pub mod Coming
 pub mod Filled
 pub mod FirstTwo
 pub mod FoundMore
+pub mod Freeing
 pub mod Fronts
 pub mod Gathered
 pub mod Gifts
