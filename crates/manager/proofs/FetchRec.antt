@@ -1,5 +1,5 @@
 -- The record of a version is read where it stands.
-use Rattle.std.proofs.Common.{◌≡◌, ◌≤◌, ◌+◌, ℕ, Bool, List, [], ◌∷◌, ◌++◌, length, take, Option, None, Some, Result, Ok, Err, OnOk, is_ok, refl, sym, ap, subst, ◌∙◌, arith, get_or}
+use Rattle.std.proofs.Common.{◌≡◌, ◌<◌, ◌≤◌, ◌+◌, ℕ, Bool, List, [], ◌∷◌, ◌++◌, length, take, Option, None, Some, Result, Ok, Err, OnOk, is_ok, refl, sym, ap, subst, ◌∙◌, arith, get_or}
 use Rattle.std.specs.Prelude.{IsTrue, Contains, slice_get}
 use Rattle.std.specs.List.{AllByRecursion}
 use Rattle.std.proofs.lemmas.Option.{same_Some, slice_get_read, slice_get_within}
@@ -32,7 +32,7 @@ use Rattle.listed_records.proofs.Entries.{Found, found_of, entry_of_version, amo
 use Rattle.listed_records.proofs.Elements.{all_at, get_of}
 use Rattle.volume_parts.proofs.Lanes.{Standing, held_as, standing, same_place}
 use Rattle.manager.proofs.ReadContent.{upholds_up}
-use Rattle.volume_parts.proofs.PartReads.{on_ok_like}
+use Rattle.volume_parts.proofs.PartReads.{never_some, on_ok_like}
 use Rattle.log_segment.specs.Segment as log
 
 -- the segment that the index names for a record
@@ -189,3 +189,9 @@ data_blocks state m ready up version r index found tells b notes keeps before af
       data_ = d.data_ ∙ sym (same ∙ all_blocks (length before) st.record_.blocks (count ∙ st.count));
     })
     (moved.content st.records st.place st.record_ st.holds st.there st.position (let c = st.count in omega arith)))
+
+-- the lane of a record that the index answers is there
+pub lane_within : {D : Type 0} (state : D → State) (m : Manager D) → IsReady state m → ((p : Part) → m.down ≡ Some p → ⊥) → (version : ℕ) (r : Rec) → IsIndex m.index.entries → IsAnswer (entry_at m.index.entries version) (Some r) → r.lane < length m.lanes.items
+lane_within state m ready never version r index is =
+    let s = spot_of state m ready (never_some m.down never) version r index (found_of m.index.entries version r is) in
+    slice_get_within m.lanes.items r.lane s.0 s.1.lane_is

@@ -7,12 +7,14 @@ use Rattle.turn_lock.specs.Passes.{pass_mine}
 use Rattle.turn_lock.specs.declared.pass.PassOf.{PassOf}
 use Rattle.spin_model.specs.declared.spindle.Spindle.{Spindle}
 use Rattle.spin_model.specs.declared.spindle.SpindleBase.{SpindleBase}
-use Rattle.logger.specs.Lanes.{IsSameLane, pool_of, logger_of}
+use Rattle.logger.specs.Lanes.{IsAt, IsSameLane, pool_of, logger_of}
 use Rattle.logger.specs.declared.lane.Lane.{Lane}
-use Rattle.manager.specs.Stands.{Locks, nones_in, nones_at, takes_in, takes_of}
+use Rattle.logger.specs.declared.shared.Shared.{Shared}
+use Rattle.manager.specs.Stands.{At, IsHome, Locks, nones_in, nones_at, takes_in, takes_of}
 use Rattle.manager.specs.declared.base.LaneBase.{LaneBase}
 use Rattle.manager.specs.declared.base.ManagerBase.{ManagerBase}
-use Rattle.listed_records.proofs.Elements.{map_set}
+use Rattle.manager.specs.declared.manager.Manager.{Manager}
+use Rattle.listed_records.proofs.Elements.{all_set, map_set}
 use Rattle.manager.proofs.Lanes.{named_set}
 pub use Rattle.listed_records.proofs.Elements.{get_of}
 pub use Rattle.volume_parts.proofs.Lanes.{nones_more}
@@ -57,3 +59,7 @@ module _ {D : Type 0} (state : D → State) (id most : ℕ) (lanes : List (Lane 
     most_ = l.most_;
     view = map_set logger_of lanes k old new lane same.logger ∙ l.view;
   }
+
+-- a manager is at its locks with another lane that is
+pub at_lane : {D : Type 0} {shared : Shared D} (m : Manager D) (k : ℕ) (new : Lane D) → IsHome shared m → IsAt shared new → At shared m.id m.spindle (slice_set m.lanes.items k new)
+at_lane {shared = shared} m k new at is = record { spindle_in = at.spindle_in; spindle_is = at.spindle_is; lanes_ = all_set (IsAt shared) m.lanes.items k new at.lanes_ is }
