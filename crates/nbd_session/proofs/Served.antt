@@ -45,8 +45,14 @@ module _ {V : Type 0} (turned : Turn → V → V → Type 0) (home most : ℕ) (
   pub one_more : (n : ℕ) (m w : V) (left' left'' taken' : Option (List ℕ)) (reply : List ℕ) (so : SoFar n m left' taken') (one : ServesOne turned home most m w left' left'' reply) → HasServed turned home most v (n + 1) (so.bytes ++ one.bytes) (so.replies ++ reply) w
   one_more n m w left' left'' taken' reply so one = rw one.is (HasServed.next n so.bytes so.replies m w one.h one.given one.bytes one.answer so.served one.request one.stays one.serves)
 
-  pub goes_on : (request next : ℕ) (m w : V) (left' left'' taken' taken'' : Option (List ℕ)) → Underway request m left' taken' → next ≡ min (request + 1) (2 ^ 64 - 1) → GoesOn turned home most next m w left' left'' taken' taken'' (Ok None) → Underway next w left'' taken''
-  goes_on request next m w left' left'' taken' taken'' u is (reply, one, out) = record {
+  -- what one more request makes of it: it goes on, or it is the whole session
+  abbrev pub Becomes : (next : ℕ) → V → (left' taken' : Option (List ℕ)) → Result (Option Ended) NbdFault → Type 0
+  Becomes next w left' taken' (Ok None) = Underway next w left' taken'
+  Becomes next w left' taken' (Ok (Some e)) = IsSession turned home most v w left left' taken taken' (Ok e)
+  Becomes next w left' taken' (Err f) = IsSession turned home most v w left left' taken taken' (Err f)
+
+  becomes : (request next : ℕ) (m w : V) (left' left'' taken' taken'' : Option (List ℕ)) (result : Result (Option Ended) NbdFault) → Underway request m left' taken' → next ≡ min (request + 1) (2 ^ 64 - 1) → GoesOn turned home most next m w left' left'' taken' taken'' result → Becomes next w left'' taken'' result
+  becomes request next m w left' left'' taken' taken'' (Ok None) u is (reply, one, out) = record {
     requests = u.requests + 1;
     so = record {
       bytes = u.so.bytes ++ one.bytes;
@@ -57,10 +63,7 @@ module _ {V : Type 0} (turned : Turn → V → V → Type 0) (home most : ℕ) (
     };
     number = let e = u.number in omega arith;
   }
-
-  -- the end
-  pub ends : (request next : ℕ) (m w : V) (left' left'' taken' taken'' : Option (List ℕ)) (e : Ended) → Underway request m left' taken' → next ≡ min (request + 1) (2 ^ 64 - 1) → GoesOn turned home most next m w left' left'' taken' taken'' (Ok (Some e)) → IsSession turned home most v w left left'' taken taken'' (Ok e)
-  ends request next m w left' left'' taken' taken'' e u is (same, (last, took, so, end), kept) =
+  becomes request next m w left' left'' taken' taken'' (Ok (Some e)) u is (same, (last, took, so, end), kept) =
       let number : next ≡ request_behind u.requests = let k = u.number in omega arith in
       record {
         requests = u.requests;
@@ -72,9 +75,7 @@ module _ {V : Type 0} (turned : Turn → V → V → Type 0) (home most : ℕ) (
         ends = (rw number at so, end);
         out = appends_kept taken taken' taken'' u.so.replies u.so.out kept;
       }
-
-  pub fails : (request next : ℕ) (m w : V) (left' left'' taken' taken'' : Option (List ℕ)) (f : NbdFault) → Underway request m left' taken' → GoesOn turned home most next m w left' left'' taken' taken'' (Err f) → IsSession turned home most v w left left'' taken taken'' (Err f)
-  fails request next m w left' left'' taken' taken'' fault.Source u (same, (part, took, short), kept) = record {
+  becomes request next m w left' left'' taken' taken'' (Err fault.Source) u is (same, (part, took, short), kept) = record {
     requests = u.requests;
     bytes = u.so.bytes;
     replies = u.so.replies;
@@ -84,7 +85,7 @@ module _ {V : Type 0} (turned : Turn → V → V → Type 0) (home most : ℕ) (
     ends = short;
     out = appends_kept taken taken' taken'' u.so.replies u.so.out kept;
   }
-  fails request next m w left' left'' taken' taken'' fault.Sink u (reply, one, out) = record {
+  becomes request next m w left' left'' taken' taken'' (Err fault.Sink) u is (reply, one, out) = record {
     requests = u.requests + 1;
     bytes = u.so.bytes ++ one.bytes;
     replies = u.so.replies ++ reply;
@@ -111,14 +112,14 @@ module _ {V : Type 0} (turned : Turn → V → V → Type 0) (home most : ℕ) (
       out = appends_both taken taken' taken'' u.so.replies front u.so.out appended;
     };
   }
-  fails request next m w left' left'' taken' taken'' fault.NoMemory u h = absurd h
+  becomes request next m w left' left'' taken' taken'' (Err fault.NoMemory) u is h = absurd h
 
-  -- one that the volume was asked with other names for its shape
-  pub goes_at : (h k next : ℕ) (m w : V) (left' left'' taken' taken'' : Option (List ℕ)) (result : Result (Option Ended) NbdFault) → h ≡ home → k ≡ most → GoesOn turned h k next m w left' left'' taken' taken'' result → GoesOn turned home most next m w left' left'' taken' taken'' result
-  goes_at h k next m w left' left'' taken' taken'' result eh ek x =
+  -- the same where the volume's shape has other names
+  pub becomes_at : (h k request next : ℕ) (m w : V) (left' left'' taken' taken'' : Option (List ℕ)) (result : Result (Option Ended) NbdFault) → h ≡ home → k ≡ most → Underway request m left' taken' → next ≡ min (request + 1) (2 ^ 64 - 1) → GoesOn turned h k next m w left' left'' taken' taken'' result → Becomes next w left'' taken'' result
+  becomes_at h k request next m w left' left'' taken' taken'' result eh ek u is x =
       let P : ℕ → Type 0 = λ (n : ℕ). GoesOn turned n k next m w left' left'' taken' taken'' result in
       let Q : ℕ → Type 0 = λ (n : ℕ). GoesOn turned home n next m w left' left'' taken' taken'' result in
-      subst Q ek (subst P eh x)
+      becomes request next m w left' left'' taken' taken'' result u is (subst Q ek (subst P eh x))
 
   -- before the first
   pub unbegun : IsSession turned home most v v left left taken taken (Err fault.NoMemory)

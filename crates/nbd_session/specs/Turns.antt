@@ -1,5 +1,5 @@
 -- What is asked of a volume in one turn, and what it answers.
-use Rattle.std.specs.Prelude.{ℕ, List, Result, Ok, Err}
+use Rattle.std.specs.Prelude.{◌≡◌, ℕ, List, Result, Ok, Err}
 use Rattle.wol_disk.specs.Disk.{Block}
 use Rattle.nbd_session.specs.declared.volume.Refusal.{Refusal}
 
@@ -27,3 +27,10 @@ read_turn at count blocks (Err refusal) = NotRead at count refusal
 abbrev pub write_turn : {T : Type 0} → (at : ℕ) → List Block → Result T Refusal → Turn
 write_turn at blocks (Ok done) = Wrote at blocks
 write_turn at blocks (Err refusal) = NotWrote at blocks refusal
+
+-- a volume that can take turns still, with as many blocks as before, and as many in one turn
+pub record StaysReady {V : Type 0} (can_take : V → Type 0) (home_of most_of : V → ℕ) (v w : V) :
+    Type 0 where
+  pub ready : can_take w
+  pub same_home : home_of w ≡ home_of v
+  pub same_most : most_of w ≡ most_of v

@@ -1,10 +1,11 @@
 // What becomes of one request.
-ghost use Rattle.std.specs.Prelude.{◌≡◌, ◌≢◌, ◌≤◌, ◌⊎◌, ℕ, List, None, length, take, IfOk, OnErr, OnOk};
+ghost use Rattle.std.specs.Prelude.{◌≡◌, ◌≢◌, ◌≤◌, None, length, take, IfOk, OnErr, OnOk};
 ghost use Rattle.wol_disk.specs.Disk.{Rose};
 ghost use Rattle.nbd_session.specs.Answers.{IsInside, LooksSo, ReadsSo, Serves, WritesSo, answer_in};
 ghost use Rattle.nbd_session.specs.Errors.{known_error};
 ghost use Rattle.nbd_session.specs.Headers.{payload_of};
 ghost use Rattle.nbd_session.specs.Taking.{AnswersTaken, RefusesSo};
+ghost use Rattle.nbd_session.specs.Turns.{StaysReady};
 
 use crate::error::{MOST_BYTES, NbdError, error_of, known_error};
 use crate::header::{Command, Header};
@@ -39,9 +40,7 @@ impl Desk {
 // Looks whether a volume is up, and answers with no data.
 fn look<V: Volume>(volume: &mut V) -> Result<usize, NbdError>
     requires ready { V.Ready volume.old }
-    ensures ready { V.Ready volume.new }
-    ensures same_home { V.home volume.new ≡ V.home volume.old }
-    ensures same_most { V.most volume.new ≡ V.most volume.old }
+    ensures stays { StaysReady V.Ready V.home V.most volume.old volume.new }
     ensures looked { LooksSo V.Turned volume.old volume.new result }
     ensures fits { IfOk result (λ n. n ≤ 33554432) }
 {
@@ -62,9 +61,7 @@ fn read<V: Volume>(
     requires bytes { length bytes.old ≡ 33554432 }
     requires room { length room.old ≡ 128 }
     requires inside { IsInside (V.home volume.old) header.now }
-    ensures ready { V.Ready volume.new }
-    ensures same_home { V.home volume.new ≡ V.home volume.old }
-    ensures same_most { V.most volume.new ≡ V.most volume.old }
+    ensures stays { StaysReady V.Ready V.home V.most volume.old volume.new }
     ensures read { ReadsSo V.Turned (V.most volume.old) header.now bytes.new volume.old volume.new
         result }
     ensures fits { IfOk result (λ n. n ≤ 33554432) }
@@ -88,9 +85,7 @@ fn write<V: Volume>(volume: &mut V, header: &Header, bytes: &[u8]) -> Result<usi
     requires ready { V.Ready volume.old }
     requires bytes { length bytes.now ≡ 33554432 }
     requires inside { IsInside (V.home volume.old) header.now }
-    ensures ready { V.Ready volume.new }
-    ensures same_home { V.home volume.new ≡ V.home volume.old }
-    ensures same_most { V.most volume.new ≡ V.most volume.old }
+    ensures stays { StaysReady V.Ready V.home V.most volume.old volume.new }
     ensures written { WritesSo V.Turned (V.most volume.old) header.now
         (take header.now.length bytes.now) volume.old volume.new result }
     ensures fits { IfOk result (λ n. n ≤ 33554432) }
@@ -101,64 +96,6 @@ fn write<V: Volume>(volume: &mut V, header: &Header, bytes: &[u8]) -> Result<usi
         Ok(()) => Ok(0),
         Err(refusal) => Err(error_of(refusal)),
     }
-}
-
-// A request that asks for no blocks.
-fn ask_nothing<V: Volume>(volume: &mut V, header: &Header) -> Result<usize, NbdError>
-    requires ready { V.Ready volume.old }
-    requires known { known_error (V.home volume.old) header.now ≡ None }
-    requires nothing { (header.now.command ≡ Command.Flush) ⊎ (header.now.length ≡ 0) }
-    ensures ready { V.Ready volume.new }
-    ensures same_home { V.home volume.new ≡ V.home volume.old }
-    ensures same_most { V.most volume.new ≡ V.most volume.old }
-    ensures serves { (given room : List ℕ)
-        → Serves V.Turned (V.home volume.old) (V.most volume.old) header.now given volume.old
-        (answer_in room result) volume.new }
-    ensures fits { IfOk result (λ n. n ≤ 33554432) }
-{
-    let _ = header;
-    look(volume)
-}
-
-// A read of some blocks, which stand in front in the bytes then.
-fn ask_read<V: Volume>(
-    volume: &mut V,
-    header: &Header,
-    bytes: &mut [u8],
-    room: &mut [Block],
-) -> Result<usize, NbdError>
-    requires ready { V.Ready volume.old }
-    requires bytes { length bytes.old ≡ 33554432 }
-    requires room { length room.old ≡ 128 }
-    requires known { known_error (V.home volume.old) header.now ≡ None }
-    requires is { header.now.command ≡ Command.Read }
-    requires some { header.now.length ≢ 0 }
-    ensures ready { V.Ready volume.new }
-    ensures same_home { V.home volume.new ≡ V.home volume.old }
-    ensures same_most { V.most volume.new ≡ V.most volume.old }
-    ensures serves { (given : List ℕ) → Serves V.Turned (V.home volume.old) (V.most volume.old)
-        header.now given volume.old (answer_in bytes.new result) volume.new }
-    ensures fits { IfOk result (λ n. n ≤ 33554432) }
-{
-    read(volume, header, bytes, room)
-}
-
-// A write of some blocks, which stand in front in the bytes.
-fn ask_write<V: Volume>(volume: &mut V, header: &Header, bytes: &[u8]) -> Result<usize, NbdError>
-    requires ready { V.Ready volume.old }
-    requires bytes { length bytes.now ≡ 33554432 }
-    requires known { known_error (V.home volume.old) header.now ≡ None }
-    requires is { header.now.command ≡ Command.Write }
-    requires some { header.now.length ≢ 0 }
-    ensures ready { V.Ready volume.new }
-    ensures same_home { V.home volume.new ≡ V.home volume.old }
-    ensures same_most { V.most volume.new ≡ V.most volume.old }
-    ensures serves { Serves V.Turned (V.home volume.old) (V.most volume.old) header.now
-        (take (payload_of header.now.command header.now.length) bytes.now) volume.old
-        (answer_in bytes.now result) volume.new }
-    ensures fits { IfOk result (λ n. n ≤ 33554432) }
-{
-    write(volume, header, bytes)
 }
 
 // Asks a volume what a request asks for that has no error so far. A write's data stand in front in the bytes, and a read's
@@ -174,21 +111,19 @@ fn ask<V: Volume>(
     requires room { length room.old ≡ 128 }
     requires known { known_error (V.home volume.old) header.now ≡ None }
     requires stays { header.now.command ≢ Command.Disc }
-    ensures ready { V.Ready volume.new }
-    ensures same_home { V.home volume.new ≡ V.home volume.old }
-    ensures same_most { V.most volume.new ≡ V.most volume.old }
+    ensures stays { StaysReady V.Ready V.home V.most volume.old volume.new }
     ensures serves { Serves V.Turned (V.home volume.old) (V.most volume.old) header.now
         (take (payload_of header.now.command header.now.length) bytes.old) volume.old
         (answer_in bytes.new result) volume.new }
     ensures fits { IfOk result (λ n. n ≤ 33554432) }
 {
     if header.length == 0 {
-        return ask_nothing(volume, header);
+        return look(volume);
     }
     match header.command {
-        Command::Read => ask_read(volume, header, bytes, room),
-        Command::Write => ask_write(volume, header, bytes),
-        Command::Flush => ask_nothing(volume, header),
+        Command::Read => read(volume, header, bytes, room),
+        Command::Write => write(volume, header, bytes),
+        Command::Flush => look(volume),
         Command::Disc | Command::Unknown => unreachable!(),
     }
 }
@@ -226,9 +161,7 @@ fn admit<V: Volume, S: Source>(
     requires room { length room.old ≡ 128 }
     requires known { known_error (V.home volume.old) header.now ≡ None }
     requires stays { header.now.command ≢ Command.Disc }
-    ensures ready { V.Ready volume.new }
-    ensures same_home { V.home volume.new ≡ V.home volume.old }
-    ensures same_most { V.most volume.new ≡ V.most volume.old }
+    ensures stays { StaysReady V.Ready V.home V.most volume.old volume.new }
     ensures content { AnswersTaken V.Turned (V.home volume.old) (V.most volume.old) header.now
         volume.old volume.new (S.left input.old) (S.left input.new) bytes.new result }
     ensures later { S.faults input.old ≤ S.faults input.new }
@@ -252,9 +185,7 @@ pub(crate) fn take_and_ask<V: Volume, S: Source>(
 ) -> Result<Option<Result<usize, NbdError>>, Failed>
     requires ready { V.Ready volume.old }
     requires stays { header.now.command ≢ Command.Disc }
-    ensures ready { V.Ready volume.new }
-    ensures same_home { V.home volume.new ≡ V.home volume.old }
-    ensures same_most { V.most volume.new ≡ V.most volume.old }
+    ensures stays { StaysReady V.Ready V.home V.most volume.old volume.new }
     ensures content { AnswersTaken V.Turned (V.home volume.old) (V.most volume.old) header.now
         volume.old volume.new (S.left input.old) (S.left input.new) desk.new.bytes.items result }
     ensures later { S.faults input.old ≤ S.faults input.new }

@@ -1,6 +1,7 @@
 // A range is read and written in pieces, one turn each.
 ghost use Rattle.std.specs.Prelude.{◌≡◌, ◌≤◌, ◌+◌, ◌*◌, ◌/◌, ◌++◌, ◌<◌, ◌^◌, length, take, MatchResult};
 ghost use Rattle.nbd_session.specs.Ranges.{AreWhole, HasRead, HasWritten, HasNotRead, HasNotWritten, ReadsPiece, bytes_of};
+ghost use Rattle.nbd_session.specs.Turns.{StaysReady};
 
 use crate::volume::{Refusal, Volume};
 use wol_disk::Block;
@@ -33,9 +34,7 @@ fn read_piece<V: Volume>(
     requires few { length blocks.old ≤ V.most volume.old }
     requires fits { at + length blocks.old ≤ V.home volume.old }
     requires bytes { 512 * (done + length blocks.old) ≤ length bytes.old }
-    ensures ready { V.Ready volume.new }
-    ensures same_home { V.home volume.new ≡ V.home volume.old }
-    ensures same_most { V.most volume.new ≡ V.most volume.old }
+    ensures stays { StaysReady V.Ready V.home V.most volume.old volume.new }
     ensures read { ReadsPiece V.Turned at (length blocks.old) done bytes.old bytes.new volume.old
         volume.new result }
 {
@@ -57,9 +56,7 @@ pub(crate) fn read_range<V: Volume>(
     requires room { length room.old ≡ 128 }
     requires fits { at + count ≤ V.home volume.old }
     requires small { at + count < 2 ^ 64 }
-    ensures ready { V.Ready volume.new }
-    ensures same_home { V.home volume.new ≡ V.home volume.old }
-    ensures same_most { V.most volume.new ≡ V.most volume.old }
+    ensures stays { StaysReady V.Ready V.home V.most volume.old volume.new }
     ensures read { MatchResult result
         (λ _. HasRead V.Turned (V.most volume.old) at count volume.old count bytes.new volume.new)
         (λ refusal. HasNotRead V.Turned (V.most volume.old) at count volume.old volume.new refusal) }
@@ -80,9 +77,7 @@ fn write_blocks<V: Volume>(volume: &mut V, at: u64, blocks: &[Block]) -> Result<
     requires whole { AreWhole blocks.now }
     requires fits { at + length blocks.now ≤ V.home volume.old }
     requires small { at + length blocks.now < 2 ^ 64 }
-    ensures ready { V.Ready volume.new }
-    ensures same_home { V.home volume.new ≡ V.home volume.old }
-    ensures same_most { V.most volume.new ≡ V.most volume.old }
+    ensures stays { StaysReady V.Ready V.home V.most volume.old volume.new }
     ensures written { MatchResult result
         (λ _. HasWritten V.Turned (V.most volume.old) at (length blocks.now) volume.old
         (length blocks.now) (bytes_of blocks.now) volume.new)
@@ -111,9 +106,7 @@ pub(crate) fn write_range<V: Volume>(
     requires bytes { length bytes.now ≡ 512 * count }
     requires fits { at + count ≤ V.home volume.old }
     requires small { at + count < 2 ^ 64 }
-    ensures ready { V.Ready volume.new }
-    ensures same_home { V.home volume.new ≡ V.home volume.old }
-    ensures same_most { V.most volume.new ≡ V.most volume.old }
+    ensures stays { StaysReady V.Ready V.home V.most volume.old volume.new }
     ensures written { MatchResult result
         (λ _. HasWritten V.Turned (V.most volume.old) at count volume.old count bytes.now
         volume.new)

@@ -2,6 +2,7 @@
 ghost use Rattle.std.specs.Prelude.{◌≡◌, ◌≢◌, ◌≤◌, ℕ, List, Option, length, IfOk, IfSome};
 ghost use Rattle.nbd_session.specs.Intake.{IsComing, TakesHeader};
 ghost use Rattle.nbd_session.specs.Sessions.{CountsFaults, GoesOn, IsSession, RepliesSo};
+ghost use Rattle.nbd_session.specs.Turns.{StaysReady};
 
 use crate::answer::{Desk, take_and_ask};
 use crate::error::NbdError;
@@ -71,9 +72,7 @@ fn serve_request<V: Volume, S: Source, K: Sink>(
 ) -> Result<Option<Ended>, NbdFault>
     requires ready { V.Ready volume.old }
     requires stays { header.now.command ≢ Command.Disc }
-    ensures ready { V.Ready volume.new }
-    ensures same_home { V.home volume.new ≡ V.home volume.old }
-    ensures same_most { V.most volume.new ≡ V.most volume.old }
+    ensures stays { StaysReady V.Ready V.home V.most volume.old volume.new }
     ensures content { (before : Option (List ℕ))
         → TakesHeader before (S.left input.old) (Next.Request header.now)
         → GoesOn V.Turned (V.home volume.old) (V.most volume.old) request volume.old volume.new
@@ -98,9 +97,7 @@ fn serve_this<V: Volume, S: Source, K: Sink>(
 ) -> Result<Option<Ended>, NbdFault>
     requires ready { V.Ready volume.old }
     requires next { IsComing next }
-    ensures ready { V.Ready volume.new }
-    ensures same_home { V.home volume.new ≡ V.home volume.old }
-    ensures same_most { V.most volume.new ≡ V.most volume.old }
+    ensures stays { StaysReady V.Ready V.home V.most volume.old volume.new }
     ensures content { (before : Option (List ℕ)) → TakesHeader before (S.left input.old) next
         → GoesOn V.Turned (V.home volume.old) (V.most volume.old) request volume.old volume.new
         before (S.left input.new) (K.taken out.old) (K.taken out.new) result }
@@ -125,9 +122,7 @@ fn serve_next<V: Volume, S: Source, K: Sink>(
     request: u64,
 ) -> Result<Option<Ended>, NbdFault>
     requires ready { V.Ready volume.old }
-    ensures ready { V.Ready volume.new }
-    ensures same_home { V.home volume.new ≡ V.home volume.old }
-    ensures same_most { V.most volume.new ≡ V.most volume.old }
+    ensures stays { StaysReady V.Ready V.home V.most volume.old volume.new }
     ensures content { GoesOn V.Turned (V.home volume.old) (V.most volume.old) request volume.old
         volume.new (S.left input.old) (S.left input.new) (K.taken out.old) (K.taken out.new) result }
     ensures faults { CountsFaults (S.faults input.old) (S.faults input.new) (K.faults out.old)

@@ -1,13 +1,12 @@
-use Rattle.std.proofs.Common.{◌≡◌, ◌≤◌, ◌-◌, length, take}
+use Rattle.std.proofs.Common.{◌≤◌, ◌-◌, length, take}
 use Rattle.nbd_session.specs.Ranges.{HasWritten, bytes_of}
+use Rattle.nbd_session.specs.Turns.{StaysReady}
 use Rattle.nbd_session.proofs.ranges.write_blocks.Given as goal
 
 abbrev pub invariant-loop-done : goal.invariant-loop-done
 invariant-loop-done g l = record {
   within : l.done ≤ l.count;
-  ready : g.V.Volume.Ready l.volume;
-  home : g.V.Volume.home l.volume ≡ g.V.Volume.home l.initial.volume;
-  most : g.V.Volume.most l.volume ≡ g.V.Volume.most l.initial.volume;
+  stays : StaysReady g.V.Volume.Ready g.V.Volume.home g.V.Volume.most l.initial.volume l.volume;
   written : HasWritten g.V.Volume.Turned (g.V.Volume.most l.initial.volume) l.at (length l.blocks) l.initial.volume l.done (bytes_of (take l.done l.blocks)) l.volume;
 }
 
