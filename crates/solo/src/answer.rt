@@ -23,43 +23,6 @@ fn text_of(alloc: Global, request: &Request, mark: u64) -> Result<String, AllocE
     format!(in alloc; "read {line} {first} {count} {mark}\n")
 }
 
-// Reads blocks, and prints their mark.
-fn read_blocks<D: Disk, K: Sink>(
-    alloc: Global,
-    part: &mut D,
-    out: &mut K,
-    blocks: &mut [Block],
-    request: &Request,
-) -> Result<(), Fault>
-    requires within { request.now.first + length blocks.old ≤ (D.state part.old).size }
-    requires count { length blocks.old ≡ request.now.count }
-    requires kind { request.now.kind ≡ Kind.Read }
-    requires settled { IsSettled (D.state part.old).values }
-    ensures size { (D.state part.new).size ≡ (D.state part.old).size }
-    ensures settled { OnOk result (IsSettled (D.state part.new).values) }
-    ensures values { OnOk result (content_of (D.state part.new).values
-        ≡ content_after (request_of request.now ∷ []) (content_of (D.state part.old).values)) }
-    ensures content { Serves (content_of (D.state part.old).values) (request_of request.now ∷ [])
-        result (K.taken out.old) (K.taken out.new) (D.state part.new).values }
-    ensures disk { IsErrOf result Fault.Disk
-        → Rose (D.state part.old).faults (D.state part.new).faults }
-    ensures disk_later { (D.state part.old).faults ≤ (D.state part.new).faults }
-    ensures cause { IsErrOf result Fault.Sink → Rose (K.faults out.old) (K.faults out.new) }
-    ensures later { K.faults out.old ≤ K.faults out.new }
-    ensures calm { IsCalm result (K.faults out.old) (K.faults out.new) }
-{
-    if part.read(request.first, blocks).is_err() {
-        return Err(Fault::Disk);
-    }
-    let Ok(text) = text_of(alloc, request, mark(blocks)) else {
-        return Err(Fault::NoMemory);
-    };
-    if out.write(text.as_bytes()).is_err() {
-        return Err(Fault::Sink);
-    }
-    Ok(())
-}
-
 // Writes the line's payload to blocks, and syncs them.
 fn write_blocks<D: Disk>(part: &mut D, blocks: &mut [Block], request: &Request) -> Result<(), Fault>
     requires within { request.now.first + length blocks.old ≤ (D.state part.old).size }
@@ -114,7 +77,18 @@ pub fn serve<D: Disk, K: Sink>(
     ensures calm { IsCalm result (K.faults out.old) (K.faults out.new) }
 {
     match request.kind {
-        Kind::Read => read_blocks(alloc, part, out, blocks, request),
+        Kind::Read => {
+            if part.read(request.first, blocks).is_err() {
+                return Err(Fault::Disk);
+            }
+            let Ok(text) = text_of(alloc, request, mark(blocks)) else {
+                return Err(Fault::NoMemory);
+            };
+            if out.write(text.as_bytes()).is_err() {
+                return Err(Fault::Sink);
+            }
+            Ok(())
+        }
         Kind::Write => write_blocks(part, blocks, request),
     }
 }
