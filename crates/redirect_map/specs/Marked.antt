@@ -3,13 +3,14 @@
 use Rattle.std.specs.Prelude.{◌≡◌, ◌+◌, ◌%◌, ℕ, Bool, true, false, not, ◌&&◌, ◌||◌, List, Option, Some, slice_get}
 use Rattle.wol_model.specs.Log.{has_bit}
 use Rattle.version_marks.specs.Marks.{Contents, IsWithin, mask_of}
+use Rattle.block_cells.specs.declared.record.Rec.{Rec}
 use Rattle.block_cells.specs.declared.blocks.Cell.{Cell}
 use Rattle.block_cells.specs.Masks.{in_mask}
-use Rattle.block_cells.specs.Cells.{is_held, take_one}
+use Rattle.block_cells.specs.Cells.{is_held, take_one, version_in}
 use Rattle.redirect_map.specs.declared.entry.Entry.{Entry}
 use Rattle.redirect_map.specs.declared.going.Sought.{Sought}
 use Rattle.redirect_map.specs.declared.going.Sought.TheVariants.{Due, Going}
-use Rattle.redirect_map.specs.Kept.{keeps}
+use Rattle.redirect_map.specs.Kept.{keeps, AreEntries}
 
 -- bits of a version's mask: the record is there; it may have a due block; it may have a block that
 -- goes. Lanes with one rest share their bits
@@ -70,3 +71,14 @@ AreBegun covered es known masks b = (k : ℕ) (e : Entry) → slice_get es k ≡
 -- no mask loses a bit
 abbrev pub KeepsBits : Contents → Contents → Type 0
 KeepsBits old new = (v : ℕ) → IsWithin (mask_of old v) (mask_of new v)
+
+-- the marks are right of entries of which this record is the newest of all blocks that it keeps
+pub record IsMarkedUnder (r : Rec) (es : List Entry) (known : ℕ → Option Cell) (masks : ℕ → ℕ) : Type 0 where
+  pub entries : AreEntries es
+  pub newer : (b : ℕ) → in_mask r.lbn r.keep b ≡ true → version_in (known b) ≡ Some r.version
+  pub marked : AreMarked es known masks
+
+-- the marks are right, and their room is what it was
+pub record StaysMarked (es : List Entry) (known : ℕ → Option Cell) (old new : Contents) : Type 0 where
+  pub marked : AreMarked es known (mask_of new)
+  pub room : new.room ≡ old.room

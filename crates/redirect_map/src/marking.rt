@@ -7,7 +7,7 @@ ghost use Rattle.block_cells.specs.Masks.{in_mask};
 ghost use Rattle.block_cells.specs.Cells.{keepers_of, version_in};
 ghost use Rattle.redirect_map.specs.Kept.{IsInRange, AreEntries, NoneHomed};
 ghost use Rattle.redirect_map.specs.Cells.{AreTabled};
-ghost use Rattle.redirect_map.specs.Marked.{there_bit, lane_bit, is_home, begins, IsMarked, AreMarked, AreThere, AreBegun, KeepsBits};
+ghost use Rattle.redirect_map.specs.Marked.{there_bit, lane_bit, is_home, begins, IsMarked, AreMarked, AreThere, AreBegun, KeepsBits, IsMarkedUnder, StaysMarked};
 
 use crate::entry::Entry;
 use crate::going::{Sought, any_sought};
@@ -254,12 +254,9 @@ fn mark_exactly(
     newer: &Rec,
     version: u64,
 )
-    requires entries { AreEntries entries.now.items }
-    requires newer { (b : ℕ) → in_mask newer.now.lbn newer.now.keep b ≡ true
-        → version_in (get nat_eq blocks.now b) ≡ Some newer.now.version }
-    requires marked { AreMarked entries.now.items (get nat_eq blocks.now) (mask_of marks.old) }
-    ensures marked { AreMarked entries.now.items (get nat_eq blocks.now) (mask_of marks.new) }
-    ensures room { marks.new.room ≡ marks.old.room }
+    requires { IsMarkedUnder newer.now entries.now.items (get nat_eq blocks.now)
+        (mask_of marks.old) }
+    ensures { StaysMarked entries.now.items (get nat_eq blocks.now) marks.old marks.new }
 {
     let Some(entry) = entries.get(version) else {
         return;
@@ -276,12 +273,9 @@ fn mark_next(
     last: u64,
     version: u64,
 )
-    requires entries { AreEntries entries.now.items }
-    requires newer { (b : ℕ) → in_mask newer.now.lbn newer.now.keep b ≡ true
-        → version_in (get nat_eq blocks.now b) ≡ Some newer.now.version }
-    requires marked { AreMarked entries.now.items (get nat_eq blocks.now) (mask_of marks.old) }
-    ensures marked { AreMarked entries.now.items (get nat_eq blocks.now) (mask_of marks.new) }
-    ensures room { marks.new.room ≡ marks.old.room }
+    requires { IsMarkedUnder newer.now entries.now.items (get nat_eq blocks.now)
+        (mask_of marks.old) }
+    ensures { StaysMarked entries.now.items (get nat_eq blocks.now) marks.old marks.new }
 {
     if version != last {
         mark_exactly(marks, entries, blocks, newer, version);
@@ -297,12 +291,9 @@ pub fn mark_all_exactly(
     newer: &Rec,
     versions: &[u64],
 )
-    requires entries { AreEntries entries.now.items }
-    requires newer { (b : ℕ) → in_mask newer.now.lbn newer.now.keep b ≡ true
-        → version_in (get nat_eq blocks.now b) ≡ Some newer.now.version }
-    requires marked { AreMarked entries.now.items (get nat_eq blocks.now) (mask_of marks.old) }
-    ensures marked { AreMarked entries.now.items (get nat_eq blocks.now) (mask_of marks.new) }
-    ensures room { marks.new.room ≡ marks.old.room }
+    requires { IsMarkedUnder newer.now entries.now.items (get nat_eq blocks.now)
+        (mask_of marks.old) }
+    ensures { StaysMarked entries.now.items (get nat_eq blocks.now) marks.old marks.new }
 {
     let mut last = 0;
     for version in versions {

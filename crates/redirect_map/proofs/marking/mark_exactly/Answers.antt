@@ -9,6 +9,9 @@ use Rattle.redirect_map.proofs.marking.mark_exactly.Goals as goal
 pub mask_under-requires-clause-entry : goal.mask_under-requires-clause-entry
 mask_under-requires-clause-entry c = find_range (is_version c.args.version) c.args.entries.now.items c.in-Some.entry c.requires.entries.ranges (sym c.get.ensures ∙ c.in-Some.is)
 
-pub returns-clause-marked : goal.returns-clause-marked
-returns-clause-marked c = marks_exact c.args.entries.now.items (get nat_eq c.args.blocks.now) (mask_of c.args.marks.now) (mask_of c.set.new.self) c.args.version c.mask_under.result c.in-Some.entry c.requires.entries.rising
-    (sym c.get.ensures ∙ c.in-Some.is) c.set.ensures.masks c.mask_under.ensures c.requires.marked
+pub returns : goal.returns
+returns c = record {
+  marked = marks_exact c.args.entries.now.items (get nat_eq c.args.blocks.now) (mask_of c.args.marks.now) (mask_of c.set.new.self) c.args.version c.mask_under.result c.in-Some.entry c.requires.entries.rising
+      (sym c.get.ensures ∙ c.in-Some.is) c.set.ensures.masks c.mask_under.ensures c.requires.marked;
+  room = c.set.ensures.room;
+}

@@ -25,16 +25,16 @@ push-requires-2-clause-room c =
     let one = some_run c.args.entry c.requires.is_new in
     omega (arith, room, one, c.unhome.ensures.room)
 
-pub mark_all_exactly-requires-clause-entries : goal.mark_all_exactly-requires-clause-entries
+pub mark_all_exactly-requires : goal.mark_all_exactly-requires
 unfolding new_entry
-mark_all_exactly-requires-clause-entries c = subst AreEntries (sym c.push-2.ensures.items) (entries_added c.args.entry c.self.inside.entries.items c.unhome.new.entries.items c.self.invariant.0 c.unhome.ensures.zip c.requires.is_new (subst (λ (v : Contents). AllByRecursion (λ (d : Indexed). d.listed.version < c.args.entry.version) v.entries) (sym c.self.view_is) c.requires.newest))
-
-pub mark_all_exactly-requires-clause-marked : goal.mark_all_exactly-requires-clause-marked
-unfolding new_entry
-mark_all_exactly-requires-clause-marked c = marks_added c.args.entry c.self.inside.entries.items c.unhome.new.entries.items c.push-2.new.self.items (get nat_eq c.self.inside.blocks) (get nat_eq c.cover.new.blocks)
-    (mask_of c.self.inside.marks) (mask_of c.mark_blocks.new.marks) (mask_of c.push.new.self) c.new_mask.result c.unhome.ensures.zip c.push-2.ensures.items
-    (subst (λ (v : Contents). AllByRecursion (λ (d : Indexed). d.listed.version < c.args.entry.version) v.entries) (sym c.self.view_is) c.requires.newest)
-    c.self.invariant.2 c.mark_blocks.ensures.more c.mark_blocks.ensures.begun c.cover.ensures.cells c.push.ensures.masks c.new_mask.ensures.there c.new_mask.ensures.due
+mark_all_exactly-requires c = record {
+  entries = subst AreEntries (sym c.push-2.ensures.items) (entries_added c.args.entry c.self.inside.entries.items c.unhome.new.entries.items c.self.invariant.0 c.unhome.ensures.zip c.requires.is_new (subst (λ (v : Contents). AllByRecursion (λ (d : Indexed). d.listed.version < c.args.entry.version) v.entries) (sym c.self.view_is) c.requires.newest));
+  newer = λ b on. ap version_in (c.cover.ensures.cells b ∙ ap (λ (t : Bool). cond t (one_covers c.args.entry.version (get nat_eq c.self.inside.blocks b)) (get nat_eq c.self.inside.blocks b)) on);
+  marked = marks_added c.args.entry c.self.inside.entries.items c.unhome.new.entries.items c.push-2.new.self.items (get nat_eq c.self.inside.blocks) (get nat_eq c.cover.new.blocks)
+      (mask_of c.self.inside.marks) (mask_of c.mark_blocks.new.marks) (mask_of c.push.new.self) c.new_mask.result c.unhome.ensures.zip c.push-2.ensures.items
+      (subst (λ (v : Contents). AllByRecursion (λ (d : Indexed). d.listed.version < c.args.entry.version) v.entries) (sym c.self.view_is) c.requires.newest)
+      c.self.invariant.2 c.mark_blocks.ensures.more c.mark_blocks.ensures.begun c.cover.ensures.cells c.push.ensures.masks c.new_mask.ensures.there c.new_mask.ensures.due;
+}
 
 pub invariant_of-self : goal.invariant_of-self
 unfolding new_entry
@@ -72,6 +72,3 @@ cover-requires-clause-few c = λ b.
     let few = keepers_few c.self.inside.entries.items b in
     let same = zip_length c.args.entry c.self.inside.entries.items c.unhome.new.entries.items c.unhome.ensures.zip in
     rw (c.self.invariant.1 b) (omega (arith, few, same, c.push-2.ensures.few, ap length c.push-2.ensures.items, length-append c.unhome.new.entries.items (new_entry c.args.entry ∷ [])))
-
-pub mark_all_exactly-requires-clause-newer : goal.mark_all_exactly-requires-clause-newer
-mark_all_exactly-requires-clause-newer c = λ b on. ap version_in (c.cover.ensures.cells b ∙ ap (λ (t : Bool). cond t (one_covers c.args.entry.version (get nat_eq c.self.inside.blocks b)) (get nat_eq c.self.inside.blocks b)) on)
