@@ -1,7 +1,6 @@
 use Rattle.std.proofs.Common.{◌≡◌, ◌<◌, find, length, subst, sym, ap, ◌∙◌, ℕ, Some, arith}
 use Rattle.std.specs.Prelude.{slice_get}
 use Rattle.std.proofs.lemmas.Option.{slice_get-get_or}
-use Rattle.redirect_map.specs.declared.entry.Entry.{Entry}
 use Rattle.redirect_map.specs.Kept.{is_version}
 use Rattle.redirect_map.proofs.Answering.{same_version}
 use Rattle.redirect_map.proofs.entry.if_at.Goals as goal

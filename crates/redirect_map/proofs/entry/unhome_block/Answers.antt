@@ -1,4 +1,4 @@
-use Rattle.std.proofs.Common.{◌≡◌, ◌∙◌, ◌-◌, ◌*◌, ◌%◌, ◌^◌, List, sym, ap, subst, Option, None, Some, IsSome, is_some, false, eqb}
+use Rattle.std.proofs.Common.{◌∙◌, ◌-◌, ◌*◌, ◌%◌, ◌^◌, List, sym, ap, subst, Option, IsSome, is_some, eqb}
 use Rattle.std.specs.List.{AllZip}
 use Rattle.std.proofs.lemmas.Bool.{false≢true}
 use Rattle.block_cells.specs.declared.blocks.Cell.{Cell}
@@ -6,7 +6,7 @@ use Rattle.redirect_map.specs.declared.entry.Entry.{Entry}
 use Rattle.redirect_map.specs.Kept.{IsWithout}
 use Rattle.redirect_map.specs.Listing.{place_in}
 use Rattle.redirect_map.proofs.Answering.{range_at}
-use Rattle.redirect_map.proofs.Celled.{IsNewest, cell_there}
+use Rattle.redirect_map.proofs.Celled.{cell_there}
 use Rattle.redirect_map.proofs.Newest.{newest_found}
 use Rattle.redirect_map.proofs.Listing.{newest_entry, found_at}
 use Rattle.redirect_map.proofs.Without.{all_untouched, set_without, bit_within, cleared, cleared_without}

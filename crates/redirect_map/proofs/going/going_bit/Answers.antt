@@ -1,4 +1,4 @@
-use Rattle.std.proofs.Common.{◌≡◌, nat_eq, ◌+◌, ◌∙◌, ◌&&◌, ◌||◌, not, sym, ap, true, false}
+use Rattle.std.proofs.Common.{◌≡◌, nat_eq, ◌+◌, ◌∙◌, ◌&&◌, ◌||◌, not, sym, true, false}
 use Rattle.std.specs.HashMap.{get}
 use Rattle.block_cells.specs.Cells.{is_held}
 use Rattle.redirect_map.proofs.Dues.{goes_off, goes_on}

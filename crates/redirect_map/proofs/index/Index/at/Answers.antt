@@ -1,5 +1,3 @@
-use Rattle.std.proofs.Common.{◌<◌, length, sym, subst}
-use Rattle.redirect_map.specs.Index.{Contents}
 use Rattle.redirect_map.proofs.Answering.{at_is}
 use Rattle.redirect_map.proofs.index.Index.at.Goals as goal
 

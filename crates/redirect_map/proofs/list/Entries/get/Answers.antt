@@ -1,4 +1,4 @@
-use Rattle.std.proofs.Common.{◌∙◌, not, sym, ap, Bool}
+use Rattle.std.proofs.Common.{◌∙◌, not, sym, ap}
 use Rattle.std.proofs.lemmas.Bool.{eq-eqb, ne_eqb}
 use Rattle.redirect_map.proofs.Listing.{none_listed, some_listed, dead_unlisted}
 use Rattle.redirect_map.proofs.list.Entries.get.Goals as goal

@@ -1,4 +1,4 @@
-use Rattle.std.proofs.Common.{Option, IsSome, find, sym, subst}
+use Rattle.std.proofs.Common.{IsSome, find, sym, subst}
 use Rattle.redirect_map.specs.Kept.{is_version}
 use Rattle.redirect_map.specs.Listing.{Listing}
 use Rattle.redirect_map.proofs.Listing.{listed_there, before_listed}
