@@ -21,7 +21,7 @@ use Rattle.seg_pool.specs.Operations as pool
 use Rattle.seg_pool.specs.declared.base.PoolBase.{PoolBase}
 use Rattle.seg_pool.specs.declared.pool.Pool.{Pool}
 use Rattle.log_segment.specs.Kept.{IsKeptOrTrimmed}
-use Rattle.log_segment.specs.Records.{IsSameHead, AreItems, count_of, trimmed, count_valid}
+use Rattle.log_segment.specs.Records.{IsSameHead, AreItems, group_of, count_of, trimmed, count_valid}
 use Rattle.log_segment.specs.Segment.{IsSegment, IsWhole, IsBroken, IsBlank, IsSame, Holds, room_of, disk_of, free_disk, free_volume, free_blocks, segment_volume, owner_of, blocks_of, place_of, valid_of}
 use Rattle.log_segment.specs.declared.free.FreeSegment.{FreeSegment}
 use Rattle.log_segment.specs.declared.item.Item.{Item}
@@ -30,6 +30,7 @@ use Rattle.logger.specs.declared.lane.HeldSegment.{HeldSegment}
 use Rattle.logger.specs.declared.lane.Lane.{Lane}
 use Rattle.logger.specs.declared.lane.Spot.{Spot}
 use Rattle.logger.specs.declared.shared.Shared.{Shared}
+use Rattle.logger.specs.declared.write.Group.{Group}
 
 -- ---- Its parts
 
@@ -185,11 +186,19 @@ first_count [] = 0
 first_count (i ∷ items) = i.count
 
 -- a group of writes: it has some, the blocks are theirs, and their versions stay below the last
-pub record IsGroup (first : ℕ) (group : List Item) (from : List Block) : Type 0 where
-  pub version : (1 ≤ first) × (first + length group ≤ 2 ^ 63)
-  pub some : 1 ≤ length group
-  pub items : AreItems group
-  pub blocks : count_of group ≡ length from
+pub record IsGroup (g : Group) : Type 0 where
+  pub version : (1 ≤ g.version) × (g.version + length g.items.now ≤ 2 ^ 63)
+  pub some : 1 ≤ length g.items.now
+  pub items : AreItems g.items.now
+  pub blocks : count_of g.items.now ≡ length g.from.now
+
+-- how many blocks it takes, but for the head of the first
+abbrev pub group_blocks : Group → ℕ
+group_blocks g = length g.from.now + (length g.items.now - 1)
+
+-- the records of it that an owner writes
+abbrev pub group_records : (owner : ℕ) → Group → List Record
+group_records owner g = group_of owner g.version g.items.now g.from.now
 
 -- an answered write stands at this spot, and a refused one names this segment
 abbrev pub IsSpot : (index pos : ℕ) → Result Spot (ℕ × Failed) → Type 0

@@ -5,7 +5,7 @@ ghost use Rattle.spin_model.specs.Spun.{token_volume};
 ghost use Rattle.log_segment.specs.Records.{new_record, group_of, count_of, AreItems};
 ghost use Rattle.log_segment.specs.Segment.{IsFree, room_of, free_volume, free_blocks};
 ghost use Rattle.logger.specs.declared.lane.HeldSegment.{HeldSegment};
-ghost use Rattle.logger.specs.Lanes.{IsLane, HoldsAll, IsAt, IsSameLane, HasRoom, HasNoRoom, IsFirstWithRoom, AreWhole, HasUsed, IsFit, IsGroup, Claimed, Wrote, HasWritten, lane_owner, held_in, taken_in, pool_of, pool_blocks, first_count, spot_result};
+ghost use Rattle.logger.specs.Lanes.{IsLane, HoldsAll, IsAt, IsSameLane, HasRoom, HasNoRoom, IsFirstWithRoom, AreWhole, HasUsed, IsFit, IsGroup, Claimed, Wrote, HasWritten, lane_owner, held_in, taken_in, pool_of, pool_blocks, first_count, group_blocks, group_records, spot_result};
 
 use crate::lane::{HeldSegment, Lane, Spot};
 use crate::secure::first_with_room;
@@ -15,6 +15,14 @@ use spin_model::{Awake, give_token, take_token};
 use std::mem;
 use std::sync::Wait;
 use wol_disk::{Block, Disk, Failed};
+
+// Records to be written: one for each item, of rising versions from `version` on. `from` has the items' blocks in order.
+#[derive(Drop)]
+struct Group<'a> {
+    version: u64,
+    items: &'a [Item],
+    from: &'a [Block],
+}
 
 // The spot of records that begin at this position of a segment, or the segment's index where they weren't written.
 fn spot_of(segment: u32, written: Result<u32, Failed>) -> Result<Spot, (u32, Failed)>
@@ -31,21 +39,19 @@ fn claim_and_append<D: Disk>(
     free: FreeSegment<D>,
     token: &Awake,
     owner: u32,
-    version: u64,
-    items: &[Item],
-    from: &[Block],
+    group: &Group,
 ) -> (Segment<D>, Result<u32, Failed>)
     requires shape { IsFree D.state free }
     requires volume { token_volume token.now ≡ free_volume free }
-    requires group { IsGroup version items.now from.now }
-    requires room { length from.now + (length items.now - 1) + 2 ≤ free_blocks free }
-    ensures claimed { Claimed D.state owner free result.0
-        (group_of owner version items.now from.now) result.1 }
+    requires group { IsGroup group.now }
+    requires room { group_blocks group.now + 2 ≤ free_blocks free }
+    ensures claimed { Claimed D.state owner free result.0 (group_records owner group.now)
+        result.1 }
     ensures position { IfOk result.1 (λ pos. pos ≡ 1) }
 {
     match free.claim(token, owner) {
         Ok(mut segment) => {
-            let written = segment.append_group(token, version, items, from);
+            let written = segment.append_group(token, group.version, group.items, group.from);
             (segment, written)
         }
         Err((failed, segment)) => (segment, Err(failed)),
@@ -115,36 +121,43 @@ impl<D: Disk> Lane<D> {
         ensures moved { Wrote D.state self.old self.new (first_count items.now)
             (group_of (lane_owner self.old) version items.now from.now) result }
     {
+        let group = Group {
+            version,
+            items,
+            from,
+        };
         match first_with_room(&self.held, items[0].count) {
-            Some(place) => self.write_held(rt, shared, place, version, items, from),
-            None => self.write_taken(rt, shared, version, items, from),
+            Some(place) => self.write_held(rt, shared, place, &group),
+            None => self.write_taken(rt, shared, &group),
         }
     }
+
     // Adds the records to the held segment at this place.
     fn write_held<R: Wait>(
         &mut self,
         rt: &R,
         shared: &Shared<D>,
         place: usize,
-        version: u64,
-        items: &[Item],
-        from: &[Block],
+        group: &Group,
     ) -> Result<Spot, (u32, Failed)>
         requires lane { IsLane D.state self.old }
         requires at { IsAt shared.now self.old }
         requires whole { AreWhole (held_in self.old) }
-        requires place { IsFirstWithRoom (first_count items.now) (held_in self.old) place }
+        requires place { IsFirstWithRoom (first_count group.now.items.now) (held_in self.old)
+            place }
         requires room { (o : HeldSegment D) → slice_get (held_in self.old) place ≡ Some o
-            → length from.now + (length items.now - 1) ≤ room_of o.segment }
-        requires group { IsGroup version items.now from.now }
-        ensures { HasWritten D.state shared.now self.old self.new (first_count items.now)
-            (group_of (lane_owner self.old) version items.now from.now) result }
+            → group_blocks group.now ≤ room_of o.segment }
+        requires group { IsGroup group.now }
+        ensures { HasWritten D.state shared.now self.old self.new (first_count group.now.items.now)
+            (group_records (lane_owner self.old) group.now) result }
     {
         let lock = &shared.spindles[self.logger as usize];
         let token = take_token(rt, lock, &mut self.spindle);
         let held = &mut self.held[place];
         let index = held.index;
-        let written = held.segment.append_group(&token, version, items, from);
+        let written = held
+            .segment
+            .append_group(&token, group.version, group.items, group.from);
         give_token(rt, lock, &mut self.spindle, token);
         spot_of(index, written)
     }
@@ -154,18 +167,16 @@ impl<D: Disk> Lane<D> {
         &mut self,
         rt: &R,
         shared: &Shared<D>,
-        version: u64,
-        items: &[Item],
-        from: &[Block],
+        group: &Group,
     ) -> Result<Spot, (u32, Failed)>
         requires lane { IsLane D.state self.old }
         requires at { IsAt shared.now self.old }
         requires taken { IsSome (taken_in self.old) }
-        requires none { HasNoRoom (first_count items.now) (held_in self.old) }
-        requires room { length from.now + (length items.now - 1) + 2 ≤ pool_blocks self.old }
-        requires group { IsGroup version items.now from.now }
-        ensures { HasWritten D.state shared.now self.old self.new (first_count items.now)
-            (group_of (lane_owner self.old) version items.now from.now) result }
+        requires none { HasNoRoom (first_count group.now.items.now) (held_in self.old) }
+        requires room { group_blocks group.now + 2 ≤ pool_blocks self.old }
+        requires group { IsGroup group.now }
+        ensures { HasWritten D.state shared.now self.old self.new (first_count group.now.items.now)
+            (group_records (lane_owner self.old) group.now) result }
     {
         let before = mem::replace(&mut self.taken, None);
         let Some((index, free)) = before else {
@@ -173,7 +184,7 @@ impl<D: Disk> Lane<D> {
         };
         let lock = &shared.spindles[self.logger as usize];
         let token = take_token(rt, lock, &mut self.spindle);
-        let (segment, written) = claim_and_append(free, &token, self.owner, version, items, from);
+        let (segment, written) = claim_and_append(free, &token, self.owner, group);
         give_token(rt, lock, &mut self.spindle, token);
         self.held.push_reserved(HeldSegment { index, segment });
         spot_of(index, written)

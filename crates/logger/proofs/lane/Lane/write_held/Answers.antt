@@ -47,8 +47,8 @@ returns g c =
     let n : HeldSegment g.row.D.Denot = record { index = o.index; segment = c.append_group-written.new.self } in
     let ch : IsChanged state items (set items p n) p = record { old = o; new = n; there = there; held = refl; shape = a.shape; index = refl; same = a.same } in
     let ov = over self.spindle c.take_token-token.new.pass c.give_token.new.pass c.take_token-token.ensures.same c.take_token-token.ensures.mine c.give_token.ensures.free c.give_token.ensures.same c.give_token.ensures.has_none c.give_token.ensures.mine in
-    let added = group_of self.owner c.args.version c.args.items.now c.args.from.now in
-    let grown : Grown state o n added w = grown_of state o n self.owner c.args.version c.args.items.now c.args.from.now w held.owned refl a.same a.ok a.valid a.whole a.err a.any_moment a.cause a.calm in record {
+    let added = group_of self.owner c.args.group.now.version c.args.group.now.items.now c.args.group.now.from.now in
+    let grown : Grown state o n added w = grown_of state o n self.owner c.args.group.now.version c.args.group.now.items.now c.args.group.now.from.now w held.owned refl a.same a.ok a.valid a.whole a.err a.any_moment a.cause a.calm in record {
       lane = lane_changed state self l _ c.give_token.new.pass p ov refl ch;
       same = record { logger = refl; owner = refl; segments = refl; pool = (refl, refl); spindle = ov.same };
       all = all_changed state self l _ p ch;

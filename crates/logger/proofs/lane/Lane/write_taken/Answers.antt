@@ -31,7 +31,7 @@ pub claim_and_append-segment-requires-clause-room : goal.claim_and_append-segmen
 claim_and_append-segment-requires-clause-room g c =
     let self = c.args.self.now in
     let is = if_some (IsTaken g.D.Disk.state self.logger (vec_capacity self.held) self.pool) self.taken (c.in-Some.index, c.in-Some.free) c.requires.lane.unclaimed (sym c.replace-before.ensures.value ∙ c.in-Some.is) in
-    subst (λ (n : ℕ). length c.args.from.now + (length c.args.items.now - 1) + 2 ≤ n) (sym is.blank.long) c.requires.room
+    subst (λ (n : ℕ). length c.args.group.now.from.now + (length c.args.group.now.items.now - 1) + 2 ≤ n) (sym is.blank.long) c.requires.room
 
 pub push_reserved-requires : goal.push_reserved-requires
 push_reserved-requires g c = room_left g.D.Disk.state c.args.self.now (c.in-Some.index, c.in-Some.free) c.requires.lane (sym c.replace-before.ensures.value ∙ c.in-Some.is)
@@ -46,7 +46,7 @@ returns g c =
     let each = all_push (IsHeld state self.logger self.owner (vec_capacity self.held) self.pool) self.held.items n l.each
     (record { shape = new.shape; volume = new.volume ∙ is.blank.of; owned = new.owned; blocks = new.blocks ∙ is.blank.long; below = is.below; holding = is.holding }) in
     let indexes = claimed_indexes self.held.items pushed.items n self.taken c.replace-before.new.dest (c.in-Some.index, c.in-Some.free) push.items refl has c.replace-before.ensures.after in
-    let added = group_of self.owner c.args.version c.args.items.now c.args.from.now in record {
+    let added = group_of self.owner c.args.group.now.version c.args.group.now.items.now c.args.group.now.from.now in record {
       lane = record {
         pool_free = l.pool_free;
         spindle_free = ov.free;
