@@ -1,7 +1,8 @@
 // Writes of one block, and reads as a disk tells them.
-ghost use Rattle.std.specs.Prelude.{◌≡◌, ◌⊎◌, ◌+◌, ◌≤◌, [], ◌∷◌, List, Some, option_map, OnOk, IsErr};
-ghost use Rattle.wol_disk.specs.Disk.{Block, only, put, reads, LeavesOnly, Rose, IsImageOf};
+ghost use Rattle.std.specs.Prelude.{◌≡◌, ◌⊎◌, ◌+◌, ◌≤◌, [], ◌∷◌, List, Some, option_map, OnOk};
+ghost use Rattle.wol_disk.specs.Disk.{Block, only, put, reads, LeavesOnly, IsImageOf};
 ghost use Rattle.spin_model.specs.Spun.{volume_of, state_of, token_volume};
+ghost use Rattle.log_segment.specs.Kept.{LeavesPart};
 
 use spin_model::{Awake, Spun};
 use wol_disk::{Block, Disk, Failed};
@@ -28,12 +29,7 @@ pub fn store_block<D: Disk>(
     ensures from_images { LeavesOnly (state_of D.state part.old) (state_of D.state part.new)
         (λ c. (d : List Block) × IsImageOf (state_of D.state part.old).values d
         × ((c ≡ d) ⊎ (c ≡ put at (block.now ∷ []) d))) }
-    ensures size { (state_of D.state part.new).size ≡ (state_of D.state part.old).size }
-    ensures cause { IsErr result
-        → Rose (state_of D.state part.old).faults (state_of D.state part.new).faults }
-    ensures calm { OnOk result
-        ((state_of D.state part.new).faults ≡ (state_of D.state part.old).faults) }
-    ensures volume { volume_of part.new ≡ volume_of part.old }
+    ensures leaves { LeavesPart D.state part.old part.new result }
 {
     part.write(token, at, &[*block])?;
     part.sync(token)

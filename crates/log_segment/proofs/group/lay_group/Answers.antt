@@ -43,9 +43,9 @@ loop-item-preserved g c =
     let counted : item.count + count_of rest ≡ count_of (drop index items) = count_more item rest (count_of (drop index items)) (ap count_of (sym more)) in
     let fits : item.count ≤ length (drop laid from) = omega (arith, length-drop laid from, i.left, counted) in
     record {
-      volume = c.lay_blocks.ensures.volume ∙ i.volume;
-      size = c.lay_blocks.ensures.size ∙ i.size;
-      calm = c.in_ok-lay_blocks.ensures.calm ∙ i.calm;
+      volume = c.lay_blocks.ensures.leaves.volume ∙ i.volume;
+      size = c.lay_blocks.ensures.leaves.size ∙ i.size;
+      calm = c.in_ok-lay_blocks.ensures.leaves.calm ∙ i.calm;
       beyond = omega (arith, i.beyond);
       room = omega (arith, i.room, counted, ap length more);
       left = omega (arith, i.left, counted);

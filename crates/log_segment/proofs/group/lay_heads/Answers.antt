@@ -69,9 +69,9 @@ loop-item-preserved g c =
     let start = g.D.Disk.state (disk_of c.args.part.now) in
     let now = g.D.Disk.state (disk_of c.loop-item.part) in
     record {
-      volume = c.put_head.ensures.volume ∙ i.volume;
-      size = c.put_head.ensures.size ∙ i.size;
-      calm = c.in_ok-put_head.ensures.calm ∙ i.calm;
+      volume = c.put_head.ensures.leaves.volume ∙ i.volume;
+      size = c.put_head.ensures.leaves.size ∙ i.size;
+      calm = c.in_ok-put_head.ensures.leaves.calm ∙ i.calm;
       room = omega (arith, i.room, counted, ap length more);
       are = are.1;
       versions = (omega (arith, i.versions.0), omega (arith, i.versions.1, ap length more));

@@ -10,7 +10,7 @@ pub returns-in-Ok-clause-shape : goal.returns-in-Ok-clause-shape
 returns-in-Ok-clause-shape g c =
     let each = one_each c.args.items.now c.requires.items in
     record {
-      size = c.append_records.ensures.size ∙ c.requires.shape.size;
+      size = c.append_records.ensures.leaves.size ∙ c.requires.shape.size;
       small = c.requires.shape.small;
       place = (omega (arith, c.requires.shape.place.0), omega (arith, c.requires.shape.place.1, c.requires.room, c.requires.some, c.requires.blocks, each));
       few = omega (arith, c.requires.shape.few);
