@@ -46,6 +46,41 @@ member_without (y ∷ front) s back x has = ⊎_elim
     (λ rest. ⊎_elim (λ there. inl (member_behind y (front ++ back) x there)) (λ same. inr same) (member_without front s back x rest))
     (member_front y (front ++ s ∷ back) x has)
 
+-- A manager whose segment was given back upholds the same with whichever entries it is calm.
+pub given_back : {P : Type 0} (parts : Parts P) (base : Base) (m : ManagerSeen P) (notes : List Noted) (ws : List Write) (front : List (Held P)) (t : Held P) (back : List (Held P))
+    → Upholds parts base m notes ws None → m.down ≡ None → m.held ≡ front ++ t ∷ back
+    → (left : List Indexed) → IsCalm parts base ws m.next m.home (front ++ back) left m.taken
+    → Upholds parts base (record m { held = front ++ back; indexed = left }) notes ws None
+given_back {P} parts base m notes ws front t back u up held left calm = record {
+  began = u.began;
+  history = u.history;
+  lie = u.lie;
+  versioned = u.versioned;
+  known = λ told. let k = subst (AreKnown base m.next ws []) held (u.known told) in record {
+    written = less (λ (v : Held P). AllByRecursion (λ q. IsValid (extent_of q).cover → WasWritten (base.records ++ (ws ++ [])) q) v.records) k.written;
+    below = less (λ (v : Held P). AllByRecursion (λ q. (IsValid (extent_of q).cover → ⊥) → q.head.version < m.next) v.records) k.below;
+    within = less (LieInHome base.home_blocks) k.within;
+  };
+  places = let p = u.places in record {
+    flags = p.flags;
+    few = p.few;
+    home_blocks = p.home_blocks;
+    most = p.most;
+    home_size = p.home_size;
+    home_volume = p.home_volume;
+    each = less (IsHeldBy parts base) (subst (AllByRecursion (IsHeldBy parts base)) held p.each);
+    apart = places_without front t back (subst (λ (l : List (Held P)). AreApartPlaces (map place_in l)) held p.apart);
+  };
+  is_down = u.is_down;
+  failed = λ name is. absurd (let no : None ≡ Some name = sym up ∙ is in cc);
+  calm = λ none. calm;
+  sound = λ told some. absurd (false≢true some);
+  cut = λ told fl is. absurd (let no : None ≡ Some fl = is in cc);
+}
+  where
+    less : (Q : Held P → Type 0) → AllByRecursion Q (front ++ t ∷ back) → AllByRecursion Q (front ++ back)
+    less Q all = all_joined Q front back (all_front Q front (t ∷ back) all) (all_back Q front (t ∷ back) all).1
+
 module _ {P : Type 0} (parts : Parts P) (base : Base) (m : ManagerSeen P) (notes : List Noted) (ws : List Write) (front : List (Held P)) (t : Held P) (back : List (Held P))
     (u : Upholds parts base m notes ws None) (up : m.down ≡ None) (held : m.held ≡ front ++ t ∷ back) (empty : parts.told → AreEmpty t.records)
     -- no entry of the index lies there: so where content is told, and the code knows it always
@@ -63,47 +98,22 @@ module _ {P : Type 0} (parts : Parts P) (base : Base) (m : ManagerSeen P) (notes
       (member_without front t back b.segment b.is_held)
 
   pub retires : Upholds parts base (record m { held = front ++ back }) notes ws None
-  retires = record {
-    began = u.began;
-    history = u.history;
-    lie = u.lie;
-    versioned = u.versioned;
-    known = λ told. let k = subst (AreKnown base m.next ws []) held (u.known told) in record {
-      written = less (λ (v : Held P). AllByRecursion (λ q. IsValid (extent_of q).cover → WasWritten (base.records ++ (ws ++ [])) q) v.records) k.written;
-      below = less (λ (v : Held P). AllByRecursion (λ q. (IsValid (extent_of q).cover → ⊥) → q.head.version < m.next) v.records) k.below;
-      within = less (LieInHome base.home_blocks) k.within;
-    };
-    places = let p = u.places in record {
-      flags = p.flags;
-      few = p.few;
-      home_blocks = p.home_blocks;
-      most = p.most;
-      home_size = p.home_size;
-      home_volume = p.home_volume;
-      each = less (IsHeldBy parts base) (subst (AllByRecursion (IsHeldBy parts base)) held p.each);
-      apart = places_without front t back (subst (λ (l : List (Held P)). AreApartPlaces (map place_in l)) held p.apart);
-    };
-    is_down = u.is_down;
-    failed = λ name is. absurd (let no : None ≡ Some name = sym up ∙ is in cc);
-    calm = λ none. record {
-      unbroken = less (λ (v : Held P). v.broken ≡ false) calm.unbroken;
-      untaken = calm.untaken;
-      sorted = calm.sorted;
-      below = calm.below;
-      placed = elsewhere;
-      whole = λ told. let w = calm.whole told in record {
-        logs = less (λ (v : Held P). (bs : List Block) → parts.may_be v.part bs → IsLog bs base.owner v.records) w.logs;
-        distinct = subst (λ (l : List Extent). AreDistinct (covers_of l)) (sym (flat_map-append (λ (v : Held P). map extent_of v.records) front back))
-            (apart_without (extents_held front) t.records (extents_held back) (subst (λ (l : List Extent). AreDistinct (covers_of l)) (around front t back) w.distinct));
-        index = record {
-          each = less (λ (v : Held P). (k : ℕ) (q : Record) → slice_get v.records k ≡ Some q → IsValid (extent_of q).cover → IsFound m.indexed v k q) w.index.each;
-          only = all_map (IsBacked (front ++ t ∷ back)) (IsBacked (front ++ back)) (backed told) m.indexed w.index.only;
-        };
-        holds = λ home is. subst (λ (l : List Extent). Holds base.array ws m.next home l (is_homed_in m.indexed)) (sym (flat_map-append (λ (v : Held P). map extent_of v.records) front back))
-            (forgotten base.array ws m.next home (extents_held front) t.records (extents_held back) (is_homed_in m.indexed) (empty told)
-            (subst (λ (l : List Extent). Holds base.array ws m.next home l (is_homed_in m.indexed)) (around front t back) (w.holds home is)));
+  retires = given_back parts base m notes ws front t back u up held m.indexed (record {
+    unbroken = less (λ (v : Held P). v.broken ≡ false) calm.unbroken;
+    untaken = calm.untaken;
+    sorted = calm.sorted;
+    below = calm.below;
+    placed = elsewhere;
+    whole = λ told. let w = calm.whole told in record {
+      logs = less (λ (v : Held P). (bs : List Block) → parts.may_be v.part bs → IsLog bs base.owner v.records) w.logs;
+      distinct = subst (λ (l : List Extent). AreDistinct (covers_of l)) (sym (flat_map-append (λ (v : Held P). map extent_of v.records) front back))
+          (apart_without (extents_held front) t.records (extents_held back) (subst (λ (l : List Extent). AreDistinct (covers_of l)) (around front t back) w.distinct));
+      index = record {
+        each = less (λ (v : Held P). (k : ℕ) (q : Record) → slice_get v.records k ≡ Some q → IsValid (extent_of q).cover → IsFound m.indexed v k q) w.index.each;
+        only = all_map (IsBacked (front ++ t ∷ back)) (IsBacked (front ++ back)) (backed told) m.indexed w.index.only;
       };
+      holds = λ home is. subst (λ (l : List Extent). Holds base.array ws m.next home l (is_homed_in m.indexed)) (sym (flat_map-append (λ (v : Held P). map extent_of v.records) front back))
+          (forgotten base.array ws m.next home (extents_held front) t.records (extents_held back) (is_homed_in m.indexed) (empty told)
+          (subst (λ (l : List Extent). Holds base.array ws m.next home l (is_homed_in m.indexed)) (around front t back) (w.holds home is)));
     };
-    sound = λ told some. absurd (false≢true some);
-    cut = λ told fl is. absurd (let no : None ≡ Some fl = is in cc);
-  }
+  })

@@ -13,13 +13,13 @@ use Rattle.wol_model.specs.Log.{Record, IsLog, extent_of}
 use Rattle.wol_model.proofs.Counts.{both}
 use Rattle.wol_model.proofs.Steps.{empty_step, fewer_homed, giving_up_step}
 use Rattle.wol_promise.specs.Ruled.{Noted}
-use Rattle.wol_promise.specs.Manager.{Parts, Held, ManagerSeen, Base, IsBacked, IsEntryOf, IsFound, IsIndexOf, IsSorted, extents_held, is_homed_in, WasWritten}
-use Rattle.wol_promise.specs.Stands.{AreKnown, LieInHome, IsHeldBy, place_in, AreApartPlaces, IsPlaced, IsCalm, Upholds}
+use Rattle.wol_promise.specs.Manager.{Parts, Held, ManagerSeen, Base, IsBacked, IsEntryOf, IsFound, IsIndexOf, IsSorted, extents_held, is_homed_in}
+use Rattle.wol_promise.specs.Stands.{IsPlaced, IsCalm, Upholds}
 use Rattle.wol_promise.proofs.Covers.{any_found, any_member, newer_held}
 use Rattle.wol_promise.proofs.GiveUps.{From, homed_before, listed_still, newer_in}
 use Rattle.wol_promise.proofs.Lists.{all_front, all_back, all_joined, all_member, all_mid, member_front, member_behind}
 use Rattle.wol_promise.proofs.LogWrites.{around}
-use Rattle.wol_promise.proofs.Retires.{member_without, places_without}
+use Rattle.wol_promise.proofs.Retires.{given_back, member_without}
 use Rattle.wol_promise.proofs.SoundSegments.{apart_without}
 
 -- ---- Records under others
@@ -221,47 +221,22 @@ module _ {P : Type 0} (parts : Parts P) (base : Base) (m : ManagerSeen P) (notes
 
   -- the segment is gone with its records, and its entries with them
   pub retires_whole : Upholds parts base (record m { held = front ++ back; indexed = left }) notes ws None
-  retires_whole = record {
-    began = u.began;
-    history = u.history;
-    lie = u.lie;
-    versioned = u.versioned;
-    known = λ told. let k = subst (AreKnown base m.next ws []) held (u.known told) in record {
-      written = less (λ (v : Held P). AllByRecursion (λ q. IsValid (extent_of q).cover → WasWritten (base.records ++ (ws ++ [])) q) v.records) k.written;
-      below = less (λ (v : Held P). AllByRecursion (λ q. (IsValid (extent_of q).cover → ⊥) → q.head.version < m.next) v.records) k.below;
-      within = less (LieInHome base.home_blocks) k.within;
+  retires_whole = given_back parts base m notes ws front t back u up held left (record {
+    unbroken = less (λ (v : Held P). v.broken ≡ false) calm.unbroken;
+    untaken = calm.untaken;
+    sorted = sorted;
+    below = all_among (λ (d : Indexed). (test d ≡ true) × (d.listed.version < m.next)) (λ (d : Indexed). d.listed.version < m.next) left (λ d has is. is.1)
+        (all_filtered (λ (d : Indexed). d.listed.version < m.next) test m.indexed calm.below);
+    placed = elsewhere;
+    whole = λ told. let w = calm.whole told in record {
+      logs = less (λ (v : Held P). (bs : List Block) → parts.may_be v.part bs → IsLog bs base.owner v.records) w.logs;
+      distinct = subst (λ (l : List Extent). AreDistinct (covers_of l)) (sym (flat_map-append (λ (v : Held P). map extent_of v.records) front back))
+          (apart_without (extents_held front) t.records (extents_held back) (subst (λ (l : List Extent). AreDistinct (covers_of l)) (around front t back) w.distinct));
+      index = index_left w.index;
+      holds = λ home is. subst (λ (l : List Extent). Holds base.array ws m.next home l (is_homed_in left)) (sym (flat_map-append (λ (v : Held P). map extent_of v.records) front back))
+          (fewer_homed base.array ws m.next home (extents_held front ++ extents_held back) (is_homed_in m.indexed) (is_homed_in left)
+          (forgotten_under base.array ws m.next home (extents_held front) t.records (extents_held back) (is_homed_in m.indexed) (under w.index)
+          (subst (λ (l : List Extent). Holds base.array ws m.next home l (is_homed_in m.indexed)) (around front t back) (w.holds home is)))
+          (homed_before m.indexed left from));
     };
-    places = let p = u.places in record {
-      flags = p.flags;
-      few = p.few;
-      home_blocks = p.home_blocks;
-      most = p.most;
-      home_size = p.home_size;
-      home_volume = p.home_volume;
-      each = less (IsHeldBy parts base) (subst (AllByRecursion (IsHeldBy parts base)) held p.each);
-      apart = places_without front t back (subst (λ (l : List (Held P)). AreApartPlaces (map place_in l)) held p.apart);
-    };
-    is_down = u.is_down;
-    failed = λ name is. absurd (let no : None ≡ Some name = sym up ∙ is in cc);
-    calm = λ none. record {
-      unbroken = less (λ (v : Held P). v.broken ≡ false) calm.unbroken;
-      untaken = calm.untaken;
-      sorted = sorted;
-      below = all_among (λ (d : Indexed). (test d ≡ true) × (d.listed.version < m.next)) (λ (d : Indexed). d.listed.version < m.next) left (λ d has is. is.1)
-          (all_filtered (λ (d : Indexed). d.listed.version < m.next) test m.indexed calm.below);
-      placed = elsewhere;
-      whole = λ told. let w = calm.whole told in record {
-        logs = less (λ (v : Held P). (bs : List Block) → parts.may_be v.part bs → IsLog bs base.owner v.records) w.logs;
-        distinct = subst (λ (l : List Extent). AreDistinct (covers_of l)) (sym (flat_map-append (λ (v : Held P). map extent_of v.records) front back))
-            (apart_without (extents_held front) t.records (extents_held back) (subst (λ (l : List Extent). AreDistinct (covers_of l)) (around front t back) w.distinct));
-        index = index_left w.index;
-        holds = λ home is. subst (λ (l : List Extent). Holds base.array ws m.next home l (is_homed_in left)) (sym (flat_map-append (λ (v : Held P). map extent_of v.records) front back))
-            (fewer_homed base.array ws m.next home (extents_held front ++ extents_held back) (is_homed_in m.indexed) (is_homed_in left)
-            (forgotten_under base.array ws m.next home (extents_held front) t.records (extents_held back) (is_homed_in m.indexed) (under w.index)
-            (subst (λ (l : List Extent). Holds base.array ws m.next home l (is_homed_in m.indexed)) (around front t back) (w.holds home is)))
-            (homed_before m.indexed left from));
-      };
-    };
-    sound = λ told some. absurd (false≢true some);
-    cut = λ told fl is. absurd (let no : None ≡ Some fl = is in cc);
-  }
+  })
