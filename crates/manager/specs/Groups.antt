@@ -1,5 +1,5 @@
 -- Runs of writes: what their items stand for, and what becomes of them.
-use Rattle.std.specs.Prelude.{◌≡◌, ◌⊎◌, ◌↔◌, ◌≤◌, ◌<◌, ◌+◌, ◌^◌, ℕ, Bool, true, List, [], Result, Ok, Err, OnOk, IsOk, length, map, take, Option, None, Some}
+use Rattle.std.specs.Prelude.{◌≡◌, ◌⊎◌, ◌↔◌, ◌≤◌, ◌<◌, ◌+◌, ◌^◌, ℕ, Bool, true, List, [], Result, Ok, Err, OnOk, IsOk, IsNone, IfSome, length, map, take, Option, None, Some}
 use Rattle.wol_disk.specs.Disk.{Block, State}
 use Rattle.spin_model.specs.Spun.{state_of}
 use Rattle.spin_model.specs.declared.spun.Spun.{Spun}
@@ -17,7 +17,7 @@ use Rattle.manager.specs.Answers.{IsPlaceOf}
 use Rattle.manager.specs.Causes.{NoneRose}
 use Rattle.manager.specs.Offers.{IsTurnedAway, HasTakenWrite, ChangesLane}
 use Rattle.manager.specs.Seen.{look_of_manager}
-use Rattle.manager.specs.Stands.{Keeps, CanServe, Leaves, LeavesPassing, passed_in}
+use Rattle.manager.specs.Stands.{Keeps, CanServe, IsReady, IsHome, Leaves, LeavesPassing, passed_in}
 use Rattle.manager.specs.Stops.{StopsWith, StopsClaiming, TellsClaim}
 use Rattle.manager.specs.declared.base.ManagerBase.{ManagerBase}
 use Rattle.manager.specs.declared.manager.Manager.{Manager}
@@ -120,6 +120,21 @@ pub record HasTakenRun {D : Type 0} (tells : Bool) (state : D → State) (lane :
   pub any_moment : StopsClaiming tells state (IsOk ran.answer) old new
       (log_writes old.next (take ran.items items) from)
 
+-- what the lane at this place needs to be offered a run
+pub record CanOffer {D : Type 0} (state : D → State) (shared : Shared D) (m : Manager D) (lane : ℕ)
+    (items : List Item) (from : List Block) : Type 0 where
+  pub run : CanRun state shared m items from
+  pub there : lane < length m.lanes.items
+
+-- It answers with what it took, or has no room for the first item; then rooms are noted like this.
+pub record HasOffered {D : Type 0} (tells : Bool) (state : D → State) (shared : Shared D)
+    (lane : ℕ) (items : List Item) (from : List Block) (noted : List Room) (ran : Option Ran)
+    (old new : Manager D) : Type 0 where
+  pub ready : IsReady state new
+  pub at : IsHome shared new
+  pub turned_away : IsNone ran → WasTurnedAway tells state lane (first_count items) noted old new
+  pub taken : IfSome ran (λ r. HasTakenRun tells state lane items from r old new)
+
 -- ---- The whole
 
 -- So many first items were tried: at least one where a disk was to take them, and one alone where
@@ -155,6 +170,15 @@ pub record HasRun {D : Type 0} (tells : Bool) (state : D → State) (items : Lis
   pub claims : TellsClaim tells state (IsOk answer) old.lanes.items new.lanes.items claimed
   pub any_moment : StopsWith tells state old new claimed
       (run_writes old.next (take tried items) from answer)
+
+-- The place of the first item is the rule's, with room in each lane but those that were turned away
+-- in this call; home's spindle was needed exactly where home took it.
+pub record IsPlacedRun {D : Type 0} (items : List Item) (from : List Block)
+    (answer : Result Place WriteRefusal) (old new : Manager D) : Type 0 where
+  pub placed : IsPlaceOf (map logger_of old.lanes.items) answer (ruled_run old new items from)
+  pub answered : HaveAnswered (first_count items) (takes_at (ruled_run old new items from) answer)
+      new.rooms.items old.lanes.items new.lanes.items
+  pub waking : NeedsHome (ruled_run old new items from) answer old new
 
 -- What a run's answer tells besides. The place of the first item is the rule's, with room in each
 -- lane but those that were turned away in this call; the disk that took the items was needed, and

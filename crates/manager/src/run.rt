@@ -1,5 +1,5 @@
 // Runs of writes: consecutive writes of which some first ones go to one segment together.
-ghost use Rattle.std.specs.Prelude.{◌≡◌, ◌↔◌, ◌+◌, ◌≤◌, ◌<◌, ◌^◌, ℕ, None, Some, Err, IsNone, IfOk, IfSome, OnOk, length, map, replicate, slice_set};
+ghost use Rattle.std.specs.Prelude.{◌≡◌, ◌↔◌, ◌+◌, ◌≤◌, ◌<◌, ◌^◌, ℕ, None, Some, Err, IfOk, IfSome, OnOk, length, map, replicate, slice_set};
 ghost use Rattle.std.specs.List.{list_any, range_with_len};
 ghost use Rattle.spin_model.specs.Spun.{state_of};
 ghost use Rattle.wol_model.specs.Index.{listed_in, is_covered};
@@ -7,7 +7,7 @@ ghost use Rattle.log_segment.specs.Records.{count_of};
 ghost use Rattle.logger.specs.Lanes.{logger_of, first_count};
 ghost use Rattle.manager.specs.Answers.{IsPlaceOf};
 ghost use Rattle.manager.specs.Causes.{NoneRose};
-ghost use Rattle.manager.specs.Groups.{AreItemsOf, CanRun, WasTurnedAway, HasTakenRun, HasRun, TellsRun, first_lbn, first_blocks, place_told, ruled_run};
+ghost use Rattle.manager.specs.Groups.{AreItemsOf, CanRun, CanOffer, HasOffered, IsPlacedRun, HasRun, TellsRun, first_lbn, first_blocks, place_told, ruled_run};
 ghost use Rattle.manager.specs.Joining.{GoTogether};
 ghost use Rattle.manager.specs.Stands.{IsReady, IsHome, IsSameManager, passed_in};
 ghost use Rattle.manager.specs.Writing.{HaveAnswered, NeedsHome, NeedsLogs, TellsFault, IsAsBefore, IsPlacedAnswer, takes_at};
@@ -47,15 +47,9 @@ impl<D: Disk> Manager<D> {
         items: &[Item],
         from: &[Block],
     ) -> Option<Ran>
-        requires run { CanRun D.state shared.now self.old items.now from.now }
-        requires lane { lane < length self.old.lanes.items }
-        ensures ready { IsReady D.state self.new }
-        ensures at { IsHome shared.now self.new }
-        ensures turned_away { IsNone result
-            → WasTurnedAway D.tells D.state lane (first_count items.now) self.old.rooms.items
-            self.old self.new }
-        ensures taken { IfSome result
-            (λ r. HasTakenRun D.tells D.state lane items.now from.now r self.old self.new) }
+        requires { CanOffer D.state shared.now self.old lane items.now from.now }
+        ensures { HasOffered D.tells D.state shared.now lane items.now from.now
+            self.old.rooms.items result self.old self.new }
     {
         let reached = &mut self.lanes[lane];
         let logger = reached.logger();
@@ -102,15 +96,9 @@ impl<D: Disk> Manager<D> {
         items: &[Item],
         from: &[Block],
     ) -> Option<Ran>
-        requires run { CanRun D.state shared.now self.old items.now from.now }
-        requires lane { lane < length self.old.lanes.items }
-        ensures ready { IsReady D.state self.new }
-        ensures at { IsHome shared.now self.new }
-        ensures turned_away { IsNone result
-            → WasTurnedAway D.tells D.state lane (first_count items.now)
-            (slice_set self.old.rooms.items lane Room.No) self.old self.new }
-        ensures taken { IfSome result
-            (λ r. HasTakenRun D.tells D.state lane items.now from.now r self.old self.new) }
+        requires { CanOffer D.state shared.now self.old lane items.now from.now }
+        ensures offered { HasOffered D.tells D.state shared.now lane items.now from.now
+            (slice_set self.old.rooms.items lane Room.No) result self.old self.new }
         ensures joins { IfSome result (λ r.
             GoTogether self.old.home_up (listed_in self.old.index.entries)
             (passed_in self.old.rooms.items) items.now r.items) }
@@ -146,13 +134,7 @@ impl<D: Disk> Manager<D> {
         ensures answer { IsPlacedAnswer result.answer }
         ensures run { HasRun D.tells D.state items.now from.now result.items result.answer
             (ruled_run self.old self.new items.now from.now) self.old self.new }
-        ensures placed { IsPlaceOf (map logger_of self.old.lanes.items) result.answer
-            (ruled_run self.old self.new items.now from.now) }
-        ensures answered { HaveAnswered (first_count items.now)
-            (takes_at (ruled_run self.old self.new items.now from.now) result.answer)
-            self.new.rooms.items self.old.lanes.items self.new.lanes.items }
-        ensures waking { NeedsHome (ruled_run self.old self.new items.now from.now) result.answer
-            self.old self.new }
+        ensures placing { IsPlacedRun items.now from.now result.answer self.old self.new }
         ensures fault { TellsFault D.state result.answer self.old self.new }
         ensures calm { OnOk result.answer (NoneRose D.state self.old self.new) }
         ensures unchanged { IsAsBefore result.answer self.old self.new }

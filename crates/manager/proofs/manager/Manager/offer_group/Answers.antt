@@ -1,4 +1,4 @@
-use Rattle.std.proofs.Common.{◌≡◌, ℕ, true, [], ◌∷◌, ◌++◌, length, take, Some, refl, sym, ap, subst, ◌∙◌, arith}
+use Rattle.std.proofs.Common.{◌≡◌, ℕ, true, false, [], ◌∷◌, ◌++◌, length, take, Some, refl, sym, ap, subst, ◌∙◌, arith}
 use Rattle.std.specs.Prelude.{slice_get, slice_set, Result, Ok, Err}
 use Rattle.std.specs.Option.{option_map}
 use Rattle.std.specs.Vec.{with_item}
@@ -20,6 +20,7 @@ use Rattle.manager.proofs.Calm.{lane_at, none_lane}
 use Rattle.volume_parts.proofs.Claims.{put_claimed, put_tells}
 use Rattle.listed_records.proofs.Elements.{refill_set, all_at}
 use Rattle.manager.proofs.GroupOffering.{all_taken_front, items_small, first_few, offered_unready, offered_position, offered_ready, offered_look, offered_stands, offered_failed, offered_stops, offered_cause}
+use Rattle.manager.proofs.ReadyLanes.{at_lane}
 use Rattle.manager.proofs.Placed.{away_more, away_takes, ready_away, keeps_away}
 use Rattle.manager.proofs.manager.Manager.offer_group.Goals as goal
 
@@ -30,25 +31,25 @@ put_group-requires-clause-items g c =
 pub put_group-requires-clause-first : goal.put_group-requires-clause-first
 put_group-requires-clause-first g c =
     let m = c.args.self.now in let old = c.index_mut-reached.result.now in
-    let l = (all_at (IsReadyLane g.D.Disk.state m.id m.most) m.lanes.items c.args.lane old (slice_get_read m.lanes.items (length m.lanes.items) c.args.lane old refl c.requires.lane c.index_mut-reached.ensures.value) c.requires.run.serves.ready.ready.each).long in
+    let l = (all_at (IsReadyLane g.D.Disk.state m.id m.most) m.lanes.items c.args.lane old (slice_get_read m.lanes.items (length m.lanes.items) c.args.lane old refl c.requires.there c.index_mut-reached.ensures.value) c.requires.run.serves.ready.ready.each).long in
     let f = first_few m.most (state_of g.D.Disk.state m.home).size c.args.items.now c.requires.run.each in two_more _ _ _ f l
 
 -- ---- It had no room
 
-pub returns-in_default-clause-ready : goal.returns-in_default-clause-ready
-returns-in_default-clause-ready g c =
-    let m = c.args.self.now in let e = c.in_default.ensures in let t = e.turn in let old = c.index_mut-reached.result.now in
-    ready_away g.D.Disk.state m c.args.lane old c.put_group.new.lane (slice_get_read m.lanes.items (length m.lanes.items) c.args.lane old refl c.requires.lane c.index_mut-reached.ensures.value) c.put_group.ensures.lane t.same c.put_group.ensures.all c.put_group.ensures.none _ refl t.held c.requires.run.serves.ready
-
-pub returns-in_default-clause-turned_away : goal.returns-in_default-clause-turned_away
-returns-in_default-clause-turned_away g c _ =
-    let m = c.args.self.now in let t = c.in_default.ensures.turn in let old = c.index_mut-reached.result.now in let new = c.put_group.new.lane in
-    let lane : slice_get m.lanes.items c.args.lane ≡ Some old = slice_get_read m.lanes.items (length m.lanes.items) c.args.lane old refl c.requires.lane c.index_mut-reached.ensures.value in
+pub returns-in_default : goal.returns-in_default
+returns-in_default g c =
+    let m = c.args.self.now in let t = c.in_default.ensures.turn in let e = c.put_group.ensures in let old = c.index_mut-reached.result.now in let new = c.put_group.new.lane in
+    let lane : slice_get m.lanes.items c.args.lane ≡ Some old = slice_get_read m.lanes.items (length m.lanes.items) c.args.lane old refl c.requires.there c.index_mut-reached.ensures.value in
     record {
-      rest = refl;
-      lanes = record { before = old; after = new; there = lane; set = refl; change = t };
-      keeps = λ b notes kp. keeps_away g.D.Disk.state m c.args.lane old new lane c.put_group.ensures.lane t.same c.put_group.ensures.all c.put_group.ensures.none _ refl t.held
-          g.D.Disk.tells b notes (away_more (first_count c.args.items.now) old new t) (away_takes (first_count c.args.items.now) old new t) kp;
+      ready = ready_away g.D.Disk.state m c.args.lane old new lane e.lane t.same e.all e.none _ refl t.held c.requires.run.serves.ready;
+      at = at_lane m c.args.lane new c.requires.run.serves.at e.at;
+      turned_away = λ _. record {
+        rest = refl;
+        lanes = record { before = old; after = new; there = lane; set = refl; change = t };
+        keeps = λ b notes kp. keeps_away g.D.Disk.state m c.args.lane old new lane e.lane t.same e.all e.none _ refl t.held
+            g.D.Disk.tells b notes (away_more (first_count c.args.items.now) old new t) (away_takes (first_count c.args.items.now) old new t) kp;
+      };
+      taken = tt;
     }
 
 -- ---- It took some
@@ -68,86 +69,81 @@ list_group-requires-clause-reserved g c =
 pub list_group-requires-clause-position : goal.list_group-requires-clause-position
 list_group-requires-clause-position g c =
     let state = g.D.Disk.state in let m = c.args.self.now in let e = c.put_group.ensures in let s = c.in-Some.ensures in let old = c.index_mut-reached.result.now in let new = c.put_group.new.lane in let n = c.in-Some.count in let items = c.args.items.now in
-    let lane : slice_get m.lanes.items c.args.lane ≡ Some old = slice_get_read m.lanes.items (length m.lanes.items) c.args.lane old refl c.requires.lane c.index_mut-reached.ensures.value in
+    let lane : slice_get m.lanes.items c.args.lane ≡ Some old = slice_get_read m.lanes.items (length m.lanes.items) c.args.lane old refl c.requires.there c.index_mut-reached.ensures.value in
     let put : PutIn state old new (room_for (take n items)) (group_of (lane_owner old) m.next (take n items) c.args.from.now) (Ok c.in-Ok.spot) =
     subst (λ (q : Result Spot (ℕ × Failed)). PutIn state old new (room_for (take n items)) (group_of (lane_owner old) m.next (take n items) c.args.from.now) q) c.in-Ok.is s.put in
     offered_position state m c.args.lane old new lane e.lane s.turn.same e.all e.none c.requires.run.serves.ready items n s.count.0 s.count.1 c.args.from.now c.requires.run.each c.requires.run.blocks s.fits c.requires.run.serves.up c.in-Ok.spot put
 
-pub returns-in-Ok-clause-ready : goal.returns-in-Ok-clause-ready
-returns-in-Ok-clause-ready g c =
-    let state = g.D.Disk.state in let m = c.args.self.now in let e = c.put_group.ensures in let s = c.in-Some.ensures in let old = c.index_mut-reached.result.now in let new = c.put_group.new.lane in let n = c.in-Some.count in let items = c.args.items.now in
-    let lane : slice_get m.lanes.items c.args.lane ≡ Some old = slice_get_read m.lanes.items (length m.lanes.items) c.args.lane old refl c.requires.lane c.index_mut-reached.ensures.value in
-    let put : PutIn state old new (room_for (take n items)) (group_of (lane_owner old) m.next (take n items) c.args.from.now) (Ok c.in-Ok.spot) =
-    subst (λ (q : Result Spot (ℕ × Failed)). PutIn state old new (room_for (take n items)) (group_of (lane_owner old) m.next (take n items) c.args.from.now) q) c.in-Ok.is s.put in
-    offered_ready state m c.args.lane old new lane e.lane s.turn.same e.all e.none c.requires.run.serves.ready items n s.count.0 s.count.1 c.args.from.now c.requires.run.each c.requires.run.blocks s.fits c.requires.run.serves.up c.in-Ok.spot put
-    (with_item m.lanes c.args.lane new) c.list_group.new.index _ refl c.list_group.ensures (refill_set m.ups.items c.deref_mut.result.now c.args.lane true c.deref_mut.ensures.value) (few_room c.in-Some.count (length c.args.items.now) m.next _ s.count.1 c.requires.run.next)
-
-pub returns-in-Ok-clause-taken : goal.returns-in-Ok-clause-taken
-returns-in-Ok-clause-taken g c =
+pub returns-in-Ok : goal.returns-in-Ok
+returns-in-Ok g c =
     let tells = g.D.Disk.tells in let state = g.D.Disk.state in let m = c.args.self.now in let e = c.put_group.ensures in let s = c.in-Some.ensures in let old = c.index_mut-reached.result.now in let new = c.put_group.new.lane in let n = c.in-Some.count in let items = c.args.items.now in let v = with_item m.lanes c.args.lane new in
-    let lane : slice_get m.lanes.items c.args.lane ≡ Some old = slice_get_read m.lanes.items (length m.lanes.items) c.args.lane old refl c.requires.lane c.index_mut-reached.ensures.value in
+    let lane : slice_get m.lanes.items c.args.lane ≡ Some old = slice_get_read m.lanes.items (length m.lanes.items) c.args.lane old refl c.requires.there c.index_mut-reached.ensures.value in
     let put : PutIn state old new (room_for (take n items)) (group_of (lane_owner old) m.next (take n items) c.args.from.now) (Ok c.in-Ok.spot) =
     subst (λ (q : Result Spot (ℕ × Failed)). PutIn state old new (room_for (take n items)) (group_of (lane_owner old) m.next (take n items) c.args.from.now) q) c.in-Ok.is s.put in
     let room = few_room n (length items) m.next _ s.count.1 c.requires.run.next in
     let is_logger = slice_get-map logger_of m.lanes.items c.args.lane ∙ ap (option_map logger_of) lane ∙ ap Some (sym c.logger-logger.ensures) in
     record {
-      tried = s.count;
-      answer = is_logger;
-      rest = refl;
-      lanes = record { before = old; after = new; there = lane; set = refl; change = s.turn };
-      stands = λ b notes passed nt client note has kp.
-          offered_stands state m c.args.lane old new lane e.lane s.turn.same e.all e.none c.requires.run.serves.ready items n s.count.0 s.count.1 c.args.from.now c.requires.run.each c.requires.run.blocks s.fits c.requires.run.serves.up c.in-Ok.spot put
-          v c.list_group.new.index _ refl c.list_group.ensures (refill_set m.ups.items c.deref_mut.result.now c.args.lane true c.deref_mut.ensures.value) room
-          tells g.met.D.Disk.told g.met.D.Disk.sound s.turn b notes nt client kp note.operation_is note.follows note.look_is has;
-      look = offered_look state m c.args.lane old new lane e.lane s.turn.same e.all e.none c.requires.run.serves.ready items n s.count.0 s.count.1 c.args.from.now c.requires.run.each c.requires.run.blocks s.fits c.requires.run.serves.up c.in-Ok.spot put v c.list_group.new.index _ refl c.list_group.ensures (refill_set m.ups.items c.deref_mut.result.now c.args.lane true c.deref_mut.ensures.value) room;
-      next = refl;
-      fault = refl;
-      calm = none_lane state m _ c.requires.run.serves.ready refl c.args.lane old new lane refl (calm_put state old new _ _ c.in-Ok.spot (lane_at state m c.requires.run.serves.ready c.args.lane old lane) e.lane put);
-      any_moment = (
-        put_claimed put,
-        put_tells tells state g.met.D.Disk.told m.lanes.items c.args.lane old new lane _ _ _ put (slice_set m.lanes.items c.args.lane new) refl,
-        offered_stops state m c.args.lane old new lane e.lane s.turn.same e.all e.none c.requires.run.serves.ready items n s.count.0 s.count.1 c.args.from.now c.requires.run.each c.requires.run.blocks s.fits c.requires.run.serves.up tells g.met.D.Disk.told g.met.D.Disk.sound put (record m { lanes = v }) refl refl,
-      );
+      ready = offered_ready state m c.args.lane old new lane e.lane s.turn.same e.all e.none c.requires.run.serves.ready items n s.count.0 s.count.1 c.args.from.now c.requires.run.each c.requires.run.blocks s.fits c.requires.run.serves.up c.in-Ok.spot put (with_item m.lanes c.args.lane new) c.list_group.new.index _ refl c.list_group.ensures (refill_set m.ups.items c.deref_mut.result.now c.args.lane true c.deref_mut.ensures.value) (few_room c.in-Some.count (length c.args.items.now) m.next _ s.count.1 c.requires.run.next);
+      at = at_lane m c.args.lane new c.requires.run.serves.at e.at;
+      turned_away = λ none. let no : true ≡ false = none in absurd (cc);
+      taken = record {
+        tried = s.count;
+        answer = is_logger;
+        rest = refl;
+        lanes = record { before = old; after = new; there = lane; set = refl; change = s.turn };
+        stands = λ b notes passed nt client note has kp.
+            offered_stands state m c.args.lane old new lane e.lane s.turn.same e.all e.none c.requires.run.serves.ready items n s.count.0 s.count.1 c.args.from.now c.requires.run.each c.requires.run.blocks s.fits c.requires.run.serves.up c.in-Ok.spot put
+            v c.list_group.new.index _ refl c.list_group.ensures (refill_set m.ups.items c.deref_mut.result.now c.args.lane true c.deref_mut.ensures.value) room
+            tells g.met.D.Disk.told g.met.D.Disk.sound s.turn b notes nt client kp note.operation_is note.follows note.look_is has;
+        look = offered_look state m c.args.lane old new lane e.lane s.turn.same e.all e.none c.requires.run.serves.ready items n s.count.0 s.count.1 c.args.from.now c.requires.run.each c.requires.run.blocks s.fits c.requires.run.serves.up c.in-Ok.spot put v c.list_group.new.index _ refl c.list_group.ensures (refill_set m.ups.items c.deref_mut.result.now c.args.lane true c.deref_mut.ensures.value) room;
+        next = refl;
+        fault = refl;
+        calm = none_lane state m _ c.requires.run.serves.ready refl c.args.lane old new lane refl (calm_put state old new _ _ c.in-Ok.spot (lane_at state m c.requires.run.serves.ready c.args.lane old lane) e.lane put);
+        any_moment = (
+          put_claimed put,
+          put_tells tells state g.met.D.Disk.told m.lanes.items c.args.lane old new lane _ _ _ put (slice_set m.lanes.items c.args.lane new) refl,
+          offered_stops state m c.args.lane old new lane e.lane s.turn.same e.all e.none c.requires.run.serves.ready items n s.count.0 s.count.1 c.args.from.now c.requires.run.each c.requires.run.blocks s.fits c.requires.run.serves.up tells g.met.D.Disk.told g.met.D.Disk.sound put (record m { lanes = v }) refl refl,
+        );
+      };
     }
 
 -- ---- A call failed
 
-pub returns-in-Err-clause-ready : goal.returns-in-Err-clause-ready
-returns-in-Err-clause-ready g c =
-    let m = c.args.self.now in let e = c.put_group.ensures in let old = c.index_mut-reached.result.now in
-    offered_unready g.D.Disk.state m c.args.lane old c.put_group.new.lane (slice_get_read m.lanes.items (length m.lanes.items) c.args.lane old refl c.requires.lane c.index_mut-reached.ensures.value) e.lane c.in-Some.ensures.turn.same e.all e.none c.requires.run.serves.ready
-    (with_item m.lanes c.args.lane c.put_group.new.lane) refl (part.Segment c.logger-logger.result c.in-Err.index)
-
-pub returns-in-Err-clause-taken : goal.returns-in-Err-clause-taken
-returns-in-Err-clause-taken g c =
+pub returns-in-Err : goal.returns-in-Err
+returns-in-Err g c =
     let tells = g.D.Disk.tells in let state = g.D.Disk.state in let m = c.args.self.now in let e = c.put_group.ensures in let s = c.in-Some.ensures in let old = c.index_mut-reached.result.now in let new = c.put_group.new.lane in let n = c.in-Some.count in let items = c.args.items.now in let v = with_item m.lanes c.args.lane new in
-    let lane : slice_get m.lanes.items c.args.lane ≡ Some old = slice_get_read m.lanes.items (length m.lanes.items) c.args.lane old refl c.requires.lane c.index_mut-reached.ensures.value in
+    let lane : slice_get m.lanes.items c.args.lane ≡ Some old = slice_get_read m.lanes.items (length m.lanes.items) c.args.lane old refl c.requires.there c.index_mut-reached.ensures.value in
     let put : PutIn state old new (room_for (take n items)) (group_of (lane_owner old) m.next (take n items) c.args.from.now) (Err (c.in-Err.index, c.in-Err.field-0-1)) =
     subst (λ (q : Result Spot (ℕ × Failed)). PutIn state old new (room_for (take n items)) (group_of (lane_owner old) m.next (take n items) c.args.from.now) q) c.in-Err.is s.put in
     let room = few_room n (length items) m.next _ s.count.1 c.requires.run.next in
     let is_logger = slice_get-map logger_of m.lanes.items c.args.lane ∙ ap (option_map logger_of) lane ∙ ap Some (sym c.logger-logger.ensures) in
     let p = part.Segment c.logger-logger.result c.in-Err.index in let m' = record m { lanes = v; down = Some p } in
     record {
-      tried = s.count;
-      answer = is_logger;
-      rest = refl;
-      lanes = record { before = old; after = new; there = lane; set = refl; change = s.turn };
-      stands = λ b notes passed nt client note has kp.
-          subst (λ (x : ℕ). Stands tells state (record m { lanes = v; down = Some (part.Segment x c.in-Err.index) }) b (notes ++ nt ∷ [])) (sym c.logger-logger.ensures)
-          (offered_failed state m c.args.lane old new lane e.lane s.turn.same e.all e.none c.requires.run.serves.ready items n s.count.0 s.count.1 c.args.from.now c.requires.run.each c.requires.run.blocks s.fits c.requires.run.serves.up
-          tells g.met.D.Disk.told g.met.D.Disk.sound room s.turn b notes nt client kp (c.in-Err.index, c.in-Err.field-0-1) note.operation_is note.drain put v refl has
-          (note.look_is ∙ ap (λ (x : ℕ). look_of_manager (record m { down = Some (part.Segment x c.in-Err.index) })) c.logger-logger.ensures));
-      look = tt;
-      next = omega arith;
-      fault = (
-        refl,
-        subst (PartRoseOrClaimed state m m') (ap (λ (x : ℕ). part.Segment x c.in-Err.index) (sym c.logger-logger.ensures))
-            (offered_cause state m c.args.lane old new lane e.lane s.turn.same e.all e.none c.requires.run.serves.ready items n s.count.0 s.count.1 c.args.from.now c.requires.run.each c.requires.run.blocks s.fits c.requires.run.serves.up (c.in-Err.index, c.in-Err.field-0-1) put m' refl),
-      );
-      calm = tt;
-      any_moment = (
-        put_claimed put,
-        put_tells tells state g.met.D.Disk.told m.lanes.items c.args.lane old new lane _ _ _ put (slice_set m.lanes.items c.args.lane new) refl,
-        offered_stops state m c.args.lane old new lane e.lane s.turn.same e.all e.none c.requires.run.serves.ready items n s.count.0 s.count.1 c.args.from.now c.requires.run.each c.requires.run.blocks s.fits c.requires.run.serves.up tells g.met.D.Disk.told g.met.D.Disk.sound put (record m { lanes = v }) refl refl,
-      );
+      ready = offered_unready state m c.args.lane old new lane e.lane s.turn.same e.all e.none c.requires.run.serves.ready v refl p;
+      at = at_lane m c.args.lane new c.requires.run.serves.at e.at;
+      turned_away = λ none. let no : true ≡ false = none in absurd (cc);
+      taken = record {
+        tried = s.count;
+        answer = is_logger;
+        rest = refl;
+        lanes = record { before = old; after = new; there = lane; set = refl; change = s.turn };
+        stands = λ b notes passed nt client note has kp.
+            subst (λ (x : ℕ). Stands tells state (record m { lanes = v; down = Some (part.Segment x c.in-Err.index) }) b (notes ++ nt ∷ [])) (sym c.logger-logger.ensures)
+            (offered_failed state m c.args.lane old new lane e.lane s.turn.same e.all e.none c.requires.run.serves.ready items n s.count.0 s.count.1 c.args.from.now c.requires.run.each c.requires.run.blocks s.fits c.requires.run.serves.up
+            tells g.met.D.Disk.told g.met.D.Disk.sound room s.turn b notes nt client kp (c.in-Err.index, c.in-Err.field-0-1) note.operation_is note.drain put v refl has
+            (note.look_is ∙ ap (λ (x : ℕ). look_of_manager (record m { down = Some (part.Segment x c.in-Err.index) })) c.logger-logger.ensures));
+        look = tt;
+        next = omega arith;
+        fault = (
+          refl,
+          subst (PartRoseOrClaimed state m m') (ap (λ (x : ℕ). part.Segment x c.in-Err.index) (sym c.logger-logger.ensures))
+              (offered_cause state m c.args.lane old new lane e.lane s.turn.same e.all e.none c.requires.run.serves.ready items n s.count.0 s.count.1 c.args.from.now c.requires.run.each c.requires.run.blocks s.fits c.requires.run.serves.up (c.in-Err.index, c.in-Err.field-0-1) put m' refl),
+        );
+        calm = tt;
+        any_moment = (
+          put_claimed put,
+          put_tells tells state g.met.D.Disk.told m.lanes.items c.args.lane old new lane _ _ _ put (slice_set m.lanes.items c.args.lane new) refl,
+          offered_stops state m c.args.lane old new lane e.lane s.turn.same e.all e.none c.requires.run.serves.ready items n s.count.0 s.count.1 c.args.from.now c.requires.run.each c.requires.run.blocks s.fits c.requires.run.serves.up tells g.met.D.Disk.told g.met.D.Disk.sound put (record m { lanes = v }) refl refl,
+        );
+      };
     }

@@ -1,7 +1,9 @@
 use Rattle.std.proofs.Common.{◌≡◌, ⊎_elim, ◌<◌, ◌≤◌, ◌+◌, ◌^◌, ℕ, Bool, false, List, [], ◌∷◌, length, take, drop, get_or, None, Some, refl, sym, ap, subst, ◌∙◌, arith}
 use Rattle.std.specs.Prelude.{slice_get, is_some}
 use Rattle.std.specs.List.{AllByRecursion, list_any, range_with_len}
+use Rattle.std.proofs.lemmas.Option.{slice_get_within}
 use Rattle.wol_disk.specs.Disk.{Block}
+use Rattle.turn_lock.specs.Passes.{pass_mine}
 use Rattle.spin_model.specs.Spun.{state_of}
 use Rattle.wol_model.specs.Index.{listed_in, is_covered}
 use Rattle.wol_promise.specs.Policy.{place_of}
@@ -34,69 +36,67 @@ unknown_at home_up covered ups lent_ups rooms lent lane is same = subst (λ (rs 
 
 pub asking-preserved : goal.asking-preserved
 asking-preserved g c =
-    let now = c.asking.self in let turned = c.try_run.ensures.turned_away (ap is_some c.in_default.is) in
+    let now = c.asking.self in let turned = c.try_run.ensures.offered.turned_away (ap is_some c.in_default.is) in
     asking_more g.D.Disk.tells g.D.Disk.state c.args.shared.now _ c.args.self.now now c.try_run.new.self c.in-Ask.lane c.asking.invariant
     (unknown_at now.home_up c.args.covered now.ups.items c.deref.result.now now.rooms.items c.deref-in-asking.result.now c.in-Ask.lane c.in-Ask.ensures.value c.deref-in-asking.ensures.0)
     turned.rest (subst (λ (k : ℕ). ChangesLane (IsTurnedAway k) c.in-Ask.lane now.lanes.items c.try_run.new.self.lanes.items) (sym (first_blocks_long c.args.items.now c.args.from.now c.requires.run.blocks)) turned.lanes)
-    c.try_run.ensures.ready c.try_run.ensures.at turned.keeps
+    c.try_run.ensures.offered.ready c.try_run.ensures.offered.at turned.keeps
 
 pub asking-smaller : goal.asking-smaller
 asking-smaller g c =
-    let now = c.asking.self in let turned = c.try_run.ensures.turned_away (ap is_some c.in_default.is) in
+    let now = c.asking.self in let turned = c.try_run.ensures.offered.turned_away (ap is_some c.in_default.is) in
     subst (λ (rs : List Room). open_in rs < open_in now.rooms.items) (sym (ap (λ (m : Manager g.row.D.Denot). m.rooms.items) turned.rest))
     (fewer_open now.rooms.items c.in-Ask.lane (unknown_at now.home_up c.args.covered now.ups.items c.deref.result.now now.rooms.items c.deref-in-asking.result.now c.in-Ask.lane c.in-Ask.ensures.value c.deref-in-asking.ensures.0))
 
 -- ---- A lane took some
 
-pub try_run-requires-clause-run : goal.try_run-requires-clause-run
-try_run-requires-clause-run g c = let a = c.asking.invariant in let r = c.requires.run in let items = c.args.items.now in record {
-  serves = record { ready = a.ready; at = a.at; up = ap (λ (m : Manager g.row.D.Denot). m.down) a.rest ∙ r.serves.up };
-  some = r.some;
-  each = subst (λ (m : Manager g.row.D.Denot). AreItemsOf m.most (state_of g.D.Disk.state m.home).size items) (sym a.rest) r.each;
-  blocks = r.blocks;
-  next = subst (λ (m : Manager g.row.D.Denot). m.next + length items ≤ 2 ^ 63) (sym a.rest) r.next;
-  reserved = subst (λ (m : Manager g.row.D.Denot). length items ≤ m.index.reserved) (sym a.rest) r.reserved;
+pub try_run-requires : goal.try_run-requires
+try_run-requires g c = let a = c.asking.invariant in let r = c.requires.run in let items = c.args.items.now in record {
+  run = record {
+    serves = record { ready = a.ready; at = a.at; up = ap (λ (m : Manager g.row.D.Denot). m.down) a.rest ∙ r.serves.up };
+    some = r.some;
+    each = subst (λ (m : Manager g.row.D.Denot). AreItemsOf m.most (state_of g.D.Disk.state m.home).size items) (sym a.rest) r.each;
+    blocks = r.blocks;
+    next = subst (λ (m : Manager g.row.D.Denot). m.next + length items ≤ 2 ^ 63) (sym a.rest) r.next;
+    reserved = subst (λ (m : Manager g.row.D.Denot). length items ≤ m.index.reserved) (sym a.rest) r.reserved;
+  };
+  there =
+      let now = c.asking.self in let wide = a.ready.ready.rooms_ in
+      let lt = slice_get_within now.rooms.items c.in-Ask.lane Unknown (unknown_at now.home_up c.args.covered now.ups.items c.deref.result.now now.rooms.items c.deref-in-asking.result.now c.in-Ask.lane c.in-Ask.ensures.value c.deref-in-asking.ensures.0) in
+      omega (arith, lt, wide);
 }
 
 pub returns-in-Some-clause-answer : goal.returns-in-Some-clause-answer
-returns-in-Some-clause-answer g c = log_only _ c.in-Ask.lane c.in-Some.ran.answer c.in-Some.ensures.taken.answer
+returns-in-Some-clause-answer g c = log_only _ c.in-Ask.lane c.in-Some.ran.answer c.in-Some.ensures.offered.taken.answer
 
 pub returns-in-Some-clause-run : goal.returns-in-Some-clause-run
 returns-in-Some-clause-run g c =
-    let old = c.args.self.now in let now = c.asking.self in let a = c.asking.invariant in let new = c.try_run.new.self in let t = c.in-Some.ensures.taken in
+    let old = c.args.self.now in let now = c.asking.self in let a = c.asking.invariant in let new = c.try_run.new.self in let t = c.in-Some.ensures.offered.taken in
     run_logged g.D.Disk.tells g.D.Disk.state c.args.shared.now c.args.items.now c.args.from.now old now a new c.in-Some.ran (ap (λ (m : Manager g.row.D.Denot). m.rooms.items) t.rest) c.in-Ask.lane
     (unknown_at now.home_up c.args.covered now.ups.items c.deref.result.now now.rooms.items c.deref-in-asking.result.now c.in-Ask.lane c.in-Ask.ensures.value c.deref-in-asking.ensures.0)
     (place_led g.D.Disk.tells g.D.Disk.state c.args.shared.now (first_lbn c.args.items.now) (first_blocks c.args.items.now c.args.from.now) old now a (Ask c.in-Ask.lane) c.args.covered c.deref.result.now c.deref-in-asking.result.now c.in-Ask.ensures.value c.deref.ensures.0 c.deref-in-asking.ensures.0 c.requires.covered)
     t old.most (state_of g.D.Disk.state old.home).size c.requires.run.each c.requires.run.blocks c.in-Some.ensures.joins
 
-pub returns-in-Some-clause-placed : goal.returns-in-Some-clause-placed
-returns-in-Some-clause-placed g c =
-    let now = c.asking.self in let a = c.asking.invariant in let new = c.try_run.new.self in let t = c.in-Some.ensures.taken in
-    placed_log g.D.Disk.tells g.D.Disk.state c.args.shared.now (first_lbn c.args.items.now) (first_blocks c.args.items.now c.args.from.now) c.args.self.now now a new c.in-Some.ran.answer (ap (λ (m : Manager g.row.D.Denot). m.rooms.items) t.rest) c.in-Ask.lane
-    (unknown_at now.home_up c.args.covered now.ups.items c.deref.result.now now.rooms.items c.deref-in-asking.result.now c.in-Ask.lane c.in-Ask.ensures.value c.deref-in-asking.ensures.0) c.in-Some.ensures.taken.answer
-    (place_led g.D.Disk.tells g.D.Disk.state c.args.shared.now (first_lbn c.args.items.now) (first_blocks c.args.items.now c.args.from.now) c.args.self.now now a (Ask c.in-Ask.lane) c.args.covered c.deref.result.now c.deref-in-asking.result.now c.in-Ask.ensures.value c.deref.ensures.0 c.deref-in-asking.ensures.0 c.requires.covered) t.lanes
-
-pub returns-in-Some-clause-answered : goal.returns-in-Some-clause-answered
-returns-in-Some-clause-answered g c =
-    let now = c.asking.self in let a = c.asking.invariant in let new = c.try_run.new.self in let t = c.in-Some.ensures.taken in
-    subst (λ (k : ℕ). HaveAnswered k (takes_at (ruled_run c.args.self.now new c.args.items.now c.args.from.now) c.in-Some.ran.answer) new.rooms.items c.args.self.now.lanes.items new.lanes.items) (first_blocks_long c.args.items.now c.args.from.now c.requires.run.blocks)
-    (answered_log g.D.Disk.tells g.D.Disk.state c.args.shared.now (first_lbn c.args.items.now) (first_blocks c.args.items.now c.args.from.now) c.args.self.now now a new c.in-Some.ran.answer (ap (λ (m : Manager g.row.D.Denot). m.rooms.items) t.rest) c.in-Ask.lane
-    (unknown_at now.home_up c.args.covered now.ups.items c.deref.result.now now.rooms.items c.deref-in-asking.result.now c.in-Ask.lane c.in-Ask.ensures.value c.deref-in-asking.ensures.0) c.in-Some.ensures.taken.answer
-    (place_led g.D.Disk.tells g.D.Disk.state c.args.shared.now (first_lbn c.args.items.now) (first_blocks c.args.items.now c.args.from.now) c.args.self.now now a (Ask c.in-Ask.lane) c.args.covered c.deref.result.now c.deref-in-asking.result.now c.in-Ask.ensures.value c.deref.ensures.0 c.deref-in-asking.ensures.0 c.requires.covered) t.lanes)
-
-pub returns-in-Some-clause-waking : goal.returns-in-Some-clause-waking
-returns-in-Some-clause-waking g c =
-    let now = c.asking.self in let a = c.asking.invariant in let new = c.try_run.new.self in let t = c.in-Some.ensures.taken in
-    waking_log g.D.Disk.tells g.D.Disk.state c.args.shared.now (first_lbn c.args.items.now) (first_blocks c.args.items.now c.args.from.now) c.args.self.now now a new c.in-Some.ran.answer (ap (λ (m : Manager g.row.D.Denot). m.rooms.items) t.rest) c.in-Ask.lane
-    (unknown_at now.home_up c.args.covered now.ups.items c.deref.result.now now.rooms.items c.deref-in-asking.result.now c.in-Ask.lane c.in-Ask.ensures.value c.deref-in-asking.ensures.0) c.in-Some.ensures.taken.answer
-    (place_led g.D.Disk.tells g.D.Disk.state c.args.shared.now (first_lbn c.args.items.now) (first_blocks c.args.items.now c.args.from.now) c.args.self.now now a (Ask c.in-Ask.lane) c.args.covered c.deref.result.now c.deref-in-asking.result.now c.in-Ask.ensures.value c.deref.ensures.0 c.deref-in-asking.ensures.0 c.requires.covered) t.lanes
-    (ap (λ (m : Manager g.row.D.Denot). m.spindle) t.rest)
+-- the place of the first item, and which disk it needed
+pub returns-in-Some-clause-placing : goal.returns-in-Some-clause-placing
+returns-in-Some-clause-placing g c =
+    let now = c.asking.self in let a = c.asking.invariant in let new = c.try_run.new.self in let t = c.in-Some.ensures.offered.taken in let answer = c.in-Some.ran.answer in
+    let lbn = first_lbn c.args.items.now in let blocks = first_blocks c.args.items.now c.args.from.now in
+    let rooms = ap (λ (m : Manager g.row.D.Denot). m.rooms.items) t.rest in
+    let asked = unknown_at now.home_up c.args.covered now.ups.items c.deref.result.now now.rooms.items c.deref-in-asking.result.now c.in-Ask.lane c.in-Ask.ensures.value c.deref-in-asking.ensures.0 in
+    let led = place_led g.D.Disk.tells g.D.Disk.state c.args.shared.now lbn blocks c.args.self.now now a (Ask c.in-Ask.lane) c.args.covered c.deref.result.now c.deref-in-asking.result.now c.in-Ask.ensures.value c.deref.ensures.0 c.deref-in-asking.ensures.0 c.requires.covered in
+    record {
+      placed = placed_log g.D.Disk.tells g.D.Disk.state c.args.shared.now lbn blocks c.args.self.now now a new answer rooms c.in-Ask.lane asked t.answer led t.lanes;
+      answered = subst (λ (k : ℕ). HaveAnswered k (takes_at (ruled_run c.args.self.now new c.args.items.now c.args.from.now) answer) new.rooms.items c.args.self.now.lanes.items new.lanes.items) (first_blocks_long c.args.items.now c.args.from.now c.requires.run.blocks)
+          (answered_log g.D.Disk.tells g.D.Disk.state c.args.shared.now lbn blocks c.args.self.now now a new answer rooms c.in-Ask.lane asked t.answer led t.lanes);
+      waking = waking_log g.D.Disk.tells g.D.Disk.state c.args.shared.now lbn blocks c.args.self.now now a new answer rooms c.in-Ask.lane asked t.answer led t.lanes (ap (λ (m : Manager g.row.D.Denot). m.spindle) t.rest);
+    }
 
 pub returns-in-Some-clause-fault : goal.returns-in-Some-clause-fault
-returns-in-Some-clause-fault g c = fault_before g.D.Disk.tells g.D.Disk.state c.args.shared.now (first_lbn c.args.items.now) (first_blocks c.args.items.now c.args.from.now) c.args.self.now c.asking.self c.asking.invariant c.try_run.new.self c.in-Some.ran.answer c.in-Some.ensures.taken.fault
+returns-in-Some-clause-fault g c = fault_before g.D.Disk.tells g.D.Disk.state c.args.shared.now (first_lbn c.args.items.now) (first_blocks c.args.items.now c.args.from.now) c.args.self.now c.asking.self c.asking.invariant c.try_run.new.self c.in-Some.ran.answer c.in-Some.ensures.offered.taken.fault
 
 pub returns-in-Some-clause-calm : goal.returns-in-Some-clause-calm
-returns-in-Some-clause-calm g c = calm_before g.D.Disk.tells g.D.Disk.state c.args.shared.now (first_lbn c.args.items.now) (first_blocks c.args.items.now c.args.from.now) c.args.self.now c.asking.self c.asking.invariant c.try_run.new.self c.in-Some.ran.answer c.in-Some.ensures.taken.calm
+returns-in-Some-clause-calm g c = calm_before g.D.Disk.tells g.D.Disk.state c.args.shared.now (first_lbn c.args.items.now) (first_blocks c.args.items.now c.args.from.now) c.args.self.now c.asking.self c.asking.invariant c.try_run.new.self c.in-Some.ran.answer c.in-Some.ensures.offered.taken.calm
 
 -- ---- It went home
 
@@ -134,26 +134,18 @@ returns-in-Home-clause-run g c =
     ∙ (place_led g.D.Disk.tells g.D.Disk.state c.args.shared.now (first_lbn c.args.items.now) (first_blocks c.args.items.now c.args.from.now) c.args.self.now now a c.place.result c.args.covered c.deref.result.now c.deref-in-asking.result.now c.place.ensures.value c.deref.ensures.0 c.deref-in-asking.ensures.0 c.requires.covered ∙ ⊎_elim (λ e. ap led_by e) (λ e. ap led_by e) c.in-Home.is))
     u c.write_home.ensures.fault c.write_home.ensures.stands c.write_home.ensures.any_moment
 
-pub returns-in-Home-clause-placed : goal.returns-in-Home-clause-placed
-returns-in-Home-clause-placed g c =
-    let now = c.asking.self in let a = c.asking.invariant in let new = c.write_home.new.self in let u = c.write_home.ensures.unchanged in
-    placed_home g.D.Disk.tells g.D.Disk.state c.args.shared.now (first_lbn c.args.items.now) (first_blocks c.args.items.now c.args.from.now) c.args.self.now now a new c.write_home.result (ap (λ (m : Manager g.row.D.Denot). m.rooms.items) u) now.id c.write_home.ensures.answer
-    (place_led g.D.Disk.tells g.D.Disk.state c.args.shared.now (first_lbn c.args.items.now) (first_blocks c.args.items.now c.args.from.now) c.args.self.now now a c.place.result c.args.covered c.deref.result.now c.deref-in-asking.result.now c.place.ensures.value c.deref.ensures.0 c.deref-in-asking.ensures.0 c.requires.covered ∙ ⊎_elim (λ e. ap led_by e) (λ e. ap led_by e) c.in-Home.is)
-
-pub returns-in-Home-clause-answered : goal.returns-in-Home-clause-answered
-returns-in-Home-clause-answered g c =
-    let now = c.asking.self in let a = c.asking.invariant in let new = c.write_home.new.self in let u = c.write_home.ensures.unchanged in
-    subst (λ (k : ℕ). HaveAnswered k (takes_at (ruled_run c.args.self.now new c.args.items.now c.args.from.now) c.write_home.result) new.rooms.items c.args.self.now.lanes.items new.lanes.items) (first_blocks_long c.args.items.now c.args.from.now c.requires.run.blocks)
-    (answered_home g.D.Disk.tells g.D.Disk.state c.args.shared.now (first_lbn c.args.items.now) (first_blocks c.args.items.now c.args.from.now) c.args.self.now now a new c.write_home.result (ap (λ (m : Manager g.row.D.Denot). m.rooms.items) u) now.id c.write_home.ensures.answer
-    (place_led g.D.Disk.tells g.D.Disk.state c.args.shared.now (first_lbn c.args.items.now) (first_blocks c.args.items.now c.args.from.now) c.args.self.now now a c.place.result c.args.covered c.deref.result.now c.deref-in-asking.result.now c.place.ensures.value c.deref.ensures.0 c.deref-in-asking.ensures.0 c.requires.covered ∙ ⊎_elim (λ e. ap led_by e) (λ e. ap led_by e) c.in-Home.is)
-    (ap (λ (m : Manager g.row.D.Denot). m.lanes.items) u))
-
-pub returns-in-Home-clause-waking : goal.returns-in-Home-clause-waking
-returns-in-Home-clause-waking g c =
-    let now = c.asking.self in let a = c.asking.invariant in let new = c.write_home.new.self in let u = c.write_home.ensures.unchanged in
-    waking_home g.D.Disk.tells g.D.Disk.state c.args.shared.now (first_lbn c.args.items.now) (first_blocks c.args.items.now c.args.from.now) c.args.self.now now a new c.write_home.result (ap (λ (m : Manager g.row.D.Denot). m.rooms.items) u) now.id c.write_home.ensures.answer
-    (place_led g.D.Disk.tells g.D.Disk.state c.args.shared.now (first_lbn c.args.items.now) (first_blocks c.args.items.now c.args.from.now) c.args.self.now now a c.place.result c.args.covered c.deref.result.now c.deref-in-asking.result.now c.place.ensures.value c.deref.ensures.0 c.deref-in-asking.ensures.0 c.requires.covered ∙ ⊎_elim (λ e. ap led_by e) (λ e. ap led_by e) c.in-Home.is)
-    c.write_home.ensures.waking
+pub returns-in-Home-clause-placing : goal.returns-in-Home-clause-placing
+returns-in-Home-clause-placing g c =
+    let now = c.asking.self in let a = c.asking.invariant in let new = c.write_home.new.self in let u = c.write_home.ensures.unchanged in let answer = c.write_home.result in
+    let lbn = first_lbn c.args.items.now in let blocks = first_blocks c.args.items.now c.args.from.now in
+    let rooms = ap (λ (m : Manager g.row.D.Denot). m.rooms.items) u in
+    let led = place_led g.D.Disk.tells g.D.Disk.state c.args.shared.now lbn blocks c.args.self.now now a c.place.result c.args.covered c.deref.result.now c.deref-in-asking.result.now c.place.ensures.value c.deref.ensures.0 c.deref-in-asking.ensures.0 c.requires.covered ∙ ⊎_elim (λ e. ap led_by e) (λ e. ap led_by e) c.in-Home.is in
+    record {
+      placed = placed_home g.D.Disk.tells g.D.Disk.state c.args.shared.now lbn blocks c.args.self.now now a new answer rooms now.id c.write_home.ensures.answer led;
+      answered = subst (λ (k : ℕ). HaveAnswered k (takes_at (ruled_run c.args.self.now new c.args.items.now c.args.from.now) answer) new.rooms.items c.args.self.now.lanes.items new.lanes.items) (first_blocks_long c.args.items.now c.args.from.now c.requires.run.blocks)
+          (answered_home g.D.Disk.tells g.D.Disk.state c.args.shared.now lbn blocks c.args.self.now now a new answer rooms now.id c.write_home.ensures.answer led (ap (λ (m : Manager g.row.D.Denot). m.lanes.items) u));
+      waking = waking_home g.D.Disk.tells g.D.Disk.state c.args.shared.now lbn blocks c.args.self.now now a new answer rooms now.id c.write_home.ensures.answer led c.write_home.ensures.waking;
+    }
 
 pub returns-in-Home-clause-fault : goal.returns-in-Home-clause-fault
 returns-in-Home-clause-fault g c = fault_before g.D.Disk.tells g.D.Disk.state c.args.shared.now (first_lbn c.args.items.now) (first_blocks c.args.items.now c.args.from.now) c.args.self.now c.asking.self c.asking.invariant c.write_home.new.self c.write_home.result c.write_home.ensures.fault
@@ -171,15 +163,15 @@ returns-in-Full-clause-run g c =
     (claimed_before g.D.Disk.tells g.D.Disk.state c.args.shared.now (first_lbn c.args.items.now) (first_blocks c.args.items.now c.args.from.now) c.args.self.now now a Unit now None (no_more_same now.lanes.items now.lanes.items refl))
     (λ told b notes k. stops_unplaced g.D.Disk.tells g.D.Disk.state c.args.shared.now (first_lbn c.args.items.now) (first_blocks c.args.items.now c.args.from.now) c.args.self.now now a g.met.D.Disk.sound told b notes c.requires.run.serves.up k)
 
-pub returns-in-Full-clause-placed : goal.returns-in-Full-clause-placed
-returns-in-Full-clause-placed g c =
+pub returns-in-Full-clause-placing : goal.returns-in-Full-clause-placing
+returns-in-Full-clause-placing g c =
     let now = c.asking.self in let a = c.asking.invariant in
-    place_led g.D.Disk.tells g.D.Disk.state c.args.shared.now (first_lbn c.args.items.now) (first_blocks c.args.items.now c.args.from.now) c.args.self.now now a Full c.args.covered c.deref.result.now c.deref-in-asking.result.now (sym c.in-Full.is ∙ c.place.ensures.value) c.deref.ensures.0 c.deref-in-asking.ensures.0 c.requires.covered
-
-pub returns-in-Full-clause-answered : goal.returns-in-Full-clause-answered
-returns-in-Full-clause-answered g c =
-    let now = c.asking.self in
-    subst (λ (k : ℕ). HaveAnswered k (λ j. false) now.rooms.items c.args.self.now.lanes.items now.lanes.items) (first_blocks_long c.args.items.now c.args.from.now c.requires.run.blocks) c.asking.invariant.lanes
+    let lbn = first_lbn c.args.items.now in let blocks = first_blocks c.args.items.now c.args.from.now in
+    record {
+      placed = place_led g.D.Disk.tells g.D.Disk.state c.args.shared.now lbn blocks c.args.self.now now a Full c.args.covered c.deref.result.now c.deref-in-asking.result.now (sym c.in-Full.is ∙ c.place.ensures.value) c.deref.ensures.0 c.deref-in-asking.ensures.0 c.requires.covered;
+      answered = subst (λ (k : ℕ). HaveAnswered k (λ j. false) now.rooms.items c.args.self.now.lanes.items now.lanes.items) (first_blocks_long c.args.items.now c.args.from.now c.requires.run.blocks) a.lanes;
+      waking = ap (λ (m : Manager g.row.D.Denot). pass_mine m.spindle) a.rest;
+    }
 
 pub unreachable-requires : goal.unreachable-requires
 unreachable-requires g c =

@@ -85,17 +85,17 @@ returns-clause-run g c =
 pub returns-clause-placed : goal.returns-clause-placed
 returns-clause-placed g c =
     let m = c.args.self.now in let items = c.args.items.now in let from = c.args.from.now in let rooms = c.unasked-self.result.items in let index = c.reserve_places.new.index in let is = c.unasked-self.ensures ∙ (λ i. replicate ((c.len.ensures ∙ c.args.self.now.lanes.ok.0) i) Unknown) in let new = c.place_run.new.self in let ran = c.place_run.result in
-    (placed_then g.D.Disk.tells g.D.Disk.state items from m new ran.answer ran.items rooms is index c.reserve_places.ensures.entries c.versioned-most.result c.versioned-most.ensures.some c.place_run.ensures.placed)
+    (placed_then g.D.Disk.tells g.D.Disk.state items from m new ran.answer ran.items rooms is index c.reserve_places.ensures.entries c.versioned-most.result c.versioned-most.ensures.some c.place_run.ensures.placing.placed)
 
 pub returns-clause-answered : goal.returns-clause-answered
 returns-clause-answered g c =
     let m = c.args.self.now in let items = c.args.items.now in let from = c.args.from.now in let rooms = c.unasked-self.result.items in let index = c.reserve_places.new.index in let is = c.unasked-self.ensures ∙ (λ i. replicate ((c.len.ensures ∙ c.args.self.now.lanes.ok.0) i) Unknown) in let new = c.place_run.new.self in let ran = c.place_run.result in
-    (answered_run g.D.Disk.tells g.D.Disk.state items from m new ran.answer ran.items rooms is index c.reserve_places.ensures.entries c.versioned-most.result c.versioned-most.ensures.some c.place_run.ensures.answered)
+    (answered_run g.D.Disk.tells g.D.Disk.state items from m new ran.answer ran.items rooms is index c.reserve_places.ensures.entries c.versioned-most.result c.versioned-most.ensures.some c.place_run.ensures.placing.answered)
 
 pub returns-clause-waking_home : goal.returns-clause-waking_home
 returns-clause-waking_home g c =
     let m = c.args.self.now in let items = c.args.items.now in let from = c.args.from.now in let rooms = c.unasked-self.result.items in let index = c.reserve_places.new.index in let is = c.unasked-self.ensures ∙ (λ i. replicate ((c.len.ensures ∙ c.args.self.now.lanes.ok.0) i) Unknown) in let new = c.place_run.new.self in let ran = c.place_run.result in
-    (home_then g.D.Disk.tells g.D.Disk.state items from m new ran.answer ran.items rooms is index c.reserve_places.ensures.entries c.versioned-most.result c.versioned-most.ensures.some c.place_run.ensures.waking)
+    (home_then g.D.Disk.tells g.D.Disk.state items from m new ran.answer ran.items rooms is index c.reserve_places.ensures.entries c.versioned-most.result c.versioned-most.ensures.some c.place_run.ensures.placing.waking)
 
 pub returns-clause-waking_logs : goal.returns-clause-waking_logs
 returns-clause-waking_logs g c = needs_logs (first_count c.args.items.now) (ruled_run c.args.self.now c.place_run.new.self c.args.items.now c.args.from.now) c.place_run.result.answer c.args.self.now c.place_run.new.self (returns-clause-answered g c)
