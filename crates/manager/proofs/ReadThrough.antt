@@ -1,16 +1,19 @@
 -- Reads go on: what each of them leaves of a manager, they leave together; and the accesses that they begin.
-use Rattle.std.proofs.Common.{Option, refl, ◌∙◌}
+use Rattle.std.proofs.Common.{◌≡◌, ℕ, Option, Some, refl, sym, subst, ◌∙◌}
+use Rattle.std.specs.Prelude.{slice_get, slice_set}
+use Rattle.std.specs.List.{AllZip}
 use Rattle.wol_disk.specs.Disk.{State, IsDisk}
 use Rattle.spin_model.specs.Spun.{state_of}
 use Rattle.log_segment.specs.Segment.{disk_of}
 use Rattle.logger.specs.Lanes.{held_in}
+use Rattle.logger.specs.declared.lane.Lane.{Lane}
 use Rattle.manager.specs.Causes.{PartRose}
 use Rattle.manager.specs.Reading.{SegmentRead, LaneRead, IsReadThrough}
 use Rattle.manager.specs.declared.manager.Manager.{Manager}
 use Rattle.manager.specs.declared.part.Part.{Part}
 use Rattle.manager.specs.declared.part.Part.TheVariants.{Home, Segment}
 use Rattle.listed_records.proofs.Elements.{zip_then, zip_back}
-use Rattle.volume_parts.proofs.PartReads.{rose_then, home_self, home_then, lane_then, lanes_self}
+use Rattle.volume_parts.proofs.PartReads.{rose_then, home_self, home_then, lane_then, lanes_self, lanes_set}
 pub use Rattle.listed_records.proofs.Elements.{zip_self, zip_then, zip_set, zip_at, zip_back, zip_length}
 pub use Rattle.volume_parts.proofs.PartReads.{never_some}
 
@@ -28,6 +31,21 @@ module _ {D : Type 0} (state : D → State) (sound : (d : D) → IsDisk (state d
     rooms = refl;
     down = refl;
   }
+
+  -- one lane was read
+  pub through_lane : (m n : Manager D) (k : ℕ) (l l' : Lane D) → slice_get m.lanes.items k ≡ Some l → n ≡ record m { lanes = n.lanes; ups = n.ups } → n.lanes.items ≡ slice_set m.lanes.items k l' → LaneRead state l l' → IsReadThrough state m n
+  through_lane m n k l l' there rest lanes read =
+      let now : IsReadThrough state m (record m { lanes = n.lanes; ups = n.ups }) = record {
+        same = record { id = refl; most = refl };
+        home = home_self state sound m.home;
+        spindle = (refl, refl);
+        lanes = subst (AllZip (LaneRead state) m.lanes.items) (sym lanes) (lanes_set state sound m.lanes.items k l l' there read);
+        index = refl;
+        next = refl;
+        rooms = refl;
+        down = refl;
+      } in
+      subst (IsReadThrough state m) (sym rest) now
 
   -- whether or not it told a part at fault after
   pub through_but_down : (k l : Manager D) → IsReadThrough state k l → IsReadThrough state k (record l { down = k.down })

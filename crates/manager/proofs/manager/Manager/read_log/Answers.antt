@@ -10,10 +10,12 @@ use Rattle.manager.specs.Seen.{down_of, look_of_manager}
 use Rattle.manager.specs.Stands.{IsReady, IsReadyLane}
 use Rattle.volume_parts.proofs.Calm.{calm_read}
 use Rattle.manager.proofs.Calm.{none_lane, segment_rose}
-use Rattle.listed_records.proofs.Elements.{refill_set, all_at, all_set}
+use Rattle.listed_records.proofs.Elements.{refill_set, all_at}
 use Rattle.manager.proofs.ReadContent.{log_content}
 use Rattle.manager.proofs.ReadRuns.{spotted, spotted_in, ready_after, segment_after}
-use Rattle.volume_parts.proofs.PartReads.{lane_read, whole_after, counted_after, stays_after, home_self, lanes_set, on_ok_like, err_like, needs_set, needs_none}
+use Rattle.manager.proofs.ReadThrough.{through_lane}
+use Rattle.manager.proofs.ReadyLanes.{at_lane}
+use Rattle.volume_parts.proofs.PartReads.{lane_read, whole_after, counted_after, stays_after, on_ok_like, err_like, needs_set, needs_none}
 use Rattle.listed_records.proofs.Contents.{lane_run_of}
 use Rattle.wol_promise.proofs.Woken.{woken_log, log_reads_home, log_reads_lane}
 use Rattle.manager.proofs.manager.Manager.read_log.Goals as goal
@@ -66,17 +68,8 @@ returns-clause-run g c =
           (ready_after state m c.requires.serves.ready c.requires.serves.up k l l' (slice_set m.ups.items k true) s.lane_is e.same e.lane e.all e.taken
           (whole_after state g.met.D.Disk.sound l l' _ _ _ _ c.read-answer.result was.lane e.lane s.whole e.same e.moved) (stays_after state g.met.D.Disk.sound l l' _ _ _ _ c.read-answer.result was.lane e.lane s.whole e.same e.moved)
           (counted_after state g.met.D.Disk.sound l l' _ _ _ _ c.read-answer.result was.lane e.lane s.whole e.same e.moved k m.index.entries ((c.requires.serves.ready.up c.requires.serves.up).counted k l s.lane_is)) (length-set m.ups.items k true));
-      at = let a = c.requires.serves.at in record { spindle_in = a.spindle_in; spindle_is = a.spindle_is; lanes_ = all_set (IsAt c.args.shared.now) m.lanes.items k l' a.lanes_ e.at };
-      read = record {
-        same = record { id = refl; most = refl };
-        home = home_self state g.met.D.Disk.sound m.home;
-        spindle = (refl, refl);
-        lanes = lanes_set state g.met.D.Disk.sound m.lanes.items k l l' s.lane_is (lane_read state g.met.D.Disk.sound l l' _ _ _ _ c.read-answer.result was.lane e.lane s.whole e.same e.moved e.taken e.pool);
-        index = refl;
-        next = refl;
-        rooms = refl;
-        down = refl;
-      };
+      at = at_lane m k l' c.requires.serves.at e.at;
+      read = through_lane state g.met.D.Disk.sound m _ k l l' s.lane_is refl refl (lane_read state g.met.D.Disk.sound l l' _ _ _ _ c.read-answer.result was.lane e.lane s.whole e.same e.moved e.taken e.pool);
       look = (λ i. record { home_up = m.home_up; ups = refill_set m.ups.items c.deref_mut.result.now k true c.deref_mut.ensures.value i; next = m.next; listed = listed_in m.index.entries; down = down_of m.down })
           ∙ sym (woken_log (look_of_manager m) c.args.lbn n k c.requires.some (omega (arith, lt, c.requires.serves.ready.ready.flags)) run);
       needs = record {

@@ -11,8 +11,9 @@ use Rattle.manager.proofs.Calm.{none_lane, segment_rose}
 use Rattle.listed_records.proofs.Elements.{refill_set, all_at}
 use Rattle.listed_records.proofs.Entries.{found_of}
 use Rattle.manager.proofs.FetchRec.{spot_of, spot_in, data_blocks}
-use Rattle.volume_parts.proofs.PartReads.{lane_read, whole_after, counted_after, stays_after, home_self, lanes_set, on_ok_like, err_like}
+use Rattle.volume_parts.proofs.PartReads.{lane_read, whole_after, counted_after, stays_after, on_ok_like, err_like}
 use Rattle.manager.proofs.ReadRuns.{ready_after}
+use Rattle.manager.proofs.ReadThrough.{through_lane}
 use Rattle.manager.proofs.manager.Manager.read_record.Goals as goal
 
 pub bounds-deref_mut-place : goal.bounds-deref_mut-place
@@ -63,16 +64,7 @@ returns-clause-read g c =
     let m = c.args.self.now in let state = g.D.Disk.state in let r = c.args.record.now in let k = r.lane in let l = c.index_mut-lane.result.now in let e = c.read-answer.ensures in let l' = c.read-answer.new.self in
     let s = spot_in state m c.requires.serves.ready c.requires.serves.up r.version r c.requires.index (found_of m.index.entries r.version r c.requires.there) l c.index_mut-lane.ensures.value in
     let was = all_at (IsReadyLane state m.id m.most) m.lanes.items k l s.lane_is c.requires.serves.ready.ready.each in
-    record {
-      same = record { id = refl; most = refl };
-      home = home_self state g.met.D.Disk.sound m.home;
-      spindle = (refl, refl);
-      lanes = lanes_set state g.met.D.Disk.sound m.lanes.items k l l' s.lane_is (lane_read state g.met.D.Disk.sound l l' _ _ _ _ c.read-answer.result was.lane e.lane s.whole e.same e.moved e.taken e.pool);
-      index = refl;
-      next = refl;
-      rooms = refl;
-      down = refl;
-    }
+    through_lane state g.met.D.Disk.sound m _ k l l' s.lane_is refl refl (lane_read state g.met.D.Disk.sound l l' _ _ _ _ c.read-answer.result was.lane e.lane s.whole e.same e.moved e.taken e.pool)
 
 pub returns-clause-fetched : goal.returns-clause-fetched
 returns-clause-fetched g c =
