@@ -30,7 +30,7 @@ use Rattle.manager.specs.declared.manager.Manager.{Manager}
 use Rattle.listed_records.proofs.Groups.{other_records}
 use Rattle.listed_records.proofs.Entries.{At, among, same_mask}
 use Rattle.listed_records.proofs.Elements.{all_at}
-use Rattle.volume_parts.proofs.Lanes.{held_as, hold_map, lanes_map, same_place}
+use Rattle.volume_parts.proofs.Lanes.{held_as, hold_map, lane_among, same_place}
 
 -- ---- one segment less
 
@@ -82,31 +82,19 @@ module _ {D : Type 0} (R : HeldSegment D → List Record → Type 0) where
     pub then_all : (S : HeldSegment D → List Record → Type 0) → ((s : HeldSegment D) (rs : List Record) → R s rs → S s rs) → (new : Lane D) → held_in new ≡ remove (held_in old) i → AllLanesHold S (slice_set lanes k new) lists
 
   pub gone_lanes : (place j : ℕ) (lanes : List (Lane D)) (logs : Logs) (k i : ℕ) (old : Lane D) (h : HeldSegment D) → place ≡ j + k → slice_get lanes k ≡ Some old → slice_get (held_in old) i ≡ Some h → AllLanesHold R lanes logs → GoneLanes place j lanes logs k i old h
-  gone_lanes place j [] logs k i old h sum lane at all = absurd (none-some old lane)
-  gone_lanes place j (x ∷ lanes) [] k i old h sum lane at all = absurd all
-  gone_lanes place j (x ∷ lanes) (ls ∷ logs) zero i old h sum lane at all =
-      let r = gone_lane place (held_in x) ls i h (ap (λ (l : Lane D). slice_get (held_in l) i) (same_Some x old lane) ∙ at) all.0 in let rest = all_held (j + 1) lanes logs in let same : place ≡ j = omega arith in
-      let held : held_in x ≡ held_in old = ap (λ (l : Lane D). held_in l) (same_Some x old lane) in record {
-        front = r.front;
-        back = r.back ++ rest;
+  gone_lanes place j lanes logs k i old h sum lane at all =
+      let a = lane_among R place j lanes logs k old sum lane all in let r = gone_lane place (held_in old) a.own i h at a.here in
+      let apart : (xs ys : List (Held (Spun D))) → a.before ++ ((xs ++ ys) ++ a.after) ≡ (a.before ++ xs) ++ (ys ++ a.after) =
+      λ xs ys. ap (λ (l : List (Held (Spun D))). a.before ++ l) (append_assoc xs ys a.after) ∙ sym (append_assoc a.before xs (ys ++ a.after)) in record {
+        front = a.before ++ r.front;
+        back = r.back ++ a.after;
         records = r.records;
-        is = ap (λ (p : ℕ). held_with p (held_in x) ls ++ rest) (sym same) ∙ ap (λ (l : List (Held (Spun D))). l ++ rest) r.is ∙ append_assoc r.front (held_as place h r.records ∷ r.back) rest;
+        is = a.is ∙ ap (λ (l : List (Held (Spun D))). a.before ++ (l ++ a.after)) r.is ∙ apart r.front (held_as place h r.records ∷ r.back);
         here = r.here;
-        lists = r.lists ∷ logs;
-        then_is = λ new is. ap (λ (p : ℕ). held_with p (held_in new) r.lists ++ rest) (sym same) ∙ ap (λ (q : List (HeldSegment D)). held_with place q r.lists ++ rest) (is ∙ ap (λ (q : List (HeldSegment D)). remove q i) (sym held))
-            ∙ ap (λ (q : List (Held (Spun D))). q ++ rest) r.then_is ∙ append_assoc r.front r.back rest;
-        then_all = λ S so new is. (subst (λ (q : List (HeldSegment D)). AllHold S q r.lists) (sym (is ∙ ap (λ (q : List (HeldSegment D)). remove q i) (sym held))) (r.then_all S so), lanes_map R S so lanes logs all.1);
-      }
-  gone_lanes place j (x ∷ lanes) (ls ∷ logs) (suc k) i old h sum lane at all =
-      let r = gone_lanes place (j + 1) lanes logs k i old h (omega arith) lane at all.1 in let first = held_with j (held_in x) ls in record {
-        front = first ++ r.front;
-        back = r.back;
-        records = r.records;
-        is = ap (λ (l : List (Held (Spun D))). first ++ l) r.is ∙ sym (append_assoc first r.front (held_as place h r.records ∷ r.back));
-        here = r.here;
-        lists = ls ∷ r.lists;
-        then_is = λ new is. ap (λ (q : List (Held (Spun D))). first ++ q) (r.then_is new is) ∙ sym (append_assoc first r.front r.back);
-        then_all = λ S so new is. (hold_map R S so (held_in x) ls all.0, r.then_all S so new is);
+        lists = a.lists r.lists;
+        then_is = λ new is. a.then_is new r.lists ∙ ap (λ (hs : List (HeldSegment D)). a.before ++ (held_with place hs r.lists ++ a.after)) is
+            ∙ ap (λ (l : List (Held (Spun D))). a.before ++ (l ++ a.after)) r.then_is ∙ apart r.front r.back;
+        then_all = λ S so new is. a.then_all S so new r.lists (subst (λ (hs : List (HeldSegment D)). AllHold S hs r.lists) (sym is) (r.then_all S so));
       }
 
 -- ---- records in front of a place

@@ -57,6 +57,10 @@ held_as k h rs = record { part = part_of h.segment; lane = k; index = h.index; b
 
 -- ---- One held segment is another
 
+-- an element within what stands in the middle of a list
+around_mid : {X : Type 0} (before front : List X) (x : X) (back after : List X) → before ++ ((front ++ x ∷ back) ++ after) ≡ (before ++ front) ++ x ∷ (back ++ after)
+around_mid {X} before front x back after = ap (λ (l : List X). before ++ l) (append_assoc front (x ∷ back) after) ∙ sym (append_assoc before front (x ∷ (back ++ after)))
+
 module _ {D : Type 0} (R : HeldSegment D → List Record → Type 0) where
   -- the segment at place i of those of a lane, with the segments around it; and how it is where another one is put there
   pub record InLane (k : ℕ) (hs : List (HeldSegment D)) (ls : List (List Record)) (i : ℕ) (h : HeldSegment D) : Type 1 where
@@ -93,6 +97,44 @@ module _ {D : Type 0} (R : HeldSegment D → List Record → Type 0) where
     then_all = λ S so n m here. (so x l all.0, r.then_all S so n m here);
   }
 
+  -- the segments of the lane at place k with those of the other lanes around them, numbered from j on; and how they are where
+  -- another lane is put there
+  pub record LaneAmong (place j : ℕ) (lanes : List (Lane D)) (logs : Logs) (k : ℕ) (old : Lane D) : Type 1 where
+    pub before : List (Held (Spun D))
+    pub after : List (Held (Spun D))
+    pub own : List (List Record)
+    pub is : all_held j lanes logs ≡ before ++ (held_with place (held_in old) own ++ after)
+    pub here : AllHold R (held_in old) own
+    pub lists : List (List Record) → Logs
+    pub then_is : (new : Lane D) (ls : List (List Record)) → all_held j (slice_set lanes k new) (lists ls) ≡ before ++ (held_with place (held_in new) ls ++ after)
+    pub then_all : (S : HeldSegment D → List Record → Type 0) → ((s : HeldSegment D) (rs : List Record) → R s rs → S s rs) → (new : Lane D) (ls : List (List Record)) → AllHold S (held_in new) ls → AllLanesHold S (slice_set lanes k new) (lists ls)
+
+  pub lane_among : (place j : ℕ) (lanes : List (Lane D)) (logs : Logs) (k : ℕ) (old : Lane D) → place ≡ j + k → slice_get lanes k ≡ Some old → AllLanesHold R lanes logs → LaneAmong place j lanes logs k old
+  lane_among place j [] logs k old sum lane all = absurd (none-some old lane)
+  lane_among place j (x ∷ lanes) [] k old sum lane all = absurd all
+  lane_among place j (x ∷ lanes) (ls ∷ logs) zero old sum lane all =
+      let rest = all_held (j + 1) lanes logs in let same : j ≡ place = omega arith in let e : x ≡ old = same_Some x old lane in record {
+        before = [];
+        after = rest;
+        own = ls;
+        is = λ i. held_with (same i) (held_in (e i)) ls ++ rest;
+        here = subst (λ (l : Lane D). AllHold R (held_in l) ls) e all.0;
+        lists = λ own. own ∷ logs;
+        then_is = λ new own. ap (λ (p : ℕ). held_with p (held_in new) own ++ rest) same;
+        then_all = λ S so new own has. (has, lanes_map R S so lanes logs all.1);
+      }
+  lane_among place j (x ∷ lanes) (ls ∷ logs) (suc k) old sum lane all =
+      let r = lane_among place (j + 1) lanes logs k old (omega arith) lane all.1 in let first = held_with j (held_in x) ls in record {
+        before = first ++ r.before;
+        after = r.after;
+        own = r.own;
+        is = ap (λ (l : List (Held (Spun D))). first ++ l) r.is ∙ sym (append_assoc first r.before (held_with place (held_in old) r.own ++ r.after));
+        here = r.here;
+        lists = λ own. ls ∷ r.lists own;
+        then_is = λ new own. ap (λ (l : List (Held (Spun D))). first ++ l) (r.then_is new own) ∙ sym (append_assoc first r.before (held_with place (held_in new) own ++ r.after));
+        then_all = λ S so new own has. (hold_map R S so (held_in x) ls all.0, r.then_all S so new own has);
+      }
+
   -- the same of all lanes, numbered from j on
   pub record InLanes (place j : ℕ) (lanes : List (Lane D)) (logs : Logs) (k i : ℕ) (old : Lane D) (h : HeldSegment D) : Type 1 where
     pub front : List (Held (Spun D))
@@ -106,31 +148,17 @@ module _ {D : Type 0} (R : HeldSegment D → List Record → Type 0) where
         → AllLanesHold S (slice_set lanes k new) (lists rs)
 
   pub in_lanes : (place j : ℕ) (lanes : List (Lane D)) (logs : Logs) (k i : ℕ) (old : Lane D) (h : HeldSegment D) → place ≡ j + k → slice_get lanes k ≡ Some old → slice_get (held_in old) i ≡ Some h → AllLanesHold R lanes logs → InLanes place j lanes logs k i old h
-  in_lanes place j [] logs k i old h sum lane at all = absurd (none-some old lane)
-  in_lanes place j (x ∷ lanes) [] k i old h sum lane at all = absurd all
-  in_lanes place j (x ∷ lanes) (ls ∷ logs) zero i old h sum lane at all =
-      let r = in_lane place (held_in x) ls i h (ap (λ (l : Lane D). slice_get (held_in l) i) (same_Some x old lane) ∙ at) all.0 in let rest = all_held (j + 1) lanes logs in let same : place ≡ j = omega arith in
-      let held : held_in x ≡ held_in old = ap (λ (l : Lane D). held_in l) (same_Some x old lane) in record {
-        front = r.front;
-        back = r.back ++ rest;
+  in_lanes place j lanes logs k i old h sum lane at all =
+      let a = lane_among place j lanes logs k old sum lane all in let r = in_lane place (held_in old) a.own i h at a.here in record {
+        front = a.before ++ r.front;
+        back = r.back ++ a.after;
         records = r.records;
-        is = ap (λ (p : ℕ). held_with p (held_in x) ls ++ rest) (sym same) ∙ ap (λ (l : List (Held (Spun D))). l ++ rest) r.is ∙ append_assoc r.front (held_as place h r.records ∷ r.back) rest;
+        is = a.is ∙ ap (λ (l : List (Held (Spun D))). a.before ++ (l ++ a.after)) r.is ∙ around_mid a.before r.front (held_as place h r.records) r.back a.after;
         here = r.here;
-        lists = λ m. r.lists m ∷ logs;
-        then_is = λ new n rs is. ap (λ (p : ℕ). held_with p (held_in new) (r.lists rs) ++ rest) (sym same) ∙ ap (λ (q : List (HeldSegment D)). held_with place q (r.lists rs) ++ rest) (is ∙ ap (λ (q : List (HeldSegment D)). slice_set q i n) (sym held))
-            ∙ ap (λ (q : List (Held (Spun D))). q ++ rest) (r.then_is n rs) ∙ append_assoc r.front (held_as place n rs ∷ r.back) rest;
-        then_all = λ S so new n rs is here. (subst (λ (q : List (HeldSegment D)). AllHold S q (r.lists rs)) (sym (is ∙ ap (λ (q : List (HeldSegment D)). slice_set q i n) (sym held))) (r.then_all S so n rs here), lanes_map R S so lanes logs all.1);
-      }
-  in_lanes place j (x ∷ lanes) (ls ∷ logs) (suc k) i old h sum lane at all =
-      let r = in_lanes place (j + 1) lanes logs k i old h (omega arith) lane at all.1 in let first = held_with j (held_in x) ls in record {
-        front = first ++ r.front;
-        back = r.back;
-        records = r.records;
-        is = ap (λ (l : List (Held (Spun D))). first ++ l) r.is ∙ sym (append_assoc first r.front (held_as place h r.records ∷ r.back));
-        here = r.here;
-        lists = λ m. ls ∷ r.lists m;
-        then_is = λ new n rs is. ap (λ (q : List (Held (Spun D))). first ++ q) (r.then_is new n rs is) ∙ sym (append_assoc first r.front (held_as place n rs ∷ r.back));
-        then_all = λ S so new n rs is here. (hold_map R S so (held_in x) ls all.0, r.then_all S so new n rs is here);
+        lists = λ m. a.lists (r.lists m);
+        then_is = λ new n rs is. a.then_is new (r.lists rs) ∙ ap (λ (hs : List (HeldSegment D)). a.before ++ (held_with place hs (r.lists rs) ++ a.after)) is
+            ∙ ap (λ (l : List (Held (Spun D))). a.before ++ (l ++ a.after)) (r.then_is n rs) ∙ around_mid a.before r.front (held_as place n rs) r.back a.after;
+        then_all = λ S so new n rs is here. a.then_all S so new (r.lists rs) (subst (λ (hs : List (HeldSegment D)). AllHold S hs (r.lists rs)) (sym is) (r.then_all S so n rs here));
       }
 
 -- ---- A segment more at the end of a lane
@@ -159,26 +187,15 @@ module _ {D : Type 0} (R : HeldSegment D → List Record → Type 0) where
         → AllLanesHold S (slice_set lanes k new) (lists rs)
 
   pub at_end : (place j : ℕ) (lanes : List (Lane D)) (logs : Logs) (k : ℕ) (old : Lane D) → place ≡ j + k → slice_get lanes k ≡ Some old → AllLanesHold R lanes logs → AtEnd place j lanes logs k old
-  at_end place j [] logs k old sum lane all = absurd (none-some old lane)
-  at_end place j (x ∷ lanes) [] k old sum lane all = absurd all
-  at_end place j (x ∷ lanes) (ls ∷ logs) zero old sum lane all =
-      let rest = all_held (j + 1) lanes logs in let same : place ≡ j = omega arith in let held : held_in old ≡ held_in x = ap (λ (l : Lane D). held_in l) (sym (same_Some x old lane)) in record {
-        front = held_with place (held_in x) ls;
-        back = rest;
-        is = ap (λ (p : ℕ). held_with p (held_in x) ls ++ rest) (sym same);
-        lists = λ rs. (ls ++ rs ∷ []) ∷ logs;
-        then_is = λ new n rs is. ap (λ (p : ℕ). held_with p (held_in new) (ls ++ rs ∷ []) ++ rest) (sym same) ∙ ap (λ (q : List (HeldSegment D)). held_with place q (ls ++ rs ∷ []) ++ rest) (is ∙ ap (λ (q : List (HeldSegment D)). q ++ n ∷ []) held)
-            ∙ ap (λ (q : List (Held (Spun D))). q ++ rest) (end_is place (held_in x) ls n rs all.0) ∙ append_assoc (held_with place (held_in x) ls) (held_as place n rs ∷ []) rest;
-        then_all = λ S so new n rs is here. (subst (λ (q : List (HeldSegment D)). AllHold S q (ls ++ rs ∷ [])) (sym (is ∙ ap (λ (q : List (HeldSegment D)). q ++ n ∷ []) held)) (hold_end S so (held_in x) ls n rs all.0 here), lanes_map R S so lanes logs all.1);
-      }
-  at_end place j (x ∷ lanes) (ls ∷ logs) (suc k) old sum lane all =
-      let r = at_end place (j + 1) lanes logs k old (omega arith) lane all.1 in let first = held_with j (held_in x) ls in record {
-        front = first ++ r.front;
-        back = r.back;
-        is = ap (λ (l : List (Held (Spun D))). first ++ l) r.is ∙ sym (append_assoc first r.front r.back);
-        lists = λ rs. ls ∷ r.lists rs;
-        then_is = λ new n rs is. ap (λ (q : List (Held (Spun D))). first ++ q) (r.then_is new n rs is) ∙ sym (append_assoc first r.front (held_as place n rs ∷ r.back));
-        then_all = λ S so new n rs is here. (hold_map R S so (held_in x) ls all.0, r.then_all S so new n rs is here);
+  at_end place j lanes logs k old sum lane all =
+      let a = lane_among R place j lanes logs k old sum lane all in let own = held_with place (held_in old) a.own in record {
+        front = a.before ++ own;
+        back = a.after;
+        is = a.is ∙ sym (append_assoc a.before own a.after);
+        lists = λ rs. a.lists (a.own ++ rs ∷ []);
+        then_is = λ new n rs is. a.then_is new (a.own ++ rs ∷ []) ∙ ap (λ (hs : List (HeldSegment D)). a.before ++ (held_with place hs (a.own ++ rs ∷ []) ++ a.after)) is
+            ∙ ap (λ (l : List (Held (Spun D))). a.before ++ (l ++ a.after)) (end_is place (held_in old) a.own n rs a.here) ∙ around_mid a.before own (held_as place n rs) [] a.after;
+        then_all = λ S so new n rs is here. a.then_all S so new (a.own ++ rs ∷ []) (subst (λ (hs : List (HeldSegment D)). AllHold S hs (a.own ++ rs ∷ [])) (sym is) (hold_end S so (held_in old) a.own n rs a.here here));
       }
 
 -- ---- A lane whose held segments stay as they are
