@@ -33,13 +33,13 @@ use Rattle.manager.specs.declared.base.ManagerBase.{ManagerBase}
 use Rattle.manager.specs.declared.manager.Manager.{Manager}
 use Rattle.listed_records.proofs.Elements.{all_at, get_set}
 use Rattle.volume_parts.proofs.Lanes.{held_as, InLanes, in_lanes, image_is_log, untaken_set}
-use Rattle.listed_records.proofs.Groups.{other_records, AreNew, indexed_by, some_valid, group_more, group_breaks}
+use Rattle.listed_records.proofs.Groups.{other_records, indexed_by, some_valid, group_more, group_breaks}
 use Rattle.manager.proofs.Putting.{parts, base, ws, is_up, old_lane, owner, logger, Pieces, pieces_failed}
 use Rattle.manager.proofs.ReadContent.{unbroken, upholds_up}
 use Rattle.manager.proofs.WentHome.{risen}
 use Rattle.manager.specs.Listing.{recs_at, entered_all}
 use Rattle.manager.specs.Groups.{AreItemsOf, log_writes}
-use Rattle.volume_parts.proofs.Records.{group_new, group_some, group_fits, group_written, group_long, group_indexed}
+use Rattle.volume_parts.proofs.Records.{group_new, group_some, group_fits, group_written, group_long, group_nonempty, group_indexed}
 use Rattle.manager.specs.declared.part.Part.TheVariants as part
 
 -- ---- Records that end at a place
@@ -112,15 +112,6 @@ module _ {D : Type 0} (tells : Bool) (state : D → State) (m : Manager D) (b : 
     abbrev ups : List Bool
     ups = slice_set m.ups.items k true
 
-    new_records : AreNew b.volume.began.home_blocks m.next rs
-    new_records = group_new (lane_owner old) m.next m.most (state_of state m.home).size b.volume.began.home_blocks items from are kp.upholds.places.home_size enough
-
-    long : length rs ≡ length items
-    long = group_long (lane_owner old) m.next items from
-
-    some_records : 1 ≤ length rs
-    some_records = let l = long in omega arith
-
     -- it has them
     module _ (space : count_of items + (length items - 1) ≤ room_of o.segment) (next_room : m.next + length items ≤ 2 ^ 63) (ok : (qs : List Record) → Holds state o.segment qs → Holds state n.segment (qs ++ rs)) (whole : IsWhole n.segment) (was_whole : IsWhole o.segment)
         (recs : List Rec) (recs_is : recs ≡ recs_at m.next items k o.index (place_of o.segment)) (wrote : nt.entry.operation ≡ Wrote (log_writes m.next items from))
@@ -142,16 +133,16 @@ module _ {D : Type 0} (tells : Bool) (state : D → State) (m : Manager D) (b : 
       indexed_is = ap (entered_all m.index.entries) (recs_is ∙ ap (recs_at m.next items k o.index) ending.ends) ∙ group_indexed (lane_owner old) m.next items from m.index.entries s (part_of n.segment) enough
 
       next_is : m.next + length rs ≡ m.next + length items
-      next_is = ap (λ (c : ℕ). m.next + c) long
+      next_is = ap (λ (c : ℕ). m.next + c) (group_long (lane_owner old) m.next items from)
 
       abbrev grown_one : ManagerSeen (Spun D)
       grown_one = record { home = m.home; held = split.front ++ now ∷ split.back; taken = all_taken 0 m.lanes.items; indexed = indexed_by m.index.entries s (part_of n.segment) rs; next = m.next + length rs; home_up = m.home_up; ups = ups; down = down_of m.down }
 
       stood : StandsFor (parts_of tells state) b.volume.began grown_one (notes ++ nt ∷ [])
-      stood = group_more (parts_of tells state) b.volume.began (record (seen m kp.logs) { held = split.front ++ s ∷ split.back }) m.home_up ups (length-set m.ups.items k true) notes nt split.front s split.back (part_of n.segment) rs some_records
-          ending.upheld_with (unbroken tells state m b notes kp up) refl size volume new_records client
+      stood = group_more (parts_of tells state) b.volume.began (record (seen m kp.logs) { held = split.front ++ s ∷ split.back }) m.home_up ups (length-set m.ups.items k true) notes nt split.front s split.back (part_of n.segment) rs (group_nonempty (lane_owner old) m.next items from some)
+          ending.upheld_with (unbroken tells state m b notes kp up) refl size volume (group_new (lane_owner old) m.next m.most (state_of state m.home).size b.volume.began.home_blocks items from are kp.upholds.places.home_size enough) client
           (λ bs is. subst (λ (v : ℕ). IsLog bs v all_records) owned (image_is_log state n.segment all_records bs (ok ending.records (ending.holds is.0)) is.1))
-          (let e = long in omega arith) (is_up tells state m b notes kp up) (wrote ∙ ap Wrote (sym (group_written (lane_owner old) m.next items from)))
+          (let e = group_long (lane_owner old) m.next items from in omega arith) (is_up tells state m b notes kp up) (wrote ∙ ap Wrote (sym (group_written (lane_owner old) m.next items from)))
           (group_fits (disk_of state n.segment).size (end_of ending.records) (lane_owner old) m.next items from (let e = ending.ends in let w = was_held.shape.size in let z = size in let p = was_held.shape.place.0 in let c = group_some m.most (state_of state m.home).size items some are in omega (arith, space, e, w, z, p, c, some)))
           step (look ∙ (λ t. record { home_up = m.home_up; ups = ups; next = sym next_is t; listed = listed_in (indexed_is t); down = down_of m.down }))
 
@@ -169,7 +160,7 @@ module _ {D : Type 0} (tells : Bool) (state : D → State) (m : Manager D) (b : 
         logs = split.lists all_records;
         held = split.then_all R (λ h qs holds. holds) new n all_records held (λ told _. ok ending.records (ending.holds told));
         upholds = subst (λ (q : ManagerSeen (Spun D)). Upholds (parts_of tells state) b.volume.began q (notes ++ nt ∷ []) (writes (entries_of (notes ++ nt ∷ []))) (flight_of (entries_of (notes ++ nt ∷ [])))) seen_is stood.upholds;
-        in_use = λ told is. subst AreInUse (sym held_is) (all_swap Used Used (λ v used. used) split.front (held_as k o split.records) now split.back (λ _. let v = some_valid b.volume.began.home_blocks m.next rs some_records new_records in (v.0, Contains-append_right ending.records rs v.0 v.1, v.2))
+        in_use = λ told is. subst AreInUse (sym held_is) (all_swap Used Used (λ v used. used) split.front (held_as k o split.records) now split.back (λ _. let v = some_valid b.volume.began.home_blocks m.next rs (group_nonempty (lane_owner old) m.next items from some) (group_new (lane_owner old) m.next m.most (state_of state m.home).size b.volume.began.home_blocks items from are kp.upholds.places.home_size enough) in (v.0, Contains-append_right ending.records rs v.0 v.1, v.2))
             (subst AreInUse split.is (kp.in_use told up)));
       }
 
@@ -192,8 +183,8 @@ module _ {D : Type 0} (tells : Bool) (state : D → State) (m : Manager D) (b : 
       owner_was = was_held.owned ∙ owner tells state m b notes kp k old lane
 
       fell : StandsFor (parts_of tells state) b.volume.began failed_one (notes ++ nt ∷ [])
-      fell = group_breaks (parts_of tells state) b.volume.began (seen m kp.logs) m.home_up m.ups.items refl notes nt split.front was split.back (part_of n.segment) rs some_records
-          (upholds_up tells state m b notes kp up) (unbroken tells state m b notes kp up) split.is size volume new_records client
+      fell = group_breaks (parts_of tells state) b.volume.began (seen m kp.logs) m.home_up m.ups.items refl notes nt split.front was split.back (part_of n.segment) rs (group_nonempty (lane_owner old) m.next items from some)
+          (upholds_up tells state m b notes kp up) (unbroken tells state m b notes kp up) split.is size volume (group_new (lane_owner old) m.next m.most (state_of state m.home).size b.volume.began.home_blocks items from are kp.upholds.places.home_size enough) client
           (λ bs is. let first = now_leaves (any_moment split.records (split.here is.0 up)) (sound n.segment.part.inner) bs is.1 in (first.count, first.within, subst (λ (v : ℕ). IsLog bs v (split.records ++ take first.count rs)) owner_was first.log))
           (logger_of old) (logger tells state m b notes kp k old lane) (broke ∙ ap Broke (sym (group_written (lane_owner old) m.next items from))) unruled (risen (disk_of state o.segment).faults (disk_of state n.segment).faults cause)
 

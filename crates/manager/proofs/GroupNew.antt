@@ -51,7 +51,7 @@ use Rattle.manager.proofs.WentHome.{risen}
 use Rattle.manager.specs.Listing.{recs_at, entered_all}
 use Rattle.manager.specs.Groups.{AreItemsOf, log_writes}
 use Rattle.listed_records.proofs.Groups.{group_distinct, group_stops, AreNew, FitBehind, written_as, indexed_by, extents_of_new, in_a_row, front_row, map_front, map_long, all_lie, all_lie_in_home, some_valid, group_more}
-use Rattle.volume_parts.proofs.Records.{group_new, group_fits, group_written, group_long, group_indexed}
+use Rattle.volume_parts.proofs.Records.{group_new, group_fits, group_written, group_long, group_nonempty, group_indexed}
 use Rattle.manager.specs.declared.part.Part.TheVariants as part
 
 -- ---- A new index is apart from all others of its lane, and no other lane has its place
@@ -226,15 +226,6 @@ module _ {D : Type 0} (tells : Bool) (state : D → State) (m : Manager D) (b : 
     abbrev ups : List Bool
     ups = slice_set m.ups.items k true
 
-    new_records : AreNew b.volume.began.home_blocks m.next rs
-    new_records = group_new (lane_owner old) m.next m.most (state_of state m.home).size b.volume.began.home_blocks items from are kp.upholds.places.home_size enough
-
-    long : length rs ≡ length items
-    long = group_long (lane_owner old) m.next items from
-
-    some_records : 1 ≤ length rs
-    some_records = let l = long in omega arith
-
     -- it has them
     module _ (next_room : m.next + length items ≤ 2 ^ 63) (claimed : IsTrue tells → (s : Segment D) × IsSegment state s × IsSame s n.segment × Holds state s []) (ok : IsTrue tells → Holds state n.segment rs) (whole : IsWhole n.segment)
         (recs : List Rec) (recs_is : recs ≡ recs_at m.next items k n.index 1) (wrote : nt.entry.operation ≡ Wrote (log_writes m.next items from))
@@ -272,17 +263,17 @@ module _ {D : Type 0} (tells : Bool) (state : D → State) (m : Manager D) (b : 
       indexed_is = ap (entered_all m.index.entries) recs_is ∙ group_indexed (lane_owner old) m.next items from m.index.entries unused (part_of n.segment) enough
 
       next_is : m.next + length rs ≡ m.next + length items
-      next_is = ap (λ (c : ℕ). m.next + c) long
+      next_is = ap (λ (c : ℕ). m.next + c) (group_long (lane_owner old) m.next items from)
 
       abbrev with_all : ManagerSeen (Spun D)
       with_all = record { home = m.home; held = ends.front ++ now ∷ ends.back; taken = all_taken 0 m.lanes.items; indexed = indexed_by m.index.entries unused (part_of n.segment) rs; next = m.next + length rs; home_up = m.home_up; ups = ups; down = down_of m.down }
 
       stood : StandsFor (parts_of tells state) b.volume.began with_all (notes ++ nt ∷ [])
-      stood = claimed_group_more (parts_of tells state) b.volume.began (seen m kp.logs) m.home_up ups (length-set m.ups.items k true) notes nt ends.front ends.back k n.index rs some_records
-          (upholds_up tells state m b notes kp up) (unbroken tells state m b notes kp up) ends.is (is_up tells state m b notes kp up) new_one new_records client
+      stood = claimed_group_more (parts_of tells state) b.volume.began (seen m kp.logs) m.home_up ups (length-set m.ups.items k true) notes nt ends.front ends.back k n.index rs (group_nonempty (lane_owner old) m.next items from some)
+          (upholds_up tells state m b notes kp up) (unbroken tells state m b notes kp up) ends.is (is_up tells state m b notes kp up) new_one (group_new (lane_owner old) m.next m.most (state_of state m.home).size b.volume.began.home_blocks items from are kp.upholds.places.home_size enough) client
           claim.part_ (part_of n.segment) (by false claim.part_ (sym claim.size) (sym claim.lies_on) (λ bs is. says_owner b.volume.began.owner bs [] (claim.logs bs is))) claim.size claim.lies_on claim.logs
           (λ bs is. subst (λ (v : ℕ). IsLog bs v rs) owned (image_is_log state n.segment rs bs (ok is.0) is.1))
-          (let e = long in omega arith) (wrote ∙ ap Wrote (sym (group_written (lane_owner old) m.next items from)))
+          (let e = group_long (lane_owner old) m.next items from in omega arith) (wrote ∙ ap Wrote (sym (group_written (lane_owner old) m.next items from)))
           (group_fits (disk_of state n.segment).size 1 (lane_owner old) m.next items from (let z = size_is in omega (arith, z, space, some)))
           step (look ∙ (λ t. record { home_up = m.home_up; ups = ups; next = sym next_is t; listed = listed_in (indexed_is t); down = down_of m.down }))
 
@@ -300,7 +291,7 @@ module _ {D : Type 0} (tells : Bool) (state : D → State) (m : Manager D) (b : 
         logs = ends.lists rs;
         held = ends.then_all R (λ h qs holds. holds) new n rs held (λ told _. ok told);
         upholds = subst (λ (q : ManagerSeen (Spun D)). Upholds (parts_of tells state) b.volume.began q (notes ++ nt ∷ []) (writes (entries_of (notes ++ nt ∷ []))) (flight_of (entries_of (notes ++ nt ∷ [])))) seen_is stood.upholds;
-        in_use = λ told is. subst AreInUse (sym now_is) (all_insert Used ends.front now ends.back (some_valid b.volume.began.home_blocks m.next rs some_records new_records) (subst AreInUse ends.is (kp.in_use told up)));
+        in_use = λ told is. subst AreInUse (sym now_is) (all_insert Used ends.front now ends.back (some_valid b.volume.began.home_blocks m.next rs (group_nonempty (lane_owner old) m.next items from some) (group_new (lane_owner old) m.next m.most (state_of state m.home).size b.volume.began.home_blocks items from are kp.upholds.places.home_size enough)) (subst AreInUse ends.is (kp.in_use told up)));
       }
 
     -- a call of its disk failed
@@ -320,8 +311,8 @@ module _ {D : Type 0} (tells : Bool) (state : D → State) (m : Manager D) (b : 
       failed_one = record (seen m kp.logs) { held = ends.front ++ fallen ∷ ends.back; down = Some (SegmentPart (logger_of old) n.index) }
 
       fell : StandsFor (parts_of tells state) b.volume.began failed_one (notes ++ nt ∷ [])
-      fell = claimed_group_breaks (parts_of tells state) b.volume.began (seen m kp.logs) m.home_up m.ups.items refl notes nt ends.front ends.back k n.index rs some_records
-          (upholds_up tells state m b notes kp up) (unbroken tells state m b notes kp up) ends.is (is_up tells state m b notes kp up) new_one new_records client
+      fell = claimed_group_breaks (parts_of tells state) b.volume.began (seen m kp.logs) m.home_up m.ups.items refl notes nt ends.front ends.back k n.index rs (group_nonempty (lane_owner old) m.next items from some)
+          (upholds_up tells state m b notes kp up) (unbroken tells state m b notes kp up) ends.is (is_up tells state m b notes kp up) new_one (group_new (lane_owner old) m.next m.most (state_of state m.home).size b.volume.began.home_blocks items from are kp.upholds.places.home_size enough) client
           (part_of n.segment) (by true (part_of n.segment) refl refl (λ bs is. ⊎_elim (says_free b.volume.began.owner bs) (λ first. says_owner b.volume.began.owner bs (take first.0 rs) first.2) (images bs is))) images
           (broke ∙ ap Broke (sym (group_written (lane_owner old) m.next items from))) unruled (logger_of old) (logger tells state m b notes kp k old lane) (risen (free_disk state f).faults (disk_of state n.segment).faults cause)
 

@@ -343,6 +343,10 @@ pub group_long : (owner version : ℕ) (items : List Item) (from : List Block) �
 group_long owner version [] from = refl
 group_long owner version (i ∷ items) from = ap suc (group_long owner (version + 1) items (drop i.count from))
 
+-- a group has a record for each item
+pub group_nonempty : (owner version : ℕ) (items : List Item) (from : List Block) → 1 ≤ length items → 1 ≤ length (group_of owner version items from)
+group_nonempty owner version items from some = let e = group_long owner version items from in omega arith
+
 -- ---- Their entries
 
 pub first_rec : (version : ℕ) (i : Item) (items : List Item) (from : List Block) (lane segment pos : ℕ) → count_of (i ∷ items) ≤ length from
