@@ -6,7 +6,7 @@ use Rattle.wol_model.specs.Trace.{TraceLine}
 use Rattle.wol_model.specs.declared.trace.Kind.{Kind}
 use Rattle.wol_model.specs.declared.trace.Kind.TheVariants as kind
 use Rattle.msr_trace.specs.Numbers.{number_of}
-use Rattle.msr_trace.specs.Lines.{body_of, disk_in, fields_of, is_mark, kind_in, line_in, number_in, read_of, without_return}
+use Rattle.msr_trace.specs.Lines.{Fits, body_of, disk_in, fields_of, is_mark, kind_in, line_in, number_in, read_of, without_return}
 use Rattle.msr_trace.specs.Spelling.{AreDigits, Digits, IsWritable, Spells, digits_of, fields_text, is_reserved, kind_text, line_text}
 use Rattle.msr_trace.proofs.Numerals.{decimal_number, number_free}
 use Rattle.msr_trace.proofs.Parts.{cut_at, one_part, none_left, none_right, none_both}
@@ -72,6 +72,13 @@ text_some l d = ne_eqb (length (fields_text l d)) 0 (λ e. absurd (omega (arith,
 read_body : (l : TraceLine) (d : Digits) → AreDigits l d → list_any is_reserved l.host ≡ false → body_of (fields_text l d) ≡ Ok (Some l)
 unfolding body_of
 read_body l d are host = rw (text_some l d, spelled_marks l d are host, read_line_in l d are host) refl
+
+-- the same, where the fields were taken off the front one after another
+pub body_at : (body r0 r1 r2 r3 r4 kind : List ℕ) (l : TraceLine) (d : Digits)
+    → body ≡ d.time ++ 44 ∷ r0 → r0 ≡ l.host ++ 44 ∷ r1 → r1 ≡ d.disk ++ 44 ∷ r2 → r2 ≡ kind ++ 44 ∷ r3 → r3 ≡ d.offset ++ 44 ∷ r4 → r4 ≡ d.size ++ 44 ∷ d.response
+    → kind ≡ kind_text l.kind → AreDigits l d → list_any is_reserved l.host ≡ false
+    → (body_of body ≡ Ok (Some l)) × Fits l
+body_at body r0 r1 r2 r3 r4 kind l d e0 e1 e2 e3 e4 e5 is are host = (rw (e0, e1, e2, e3, e4, e5, is) (read_body l d are host), are.fits)
 
 pub spelled_is_read : (text : List ℕ) (l : TraceLine) (d : Digits) → Spells text l d → read_of text ≡ Ok (Some l)
 unfolding read_of

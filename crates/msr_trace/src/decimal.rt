@@ -96,7 +96,6 @@ fn with_run(value: u64, digits: &[u8]) -> u64
     number
 }
 
-#[inline(always)]
 fn value_of(digit: u8) -> u64
     requires { is_digit digit 10 ≡ true }
     ensures { result ≡ digit_value digit }

@@ -1,5 +1,5 @@
 // The fields of a line, by `csv`.
-ghost use Rattle.std.specs.Prelude.{◌≡◌, ◌≢◌, ◌<◌, [], true, false, length, slice_index, IfOk, OnOk, option_map};
+ghost use Rattle.std.specs.Prelude.{◌≡◌, ◌≢◌, ◌<◌, [], false, length, slice_index, IfOk, OnOk, option_map};
 ghost use Rattle.std.specs.List.{list_any};
 ghost use Rattle.csv.specs.Machine.{next_record};
 ghost use Rattle.csv.specs.Reading.{default_config, strip_bom};
@@ -16,8 +16,8 @@ use wol_disk::NoMemory;
 const WORTH: usize = 1024;
 
 /// Splits lines into their fields. One reader of `csv` serves all lines, which it is handed ahead, as many whole ones as are
-/// held, and one row takes them. A row that it gives is taken only where it is what the line splits into; else the line is
-/// read by a reader of its own.
+/// held, and one row takes them. Nothing is known of a row that it gives, so the line is read where the row has its fields
+/// only if commas stand between them there; else the line is split by a reader of its own.
 #[derive(Drop)]
 pub struct Fields {
     alloc: Global,
@@ -59,8 +59,17 @@ impl Fields {
         self.ahead = self.ahead.saturating_sub(count);
     }
 
-    /// Splits a line. `csv` takes a byte order mark off the front of a text, so a line that may begin with one isn't split
-    /// here.
+    /// The next row of the reader that serves all lines, if there is one. It should be that of the line that comes next.
+    pub fn next_row(&mut self) -> Option<&ByteRecord> {
+        if read_row(&mut self.reader, &mut self.row) {
+            Some(&self.row)
+        } else {
+            None
+        }
+    }
+
+    /// Splits a line by a reader of its own; the one that serves all lines is let go. `csv` takes a byte order mark off the
+    /// front of a text, so a line that may begin with one isn't split here.
     pub fn split(&mut self, line: &[u8]) -> Result<(), NoMemory>
         requires some { 0 < length line.now }
         requires marks { list_any is_mark line.now ≡ false }
@@ -68,9 +77,6 @@ impl Fields {
         requires start { slice_index line.now 0 ≢ 239 }
         ensures { OnOk result (records.fields_of self.new.row ≡ fields_of line.now) }
     {
-        if read_row(&mut self.reader, &mut self.row) && is_split(&self.row, line) {
-            return Ok(());
-        }
         let_go(&mut self.reader);
         self.ahead = 0;
         match split_alone(self.alloc, line) {
@@ -122,32 +128,6 @@ fn read_row(reader: &mut Option<Reader<Chunk>>, row: &mut ByteRecord) -> bool {
         Some(reader) => matches!(reader.read_byte_record(row), Ok(true)),
         None => false,
     }
-}
-
-// Whether a row has what a line splits into: no field has a comma, and the line is the fields with commas between them.
-fn is_split(row: &ByteRecord, line: &[u8]) -> bool
-    ensures { result ≡ true → records.fields_of row.now ≡ fields_of line.now }
-{
-    if row.as_slice().contains(&b',') {
-        return false;
-    }
-    let mut rest = line;
-    for i in 0..row.len() {
-        let Some(field) = row.get(i) else {
-            return false;
-        };
-        let Some(behind) = rest.strip_prefix(field) else {
-            return false;
-        };
-        let Some((next, others)) = behind.split_first() else {
-            return i + 1 == row.len();
-        };
-        if *next != b',' {
-            return false;
-        }
-        rest = others;
-    }
-    false
 }
 
 // The first record of a text that has no header row, if it has one.

@@ -8,6 +8,7 @@ use crate::decimal::number;
 use crate::fields::Fields;
 use crate::format::{BadLine, Line, LineFault};
 use crate::host::HostName;
+use crate::placed::read_placed;
 use csv::ByteRecord;
 use std::alloc::Global;
 use wol_disk::NoMemory;
@@ -43,10 +44,39 @@ pub fn parse_line(
     if line.len() > LINE_MAX {
         return Err(LineFault::Bad(BadLine::LineTooLong));
     }
-    parse_body(alloc, fields, without_return(line))
+    parse_text(alloc, fields, without_return(line))
 }
 
-// Reads a line without the carriage return at its end.
+// Reads a line without the carriage return at its end, where the next row has its fields or else by a reader of its own.
+fn parse_text(alloc: Global, fields: &mut Fields, body: &[u8]) -> Result<Option<Line>, LineFault>
+    requires { list_any is_feed body.now ≡ false }
+    ensures content { Gives (option_map trace_line) result (body_of body.now) }
+    ensures fits { IfOk result (λ o. IfSome o (λ l. Fits (trace_line l))) }
+{
+    if !body.is_empty()
+        && let Some(row) = fields.next_row()
+        && let Some(found) = read_placed(row, body)
+    {
+        let Ok(host) = HostName::new(alloc, found.host) else {
+            return Err(LineFault::NoMemory);
+        };
+        return Ok(Some(Line {
+            time: found.time,
+            host,
+            disk: found.disk,
+            kind: found.kind,
+            offset: found.offset,
+            size: found.size,
+            response: found.response,
+        }));
+    }
+    parse_body(alloc, fields, body)
+}
+
+// Reads a line without the carriage return at its end, or tells its first refusal. `csv` passes blank lines over, so they
+// are seen here first. It stands apart, since few lines come here.
+#[cold]
+#[inline(never)]
 #[tactic(auto, unfolding(crate::specs::Lines::body_of))]
 fn parse_body(alloc: Global, fields: &mut Fields, body: &[u8]) -> Result<Option<Line>, LineFault>
     requires { list_any is_feed body.now ≡ false }

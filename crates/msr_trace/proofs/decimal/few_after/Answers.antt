@@ -1,5 +1,5 @@
 use Rattle.std.proofs.Common.{◌∙◌, sym}
-use Rattle.msr_trace.proofs.Digits.{run_goes_on, run_small, run_stops, run_word}
+use Rattle.msr_trace.proofs.Digits.{run_goes_on, run_small, run_word}
 use Rattle.msr_trace.proofs.decimal.few_after.Goals as goal
 
 pub with_run-requires-clause-small : goal.with_run-requires-clause-small

@@ -1,4 +1,4 @@
-use Rattle.std.proofs.Common.{◌≡◌, ◌<◌, ◌^◌, drop, arith}
+use Rattle.std.proofs.Common.{◌<◌, ◌^◌, drop, arith}
 use Rattle.std.specs.Str.Parse.{digits_value_after}
 use Rattle.msr_trace.proofs.Digits.{first_digit}
 use Rattle.msr_trace.proofs.decimal.with_run.Goals as goal

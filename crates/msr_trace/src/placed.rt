@@ -1,0 +1,93 @@
+// A line whose fields stand where a row has its own.
+ghost use Rattle.std.specs.Prelude.{◌≡◌, ◌∷◌, ◌++◌, Ok, Some, IfSome};
+ghost use Rattle.std.specs.List.{list_any};
+ghost use Rattle.wol_model.specs.Trace.{TraceLine};
+ghost use Rattle.msr_trace.specs.Lines.{Fits, body_of};
+ghost use Rattle.msr_trace.specs.Spelling.{is_reserved, kind_text};
+
+use crate::decimal::number;
+use crate::parse::SIZE_MAX;
+use csv::ByteRecord;
+use wol_model::Kind;
+
+/// What a line has, with the bytes of its host.
+#[derive(Clone, Copy)]
+pub struct Placed<'a> {
+    pub time: u64,
+    pub host: &'a [u8],
+    pub disk: u32,
+    pub kind: Kind,
+    pub offset: u64,
+    pub size: u64,
+    pub response: u64,
+}
+
+/// What a line has, without its carriage return, if its fields are as long as the row's and it is read.
+pub fn read_placed<'a>(row: &ByteRecord, body: &'a [u8]) -> Option<Placed<'a>>
+    ensures { IfSome result (λ s. (l : TraceLine) → l ≡ record {
+      time = s.time;
+      host = s.host.now;
+      disk = s.disk;
+      kind = s.kind;
+      offset = s.offset;
+      size = s.size;
+      response = s.response;
+    } → (body_of body.now ≡ Ok (Some l)) × Fits l) }
+{
+    let (time, rest) = field_at_front(row, 0, body)?;
+    let (host, rest) = field_at_front(row, 1, rest)?;
+    let (disk, rest) = field_at_front(row, 2, rest)?;
+    let (kind, rest) = field_at_front(row, 3, rest)?;
+    let (offset, rest) = field_at_front(row, 4, rest)?;
+    let (size, response) = field_at_front(row, 5, rest)?;
+    if has_reserved(host) {
+        return None;
+    }
+    let kind = kind_of(kind)?;
+    let time = number(time)?;
+    let disk = number(disk)?;
+    let offset = number(offset)?;
+    let size = number(size)?;
+    let response = number(response)?;
+    if disk > u64::from(u32::MAX) || size > SIZE_MAX || offset > u64::MAX - size {
+        return None;
+    }
+    Some(Placed {
+        time,
+        host,
+        disk: disk as u32,
+        kind,
+        offset,
+        size,
+        response,
+    })
+}
+
+// The front of a text that is as long as a field of the row, and what stands behind the comma that ends it.
+#[inline(always)]
+fn field_at_front<'a>(row: &ByteRecord, at: usize, text: &'a [u8]) -> Option<(&'a [u8], &'a [u8])>
+    ensures { IfSome result (λ p. text.now ≡ p.0.now ++ 44 ∷ p.1.now) }
+{
+    let end = row.get(at)?.len();
+    if end >= text.len() || text[end] != b',' {
+        return None;
+    }
+    Some((&text[..end], &text[end + 1..]))
+}
+
+fn has_reserved(host: &[u8]) -> bool
+    ensures { result ≡ list_any is_reserved host.now }
+{
+    host.iter()
+        .any(|byte| *byte == b',' || (*byte == b'"' || *byte == b'\r'))
+}
+
+fn kind_of(field: &[u8]) -> Option<Kind>
+    ensures { IfSome result (λ kind. field.now ≡ kind_text kind) }
+{
+    match field {
+        b"Read" => Some(Kind::Read),
+        b"Write" => Some(Kind::Write),
+        _ => None,
+    }
+}
