@@ -86,13 +86,6 @@ first_digit n i digits h all small =
     let more = grows (n * 10 + digit_value (get_or digits i 0)) (drop (i + 1) digits) in
     record { digit = both.0; small = omega (arith, more, rw value at small); others = both.1; value = value }
 
-all_append : (xs ys : List ℕ) → are_digits (xs ++ ys) ≡ (are_digits xs && are_digits ys)
-all_append [] ys = refl
-all_append (x ∷ xs) ys = elim (cases_Bool (is_digit x 10)) [
-  | inl digit ↦ rw digit (all_append xs ys)
-  | inr other ↦ rw other refl
-]
-
 run_on : (n : ℕ) (run behind : List ℕ) → are_digits run ≡ true → value_after n (run ++ behind) ≡ value_after (digits_value_after 10 n run) behind
 run_on n [] behind h = refl
 run_on n (b ∷ run) behind h =
@@ -102,12 +95,6 @@ run_on n (b ∷ run) behind h =
 -- digits at the front go on with what they write
 pub run_goes_on : (n : ℕ) (text run behind : List ℕ) → text ≡ run ++ behind → are_digits run ≡ true → value_after n text ≡ value_after (digits_value_after 10 n run) behind
 run_goes_on n text run behind is h = rw is (run_on n run behind h)
-
--- others end the reading
-pub run_stops : (n : ℕ) (text run behind : List ℕ) → text ≡ run ++ behind → are_digits run ≡ false → value_after n text ≡ None
-run_stops n text run behind is h =
-    let none : are_digits text ≡ false = rw is (all_append run behind ∙ rw h refl) in
-    rw none refl
 
 run_fits : (n i : ℕ) (run : List ℕ) → are_digits run ≡ true → n < 10 ^ i → digits_value_after 10 n run < 10 ^ (i + length run)
 run_fits n i [] h small = let e : i + 0 ≡ i = omega arith in rw e small
