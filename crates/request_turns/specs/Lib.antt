@@ -8,6 +8,7 @@ pub mod Written
 pub mod Tried
 pub mod Blocks
 pub mod Groups
+pub mod Full
 pub mod Closed
 pub mod Helped
 pub mod Begun

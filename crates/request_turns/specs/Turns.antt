@@ -2,8 +2,9 @@
 use Rattle.std.specs.Prelude.{⊤, ◌≡◌, ◌⊎◌, ◌∷◌, ◌++◌, ℕ, Bool, true, List, [], Option, None, Some, map, is_some, IsTrue}
 use Rattle.std.specs.List.{AllByRecursion}
 use Rattle.turn_lock.specs.Histories.{Entry, own, Begins}
-use Rattle.turn_lock.specs.Passes.{pass_lock, pass_number, pass_seen, pass_mine, value_of, IsFree, IsSamePass}
+use Rattle.turn_lock.specs.Passes.{pass_lock, pass_number, pass_seen, pass_mine, value_of, IsFree, IsInTurnWith, IsSamePass}
 use Rattle.turn_lock.specs.declared.pass.PassOf.{PassOf}
+use Rattle.wol_disk.specs.Disk.{State}
 use Rattle.wol_model.specs.Blocks.{Write}
 use Rattle.wol_model.specs.History.{Kept, worker, flight_of, IsHelp}
 use Rattle.wol_promise.specs.Code.{code_of, no_note}
@@ -12,7 +13,7 @@ use Rattle.wol_promise.specs.Policy.{Look}
 use Rattle.wol_promise.specs.Ruled.{Noted, IsDrained, entries_of, last_look}
 use Rattle.wol_promise.specs.Stands.{HasHistory}
 use Rattle.manager.specs.Seen.{look_of_manager, name_of}
-use Rattle.manager.specs.Stands.{notes_of, passed_in}
+use Rattle.manager.specs.Stands.{Stands, notes_of, passed_in}
 use Rattle.manager.specs.declared.base.ManagerBase.{ManagerBase}
 use Rattle.manager.specs.declared.manager.Manager.{Manager}
 use Rattle.manager.specs.declared.part.Part.{Part}
@@ -92,6 +93,19 @@ pub record HasLeft {D : Type 0} (tells : Bool) (n : Noted) (p q : ManagerPass D)
   pub seen : pass_seen q ≡ pass_seen p ++ coded n ∷ []
   pub mine : pass_mine q ≡ pass_mine p ++ coded n ∷ []
   pub history : HasHistory (IsTrue tells) (began q) (notes_seen q)
+
+-- the manager of a turn that keeps it in its place stands for this entry too
+abbrev pub StandsInPlace : {D : Type 0} → Bool → (D → State) → Noted → ManagerPass D → Type 0
+StandsInPlace {D} tells state n p = (m : Manager D) × IsInTurnWith m p
+    × Stands tells state m (pass_lock p).base (notes_seen p ++ n ∷ [])
+
+-- such a turn ended with this entry: behind it the part is down that the manager names, and no disk
+-- call had failed where it names none
+pub record HasLeftInPlace {D : Type 0} (tells : Bool) (n : Noted) (p q : ManagerPass D) : Type 0 where
+  pub left : HasLeft tells n p q
+  pub broken : (m : Manager D) (d : Part) → IsInTurnWith m p → m.down ≡ Some d
+      → WasDown d (notes_seen q)
+  pub unbroken : (m : Manager D) → IsInTurnWith m p → m.down ≡ None → IsBroken (notes_seen q) → ⊥
 
 -- one turn of a pass, behind these entries: it adds this entry, which is ruled
 pub record HasTurned {D : Type 0} (tells : Bool) (p q : ManagerPass D) (before : List Entry)

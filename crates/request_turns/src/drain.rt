@@ -1,21 +1,19 @@
 // A write that no log has room for: all records are drained, and then the write goes home.
-ghost use Rattle.std.specs.Prelude.{ℕ, ◌≡◌, ◌++◌, ◌∷◌, [], ◌≤◌, ◌+◌, false, None, Some, length, OnOk, IfErr, is_ok};
-ghost use Rattle.turn_lock.specs.Passes.{pass_lock, pass_number, IsPassOf, IsInTurnWith};
-ghost use Rattle.wol_model.specs.History.{worker, Broke, Kept};
-ghost use Rattle.wol_model.specs.Placing.{Full as Nowhere};
-ghost use Rattle.wol_promise.specs.Policy.{drained, place_of};
+ghost use Rattle.std.specs.Prelude.{◌≡◌, [], false, None, Some, OnOk, IfErr, is_ok};
+ghost use Rattle.turn_lock.specs.Passes.{pass_lock, pass_number, IsPassOf};
+ghost use Rattle.wol_model.specs.History.{worker, Broke};
+ghost use Rattle.wol_promise.specs.Policy.{drained};
 ghost use Rattle.wol_promise.specs.Ruled.{last_look};
-ghost use Rattle.manager.specs.Answers.{home_write, written};
+ghost use Rattle.manager.specs.Answers.{written};
 ghost use Rattle.manager.specs.Reclaim.{OnKept, OnFailed, KeepsOn, BreaksOff, Always};
 ghost use Rattle.manager.specs.Seen.{look_of_manager};
-ghost use Rattle.manager.specs.Stands.{Keeps, Stands, IsReady, IsHome, IsShared};
+ghost use Rattle.manager.specs.Stands.{IsReady, IsHome};
 ghost use Rattle.manager.specs.declared.manager.Manager.{Manager};
-ghost use Rattle.manager.specs.declared.part.Part.{Part};
-ghost use Rattle.request_turns.specs.Causes.{CanTake};
 ghost use Rattle.request_turns.specs.Counts.{HasTaken, IsTakenOff};
 ghost use Rattle.request_turns.specs.Entries.{note_of, refused_as, has_broken};
 ghost use Rattle.request_turns.specs.Tried.{CanWrite, HasTried, HasDrained};
-ghost use Rattle.request_turns.specs.Turns.{look_in_place, next_in_place, notes_seen, HasLeft, IsBroken, WasDown, faulty_part};
+ghost use Rattle.request_turns.specs.Full.{IsFullInPlace, TakesWrite};
+ghost use Rattle.request_turns.specs.Turns.{look_in_place, next_in_place, notes_seen, faulty_part, HasLeftInPlace, StandsInPlace};
 ghost use Rattle.request_turns.specs.Written.{HasWritten, IsDiskFault};
 
 use crate::noted::{Memo, leave_noted_in_place};
@@ -99,11 +97,8 @@ fn leave_broken<D: Disk, B: Memo, N: Memo>(lock: &TurnLock<Manager<D>>, pass: &m
     requires own { IsPassOf lock.now pass.old }
     requires note { N.note ≡ note_of (pass_number pass.old) (Broke []) (look_in_place pass.old)
         B.note.passed false }
-    requires value { (m : Manager _) × IsInTurnWith m pass.old
-        × Stands D.tells D.state m (pass_lock pass.old).base (notes_seen pass.old ++ N.note ∷ []) }
-    ensures left { HasLeft D.tells N.note pass.old pass.new }
-    ensures broken { (m : Manager _) (p : Part) → IsInTurnWith m pass.old → m.down ≡ Some p
-        → WasDown p (notes_seen pass.new) }
+    requires value { StandsInPlace D.tells D.state N.note pass.old }
+    ensures { HasLeftInPlace D.tells N.note pass.old pass.new }
 {
     leave_noted_in_place::<D, N>(lock, pass);
 }
@@ -119,13 +114,8 @@ fn leave_drained<D: Disk, B: Memo, N: Memo>(
     requires own { IsPassOf lock.now pass.old }
     requires note { N.note ≡ note_of (pass_number pass.old) (written B.next lbn from.now answer.now)
         (look_in_place pass.old) B.note.passed (is_ok answer.now) }
-    requires value { (m : Manager _) × IsInTurnWith m pass.old
-        × Stands D.tells D.state m (pass_lock pass.old).base (notes_seen pass.old ++ N.note ∷ []) }
-    ensures left { HasLeft D.tells N.note pass.old pass.new }
-    ensures broken { (m : Manager _) (p : Part) → IsInTurnWith m pass.old → m.down ≡ Some p
-        → WasDown p (notes_seen pass.new) }
-    ensures unbroken { (m : Manager _) → IsInTurnWith m pass.old → m.down ≡ None
-        → IsBroken (notes_seen pass.new) → ⊥ }
+    requires value { StandsInPlace D.tells D.state N.note pass.old }
+    ensures { HasLeftInPlace D.tells N.note pass.old pass.new }
 {
     let _ = from;
     leave_noted_in_place::<D, N>(lock, pass);
@@ -145,22 +135,12 @@ fn write_home<D: Disk, R: Wait, B: Memo>(
     requires own { IsPassOf lock.now pass.old }
     requires client { pass_number pass.old ≡ worker }
     requires next { B.next ≡ next_in_place pass.old }
-    requires note { B.note.entry.operation ≡ Kept }
-    requires full { place_of B.note.passed
-        (last_look (pass_lock pass.old).base.volume.began.look (notes_seen pass.old))
-        (home_write lbn from.now) ≡ Nowhere }
     requires done { IsTakenOff done (last_look (pass_lock pass.old).base.volume.began.look
         (notes_seen pass.old)) (look_in_place pass.old) }
     requires bare { look_in_place pass.old
         ≡ drained (last_look (pass_lock pass.old).base.volume.began.look (notes_seen pass.old)) }
-    requires takes { CanTake (notes_seen pass.old)
-        (last_look (pass_lock pass.old).base.volume.began.look (notes_seen pass.old)) }
-    requires shared { IsShared shared.now (pass_lock pass.old).base }
-    requires count { (1 ≤ length from.now)
-        × (length from.now ≤ (pass_lock pass.old).base.volume.began.most) }
-    requires fits { lbn + length from.now ≤ (pass_lock pass.old).base.volume.began.home_blocks }
-    requires value { (m : Manager _) × IsInTurnWith m pass.old × (m.down ≡ None)
-        × Keeps D.tells D.state m (pass_lock pass.old).base (notes_seen pass.old ++ B.note ∷ []) }
+    requires blocks { TakesWrite shared.now lbn from.now (pass_lock pass.old).base }
+    requires refused { IsFullInPlace D.tells D.state lbn from.now B.note pass.old }
     ensures { HasWritten D.tells lbn from.now result tally.old tally.new pass.old pass.new }
 {
     let answer = lock.change(
@@ -189,20 +169,10 @@ pub(crate) fn drain_and_write<D: Disk, R: Wait, B: Memo>(
 ) -> Outcome
     requires own { IsPassOf lock.now pass.old }
     requires client { pass_number pass.old ≡ worker }
-    requires note { B.note.entry.operation ≡ Kept }
-    requires full { place_of B.note.passed
-        (last_look (pass_lock pass.old).base.volume.began.look (notes_seen pass.old))
-        (home_write lbn from.now) ≡ Nowhere }
     requires look { look_in_place pass.old
         ≡ last_look (pass_lock pass.old).base.volume.began.look (notes_seen pass.old) }
-    requires takes { CanTake (notes_seen pass.old)
-        (last_look (pass_lock pass.old).base.volume.began.look (notes_seen pass.old)) }
-    requires shared { IsShared shared.now (pass_lock pass.old).base }
-    requires count { (1 ≤ length from.now)
-        × (length from.now ≤ (pass_lock pass.old).base.volume.began.most) }
-    requires fits { lbn + length from.now ≤ (pass_lock pass.old).base.volume.began.home_blocks }
-    requires value { (m : Manager _) × IsInTurnWith m pass.old × (m.down ≡ None)
-        × Keeps D.tells D.state m (pass_lock pass.old).base (notes_seen pass.old ++ B.note ∷ []) }
+    requires blocks { TakesWrite shared.now lbn from.now (pass_lock pass.old).base }
+    requires refused { IsFullInPlace D.tells D.state lbn from.now B.note pass.old }
     ensures { HasWritten D.tells lbn from.now result tally.old tally.new pass.old pass.new }
 {
     let (answer, done) = lock.change(

@@ -1,5 +1,5 @@
 // Several writes of one volume in one turn: those that go to one log together leave one entry.
-ghost use Rattle.std.specs.Prelude.{ℕ, ◌≡◌, ◌++◌, ◌∷◌, [], ◌≤◌, ◌+◌, ◌^◌, false, None, Some, length, map, take, sum_by, vec_capacity};
+ghost use Rattle.std.specs.Prelude.{◌≡◌, ◌≤◌, ◌+◌, ◌^◌, false, length, map, take, sum_by, vec_capacity};
 ghost use Rattle.std.specs.List.{AllByRecursion, flat_map};
 ghost use Rattle.turn_lock.specs.Passes.{pass_lock, pass_number, IsPassOf, IsFree, IsInTurnWith};
 ghost use Rattle.wol_model.specs.History.{worker};
@@ -7,14 +7,13 @@ ghost use Rattle.log_segment.specs.Records.{count_of};
 ghost use Rattle.manager.specs.Groups.{AreItemsOf, run_writes, run_written};
 ghost use Rattle.manager.specs.Stands.{Stands, IsShared};
 ghost use Rattle.manager.specs.declared.manager.Manager.{Manager};
-ghost use Rattle.manager.specs.declared.part.Part.{Part};
 ghost use Rattle.request_turns.specs.Answered.{HasAnsweredMany};
 ghost use Rattle.request_turns.specs.Counts.{HasCounted};
 ghost use Rattle.request_turns.specs.Entries.{note_of};
 ghost use Rattle.request_turns.specs.Groups.{HasWrittenMany, item_of, blocks_of, answered_of};
 ghost use Rattle.request_turns.specs.Requests.{IsWithin};
 ghost use Rattle.request_turns.specs.Tried.{CanWriteSome, HasTriedSome};
-ghost use Rattle.request_turns.specs.Turns.{look_in_place, next_in_place, passed_in_place, notes_seen, HasLeft, IsBroken, WasDown};
+ghost use Rattle.request_turns.specs.Turns.{look_in_place, next_in_place, passed_in_place, notes_seen, HasLeftInPlace, StandsInPlace};
 
 use crate::drain::drain_and_write;
 use crate::noted::{Memo, leave_noted_in_place};
@@ -93,13 +92,8 @@ fn leave_run<D: Disk, B: Memo, N: Memo>(
         (run_written (run_writes B.next (take ran.now.items items.now) from.now ran.now.answer)
         ran.now.answer)
         (look_in_place pass.old) (passed_in_place pass.old) false }
-    requires value { (m : Manager _) × IsInTurnWith m pass.old
-        × Stands D.tells D.state m (pass_lock pass.old).base (notes_seen pass.old ++ N.note ∷ []) }
-    ensures left { HasLeft D.tells N.note pass.old pass.new }
-    ensures broken { (m : Manager _) (p : Part) → IsInTurnWith m pass.old → m.down ≡ Some p
-        → WasDown p (notes_seen pass.new) }
-    ensures unbroken { (m : Manager _) → IsInTurnWith m pass.old → m.down ≡ None
-        → IsBroken (notes_seen pass.new) → ⊥ }
+    requires value { StandsInPlace D.tells D.state N.note pass.old }
+    ensures { HasLeftInPlace D.tells N.note pass.old pass.new }
 {
     let _ = items;
     let _ = from;

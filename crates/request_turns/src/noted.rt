@@ -8,7 +8,7 @@ ghost use Rattle.manager.specs.Seen.{look_of_manager};
 ghost use Rattle.manager.specs.declared.manager.Manager.{Manager};
 ghost use Rattle.manager.specs.declared.part.Part.{Part};
 ghost use Rattle.request_turns.specs.Entries.{note_of, step_operation};
-ghost use Rattle.request_turns.specs.Turns.{look_in_place, notes_seen, HasLeft, IsBroken, WasDown};
+ghost use Rattle.request_turns.specs.Turns.{look_in_place, notes_seen, HasLeft, HasLeftInPlace, IsBroken, StandsInPlace, WasDown};
 
 use manager::Manager;
 use std::marker::Brand;
@@ -94,13 +94,8 @@ pub(crate) fn leave_noted_in_place<D: Disk, N: Memo>(
 )
     requires own { IsPassOf lock.now pass.old }
     requires number { N.note.entry.pass ≡ pass_number pass.old }
-    requires value { (m : Manager _) × IsInTurnWith m pass.old
-        × Stands D.tells D.state m (pass_lock pass.old).base (notes_seen pass.old ++ N.note ∷ []) }
-    ensures left { HasLeft D.tells N.note pass.old pass.new }
-    ensures broken { (m : Manager _) (p : Part) → IsInTurnWith m pass.old → m.down ≡ Some p
-        → WasDown p (notes_seen pass.new) }
-    ensures unbroken { (m : Manager _) → IsInTurnWith m pass.old → m.down ≡ None
-        → IsBroken (notes_seen pass.new) → ⊥ }
+    requires value { StandsInPlace D.tells D.state N.note pass.old }
+    ensures { HasLeftInPlace D.tells N.note pass.old pass.new }
 {
     lock.leave_in_place::<Brand>(pass);
 }

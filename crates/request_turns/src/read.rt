@@ -1,6 +1,6 @@
 // A read in one turn.
-ghost use Rattle.std.specs.Prelude.{ℕ, Some, ◌≡◌, ◌≤◌, ◌+◌, ◌++◌, ◌∷◌, [], false, length};
-ghost use Rattle.turn_lock.specs.Passes.{pass_lock, pass_number, IsPassOf, IsFree, IsInTurn, IsInTurnWith};
+ghost use Rattle.std.specs.Prelude.{Some, ◌≡◌, ◌≤◌, ◌+◌, ◌++◌, ◌∷◌, [], false, length};
+ghost use Rattle.turn_lock.specs.Passes.{pass_lock, pass_number, IsPassOf, IsFree, IsInTurn};
 ghost use Rattle.wol_model.specs.History.{worker};
 ghost use Rattle.manager.specs.Answers.{was_read};
 ghost use Rattle.manager.specs.Seen.{look_of_manager};
@@ -13,7 +13,7 @@ ghost use Rattle.request_turns.specs.Answered.{HasAnswered};
 ghost use Rattle.request_turns.specs.Blocks.{HasReadBlocks};
 ghost use Rattle.request_turns.specs.Counts.{ReclaimsNothing};
 ghost use Rattle.request_turns.specs.Tried.{CanRead, HasReplied};
-ghost use Rattle.request_turns.specs.Turns.{look_in_place, notes_seen, HasLeft, WasDown};
+ghost use Rattle.request_turns.specs.Turns.{look_in_place, notes_seen, HasLeft, WasDown, HasLeftInPlace, StandsInPlace};
 ghost use Rattle.request_turns.specs.Written.{HasRead};
 
 use crate::noted::{Memo, leave_noted, leave_noted_in_place};
@@ -144,11 +144,8 @@ fn leave_reply<D: Disk, N: Memo>(
     requires note { N.note
         ≡ note_of (pass_number pass.old) (was_read lbn reply.now.value.items answer.now)
         (look_in_place pass.old) [] false }
-    requires value { (m : Manager _) × IsInTurnWith m pass.old
-        × Stands D.tells D.state m (pass_lock pass.old).base (notes_seen pass.old ++ N.note ∷ []) }
-    ensures left { HasLeft D.tells N.note pass.old pass.new }
-    ensures broken { (m : Manager _) (p : Part) → IsInTurnWith m pass.old → m.down ≡ Some p
-        → WasDown p (notes_seen pass.new) }
+    requires value { StandsInPlace D.tells D.state N.note pass.old }
+    ensures { HasLeftInPlace D.tells N.note pass.old pass.new }
 {
     let _ = reply;
     leave_noted_in_place::<D, N>(lock, pass);

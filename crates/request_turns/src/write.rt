@@ -1,16 +1,16 @@
 // A write in one turn, after a drain where no log has room.
-ghost use Rattle.std.specs.Prelude.{ℕ, Some, ◌≡◌, ◌++◌, ◌∷◌, [], ◌≤◌, ◌+◌, false, None, length};
+ghost use Rattle.std.specs.Prelude.{◌≡◌, ◌≤◌, ◌+◌, false, length};
 ghost use Rattle.turn_lock.specs.Passes.{pass_lock, pass_number, IsPassOf, IsFree, IsInTurnWith};
 ghost use Rattle.wol_model.specs.History.{worker};
 ghost use Rattle.manager.specs.Answers.{written};
 ghost use Rattle.manager.specs.Stands.{Stands, IsShared};
 ghost use Rattle.manager.specs.declared.manager.Manager.{Manager};
-ghost use Rattle.manager.specs.declared.part.Part.{Part};
 ghost use Rattle.request_turns.specs.Entries.{note_of, written_outcome, is_full};
 ghost use Rattle.request_turns.specs.Blocks.{HasWrittenBlocks};
 ghost use Rattle.request_turns.specs.Counts.{HasCounted};
 ghost use Rattle.request_turns.specs.Tried.{CanWrite, HasTried};
-ghost use Rattle.request_turns.specs.Turns.{look_in_place, next_in_place, passed_in_place, notes_seen, HasLeft, IsBroken, WasDown};
+ghost use Rattle.request_turns.specs.Full.{TakesWrite};
+ghost use Rattle.request_turns.specs.Turns.{look_in_place, next_in_place, passed_in_place, notes_seen, HasLeftInPlace, StandsInPlace};
 ghost use Rattle.request_turns.specs.Written.{HasWritten};
 
 use crate::drain::drain_and_write;
@@ -67,13 +67,8 @@ fn leave_written<D: Disk, B: Memo, N: Memo>(
     requires own { IsPassOf lock.now pass.old }
     requires note { N.note ≡ note_of (pass_number pass.old) (written B.next lbn from.now answer.now)
         (look_in_place pass.old) (passed_in_place pass.old) false }
-    requires value { (m : Manager _) × IsInTurnWith m pass.old
-        × Stands D.tells D.state m (pass_lock pass.old).base (notes_seen pass.old ++ N.note ∷ []) }
-    ensures left { HasLeft D.tells N.note pass.old pass.new }
-    ensures broken { (m : Manager _) (p : Part) → IsInTurnWith m pass.old → m.down ≡ Some p
-        → WasDown p (notes_seen pass.new) }
-    ensures unbroken { (m : Manager _) → IsInTurnWith m pass.old → m.down ≡ None
-        → IsBroken (notes_seen pass.new) → ⊥ }
+    requires value { StandsInPlace D.tells D.state N.note pass.old }
+    ensures { HasLeftInPlace D.tells N.note pass.old pass.new }
 {
     let _ = from;
     leave_noted_in_place::<D, N>(lock, pass);
@@ -93,10 +88,7 @@ fn write_within<D: Disk, R: Wait, B: Memo>(
     requires own { IsPassOf lock.now pass.old }
     requires client { pass_number pass.old ≡ worker }
     requires next { B.next ≡ next_in_place pass.old }
-    requires shared { IsShared shared.now (pass_lock pass.old).base }
-    requires count { (1 ≤ length from.now)
-        × (length from.now ≤ (pass_lock pass.old).base.volume.began.most) }
-    requires fits { lbn + length from.now ≤ (pass_lock pass.old).base.volume.began.home_blocks }
+    requires blocks { TakesWrite shared.now lbn from.now (pass_lock pass.old).base }
     requires value { (m : Manager _) × IsInTurnWith m pass.old
         × Stands D.tells D.state m (pass_lock pass.old).base (notes_seen pass.old) }
     ensures { HasWritten D.tells lbn from.now result tally.old tally.new pass.old pass.new }

@@ -35,33 +35,16 @@ change-ran-requires-clause-work g c m at = let v = c.requires.value in let l = p
 pub slice_bounds-from-end : goal.slice_bounds-from-end
 slice_bounds-from-end g c = sym (length-take-le _ c.args.from.now (first_fits c.args.items.now c.args.from.now (record { lbn = 0; count = 0 }) c.requires.some c.requires.blocks))
 
-pub drain_and_write-outcome-requires-clause-shared : goal.drain_and_write-outcome-requires-clause-shared
-drain_and_write-outcome-requires-clause-shared g c = let v = c.requires.value in let k = c.change-ran.ensures in let w = k.worked v.0 v.1 in let p = c.args.pass.now in let i = c.change-ran.new.pass in let items = c.args.items.now in
-    at_still p i k.same k.seen (λ l es. IsShared c.args.shared.now l.base) c.requires.shared
-
-pub drain_and_write-outcome-requires-clause-count : goal.drain_and_write-outcome-requires-clause-count
-drain_and_write-outcome-requires-clause-count g c = let v = c.requires.value in let k = c.change-ran.ensures in let w = k.worked v.0 v.1 in let p = c.args.pass.now in let i = c.change-ran.new.pass in let items = c.args.items.now in
+pub drain_and_write-outcome-requires-clause-blocks : goal.drain_and_write-outcome-requires-clause-blocks
+drain_and_write-outcome-requires-clause-blocks g c = let k = c.change-ran.ensures in let p = c.args.pass.now in let i = c.change-ran.new.pass in let items = c.args.items.now in
     let other : Item = record { lbn = 0; count = 0 } in
     let one = first_item _ _ items other c.requires.some (at_still p i k.same k.seen (λ l es. AreItemsOf l.base.volume.began.most l.base.volume.began.home_blocks items) c.requires.items) in
     let long : length (take (get_or items 0 other).count c.args.from.now) ≡ (get_or items 0 other).count = length-take-le _ c.args.from.now (first_fits items c.args.from.now other c.requires.some c.requires.blocks) in
-    let some = one.some in let few = one.few in
-    (omega (arith, long, some), omega (arith, long, few))
-
-pub drain_and_write-outcome-requires-clause-fits : goal.drain_and_write-outcome-requires-clause-fits
-drain_and_write-outcome-requires-clause-fits g c = let v = c.requires.value in let k = c.change-ran.ensures in let w = k.worked v.0 v.1 in let p = c.args.pass.now in let i = c.change-ran.new.pass in let items = c.args.items.now in
-    let other : Item = record { lbn = 0; count = 0 } in
-    let one = first_item _ _ items other c.requires.some (at_still p i k.same k.seen (λ l es. AreItemsOf l.base.volume.began.most l.base.volume.began.home_blocks items) c.requires.items) in
-    let long : length (take (get_or items 0 other).count c.args.from.now) ≡ (get_or items 0 other).count = length-take-le _ c.args.from.now (first_fits items c.args.from.now other c.requires.some c.requires.blocks) in
-    let within = one.within in omega (arith, long, within)
-
-pub drain_and_write-outcome-requires-clause-full : goal.drain_and_write-outcome-requires-clause-full
-drain_and_write-outcome-requires-clause-full g c = let v = c.requires.value in let k = c.change-ran.ensures in let w = k.worked v.0 v.1 in let p = c.args.pass.now in let i = c.change-ran.new.pass in let items = c.args.items.now in
-    let n = c.change-ran.result.items in let a = c.change-ran.result.answer in let next = c.requires.next ∙ next_at v.0 p v.1 in
-    let t = between (HasTriedSome g.D.Disk.tells g.D.Disk.state items c.args.from.now c.change-ran.result) _ _ v.0 w.0 w.1.shows w.1.leaves w.1.met in
-    let other : Item = record { lbn = 0; count = 0 } in let f = first_here items c.args.from.now other c.requires.some in
-    at_still p i k.same k.seen (λ l es. place_of (passed_in_place i) (last_look l.base.volume.began.look (notes_of es)) (home_write (get_or items 0 other).lbn (take (get_or items 0 other).count c.args.from.now)) ≡ Nowhere)
-    ((λ t. place_of (passed_at w.0 i w.2 t) (last_look (pass_lock p).base.volume.began.look (notes_seen p)) (home_write (sym f.0 t) (sym f.1 t)))
-    ∙ full_place v.0 w.0 (first_lbn items) (first_blocks items c.args.from.now) a (sym c.is_full.ensures ∙ c.if-is_full.true) _ v.2.look _ t.placed)
+    let some = one.some in let few = one.few in let within = one.within in record {
+      at = at_still p i k.same k.seen (λ l es. IsShared c.args.shared.now l.base) c.requires.shared;
+      count = (omega (arith, long, some), omega (arith, long, few));
+      fits = omega (arith, long, within);
+    }
 
 pub drain_and_write-outcome-requires-clause-look : goal.drain_and_write-outcome-requires-clause-look
 drain_and_write-outcome-requires-clause-look g c = let v = c.requires.value in let k = c.change-ran.ensures in let w = k.worked v.0 v.1 in let p = c.args.pass.now in let i = c.change-ran.new.pass in let items = c.args.items.now in
@@ -70,24 +53,26 @@ drain_and_write-outcome-requires-clause-look g c = let v = c.requires.value in l
     at_still p i k.same k.seen (λ l es. look_in_place i ≡ last_look l.base.volume.began.look (notes_of es))
     (look_at w.0 i w.2 ∙ full_group_look _ g.D.Disk.state v.0 w.0 items c.args.from.now n a _ next t.run t.unchanged (sym c.is_full.ensures ∙ c.if-is_full.true) _ v.2.look)
 
-pub drain_and_write-outcome-requires-clause-takes : goal.drain_and_write-outcome-requires-clause-takes
-drain_and_write-outcome-requires-clause-takes g c = let v = c.requires.value in let k = c.change-ran.ensures in let w = k.worked v.0 v.1 in let p = c.args.pass.now in let i = c.change-ran.new.pass in let items = c.args.items.now in
+pub drain_and_write-outcome-requires-clause-refused : goal.drain_and_write-outcome-requires-clause-refused
+drain_and_write-outcome-requires-clause-refused g c = let v = c.requires.value in let k = c.change-ran.ensures in let w = k.worked v.0 v.1 in let p = c.args.pass.now in let i = c.change-ran.new.pass in let items = c.args.items.now in
     let n = c.change-ran.result.items in let a = c.change-ran.result.answer in let next = c.requires.next ∙ next_at v.0 p v.1 in
     let t = between (HasTriedSome g.D.Disk.tells g.D.Disk.state items c.args.from.now c.change-ran.result) _ _ v.0 w.0 w.1.shows w.1.leaves w.1.met in
-    at_still p i k.same k.seen (λ l es. CanTake (notes_of es) (last_look l.base.volume.began.look (notes_of es)))
-    (full_takes _ _ v.0 _ _ v.2.keeps _ v.2.look a (sym c.is_full.ensures ∙ c.if-is_full.true) t.down t.versions)
-
-pub drain_and_write-outcome-requires-clause-value : goal.drain_and_write-outcome-requires-clause-value
-drain_and_write-outcome-requires-clause-value g c = let v = c.requires.value in let k = c.change-ran.ensures in let w = k.worked v.0 v.1 in let p = c.args.pass.now in let i = c.change-ran.new.pass in let items = c.args.items.now in
-    let n = c.change-ran.result.items in let a = c.change-ran.result.answer in let next = c.requires.next ∙ next_at v.0 p v.1 in
-    let t = between (HasTriedSome g.D.Disk.tells g.D.Disk.state items c.args.from.now c.change-ran.result) _ _ v.0 w.0 w.1.shows w.1.leaves w.1.met in
-    let full = sym c.is_full.ensures ∙ c.if-is_full.true in (
-      w.0,
-      w.2,
-      full_up v.0 w.0 (first_lbn items) (first_blocks items c.args.from.now) a full _ v.2.look g.D.Disk.state t.down t.fault,
-      keeps_at p i k.same k.seen _ _ w.0 _ _ (full_note_at p i k.same k.seen w.0 w.2)
-          (full_group_keeps _ g.D.Disk.state v.0 w.0 items c.args.from.now n a _ next t.run t.unchanged full _ v.2.look _ _ _ c.requires.client v.2.keeps),
-    )
+    let other : Item = record { lbn = 0; count = 0 } in let f = first_here items c.args.from.now other c.requires.some in
+    let full = sym c.is_full.ensures ∙ c.if-is_full.true in record {
+      kept = refl;
+      full = at_still p i k.same k.seen (λ l es. place_of (passed_in_place i) (last_look l.base.volume.began.look (notes_of es)) (home_write (get_or items 0 other).lbn (take (get_or items 0 other).count c.args.from.now)) ≡ Nowhere)
+          ((λ t. place_of (passed_at w.0 i w.2 t) (last_look (pass_lock p).base.volume.began.look (notes_seen p)) (home_write (sym f.0 t) (sym f.1 t)))
+          ∙ full_place v.0 w.0 (first_lbn items) (first_blocks items c.args.from.now) a full _ v.2.look _ t.placed);
+      takes = at_still p i k.same k.seen (λ l es. CanTake (notes_of es) (last_look l.base.volume.began.look (notes_of es)))
+          (full_takes _ _ v.0 _ _ v.2.keeps _ v.2.look a full t.down t.versions);
+      value = (
+        w.0,
+        w.2,
+        full_up v.0 w.0 (first_lbn items) (first_blocks items c.args.from.now) a full _ v.2.look g.D.Disk.state t.down t.fault,
+        keeps_at p i k.same k.seen _ _ w.0 _ _ (full_note_at p i k.same k.seen w.0 w.2)
+            (full_group_keeps _ g.D.Disk.state v.0 w.0 items c.args.from.now n a _ next t.run t.unchanged full _ v.2.look _ _ _ c.requires.client v.2.keeps),
+      );
+    }
 
 first_of : (items : List Item) (d : Item) → 1 ≤ length items → get_or items 0 d ∷ drop 1 items ≡ items
 first_of [] d some = absurd (omega arith)

@@ -1,0 +1,33 @@
+-- A write within a turn, and one for which no log had room.
+use Rattle.std.specs.Prelude.{◌≡◌, ◌≤◌, ◌+◌, ◌∷◌, ◌++◌, ℕ, Bool, List, [], None, length}
+use Rattle.turn_lock.specs.Passes.{pass_lock, IsInTurnWith}
+use Rattle.wol_disk.specs.Disk.{State, Block}
+use Rattle.wol_model.specs.History.{Kept}
+use Rattle.wol_model.specs.Placing.{Full}
+use Rattle.wol_promise.specs.Policy.{place_of}
+use Rattle.wol_promise.specs.Ruled.{Noted, last_look}
+use Rattle.logger.specs.declared.shared.Shared.{Shared}
+use Rattle.manager.specs.Answers.{home_write}
+use Rattle.manager.specs.Stands.{Keeps, IsShared}
+use Rattle.manager.specs.declared.base.ManagerBase.{ManagerBase}
+use Rattle.manager.specs.declared.manager.Manager.{Manager}
+use Rattle.request_turns.specs.Causes.{CanTake}
+use Rattle.request_turns.specs.Turns.{ManagerPass, began, notes_seen}
+
+-- a volume with this base takes a write of these blocks from `first` on
+pub record TakesWrite {D : Type 0} (shared : Shared D) (first : ℕ) (blocks : List Block)
+    (b : ManagerBase) : Type 0 where
+  pub at : IsShared shared b
+  pub count : (1 ≤ length blocks) × (length blocks ≤ b.volume.began.most)
+  pub fits : first + length blocks ≤ b.volume.began.home_blocks
+
+-- In a turn that keeps the manager in its place no log had room for a write of these blocks. The
+-- entry has what it passed by, and the manager, which is up, would keep for it.
+pub record IsFullInPlace {D : Type 0} (tells : Bool) (state : D → State) (first : ℕ)
+    (blocks : List Block) (n : Noted) (p : ManagerPass D) : Type 0 where
+  pub kept : n.entry.operation ≡ Kept
+  pub full : place_of n.passed (last_look (began p).look (notes_seen p)) (home_write first blocks)
+      ≡ Full
+  pub takes : CanTake (notes_seen p) (last_look (began p).look (notes_seen p))
+  pub value : (m : Manager D) × IsInTurnWith m p × (m.down ≡ None)
+      × Keeps tells state m (pass_lock p).base (notes_seen p ++ n ∷ [])
