@@ -1,9 +1,10 @@
 -- A group of records: what a stop leaves of it, and what it is once it is whole.
 use Rattle.std.proofs.Common.{◌≡◌, ◌⊎◌, inl, inr, ⊎_elim, ℕ, zero, suc, ◌+◌, ◌-◌, ◌^◌, ◌<◌, ◌≤◌, true, Bool, cond, eqb, not, List, [], ◌∷◌, ◌++◌, length, take, drop, refl, sym, ◌∙◌, ap, subst, arith, append_assoc, length-append, length-drop}
+use Rattle.std.specs.Prelude.{slice_index_or}
 use Rattle.std.specs.List.{flat_map, AllByRecursion}
 use Rattle.std.proofs.lemmas.Grind.{flat_map-append}
 use Rattle.std.proofs.lemmas.Bool.{ne_eqb}
-use Rattle.std.proofs.lemmas.List.{length-take-le, take_all}
+use Rattle.std.proofs.lemmas.List.{length-take-le, take_all, drop_more}
 use Rattle.std.proofs.lemmas.List.Sums.{sum_by-append, sum_by-cons}
 use Rattle.wol_disk.specs.Disk.{Block, IsBlend}
 use Rattle.wol_model.specs.Heads.{RecordHead, IsRecordHead, head_block, owned_block, gate_block}
@@ -22,6 +23,13 @@ blend_of_same (x ∷ xs) (z ∷ c) b = λ i. ⊎_elim (λ p. p) (λ p. p) b.0 i 
 -- the items' blocks, one item at a time
 pub count_more : (i : Item) (items : List Item) (n : ℕ) → count_of (i ∷ items) ≡ n → i.count + count_of items ≡ n
 count_more i items n e = sym (sum_by-cons (λ (j : Item). j.count) i items) ∙ e
+
+-- the item at an index, which stands in front of those behind it
+abbrev pub item_at : List Item → (index : ℕ) → Item
+item_at items index = slice_index_or items index (record { lbn = 0; count = 0 })
+
+pub from_item : (items : List Item) (index : ℕ) → index < length items → drop index items ≡ item_at items index ∷ drop (index + 1) items
+from_item items index lt = drop_more items index (record { lbn = 0; count = 0 }) lt
 
 -- each item has a block
 pub one_each : (items : List Item) → AreItems items → length items ≤ count_of items

@@ -8,13 +8,13 @@ use Rattle.wol_disk.specs.declared.disk.Failed.{Failed}
 use Rattle.wol_disk.proofs.Moments.{then_leaves, widened}
 use Rattle.wol_model.specs.Blocks.{AreApart}
 use Rattle.wol_model.specs.Heads.{RecordHead}
-use Rattle.wol_model.specs.Log.{Record, IsLog}
+use Rattle.wol_model.specs.Log.{Record, IsLog, position_of}
 use Rattle.turn_lock.specs.Passes.{pass_mine}
 use Rattle.turn_lock.specs.declared.pass.PassOf.{PassOf}
 use Rattle.seg_pool.specs.declared.base.PoolBase.{PoolBase}
 use Rattle.seg_pool.specs.declared.pool.Pool.{Pool}
 use Rattle.log_segment.specs.Kept.{IsKeptOrTrimmed}
-use Rattle.log_segment.specs.Records.{trimmed}
+use Rattle.log_segment.specs.Records.{IsSameHead, trimmed}
 use Rattle.log_segment.specs.Segment.{IsSegment, IsBlank, IsSame, Holds, disk_of, segment_volume, owner_of, blocks_of, place_of, valid_of}
 use Rattle.log_segment.specs.declared.free.FreeSegment.{FreeSegment}
 use Rattle.logger.specs.Lanes.{IsHeld, CutDown, GaveUp, Stayed, Trimmed, in_place, not_freed, IsHeadAt, IsBareAfter, held_in, pool_of}
@@ -49,6 +49,22 @@ module _ {D : Type 0} (state : D → State) where
     pub ok : (rs : List Record) (j : ℕ) (r : Record) → Holds state o.segment rs → IsHeadAt rs j r pos head → Holds state n.segment (set rs j (trimmed keep r))
     pub any_moment : (rs : List Record) (j : ℕ) (r : Record) → Holds state o.segment rs → IsHeadAt rs j r pos head → LeavesOnly (disk_of state o.segment) (disk_of state n.segment) (IsKeptOrTrimmed (owner_of o.segment) rs j (trimmed keep r))
     pub calm : (disk_of state n.segment).faults ≡ (disk_of state o.segment).faults
+
+  -- from what the trim said
+  pub bared : (o n : HeldSegment D) (pos : ℕ) (head : RecordHead) (keep : ℕ) → n.index ≡ o.index → IsSame o.segment n.segment → place_of n.segment ≡ place_of o.segment → valid_of n.segment ≡ 0 → valid_of n.segment ≡ valid_of o.segment - (if keep == 0 then 1 else 0)
+      → ((rs : List Record) (j : ℕ) (r : Record) → Holds state o.segment rs → slice_get rs j ≡ Some r → pos ≡ position_of rs j → IsSameHead head r.head → Holds state n.segment (set rs j (trimmed keep r)))
+      → ((rs : List Record) (j : ℕ) (r : Record) → Holds state o.segment rs → slice_get rs j ≡ Some r → pos ≡ position_of rs j → IsSameHead head r.head → LeavesOnly (disk_of state o.segment) (disk_of state n.segment) (IsKeptOrTrimmed (owner_of o.segment) rs j (trimmed keep r)))
+      → (disk_of state n.segment).faults ≡ (disk_of state o.segment).faults → IsBared o n pos head keep
+  bared o n pos head keep index same end bare fewer ok any_moment calm = record {
+    index = index;
+    same = same;
+    end = end;
+    bare = bare;
+    fewer = fewer;
+    ok = λ rs j r h at. ok rs j r h at.there at.position at.same_head;
+    any_moment = λ rs j r h at. any_moment rs j r h at.there at.position at.same_head;
+    calm = calm;
+  }
 
   bare_after : (o n : HeldSegment D) (pos : ℕ) (head : RecordHead) (keep : ℕ) → IsBared o n pos head keep → IsBareAfter state o.segment pos head keep
   bare_after o n pos head keep b rs j r h at = sym (b.ok rs j r h at).valid ∙ b.bare

@@ -1,13 +1,12 @@
 use Rattle.std.proofs.Common.{◌≡◌, ℕ, ◌+◌, ◌≤◌, List, [], ◌∷◌, length, take, drop, refl, sym, ◌∙◌, ap, subst, arith, length-drop}
-use Rattle.std.specs.Prelude.{slice_index_or}
-use Rattle.std.proofs.lemmas.List.{drop_more, drop-drop, drop_all}
+use Rattle.std.proofs.lemmas.List.{drop-drop, drop_all}
 use Rattle.std.proofs.lemmas.Result.{on_ok_weaker}
 use Rattle.wol_disk.proofs.Moments.{started}
 use Rattle.wol_disk.proofs.Calls.{settled_only, sync_goes_on}
 use Rattle.spin_model.specs.Spun.{disk_of}
 use Rattle.log_segment.specs.declared.item.Item.{Item}
 use Rattle.log_segment.specs.Records.{count_of}
-use Rattle.log_segment.proofs.Grouped.{count_more}
+use Rattle.log_segment.proofs.Grouped.{count_more, from_item, item_at}
 use Rattle.log_segment.proofs.Progress.{IsLaid, laid_none, laid_more, laid_all, front_stays}
 use Rattle.log_segment.proofs.Told.{reads_settled}
 use Rattle.log_segment.proofs.group.lay_group.Goals as goal
@@ -32,14 +31,10 @@ returns-in_err-lay_blocks-clause-any_moment g c bs is =
 pub loop-item-preserved : goal.loop-item-preserved
 loop-item-preserved g c =
     let i = c.loop-item.invariant in
-    let items = c.args.items.now in
+    let items = c.args.items.now in let index = c.loop-item.item-index in let item = item_at items index in let rest = drop (index + 1) items in
+    let more = from_item items index c.loop-item-test.true in
     let from = c.args.from.now in
-    let index = c.loop-item.item-index in
     let laid = c.loop-item.laid in
-    let other : Item = record { lbn = 0; count = 0 } in
-    let item : Item = slice_index_or items index other in
-    let rest = drop (index + 1) items in
-    let more : drop index items ≡ item ∷ rest = drop_more items index other c.loop-item-test.true in
     let counted : item.count + count_of rest ≡ count_of (drop index items) = count_more item rest (count_of (drop index items)) (ap count_of (sym more)) in
     let fits : item.count ≤ length (drop laid from) = omega (arith, length-drop laid from, i.left, counted) in
     record {

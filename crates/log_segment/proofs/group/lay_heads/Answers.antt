@@ -1,7 +1,6 @@
 use Rattle.std.proofs.Common.{◌≡◌, ◌+◌, List, [], ◌∷◌, ◌++◌, length, drop, refl, sym, ◌∙◌, ap, subst, arith}
-use Rattle.std.specs.Prelude.{slice_index_or}
 use Rattle.std.specs.List.{flat_map}
-use Rattle.std.proofs.lemmas.List.{drop_more, drop_all}
+use Rattle.std.proofs.lemmas.List.{drop_all}
 use Rattle.std.proofs.lemmas.Result.{on_ok_weaker}
 use Rattle.wol_disk.proofs.Calls.{sync_goes_on}
 use Rattle.wol_model.specs.Heads.{IsRecordHead, head_block}
@@ -10,7 +9,7 @@ use Rattle.spin_model.specs.Spun.{disk_of}
 use Rattle.log_segment.specs.declared.item.Item.{Item}
 use Rattle.log_segment.specs.Group.{without_heads}
 use Rattle.log_segment.specs.Records.{count_of, group_of, AreItems}
-use Rattle.log_segment.proofs.Grouped.{count_more, head_in_range}
+use Rattle.log_segment.proofs.Grouped.{count_more, from_item, item_at, head_in_range}
 use Rattle.log_segment.proofs.Progress.{IsHeaded, headed_none, headed_more, headed_all, heads_leave}
 use Rattle.log_segment.proofs.Told.{reads_settled}
 use Rattle.log_segment.proofs.group.lay_heads.Goals as goal
@@ -29,12 +28,8 @@ loop-item-init g c = record {
 pub put_head-requires-clause-head : goal.put_head-requires-clause-head
 put_head-requires-clause-head g c =
     let i = c.loop-item.invariant in
-    let items = c.args.items.now in
-    let index = c.loop-item.item-index in
-    let other : Item = record { lbn = 0; count = 0 } in
-    let item : Item = slice_index_or items index other in
-    let rest = drop (index + 1) items in
-    let more : drop index items ≡ item ∷ rest = drop_more items index other c.loop-item-test.true in
+    let items = c.args.items.now in let index = c.loop-item.item-index in let item = item_at items index in let rest = drop (index + 1) items in
+    let more = from_item items index c.loop-item-test.true in
     let are : AreItems (item ∷ rest) = subst AreItems more i.are in
     subst IsRecordHead (sym c.new_head-head.ensures)
     (head_in_range c.args.owner c.loop-item.next item.lbn item.count (omega (arith, c.ranges.owner)) (i.versions.0, omega (arith, i.versions.1, ap length more)) (are.0.0, are.0.1) are.0.2)
@@ -42,12 +37,8 @@ put_head-requires-clause-head g c =
 pub returns-in_err-put_head-clause-any_moment : goal.returns-in_err-put_head-clause-any_moment
 returns-in_err-put_head-clause-any_moment g c front rest from place total is =
     let i = c.loop-item.invariant in
-    let items = c.args.items.now in
-    let index = c.loop-item.item-index in
-    let other : Item = record { lbn = 0; count = 0 } in
-    let item : Item = slice_index_or items index other in
-    let later = drop (index + 1) items in
-    let more : drop index items ≡ item ∷ later = drop_more items index other c.loop-item-test.true in
+    let items = c.args.items.now in let index = c.loop-item.item-index in let item = item_at items index in let later = drop (index + 1) items in
+    let more = from_item items index c.loop-item-test.true in
     let none = front ++ (without_heads items from ++ rest) in
     let all = front ++ (flat_map written (group_of c.args.owner c.args.version items from) ++ rest) in
     let start = g.D.Disk.state (disk_of c.args.part.now) in
@@ -58,12 +49,8 @@ returns-in_err-put_head-clause-any_moment g c front rest from place total is =
 pub loop-item-preserved : goal.loop-item-preserved
 loop-item-preserved g c =
     let i = c.loop-item.invariant in
-    let items = c.args.items.now in
-    let index = c.loop-item.item-index in
-    let other : Item = record { lbn = 0; count = 0 } in
-    let item : Item = slice_index_or items index other in
-    let later = drop (index + 1) items in
-    let more : drop index items ≡ item ∷ later = drop_more items index other c.loop-item-test.true in
+    let items = c.args.items.now in let index = c.loop-item.item-index in let item = item_at items index in let later = drop (index + 1) items in
+    let more = from_item items index c.loop-item-test.true in
     let counted : item.count + count_of later ≡ count_of (drop index items) = count_more item later (count_of (drop index items)) (ap count_of (sym more)) in
     let are : AreItems (item ∷ later) = subst AreItems more i.are in
     let start = g.D.Disk.state (disk_of c.args.part.now) in

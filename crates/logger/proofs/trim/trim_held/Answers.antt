@@ -7,7 +7,7 @@ use Rattle.logger.specs.Lanes.{CutDown}
 use Rattle.logger.specs.Trims.{Freed, NotFreed, stays, freed, could_not}
 use Rattle.logger.specs.declared.lane.HeldSegment.{HeldSegment}
 use Rattle.logger.proofs.Held.{there_get, within, get-set, remove-set, set-set}
-use Rattle.logger.proofs.Trimming.{IsBared, gave_up, stayed, cut_as}
+use Rattle.logger.proofs.Trimming.{bared, gave_up, stayed, cut_as}
 use Rattle.logger.proofs.Results.{on_err}
 use Rattle.logger.proofs.trim.trim_held.Goals as goal
 
@@ -71,19 +71,10 @@ returns-in_err-freed-clause-cut g c =
     let there = there_get items p o (within items p s.segment s.there) c.index_mut.ensures.value in
     let n : HeldSegment g.row.D.Denot = record { index = o.index; segment = c.trim.new.self } in
     let st = c.in_err-freed.ensures.err in
-    let bared : IsBared state o n c.args.pos (record_head c.args.head.now) c.args.keep = record {
-      index = refl;
-      same = a.same;
-      end = a.place;
-      bare = omega (arith, c.valid.ensures, c.if-valid-gt0.false);
-      fewer = k.valid;
-      ok = λ rs j q h at. k.ok rs j q h at.there at.position at.same_head;
-      any_moment = λ rs j q h at. a.any_moment rs j q h at.there at.position at.same_head;
-      calm = k.calm;
-    } in
+    let b = bared state o n c.args.pos (record_head c.args.head.now) c.args.keep refl a.same a.place (omega (arith, c.valid.ensures, c.if-valid-gt0.false)) k.valid k.ok a.any_moment k.calm in
     let is = same_Some st.segment n (sym st.there ∙ get-set items p o n there) in
     could_not o st.after there (st.held ∙ set-set items p n st.after) st.stays.shape (ap is_err (err_from_is_err_and c.from_residual-in_err-freed.result c.from_residual-in_err-freed.ensures.1).1)
-    (stayed state o n st.after c.args.pos (record_head c.args.head.now) c.args.keep bared (subst (λ (h : HeldSegment g.row.D.Denot). NotFreed state h st.after) is st.stays))
+    (stayed state o n st.after c.args.pos (record_head c.args.head.now) c.args.keep b (subst (λ (h : HeldSegment g.row.D.Denot). NotFreed state h st.after) is st.stays))
 
 pub returns-clause-cut : goal.returns-clause-cut
 returns-clause-cut g c =
@@ -91,15 +82,6 @@ returns-clause-cut g c =
     let there = there_get items p o (within items p s.segment s.there) c.index_mut.ensures.value in
     let n : HeldSegment g.row.D.Denot = record { index = o.index; segment = c.trim.new.self } in
     let fr = c.in_ok-freed.ensures.ok in let f = c.in_ok-freed.freed in
-    let bared : IsBared state o n c.args.pos (record_head c.args.head.now) c.args.keep = record {
-      index = refl;
-      same = a.same;
-      end = a.place;
-      bare = omega (arith, c.valid.ensures, c.if-valid-gt0.false);
-      fewer = k.valid;
-      ok = λ rs j q h at. k.ok rs j q h at.there at.position at.same_head;
-      any_moment = λ rs j q h at. a.any_moment rs j q h at.there at.position at.same_head;
-      calm = k.calm;
-    } in
+    let b = bared state o n c.args.pos (record_head c.args.head.now) c.args.keep refl a.same a.place (omega (arith, c.valid.ensures, c.if-valid-gt0.false)) k.valid k.ok a.any_moment k.calm in
     let is = same_Some fr.segment n (sym fr.there ∙ get-set items p o n there) in
-    freed o f there (fr.gone ∙ remove-set items p n) refl (gave_up state o n f c.args.pos (record_head c.args.head.now) c.args.keep bared (subst (λ (h : HeldSegment g.row.D.Denot). Freed state h f) is fr.freed))
+    freed o f there (fr.gone ∙ remove-set items p n) refl (gave_up state o n f c.args.pos (record_head c.args.head.now) c.args.keep b (subst (λ (h : HeldSegment g.row.D.Denot). Freed state h f) is fr.freed))
