@@ -1,14 +1,13 @@
 -- Blocks that go are given up: whichever images the segment had since, the same is recovered, also where the call failed or was stopped.
-use Rattle.std.proofs.Common.{◌≡◌, ◌⊎◌, inl, inr, ⊎_elim, ◌<◌, ◌≤◌, ◌^◌, ℕ, Bool, true, false, List, [], ◌∷◌, ◌++◌, length, Option, None, Some, refl, sym, ap, subst, ◌∙◌, arith, bit_and}
-use Rattle.std.specs.Prelude.{⊤, IsTrue, Contains, slice_get, slice_set, remove}
+use Rattle.std.proofs.Common.{◌≡◌, ◌⊎◌, inl, inr, ⊎_elim, ◌<◌, ◌≤◌, ◌^◌, ℕ, Bool, true, false, List, [], ◌∷◌, ◌++◌, length, None, Some, refl, sym, ap, subst, ◌∙◌, arith, bit_and}
+use Rattle.std.specs.Prelude.{⊤, IsTrue, slice_get, slice_set, remove}
 use Rattle.std.specs.Int.{bit_not, w128}
-use Rattle.std.specs.List.{AllZip}
 use Rattle.std.specs.Option.{option_map}
 use Rattle.std.proofs.Math.ListN.{length-set}
 use Rattle.std.proofs.lemmas.Option.{slice_get-map}
-use Rattle.wol_disk.specs.Disk.{State, Block, Values, IsDisk, IsImageOf, LeavesOnly, Rose}
+use Rattle.wol_disk.specs.Disk.{State, Block, IsDisk, IsImageOf, LeavesOnly, Rose}
 use Rattle.wol_disk.proofs.Calls.{now_leaves}
-use Rattle.wol_disk.proofs.Moments.{then_leaves, widened}
+use Rattle.wol_disk.proofs.Moments.{widened}
 use Rattle.wol_model.specs.Extents.{Extent, AreDistinct, covers_of, may_go}
 use Rattle.wol_model.specs.History.{Broke, writes, IsCut}
 use Rattle.wol_model.specs.Holding.{Holds as HoldsArray}
@@ -30,7 +29,7 @@ use Rattle.wol_promise.specs.Ruled.{Noted, entries_of}
 use Rattle.wol_promise.specs.Stands.{LieInHome, Upholds, StandsFor, StopsSafely, IsWhole}
 use Rattle.wol_promise.proofs.Choices.{AreLogs}
 use Rattle.wol_promise.proofs.Covers.{goes_is_may_go}
-use Rattle.wol_promise.proofs.Lists.{all_parts, all_mid, all_joined, member_of, member_behind}
+use Rattle.wol_promise.proofs.Lists.{all_parts, all_mid, all_joined}
 use Rattle.wol_promise.proofs.LogWrites.{says_owner, around}
 use Rattle.wol_promise.proofs.Retires.{AreEmpty}
 use Rattle.wol_promise.proofs.SoundSegments.{IsSoundBetween, sound_log, sound_idle, sound_trimmed}
@@ -39,20 +38,18 @@ use Rattle.wol_promise.proofs.Trims.{trimmed}
 use Rattle.manager.specs.Reading.{IsReadThrough}
 use Rattle.manager.specs.Seen.{Logs, AllLanesHold, parts_of, seen, all_held}
 use Rattle.manager.specs.Stands.{Keeps, IsReady}
-use Rattle.manager.specs.Stops.{ImageSince, HeldSince, was_held, was_free}
+use Rattle.manager.specs.Stops.{ImageSince, HeldSince}
 use Rattle.manager.specs.declared.base.ManagerBase.{ManagerBase}
 use Rattle.manager.specs.declared.manager.Manager.{Manager}
 use Rattle.manager.proofs.DropKeeps.{none_valid, named_trimmed}
 use Rattle.manager.proofs.DropPiece.{Piece, piece, was_held as its_held, was_lane as its_lane, set_mid, GoneLanes, gone_lanes}
 use Rattle.listed_records.proofs.Entries.{At, among, kept_marks, keep_within}
 use Rattle.listed_records.proofs.Elements.{all_at, get_set}
-use Rattle.volume_parts.proofs.Lanes.{held_as, InLanes, in_lanes, same_place}
-use Rattle.volume_parts.proofs.Held.{IsMoved}
-use Rattle.manager.proofs.Moments.{stops_so}
+use Rattle.volume_parts.proofs.Lanes.{held_as, InLanes, in_lanes}
 use Rattle.manager.proofs.Putting.{Pieces, pieces_failed}
 use Rattle.manager.proofs.ReadContent.{unbroken, upholds_up}
+use Rattle.manager.proofs.SinceReads.{home_since, logs_around, image_since, stops_with}
 use Rattle.manager.proofs.ReadKeeps.{held_read, upholds_read}
-use Rattle.manager.proofs.ReadStops.{moved, logs as logs_read}
 use Rattle.listed_records.proofs.Vanishes.{gives_up, holds_trimmed, holds_without, three_stops, segment_breaks}
 use Rattle.manager.proofs.WentHome.{risen}
 use Rattle.manager.specs.declared.part.Part.TheVariants as part
@@ -247,12 +244,6 @@ module _ {D : Type 0} (tells : Bool) (state : D → State) (sound : (d : D) → 
 
 -- ---- at any moment since an earlier one, after which there were reads alone
 
-pub partner : {X Y : Type 0} (R : X → Y → Type 0) (xs : List X) (front : List Y) (y : Y) (back : List Y) → AllZip R xs (front ++ y ∷ back) → (x : X) × Contains xs x × R x y
-partner R [] [] y back zip = absurd zip
-partner R [] (z ∷ front) y back zip = absurd zip
-partner R (x ∷ xs) [] y back zip = (x, member_of (x ∷ xs) x 0 refl, zip.0)
-partner R (x ∷ xs) (z ∷ front) y back zip = let rest = partner R xs front y back zip.1 in (rest.0, member_behind x xs rest.0 rest.1, rest.2)
-
 module _ {D : Type 0} (tells : Bool) (state : D → State) (sound : (d : D) → IsDisk (state d)) (told : IsTrue tells) (was m : Manager D) (read : IsReadThrough state was m) (ready : IsReady state m) (was_up : was.down ≡ None) (up : m.down ≡ None)
     (b : ManagerBase) (notes : List Noted) (kw : Keeps tells state was b notes)
     (k : ℕ) (old new : Lane D) (lane : slice_get m.lanes.items k ≡ Some old) (i : ℕ) (o : HeldSegment D) (there : slice_get (held_in old) i ≡ Some o)
@@ -260,9 +251,6 @@ module _ {D : Type 0} (tells : Bool) (state : D → State) (sound : (d : D) → 
     (few : length e.listed.keep ≤ 128) (given : ℕ) (fits : given < 2 ^ 128) (bits : IsMask e.listed.first (goes (listed_in m.index.entries) e.listed) given) where
   abbrev RThen : HeldSegment D → List Record → Type 0
   RThen h rs = IsTrue tells → m.down ≡ None → Holds state h.segment rs
-
-  abbrev olds : List (Held (Spun D))
-  olds = all_held 0 was.lanes.items kw.logs
 
   held_then : AllLanesHold (λ h rs. IsTrue tells → m.down ≡ None → Holds state h.segment rs) m.lanes.items kw.logs
   held_then = held_read tells state was m b notes read ready was_up kw
@@ -272,15 +260,6 @@ module _ {D : Type 0} (tells : Bool) (state : D → State) (sound : (d : D) → 
 
   pub owned_then : m.id ≡ b.volume.began.owner
   owned_then = read.same.id ∙ kw.locks.owner
-
-  moved_then : AllZip (IsMoved state b.volume.began.owner) (all_held 0 was.lanes.items kw.logs) (all_held 0 m.lanes.items kw.logs)
-  moved_then = moved tells state sound told was b notes kw m read ready was_up
-
-  logs_then : AreLogs (HeldSince state (all_held 0 was.lanes.items kw.logs) None) b.volume.began.owner (all_held 0 m.lanes.items kw.logs)
-  logs_then = logs_read tells state sound told was b notes kw m read ready was_up
-
-  home_image : (home : List Block) → ImageSince state was.home m.home home → IsImageOf (state_of state m.home).values home
-  home_image home image = subst (λ (v : Option (List (Values Block))). IsImageOf v home) (sym read.home.values) (read.home.any_moment.each home image)
 
   abbrev StopsHere : List (Lane D) → Type 0
   StopsHere lanes = (before after : Logs) → AllLanesHold (λ h rs. ⊤) was.lanes.items before → AllLanesHold (λ h rs. ⊤) lanes after
@@ -307,23 +286,16 @@ module _ {D : Type 0} (tells : Bool) (state : D → State) (sound : (d : D) → 
 
   module _ (n : HeldSegment D) (held : held_in new ≡ slice_set (held_in old) i n) (same_index : n.index ≡ o.index) (leaves : LeavesOnly (disk_of state o.segment) (disk_of state n.segment) LeftThen) where
     image_left : (c : List Block) → HeldSince state (all_held 0 was.lanes.items kw.logs) None (held_as k n split_then.records) c → LeftThen c
-    image_left c (was_held x has place image) =
-        let from = partner (IsMoved state b.volume.began.owner) olds split_then.front (held_as k o split_then.records) split_then.back (subst (AllZip (IsMoved state b.volume.began.owner) olds) split_then.is moved_then) in
-        let same_one : x ≡ from.0 = same_place olds x from.0 kw.upholds.places.apart has from.1 (place ∙ (λ j. (k, same_index j)) ∙ from.2.place) in
+    image_left =
         let its = p tells state m b notes kw.logs ready u_then up k old lane i o there version e at lane_is index_is r rec split_then.front split_then.records split_then.back split_then.is split_then.here few given fits bits owned_then in
-        (then_leaves {P = LeftThen} (widened from.2.leaves (λ d log. inl (subst (IsLog d b.volume.began.owner) (its.records_are told) log))) leaves (λ d l. l)).each c
-        (subst (λ (q : Spun D). ImageSince state q (part_of n.segment) c) (ap (λ (v : Held (Spun D)). v.part) same_one) image)
-    image_left c (was_free q none other image) = absurd (let no : None ≡ Some q = none in cc)
+        image_since tells state sound told was m read ready was_up b notes kw split_then.front k o n split_then.records split_then.back split_then.is same_index LeftThen (λ c log. inl (subst (IsLog c b.volume.began.owner) (its.records_are told) log)) leaves
 
     pub in_place_stops : StopsHere (slice_set m.lanes.items k new)
     in_place_stops =
-        let around = all_parts (λ (v : Held (Spun D)). (c : List Block) → HeldSince state olds None v c → IsLog c b.volume.began.owner v.records) split_then.front (held_as k o split_then.records) split_then.back
-        (subst (AreLogs (HeldSince state olds None) b.volume.began.owner) split_then.is logs_then) in
-        stops_so tells state sound told was b notes kw was_up None (ImageSince state was.home m.home) (slice_set m.lanes.items k new) (split_then.lists split_then.records) [] (λ h rs. ⊤)
-        (split_then.then_all (λ h rs. ⊤) (λ h rs holds. tt) new n split_then.records held tt)
-        (subst (λ (l : List (Held (Spun D))). Recovers (ImageSince state was.home m.home) (HeldSince state olds None) b.volume.began.owner l (IsCut b.volume.began.array (writes (entries_of notes)) [])) (sym (split_then.then_is new n split_then.records held))
+        let around = logs_around tells state sound told was m read ready was_up b notes kw split_then.front (held_as k o split_then.records) split_then.back split_then.is in
+        stops_with tells state sound told was m read ready was_up b notes kw (slice_set m.lanes.items k new) (split_then.lists split_then.records) (split_then.then_all (λ h rs. ⊤) (λ h rs holds. tt) new n split_then.records held tt) (split_then.front ++ held_as k n split_then.records ∷ split_then.back) (split_then.then_is new n split_then.records held)
         (left_stops tells state m b notes kw.logs ready u_then up k old lane i o there version e at lane_is index_is r rec split_then.front split_then.records split_then.back split_then.is split_then.here few given fits bits owned_then told
-        (ImageSince state was.home m.home) (HeldSince state olds None) (held_as k n split_then.records) home_image around.0 around.1 image_left))
+        (ImageSince state was.home m.home) (HeldSince state (all_held 0 was.lanes.items kw.logs) None) (held_as k n split_then.records) (home_since state was m read) around.0 around.1 image_left)
 
   -- ---- the segment went to the pool
 
@@ -334,11 +306,8 @@ module _ {D : Type 0} (tells : Bool) (state : D → State) (sound : (d : D) → 
 
     pub less_stops_so : StopsHere (slice_set m.lanes.items k new)
     less_stops_so =
-        let around = all_parts (λ (v : Held (Spun D)). (c : List Block) → HeldSince state olds None v c → IsLog c b.volume.began.owner v.records) less.front (held_as k o less.records) less.back
-        (subst (AreLogs (HeldSince state olds None) b.volume.began.owner) less.is logs_then) in
-        stops_so tells state sound told was b notes kw was_up None (ImageSince state was.home m.home) (slice_set m.lanes.items k new) less.lists [] (λ h rs. ⊤)
-        (less.then_all (λ h rs. ⊤) (λ h rs holds. tt) new held)
-        (subst (λ (l : List (Held (Spun D))). Recovers (ImageSince state was.home m.home) (HeldSince state olds None) b.volume.began.owner l (IsCut b.volume.began.array (writes (entries_of notes)) [])) (sym (less.then_is new held))
+        let around = logs_around tells state sound told was m read ready was_up b notes kw less.front (held_as k o less.records) less.back less.is in
+        stops_with tells state sound told was m read ready was_up b notes kw (slice_set m.lanes.items k new) less.lists (less.then_all (λ h rs. ⊤) (λ h rs holds. tt) new held) (less.front ++ less.back) (less.then_is new held)
         (less_stops tells state m b notes kw.logs ready u_then up k old lane i o there version e at lane_is index_is r rec less.front less.records less.back less.is less.here few given fits bits owned_then told
-        (ImageSince state was.home m.home) (HeldSince state olds None) home_image around.0 around.1
-        (empty_then tells state m b notes kw.logs ready u_then up k old lane i o there version e at lane_is index_is r rec less.front less.records less.back less.is less.here few given fits bits owned_then told bare)))
+        (ImageSince state was.home m.home) (HeldSince state (all_held 0 was.lanes.items kw.logs) None) (home_since state was m read) around.0 around.1
+        (empty_then tells state m b notes kw.logs ready u_then up k old lane i o there version e at lane_is index_is r rec less.front less.records less.back less.is less.here few given fits bits owned_then told bare))

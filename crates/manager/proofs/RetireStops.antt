@@ -1,14 +1,13 @@
 -- A segment is given up with all its records: whichever images it had since, the same is recovered, also where the call failed or was stopped.
-use Rattle.std.proofs.Common.{◌≡◌, ◌⊎◌, inl, inr, ⊎_elim, ℕ, Bool, true, false, List, [], ◌∷◌, ◌++◌, map, Option, None, Some, refl, sym, ap, subst, ◌∙◌, arith}
+use Rattle.std.proofs.Common.{◌≡◌, ◌⊎◌, inl, inr, ⊎_elim, ℕ, Bool, true, false, List, [], ◌∷◌, ◌++◌, map, None, Some, refl, sym, ap, subst, ◌∙◌, arith}
 use Rattle.std.specs.Prelude.{⊤, IsTrue, Contains, filter, slice_get, slice_set, remove}
-use Rattle.std.specs.List.{AllZip}
 use Rattle.std.specs.Option.{option_map}
 use Rattle.std.proofs.Math.ListN.{length-set}
 use Rattle.std.proofs.lemmas.Grind.{flat_map-append}
 use Rattle.std.proofs.lemmas.Option.{slice_get-map}
-use Rattle.wol_disk.specs.Disk.{State, Block, Values, IsDisk, IsImageOf, LeavesOnly}
+use Rattle.wol_disk.specs.Disk.{State, Block, IsDisk, IsImageOf, LeavesOnly}
 use Rattle.wol_disk.proofs.Calls.{now_leaves}
-use Rattle.wol_disk.proofs.Moments.{then_leaves, widened}
+use Rattle.wol_disk.proofs.Moments.{widened}
 use Rattle.wol_model.specs.Extents.{Extent, AreDistinct, covers_of}
 use Rattle.wol_model.specs.History.{Broke, writes, IsCut}
 use Rattle.wol_model.specs.Holding.{Holds as HoldsArray}
@@ -37,19 +36,17 @@ use Rattle.manager.specs.Reading.{IsReadThrough}
 use Rattle.manager.specs.Reclaim.{NoneLiveIn, lies_elsewhere}
 use Rattle.manager.specs.Seen.{Logs, AllLanesHold, parts_of, seen, all_held}
 use Rattle.manager.specs.Stands.{Keeps, IsReady, IsReadyLane}
-use Rattle.manager.specs.Stops.{ImageSince, HeldSince, was_held, was_free}
+use Rattle.manager.specs.Stops.{ImageSince, HeldSince}
 use Rattle.manager.specs.declared.base.ManagerBase.{ManagerBase}
 use Rattle.manager.specs.declared.manager.Manager.{Manager}
 use Rattle.manager.proofs.DropPiece.{GoneLanes, gone_lanes}
-use Rattle.manager.proofs.DropStops.{partner, says_free}
+use Rattle.manager.proofs.DropStops.{says_free}
 use Rattle.listed_records.proofs.Elements.{all_at, get_set}
-use Rattle.volume_parts.proofs.Lanes.{held_as, InLanes, in_lanes, same_place}
-use Rattle.volume_parts.proofs.Held.{IsMoved}
-use Rattle.manager.proofs.Moments.{stops_so}
+use Rattle.volume_parts.proofs.Lanes.{held_as, InLanes, in_lanes}
 use Rattle.manager.proofs.Putting.{Pieces, pieces_failed}
 use Rattle.manager.proofs.ReadContent.{unbroken, upholds_up}
+use Rattle.manager.proofs.SinceReads.{home_since, logs_around, image_since, stops_with}
 use Rattle.manager.proofs.ReadKeeps.{held_read, upholds_read}
-use Rattle.manager.proofs.ReadStops.{moved, logs as logs_read}
 use Rattle.manager.proofs.Retiring.{upheld}
 use Rattle.listed_records.proofs.Vanishes.{three_stops, segment_breaks}
 use Rattle.manager.proofs.WentHome.{risen}
@@ -202,23 +199,11 @@ module _ {D : Type 0} (tells : Bool) (state : D → State) (sound : (d : D) → 
   abbrev RThen : HeldSegment D → List Record → Type 0
   RThen h rs = IsTrue tells → m.down ≡ None → Holds state h.segment rs
 
-  abbrev olds : List (Held (Spun D))
-  olds = all_held 0 was.lanes.items kw.logs
-
   held_then : AllLanesHold (λ h rs. IsTrue tells → m.down ≡ None → Holds state h.segment rs) m.lanes.items kw.logs
   held_then = held_read tells state was m b notes read ready was_up kw
 
   u_then : Upholds (parts_of tells state) b.volume.began (seen m kw.logs) notes (writes (entries_of notes)) None
   u_then = upholds_read tells state was m b notes read ready was_up kw
-
-  moved_then : AllZip (IsMoved state b.volume.began.owner) (all_held 0 was.lanes.items kw.logs) (all_held 0 m.lanes.items kw.logs)
-  moved_then = moved tells state sound told was b notes kw m read ready was_up
-
-  logs_then : AreLogs (HeldSince state (all_held 0 was.lanes.items kw.logs) None) b.volume.began.owner (all_held 0 m.lanes.items kw.logs)
-  logs_then = logs_read tells state sound told was b notes kw m read ready was_up
-
-  home_image : (home : List Block) → ImageSince state was.home m.home home → IsImageOf (state_of state m.home).values home
-  home_image home image = subst (λ (v : Option (List (Values Block))). IsImageOf v home) (sym read.home.values) (read.home.any_moment.each home image)
 
   wl_then : IsReadyLane state m.id m.most old
   wl_then = all_at (IsReadyLane state m.id m.most) m.lanes.items k old lane ready.ready.each
@@ -243,22 +228,14 @@ module _ {D : Type 0} (tells : Bool) (state : D → State) (sound : (d : D) → 
     leaves = leaves_left tells state m b notes kw.logs u_then up k o none split_then.front split_then.records split_then.back split_then.is split_then.here owner_then told n not_freed.any_moment
 
     image_left : (c : List Block) → HeldSince state (all_held 0 was.lanes.items kw.logs) None (held_as k n split_then.records) c → LeftThen c
-    image_left c (was_held x has place image) =
-        let from = partner (IsMoved state b.volume.began.owner) olds split_then.front (held_as k o split_then.records) split_then.back (subst (AllZip (IsMoved state b.volume.began.owner) olds) split_then.is moved_then) in
-        let same_one : x ≡ from.0 = same_place olds x from.0 kw.upholds.places.apart has from.1 (place ∙ (λ j. (k, not_freed.index j)) ∙ from.2.place) in
-        (then_leaves {P = LeftThen} (widened from.2.leaves (λ d log. inl log)) leaves (λ d l. l)).each c
-        (subst (λ (q : Spun D). ImageSince state q (part_of n.segment) c) (ap (λ (v : Held (Spun D)). v.part) same_one) image)
-    image_left c (was_free q is other image) = absurd (let wrong : None ≡ Some q = is in cc)
+    image_left = image_since tells state sound told was m read ready was_up b notes kw split_then.front k o n split_then.records split_then.back split_then.is not_freed.index LeftThen (λ c log. inl log) leaves
 
     pub in_place_stops : StopsHere (slice_set m.lanes.items k new)
     in_place_stops =
-        let around = all_parts (λ (v : Held (Spun D)). (c : List Block) → HeldSince state olds None v c → IsLog c b.volume.began.owner v.records) split_then.front (held_as k o split_then.records) split_then.back
-        (subst (AreLogs (HeldSince state olds None) b.volume.began.owner) split_then.is logs_then) in
-        stops_so tells state sound told was b notes kw was_up None (ImageSince state was.home m.home) (slice_set m.lanes.items k new) (split_then.lists split_then.records) [] (λ h rs. ⊤)
-        (split_then.then_all (λ h rs. ⊤) (λ h rs holds. tt) new n split_then.records held tt)
-        (subst (λ (l : List (Held (Spun D))). Recovers (ImageSince state was.home m.home) (HeldSince state olds None) b.volume.began.owner l (IsCut b.volume.began.array (writes (entries_of notes)) [])) (sym (split_then.then_is new n split_then.records held))
+        let around = logs_around tells state sound told was m read ready was_up b notes kw split_then.front (held_as k o split_then.records) split_then.back split_then.is in
+        stops_with tells state sound told was m read ready was_up b notes kw (slice_set m.lanes.items k new) (split_then.lists split_then.records) (split_then.then_all (λ h rs. ⊤) (λ h rs holds. tt) new n split_then.records held tt) (split_then.front ++ held_as k n split_then.records ∷ split_then.back) (split_then.then_is new n split_then.records held)
         (left_stops tells state m b notes kw.logs u_then up k o none split_then.front split_then.records split_then.back split_then.is split_then.here owner_then told
-        (ImageSince state was.home m.home) (HeldSince state olds None) (held_as k n split_then.records) home_image around.0 around.1 image_left))
+        (ImageSince state was.home m.home) (HeldSince state (all_held 0 was.lanes.items kw.logs) None) (held_as k n split_then.records) (home_since state was m read) around.0 around.1 image_left)
 
   -- ---- the segment went to the pool
 
@@ -268,10 +245,7 @@ module _ {D : Type 0} (tells : Bool) (state : D → State) (sound : (d : D) → 
 
     pub gone_stops : StopsHere (slice_set m.lanes.items k new)
     gone_stops =
-        let around = all_parts (λ (v : Held (Spun D)). (c : List Block) → HeldSince state olds None v c → IsLog c b.volume.began.owner v.records) gone.front (held_as k o gone.records) gone.back
-        (subst (AreLogs (HeldSince state olds None) b.volume.began.owner) gone.is logs_then) in
-        stops_so tells state sound told was b notes kw was_up None (ImageSince state was.home m.home) (slice_set m.lanes.items k new) gone.lists [] (λ h rs. ⊤)
-        (gone.then_all (λ h rs. ⊤) (λ h rs holds. tt) new held)
-        (subst (λ (l : List (Held (Spun D))). Recovers (ImageSince state was.home m.home) (HeldSince state olds None) b.volume.began.owner l (IsCut b.volume.began.array (writes (entries_of notes)) [])) (sym (gone.then_is new held))
+        let around = logs_around tells state sound told was m read ready was_up b notes kw gone.front (held_as k o gone.records) gone.back gone.is in
+        stops_with tells state sound told was m read ready was_up b notes kw (slice_set m.lanes.items k new) gone.lists (gone.then_all (λ h rs. ⊤) (λ h rs holds. tt) new held) (gone.front ++ gone.back) (gone.then_is new held)
         (less_stops tells state m b notes kw.logs u_then up k o none gone.front gone.records gone.back gone.is gone.here owner_then told
-        (ImageSince state was.home m.home) (HeldSince state olds None) home_image around.0 around.1))
+        (ImageSince state was.home m.home) (HeldSince state (all_held 0 was.lanes.items kw.logs) None) (home_since state was m read) around.0 around.1)
