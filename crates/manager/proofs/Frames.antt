@@ -24,7 +24,7 @@ use Rattle.logger.specs.Lanes.{AreAccesses}
 use Rattle.logger.proofs.Uses.{accesses_then}
 use Rattle.manager.specs.Accesses.{HasUsedOnce}
 use Rattle.manager.specs.Seen.{parts_of, seen, look_of_manager}
-use Rattle.manager.specs.Stands.{Keeps, Stands, IsReady, IsUp, IsInVolume, IsNote, nones_at, AreStill}
+use Rattle.manager.specs.Stands.{Keeps, Stands, Ready, IsReady, IsUp, IsInVolume, IsNote, nones_at, AreStill}
 use Rattle.manager.specs.declared.base.ManagerBase.{ManagerBase}
 use Rattle.manager.specs.declared.manager.Manager.{Manager}
 use Rattle.manager.specs.declared.part.Part.{Part}
@@ -66,23 +66,29 @@ ready_reframed state m home_up ups rooms spindle index long wide pass free settl
   up = λ is. subst (IsUp m.lanes.items) (sym entries) (r.up is);
 }
 
+-- its locks, lanes and flags, with its home after a call
+pub ready_used : {D : Type 0} (state : D → State) (m : Manager D) (part : Spun D) (spindle : PassOf Spindle SpindleBase) → volume_of part ≡ volume_of m.home → (state_of state part).size ≡ (state_of state m.home).size
+    → IsSamePass m.spindle spindle → IsFree spindle → has_token (pass_mine spindle) ≡ false → HasUsedOnce m.spindle spindle → Ready state m.id m.most m.home m.spindle m.lanes.items m.ups.items m.rooms.items
+    → Ready state m.id m.most part spindle m.lanes.items m.ups.items m.rooms.items
+ready_used state m part spindle volume size pass free settled used s = record {
+  home_volume = volume ∙ s.home_volume;
+  home_small = subst (λ (n : ℕ). (1 ≤ n) × (n ≤ 2 ^ 32)) (sym size) s.home_small;
+  spindle_volume = ap (λ (l : LockId SpindleBase). l.base.volume) pass.0 ∙ s.spindle_volume;
+  spindle_free = free;
+  settled = settled;
+  accesses = accesses_then (pass_mine m.spindle) (pass_mine spindle) (pass_number m.spindle) used s.accesses;
+  each = s.each;
+  flags = s.flags;
+  rooms_ = s.rooms_;
+  few = s.few;
+  most_ = s.most_;
+}
+
 -- and with its home after a call, whether or not the call failed
 pub ready_homed : {D : Type 0} (state : D → State) (m : Manager D) (part : Spun D) (spindle : PassOf Spindle SpindleBase) (down : Option Part) → volume_of part ≡ volume_of m.home → (state_of state part).size ≡ (state_of state m.home).size
     → IsSamePass m.spindle spindle → IsFree spindle → has_token (pass_mine spindle) ≡ false → HasUsedOnce m.spindle spindle → m.down ≡ None → IsReady state m → IsReady state (record m { home = part; spindle = spindle; home_up = true; down = down })
 ready_homed state m part spindle down volume size pass free settled used up r = record {
-  ready = let s = r.ready in record {
-    home_volume = volume ∙ s.home_volume;
-    home_small = subst (λ (n : ℕ). (1 ≤ n) × (n ≤ 2 ^ 32)) (sym size) s.home_small;
-    spindle_volume = ap (λ (l : LockId SpindleBase). l.base.volume) pass.0 ∙ s.spindle_volume;
-    spindle_free = free;
-    settled = settled;
-    accesses = accesses_then (pass_mine m.spindle) (pass_mine spindle) (pass_number m.spindle) used s.accesses;
-    each = s.each;
-    flags = s.flags;
-    rooms_ = s.rooms_;
-    few = s.few;
-    most_ = s.most_;
-  };
+  ready = ready_used state m part spindle volume size pass free settled used r.ready;
   next = r.next;
   below = r.below;
   ranges = subst (λ (n : ℕ). AllByRecursion (IsInVolume n) m.index.entries) (sym size) r.ranges;

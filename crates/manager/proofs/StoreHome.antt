@@ -1,12 +1,11 @@
 -- Due blocks of one record that are put home: what the manager keeps up, what it stands for where that failed, and what a stop leaves.
-use Rattle.std.proofs.Common.{◌≡◌, ◌<◌, ◌≤◌, ◌+◌, ◌-◌, ◌^◌, ℕ, zero, suc, Bool, true, false, List, [], ◌∷◌, ◌++◌, length, Option, None, Some, refl, sym, ap, subst, ◌∙◌, arith, leb}
+use Rattle.std.proofs.Common.{◌≡◌, ◌<◌, ◌≤◌, ◌+◌, ◌-◌, ℕ, zero, suc, Bool, true, false, List, [], ◌∷◌, ◌++◌, length, Option, None, Some, refl, sym, ap, subst, ◌∙◌, arith, leb}
 use Rattle.std.specs.Prelude.{⊤, IsTrue, Contains, slice_get, is_some, option_map, if◌then◌else◌}
 use Rattle.std.specs.List.{AllByRecursion}
 use Rattle.std.proofs.lemmas.Bool.{leb-true, le-leb, and_parts}
 use Rattle.std.proofs.lemmas.List.{append-nil}
 use mathlib.Core.Path.{fun_ext}
-use Rattle.turn_lock.specs.LockIds.{LockId}
-use Rattle.turn_lock.specs.Passes.{pass_mine, pass_number, IsFree, IsSamePass}
+use Rattle.turn_lock.specs.Passes.{pass_mine, IsFree, IsSamePass}
 use Rattle.turn_lock.specs.declared.pass.PassOf.{PassOf}
 use Rattle.wol_disk.specs.Disk.{State, Block, Values, IsDisk, IsImageOf, IsBlend, LeavesOnly, Rose, only, reads}
 use Rattle.wol_disk.proofs.Calls.{settled_from}
@@ -36,7 +35,6 @@ use Rattle.spin_model.specs.declared.spun.Spun.{Spun}
 use Rattle.log_segment.specs.Segment.{Holds}
 use Rattle.block_cells.specs.Masks.{in_mask}
 use Rattle.redirect_map.specs.Index.{Contents, changed}
-use Rattle.logger.proofs.Uses.{accesses_then}
 use Rattle.manager.specs.Accesses.{HasUsedOnce}
 use Rattle.manager.specs.Reading.{IsReadThrough}
 use Rattle.manager.specs.Reclaim.{put_block, IsPartlyPut, with_put}
@@ -49,7 +47,7 @@ use Rattle.manager.specs.declared.part.Part.{Part}
 use Rattle.manager.specs.declared.part.Part.TheVariants.{Home}
 use Rattle.listed_records.proofs.Entries.{all_changed, count_changed, At, among, still_changed}
 use Rattle.volume_parts.proofs.Lanes.{counted_as, lanes_map}
-use Rattle.manager.proofs.Frames.{none_passed}
+use Rattle.manager.proofs.Frames.{none_passed, ready_used}
 use Rattle.listed_records.proofs.Contents.{puts_from, last_put, same_write, live_block}
 use Rattle.manager.proofs.Moments.{stops_so}
 use Rattle.volume_parts.proofs.Accesses.{blend_none}
@@ -74,19 +72,7 @@ module _ {D : Type 0} (state : D → State) (m : Manager D) (version mask : ℕ)
 
   pub ready_put : (m.down ≡ None) → IsReady state (record m { home = part; spindle = spindle; home_up = home_up; index = index; down = down })
   ready_put up = record {
-    ready = let s = ready.ready in record {
-      home_volume = volume ∙ s.home_volume;
-      home_small = subst (λ (n : ℕ). (1 ≤ n) × (n ≤ 2 ^ 32)) (sym size) s.home_small;
-      spindle_volume = ap (λ (l : LockId SpindleBase). l.base.volume) pass.0 ∙ s.spindle_volume;
-      spindle_free = free;
-      settled = settled;
-      accesses = accesses_then (pass_mine m.spindle) (pass_mine spindle) (pass_number m.spindle) used s.accesses;
-      each = s.each;
-      flags = s.flags;
-      rooms_ = s.rooms_;
-      few = s.few;
-      most_ = s.most_;
-    };
+    ready = ready_used state m part spindle volume size pass free settled used ready.ready;
     next = ready.next;
     below = each_put (λ (d : Indexed). d.listed.version < m.next) (λ d lt. lt) ready.below;
     ranges = subst (λ (n : ℕ). AllByRecursion (IsInVolume n) index.entries) (sym size) (each_put (IsInVolume (state_of state m.home).size) (λ d is. record { least = is.least; lies = is.lies }) ready.ranges);

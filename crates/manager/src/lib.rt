@@ -21,7 +21,8 @@
 //! (over `record.rt`), `store_home` (by `put_at`, which writes the runs of a mask and syncs) and `drop_rec`, and
 //! `retire.rt` has `drop_segment`, by which a segment goes with all its records; `specs/Reclaim` says what each leaves. In
 //! `proofs/`: `StoreHome` for blocks that go home, `DropCall`, `DropKeeps`, `DropPiece` and `DropStops` for blocks that are
-//! given up, `Retiring`, `RetireCall` and `RetireStops` for whole segments, `GoneSegment` for a lane without one of them.
+//! given up, `Retiring`, `RetireCall` and `RetireStops` for whole segments, `GoneSegment` for a lane without one of them,
+//! `SinceReads` for a stop at any moment since an earlier one.
 #![tactic(auto)]
 
 mod base;
