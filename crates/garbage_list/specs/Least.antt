@@ -39,8 +39,8 @@ told_of test version (Some e) = if test e then Some version else None
 abbrev pub IsTold : (Indexed → Bool) → List Indexed → ℕ → Option ℕ → Type 0
 IsTold test es version answer = answer ≡ told_of test version (entry_at es version)
 
--- the answer is the version of the first record that passes, which is the least one, as the list rises; and none exactly
--- where no record does
+-- the answer is the version of the first record that passes, which is the least one, as the list
+-- rises; and none exactly where no record does
 pub record IsNext (test : Indexed → Bool) (es : List Indexed) (answer : Option ℕ) : Type 0 where
   pub value : answer ≡ first_version test es
   pub stated : IfSome answer (λ v. IsSomeAnd (entry_at es v) (λ e. test e ≡ true))

@@ -72,7 +72,8 @@ unhomed c e = record e {
       { homed = remarked e.listed.first e.listed.homed (λ b m. m && not (c.covers b)) };
 }
 
--- what a record that is added has to be: 1 to 128 blocks below block number 2^32, of which one is kept
+-- what a record that is added has to be: 1 to 128 blocks below block number 2^32, of which one is
+-- kept
 pub record IsNew (r : Rec) : Type 0 where
   pub some : 1 ≤ r.count
   pub count : r.count ≤ 128
@@ -86,7 +87,8 @@ pub record CanAdd (old : Contents) (r : Rec) : Type 0 where
   pub is_new : IsNew r
   pub reserved : runs_of (marks_of r.count r.keep) ≤ old.reserved
 
--- the record is listed behind all others, in which what it keeps is homed no more; it took no more room than that
+-- the record is listed behind all others, in which what it keeps is homed no more; it took no more
+-- room than for its runs
 pub record IsAdded (old new : Contents) (r : Rec) : Type 0 where
   pub entries : new.entries
       ≡ map (unhomed (cover_at (entry_of r 0))) old.entries ++ entry_of r 0 ∷ []
@@ -128,9 +130,10 @@ is_sought Going = goes
 abbrev pub has_sought : Sought → List Listed → Listed → Bool
 has_sought sought es e = list_any (is_sought sought es e) (block_numbers e)
 
--- the answer is no version before `start`, and no record on these lanes from there on has what is sought, before the
--- version that is answered, or at all
-pub record IsFirst (sought : Sought) (lanes : List Bool) (es : List Indexed) (start : ℕ) (answer : Option ℕ) : Type 0 where
+-- the answer is no version before `start`, and no record on these lanes from there on has what is
+-- sought, before the version that is answered, or at all
+pub record IsFirst (sought : Sought) (lanes : List Bool) (es : List Indexed) (start : ℕ)
+    (answer : Option ℕ) : Type 0 where
   pub from : IfSome answer (λ v. start ≤ v)
   pub least : IfSome answer (λ v. AllByRecursion
       (λ e. start ≤ e.listed.version → e.listed.version < v

@@ -73,12 +73,14 @@ abbrev pub KeepsBits : Contents → Contents → Type 0
 KeepsBits old new = (v : ℕ) → IsWithin (mask_of old v) (mask_of new v)
 
 -- the marks are right of entries of which this record is the newest of all blocks that it keeps
-pub record IsMarkedUnder (r : Rec) (es : List Entry) (known : ℕ → Option Cell) (masks : ℕ → ℕ) : Type 0 where
+pub record IsMarkedUnder (r : Rec) (es : List Entry) (known : ℕ → Option Cell)
+    (masks : ℕ → ℕ) : Type 0 where
   pub entries : AreEntries es
   pub newer : (b : ℕ) → in_mask r.lbn r.keep b ≡ true → version_in (known b) ≡ Some r.version
   pub marked : AreMarked es known masks
 
 -- the marks are right, and their room is what it was
-pub record StaysMarked (es : List Entry) (known : ℕ → Option Cell) (old new : Contents) : Type 0 where
+pub record StaysMarked (es : List Entry) (known : ℕ → Option Cell)
+    (old new : Contents) : Type 0 where
   pub marked : AreMarked es known (mask_of new)
   pub room : new.room ≡ old.room
