@@ -5,3 +5,4 @@ pub mod Counting
 pub mod Lying
 pub mod Taking
 pub mod Rising
+pub mod Marking

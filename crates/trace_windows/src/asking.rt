@@ -1,6 +1,8 @@
 // What a line asks for: the volume that it belongs to, and its requests.
 ghost use Rattle.std.specs.Prelude.{◌≡◌, ◌<◌, ◌≤◌, ◌^◌, ◌++◌, ◌&&◌, ◌==◌, ℕ, length, map, position, take, IfSome, OnOk, OnErr};
+ghost use Rattle.std.specs.List.{list_any};
 ghost use Rattle.std.specs.Str.{bytes_eq};
+ghost use Rattle.msr_trace.specs.Hosts.{mark_of};
 ghost use Rattle.wol_config.specs.Configs.{IsValid, most_of};
 ghost use Rattle.trace_gen.specs.Generated.{target_of, targets_of};
 ghost use Rattle.wol_model.specs.Trace.{home_of, pieces, requests_on, volume_of};
@@ -20,13 +22,39 @@ pub(crate) fn volume_of(volumes: &[VolumeConf], line: &Line) -> Option<usize>
     place_of(volumes, line)
 }
 
-// The place of the volume among the others.
+// The place of the volume among the others. A line may be of none, so the marks of their hosts are looked at first.
 fn place_of(volumes: &[VolumeConf], line: &Line) -> Option<usize>
     ensures value { result
         ≡ position (λ v. bytes_eq v.host line.now.host && v.disk == line.now.disk) volumes.now }
     ensures within { IfSome result (λ v. v < length volumes.now) }
 {
+    if !have_mark(volumes, line.host.mark()) {
+        return None;
+    }
     volumes.iter().position(|volume| owns(volume, line))
+}
+
+// Whether the host of a volume has this mark. Four volumes are looked at in a turn.
+fn have_mark(volumes: &[VolumeConf], mark: u16) -> bool
+    ensures { result ≡ list_any (λ v. mark_of v.host == mark) volumes.now }
+{
+    let mut rest = volumes;
+    while rest.len() >= 4 {
+        let (four, others) = rest.split_at(4);
+        if have_mark_among(four, mark) {
+            return true;
+        }
+        rest = others;
+    }
+    have_mark_among(rest, mark)
+}
+
+// The same, of a few. It has no call, so that a known number of them is no loop.
+#[inline(always)]
+fn have_mark_among(few: &[VolumeConf], mark: u16) -> bool
+    ensures { result ≡ list_any (λ v. mark_of v.host == mark) few.now }
+{
+    few.iter().any(|volume| volume.host.mark() == mark)
 }
 
 // Whether the line is on the volume's disk.
