@@ -13,10 +13,10 @@
 //! last first, and nothing else), `Opened` the manager and its beginning; `Scanned` and `Recovery` are the inside.
 //! In `proofs/`: `SegmentFaults` (one segment), `ScanLoop` and `ScanAll` (all of them), `FirstTwo` (twins of a
 //! sorted list), `Indexing`, `FoundMore` and `Filled` (the index), `HeadsFound` (what was found is what stands in
-//! the segments as they read), `Thinning` and `Retired` (segments that go), `Gifts` (what pools are given),
+//! the segments as they read), `Thinning`, `Freeing` and `Retired` (segments that go), `Gifts` (what pools are given),
 //! `Leaves` (images), `Recovering` and `BackRead` (the steps joined), and those of the manager that is made:
-//! `Held`, `Segs`, `OpenedIndex`, `SameNewest` (the order of segments doesn't matter where no two versions are the
-//! same).
+//! `Held`, `Coming`, `Segs`, `OpenedIndex`, `SameNewest` (the order of segments doesn't matter where no two versions
+//! are the same).
 #![tactic(auto)]
 
 mod filling;

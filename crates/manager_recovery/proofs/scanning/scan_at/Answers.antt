@@ -3,7 +3,7 @@ use Rattle.std.specs.Prelude.{position, is_some}
 use Rattle.std.proofs.lemmas.Option.{slice_get_read, same_Some}
 use Rattle.logger.specs.Lanes.{logger_of}
 use Rattle.logger.specs.declared.lane.Lane.{Lane}
-use Rattle.manager_recovery.specs.Opening.{IsOpeningLane, IsOwned, IsHeldIn}
+use Rattle.manager_recovery.specs.Opening.{IsOpeningLane, IsOwned, IsHeldIn, SaysOwner}
 use Rattle.manager_recovery.specs.Owned.{IsIntact, owned_of}
 use Rattle.manager_recovery.specs.Refused.{is_named}
 use Rattle.manager_recovery.specs.Scanned.{IsScanned, IsSettledPart}
@@ -33,36 +33,26 @@ index_mut-requires g c =
     let lt = within o.lanes.items c.in-Some.place w.0 w.1 in
     omega (arith, lt, o.lanes.ok.0)
 
-pub scan_owned-requires-clause-lane : goal.scan_owned-requires-clause-lane
-scan_owned-requires-clause-lane g c =
-    let o = c.args.opening.now in
-    let p = c.index_mut-part.result.now in
-    let found : c.place_of.result ≡ position (λ id. eqb id p.logger) o.view = c.place_of.ensures ∙ (λ i. position (λ id. eqb id p.logger) (c.ids.ensures.value i)) in
-    let w = lane_of_logger o.lanes.items o.view o.present.items p.logger c.in-Some.place c.place_of.result c.requires.ready.loggers c.requires.named.1 found c.in-Some.is in
-    let there = slice_get_read o.lanes.items _ c.in-Some.place c.index_mut.result.now refl (within o.lanes.items c.in-Some.place w.0 w.1) c.index_mut.ensures.value in
-    (all_get (IsOpeningLane g.D.Disk.state c.args.shared.now o.want.id o.most) o.lanes.items c.in-Some.place c.index_mut.result.now there c.requires.ready.lanes).lane
-
-pub scan_owned-requires-clause-at : goal.scan_owned-requires-clause-at
-scan_owned-requires-clause-at g c =
-    let o = c.args.opening.now in
-    let p = c.index_mut-part.result.now in
-    let found : c.place_of.result ≡ position (λ id. eqb id p.logger) o.view = c.place_of.ensures ∙ (λ i. position (λ id. eqb id p.logger) (c.ids.ensures.value i)) in
-    let w = lane_of_logger o.lanes.items o.view o.present.items p.logger c.in-Some.place c.place_of.result c.requires.ready.loggers c.requires.named.1 found c.in-Some.is in
-    let there = slice_get_read o.lanes.items _ c.in-Some.place c.index_mut.result.now refl (within o.lanes.items c.in-Some.place w.0 w.1) c.index_mut.ensures.value in
-    (all_get (IsOpeningLane g.D.Disk.state c.args.shared.now o.want.id o.most) o.lanes.items c.in-Some.place c.index_mut.result.now there c.requires.ready.lanes).at
-
-pub scan_owned-requires-clause-volume : goal.scan_owned-requires-clause-volume
-scan_owned-requires-clause-volume g c =
+pub scan_owned-requires : goal.scan_owned-requires
+scan_owned-requires g c =
     let o = c.args.opening.now in
     let p = c.index_mut-part.result.now in
     let here = slice_get_read o.owned.items _ c.args.k p refl c.requires.inside c.index_mut-part.ensures.value in
     let found : c.place_of.result ≡ position (λ id. eqb id p.logger) o.view = c.place_of.ensures ∙ (λ i. position (λ id. eqb id p.logger) (c.ids.ensures.value i)) in
     let w = lane_of_logger o.lanes.items o.view o.present.items p.logger c.in-Some.place c.place_of.result c.requires.ready.loggers c.requires.named.1 found c.in-Some.is in
-    let there = slice_get_read o.lanes.items _ c.in-Some.place c.index_mut.result.now refl (within o.lanes.items c.in-Some.place w.0 w.1) c.index_mut.ensures.value in
     let lane = c.index_mut.result.now in
+    let there = slice_get_read o.lanes.items _ c.in-Some.place lane refl (within o.lanes.items c.in-Some.place w.0 w.1) c.index_mut.ensures.value in
+    let ready = all_get (IsOpeningLane g.D.Disk.state c.args.shared.now o.want.id o.most) o.lanes.items c.in-Some.place lane there c.requires.ready.lanes in
     let on : logger_of lane ≡ p.logger = ap logger_of (same_Some lane w.0 (sym there ∙ w.1)) ∙ w.2 in
     let own = all_get (IsOwned g.D.Disk.state o.lanes.items) o.owned.items c.args.k p here c.requires.ready.owned in
-    (all_get (λ (l : Lane _). logger_of l ≡ p.logger → IsHeldIn g.D.Disk.state p l) o.lanes.items c.in-Some.place lane there own.held on).volume
+    record {
+      lane = ready.lane;
+      at = ready.at;
+      volume = (all_get (λ (l : Lane _). logger_of l ≡ p.logger → IsHeldIn g.D.Disk.state p l) o.lanes.items c.in-Some.place lane there own.held on).volume;
+      size = own.size;
+      last = let l = own.last in omega arith;
+      head = all_get (SaysOwner g.D.Disk.state o.want.id) o.owned.items c.args.k p here c.requires.ready.heads;
+    }
 
 pub returns : goal.returns
 returns g c =

@@ -23,8 +23,8 @@ hold_all-requires-clause-scanned g c =
     subst (AllZip (IsScanned g.D.Disk.state n.want.id n.want.home) n.owned.items) (sym c.deref.ensures.value)
     (scanned_still g.D.Disk.tells g.D.Disk.state c.args.shared.now o n (ap (λ q. q.want) same) (ap (λ q. q.view) same) (ap (λ q. q.present) same) (ap (λ q. q.label) same) (ap (λ q. q.most) same) c.args.recovered rec)
 
-pub new-requires-clause-ready : goal.new-requires-clause-ready
-new-requires-clause-ready g c =
+pub new-requires : goal.new-requires
+new-requires g c =
     let tells = g.D.Disk.tells in let state = g.D.Disk.state in let shared = c.args.shared.now in let n = c.args.opening in let r = c.args.recovered in
     let o = c.requires.ready.0 in let rec = c.requires.ready.1 in let back = c.requires.ready.2 in
     let same = back.same in let lanes = c.hold_all.new.opening.lanes in
@@ -33,19 +33,10 @@ new-requires-clause-ready g c =
     let all = gs tells state shared o n want view present label most r rec c.len-few.ensures.valid lanes.items held in
     let gathered_ = gathered tells state shared o n want view present label most r rec c.len-few.ensures.valid lanes.items held in
     let ready = is_ready state shared n r lanes all gathered_ in
-    subst (λ (q : Opening g.row.D.Denot). IsReady state (opened q.want.id q.home q.spindle lanes r.index r.next q.most)) (sym c.hold_all.ensures.same) ready
-
-pub new-requires-clause-few : goal.new-requires-clause-few
-new-requires-clause-few g c =
-    let tells = g.D.Disk.tells in let state = g.D.Disk.state in let shared = c.args.shared.now in let n = c.args.opening in let r = c.args.recovered in
-    let o = c.requires.ready.0 in let rec = c.requires.ready.1 in let back = c.requires.ready.2 in
-    let same = back.same in let lanes = c.hold_all.new.opening.lanes in
-    let held : AreHeld state shared n.want.id n.most n.owned.items r.scans.items n.lanes.items lanes.items = subst (λ (l : List Scan). AreHeld state shared n.want.id n.most n.owned.items l n.lanes.items lanes.items) c.deref.ensures.value c.hold_all.ensures.held in
-    let want = ap (λ q. q.want) same in let view = ap (λ q. q.view) same in let present = ap (λ q. q.present) same in let label = ap (λ q. q.label) same in let most = ap (λ q. q.most) same in
-    let all = gs tells state shared o n want view present label most r rec c.len-few.ensures.valid lanes.items held in
-    let gathered_ = gathered tells state shared o n want view present label most r rec c.len-few.ensures.valid lanes.items held in
-    let ready = is_ready state shared n r lanes all gathered_ in
-    ready.ready.few
+    record {
+      few = ready.ready.few;
+      ready = subst (λ (q : Opening g.row.D.Denot). IsReady state (opened q.want.id q.home q.spindle lanes r.index r.next q.most)) (sym c.hold_all.ensures.same) ready;
+    }
 
 pub returns-clause-opens : goal.returns-clause-opens
 returns-clause-opens g c o rec back =
