@@ -12,7 +12,7 @@ use Rattle.rack.specs.Racks.{IsStation, base_of_station}
 use Rattle.rack_parts.specs.declared.rack.Rack.{Rack}
 use Rattle.inspection.specs.Looks.{IsConfiguredBase}
 use Rattle.inspection.specs.Racks.{IsSameRack, IsSameStation, IsStationAt}
-use Rattle.inspection.specs.Findings.{AreEmpty, AreFoundTo, CanAllBeLookedAt, HasFound, HaveFound, KeepsFound}
+use Rattle.inspection.specs.Findings.{AreEmpty, AreFoundTo, CanAllBeLookedAt, HasFound, HasFoundMore, HaveFound, KeepsFound}
 use Rattle.inspection.specs.declared.beside.Finding.{Finding}
 use Rattle.inspection.proofs.Halves.{below_or_past}
 use Rattle.inspection.proofs.SameRacks.{station_self}
@@ -38,6 +38,7 @@ module _ {D : Type 0} (tells : Bool) (state : D → State) (config : Config) (ss
     (going : AreFoundTo tells state config ss (a ++ (b ++ d)) (fa ++ (fb ++ fd)) n) where
   pub run_ahead : (shared : Shared D) → All (λ (s : Station D). IsStation s × IsConfiguredBase config shared (base_of_station s)) (a ++ (b ++ d)) → CanAllBeLookedAt config shared b fb
   run_ahead shared all = record {
+    count = omega (arith, is_b, is_fb);
     each = λ k s f less.
         let is_s = in_second a b d n k s is_a less in
         let is_f = in_second fa fb fd n k f is_fa (omega (arith, less, is_b, is_fb)) in
@@ -88,6 +89,15 @@ module _ {D : Type 0} (tells : Bool) (state : D → State) (config : Config) (ss
             (subst (λ (h : Finding). h.text.items ≡ []) (in_third fa fb fd n m j f is_fa is_fb ∙ sym (in_third fa fb' fd n m j f is_fa is_fb'))
             (going.nothing (n + (m + j)) f (omega arith) (let x = long_three fa fb fd in let y = long_three fa fb' fd in omega (arith, x, y, less, is, is_fb, is_fb'))));
       }
+
+-- a run was looked at, and what was found before stays
+pub has_more : {D : Type 0} (tells : Bool) (state : D → State) (config : Config) (ss a b d : List (Station D)) (fa fb fd : List Finding) (n m : ℕ) (is_a : length a ≡ n) (is_b : length b ≡ m) (is_fa : length fa ≡ n) (is_fb : length fb ≡ m)
+    → AreFoundTo tells state config ss (a ++ (b ++ d)) (fa ++ (fb ++ fd)) n → (b' : List (Station D)) (fb' : List Finding) (is_b' : length b' ≡ m) (is_fb' : length fb' ≡ m) → HaveFound tells state config b b' fb'
+    → HasFoundMore tells state config (a ++ (b ++ d)) (a ++ (b' ++ d)) (fa ++ (fb ++ fd)) (fa ++ (fb' ++ fd)) n (n + m)
+has_more tells state config ss a b d fa fb fd n m is_a is_b is_fa is_fb going b' fb' is_b' is_fb' run = record {
+  going = λ before was. run_found tells state config before a b d fa fb fd n m is_a is_b is_fa is_fb was b' fb' is_b' is_fb' run;
+  keeps = run_keeps tells state config ss a b d fa fb fd n m is_a is_b is_fa is_fb going b' fb' is_b' is_fb';
+}
 
 -- ---- At the first
 

@@ -26,6 +26,7 @@ use Rattle.inspection.specs.declared.calls.Stop.TheVariants.{Memory}
 use Rattle.inspection.proofs.Ahead.{none_found}
 use Rattle.inspection.proofs.Judging.{telling_failed, telling_order}
 use Rattle.inspection.proofs.Printing.{text_last, first_last, last_or_before}
+use Rattle.inspection.proofs.SameRacks.{rack_self}
 
 -- ---- One volume
 
@@ -201,9 +202,11 @@ module _ {D : Type 0} (tells : Bool) (state : D → State) (config : Config) (r 
       }
 
 -- there was no memory for any
-pub nothing_found : {D : Type 0} (tells : Bool) (state : D → State) (config : Config) (asked : Asked) (r q : Rack D) (result : Result (Option Trouble) Stop) (faults : ℕ) (printed : Option (List ℕ)) → result ≡ Err Memory
-    → PrintsVolumes tells state config asked r q result faults faults printed printed
-nothing_found tells state config asked r q result faults printed is = record {
+pub nothing_found : {D : Type 0} (tells : Bool) (state : D → State) (config : Config) (asked : Asked) (r : Rack D) (result : Result (Option Trouble) Stop) (faults : ℕ) (printed : Option (List ℕ)) → result ≡ Err Memory
+    → PrintsVolumes tells state config asked r r result faults faults printed printed
+nothing_found tells state config asked r result faults printed is = record {
+  same = rack_self r;
+  later = omega arith;
   told = [];
   are = record { few = omega arith; each = λ k t no. absurd (let e : None ≡ Some t = no in cc) };
   prints = rw is (refl, appends_none printed printed (keeps_same printed));

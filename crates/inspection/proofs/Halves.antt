@@ -25,6 +25,7 @@ below_or_past (suc a) (suc b) = elim (below_or_past a b) [
 module _ {D : Type 0} (config : Config) (shared : Shared D) (ss ts : List (Station D)) (fs hs : List Finding) (same : length fs ≡ length ss) where
   pub ahead_front : CanAllBeLookedAt config shared (ss ++ ts) (fs ++ hs) → CanAllBeLookedAt config shared ss fs
   ahead_front all = record {
+    count = same;
     each = λ k s f less.
         subst (λ (t : Station D). CanBeLookedAt config shared t (get_or fs k f)) (get_or_append_left ss ts s k less)
         (subst (λ (h : Finding). CanBeLookedAt config shared (get_or (ss ++ ts) k s) h) (get_or_append_left fs hs f k (omega (arith, less, same)))
@@ -33,6 +34,7 @@ module _ {D : Type 0} (config : Config) (shared : Shared D) (ss ts : List (Stati
 
   pub ahead_back : CanAllBeLookedAt config shared (ss ++ ts) (fs ++ hs) → CanAllBeLookedAt config shared ts hs
   ahead_back all = record {
+    count = (let n = all.count in let x = length-append ss ts in let y = length-append fs hs in omega (arith, n, x, y, same));
     each = λ k s f less.
         subst (λ (t : Station D). CanBeLookedAt config shared t (get_or hs k f)) (get_or-append-add ss ts k s)
         (subst (λ (h : Finding). CanBeLookedAt config shared (get_or (ss ++ ts) (length ss + k) s) h) (ap (λ (n : ℕ). get_or (fs ++ hs) (n + k) f) (sym same) ∙ get_or-append-add fs hs k f)

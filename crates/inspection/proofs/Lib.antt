@@ -1,5 +1,6 @@
 pub mod Serving
 pub mod Looking
+pub mod WorkedRacks
 pub mod SameRacks
 pub mod Printing
 pub mod Unhelped

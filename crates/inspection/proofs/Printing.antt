@@ -12,7 +12,7 @@ use Rattle.manager.proofs.ReadThrough.{zip_back}
 use Rattle.log_dump.specs.declared.fault.DumpFault.{DumpFault}
 use Rattle.report.specs.declared.trouble.Trouble.{Trouble}
 use Rattle.rack_parts.specs.declared.rack.Rack.{Rack}
-use Rattle.inspection.specs.Racks.{IsSameStation, IsSameRack}
+use Rattle.inspection.specs.Racks.{IsSameStation, IsSameRack, LeavesOthers}
 use Rattle.inspection.specs.Lines.{Telling, IsTelling, AreTellings, LooksAtVolume, text_of, first_of, first_trouble}
 use Rattle.inspection.specs.declared.asked.Asked.{Asked}
 use Rattle.inspection.proofs.SameRacks.{rack_self, rack_then}
@@ -48,10 +48,6 @@ last_or_before (z ∷ xs) x (suc k) y is = elim (last_or_before xs x k y is) [
 -- ---- What was told stays so
 
 module _ {D : Type 0} (tells : Bool) (state : D → State) (config : Config) (asked : Asked) where
-  -- the stations of other volumes stay as they are
-  abbrev pub LeavesOthers : (q p : Rack D) (n : ℕ) → Type 0
-  LeavesOthers q p n = (place : ℕ) (s : Station D) → slice_get q.stations.items place ≡ Some s → (s.id ≡ n → ⊥) → slice_get p.stations.items place ≡ Some s
-
   look_still : (r q p : Rack D) (n k : ℕ) (answer : Result (Unit {0}) DumpFault) (text : List ℕ) → LeavesOthers q p n → (k ≡ n → ⊥) → LooksAtVolume tells state config asked r q k answer text
       → LooksAtVolume tells state config asked r p k answer text
   look_still r q p n k answer text others apart look = record {

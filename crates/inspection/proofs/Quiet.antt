@@ -11,7 +11,8 @@ use Rattle.manager.specs.declared.station.Station.{Station}
 use Rattle.rack.specs.Closes.{IsQuiet, flight_in}
 use Rattle.rack.specs.Racks.{AreUnused, IsUnused}
 use Rattle.inspection.specs.Racks.{IsSameStation}
-use Rattle.inspection.proofs.SameRacks.{each_all}
+use Rattle.inspection.proofs.SameRacks.{only}
+use Rattle.inspection.proofs.WorkedRacks.{all_by}
 
 abbrev AreHelps : List Noted → Type 0
 AreHelps ns = AllByRecursion (λ (n : Noted). IsHelp n.entry.operation) ns
@@ -53,4 +54,4 @@ module _ {D : Type 0} where
 
   -- no station of a rack that was looked at wrote
   pub all_quiet : (ss ts : List (Station D)) → AllZip IsSameStation ss ts → AreUnused ss → All (λ (t : Station D). IsQuiet t) ts
-  all_quiet ss ts zip unused = each_all (λ (s : Station D). IsUnused s.worker × IsUnused s.helper × IsUnused s.keeper) (λ (t : Station D). IsQuiet t) station_quiet ss ts zip unused
+  all_quiet ss ts zip unused = all_by IsSameStation only (λ (s : Station D). IsUnused s.worker × IsUnused s.helper × IsUnused s.keeper) (λ (t : Station D). IsQuiet t) station_quiet ss ts zip unused

@@ -1,24 +1,20 @@
 -- A rack of whose stations only the workers' passes are others.
 use Rattle.std.proofs.Common.{◌≡◌, ℕ, List, [], ◌∷◌, Some, map, refl, sym, ap, subst, ◌∙◌}
-use Rattle.std.specs.Prelude.{slice_get, slice_set, Contains, All}
+use Rattle.std.specs.Prelude.{slice_get, slice_set, Contains}
 use Rattle.std.specs.List.{AllZip}
 use Rattle.std.specs.declared.alloc.Global.{Global}
 use Rattle.std.specs.declared.vec.Vec.{Vec}
-use Rattle.std.proofs.lemmas.List.Elements.{All-from_recursion, recursion_from_All}
 use Rattle.wol_config.specs.declared.config.Config.{Config}
-use Rattle.spin_model.specs.declared.spindle.Spindle.{Spindle}
-use Rattle.spin_model.specs.declared.spindle.SpindleBase.{SpindleBase}
-use Rattle.turn_lock.specs.declared.pass.PassOf.{PassOf}
+use Rattle.turn_lock.specs.Passes.{IsFree, IsSamePass}
 use Rattle.manager.specs.declared.base.ManagerBase.{ManagerBase}
 use Rattle.manager.specs.declared.station.Station.{Station}
-use Rattle.manager.proofs.Touched.{zip_all}
 use Rattle.manager.proofs.ReadThrough.{zip_self, zip_set, zip_then}
 use Rattle.rack.specs.Racks.{IsStation, base_of_station}
 use Rattle.rack_parts.specs.declared.rack.Rack.{Rack}
-use Rattle.open_rack.specs.Again.{IsPassAgain, IsRackAgain, IsStationAgain}
-use Rattle.open_rack.proofs.RacksAgain.{zip_weaker}
+use Rattle.open_rack.specs.Again.{IsRackAgain}
 use Rattle.inspection.specs.Looks.{IsConfiguredBase}
 use Rattle.inspection.specs.Racks.{numbers_of, CanLook, IsSameStation, IsSameRack}
+use Rattle.inspection.proofs.WorkedRacks.{again_by, all_by, station_by}
 
 module _ {D : Type 0} where
   pub station_self : (s : Station D) → IsSameStation s s
@@ -51,25 +47,16 @@ module _ {D : Type 0} where
   pub numbers_same : (ss ts : List (Station D)) → AllZip IsSameStation ss ts → numbers_of ts ≡ numbers_of ss
   numbers_same = map_same (λ (s : Station D). s.id) (λ s t is. ap (λ (w : Station D). w.id) is.same)
 
-  is_station : (s t : Station D) → IsSameStation s t → IsStation s → IsStation t
-  is_station s t is was = subst IsStation (sym is.same) (record {
-    id = was.id;
-    passes = was.passes;
-    worker_ = record { own = is.pass.0 ∙ was.worker_.own; free = is.free was.worker_.free; number_is = is.pass.1 ∙ was.worker_.number_is };
-    helper_ = was.helper_;
-    keeper_ = was.keeper_;
-  })
-
-  pub each_all : (P Q : Station D → Type 0) → ((s t : Station D) → IsSameStation s t → P s → Q t) → (ss ts : List (Station D)) → AllZip IsSameStation ss ts → All P ss → All Q ts
-  each_all P Q f ss ts zip all = All-from_recursion Q ts (zip_all IsSameStation P Q f ss ts zip (recursion_from_All P ss all))
+  pub only : (s t : Station D) → IsSameStation s t → (t ≡ record s { worker = t.worker }) × IsSamePass s.worker t.worker × (IsFree s.worker → IsFree t.worker)
+  only s t is = (is.same, is.pass, is.free)
 
   can_look_with : (config : Config) (r : Rack D) (ts : Vec (Station D) Global) → AllZip IsSameStation r.stations.items ts.items → CanLook config r → CanLook config (record r { stations = ts })
   can_look_with config r ts zip can = record {
     count = can.count;
     known = can.known;
     open_ = λ k is. subst (λ (ns : List ℕ). Contains ns k) (sym (numbers_same r.stations.items ts.items zip)) (can.open_ k is);
-    stations = each_all (λ (s : Station D). IsStation s × IsConfiguredBase config r.shared (base_of_station s)) (λ (s : Station D). IsStation s × IsConfiguredBase config r.shared (base_of_station s))
-        (λ s t is was. (is_station s t is was.0, subst (λ (b : ManagerBase). IsConfiguredBase config r.shared b) (ap (λ (w : Station D). base_of_station w) (sym is.same)) was.1)) r.stations.items ts.items zip can.stations;
+    stations = all_by IsSameStation only (λ (s : Station D). IsStation s × IsConfiguredBase config r.shared (base_of_station s)) (λ (s : Station D). IsStation s × IsConfiguredBase config r.shared (base_of_station s))
+        (λ s t is was. (station_by IsSameStation only s t is was.0, subst (λ (b : ManagerBase). IsConfiguredBase config r.shared b) (ap (λ (w : Station D). base_of_station w) (sym is.same)) was.1)) r.stations.items ts.items zip can.stations;
   }
 
   pub can_look_still : (config : Config) (r q : Rack D) → IsSameRack r q → CanLook config r → CanLook config q
@@ -77,16 +64,7 @@ module _ {D : Type 0} where
 
   -- the rack has again all that it came with
   pub again_same : (r q : Rack D) → IsSameRack r q → IsRackAgain r q
-  again_same r q is =
-      let keepers : q.keepers ≡ r.keepers = ap (λ (w : Rack D). w.keepers) is.same in record {
-        only = is.same ∙ ap (λ (ks : Vec (PassOf Spindle SpindleBase) Global). record r { keepers = ks; stations = q.stations }) (sym keepers);
-        keepers = subst (λ (ks : Vec (PassOf Spindle SpindleBase) Global). AllZip IsPassAgain r.keepers.items ks.items) (sym keepers) (zip_self IsPassAgain (λ p. record { same = (refl, refl); free = λ f. f }) r.keepers.items);
-        stations = zip_weaker IsSameStation IsStationAgain (λ s t same. record {
-          id = ap (λ (w : Station D). w.id) same.same;
-          lock = ap (λ (w : Station D). w.lock) same.same;
-          passes = is_station s t same;
-        }) r.stations.items q.stations.items is.each;
-      }
+  again_same r q is = again_by IsSameStation only r q is.same is.each
 
   -- one station was looked at
   pub rack_set : (r : Rack D) (ts : Vec (Station D) Global) (place : ℕ) (s t : Station D) → slice_get r.stations.items place ≡ Some s → IsSameStation s t → ts.items ≡ slice_set r.stations.items place t

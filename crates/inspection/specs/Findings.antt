@@ -25,9 +25,10 @@ pub record CanBeLookedAt {D : Type 0} (config : Config) (shared : Shared D) (s :
   pub base : IsConfiguredBase config shared (base_of_station s)
   pub empty : f.text.items ≡ []
 
--- so it is of each of these stations
+-- so it is of each of these stations, which has a finding of its own
 pub record CanAllBeLookedAt {D : Type 0} (config : Config) (shared : Shared D)
     (ss : List (Station D)) (fs : List Finding) : Type 0 where
+  pub count : length fs ≡ length ss
   pub each : (k : ℕ) (s : Station D) (f : Finding) → k < length ss
       → CanBeLookedAt config shared (slice_index_or ss k s) (slice_index_or fs k f)
 
@@ -79,6 +80,20 @@ pub record KeepsFound {D : Type 0} (n : ℕ) (ss ts : List (Station D)) (fs hs :
   pub long : length ts ≡ length ss
   pub stations : (k : ℕ) (s : Station D) → k < n → slice_index_or ts k s ≡ slice_index_or ss k s
   pub findings : (k : ℕ) (f : Finding) → k < n → slice_index_or hs k f ≡ slice_index_or fs k f
+
+-- these stations' volumes may be looked at, and those of the first n were
+pub record CanFindMore {D : Type 0} (tells : Bool) (state : D → State) (config : Config)
+    (shared : Shared D) (ts : List (Station D)) (fs : List Finding) (n : ℕ) : Type 0 where
+  pub stations : All (λ s. IsStation s × IsConfiguredBase config shared (base_of_station s)) ts
+  pub before : List (Station D)
+  pub going : AreFoundTo tells state config before ts fs n
+
+-- those of the first n had been looked at, and now those of the first m have been
+pub record HasFoundMore {D : Type 0} (tells : Bool) (state : D → State) (config : Config)
+    (ts us : List (Station D)) (fs hs : List Finding) (n m : ℕ) : Type 0 where
+  pub going : (before : List (Station D)) → AreFoundTo tells state config before ts fs n
+      → AreFoundTo tells state config before us hs m
+  pub keeps : KeepsFound n ts us fs hs
 
 -- what is told of a volume by what was found at its station, which is one of the first n
 pub record TellsFound {D : Type 0} (config : Config) (r : Rack D) (fs : List Finding) (n number : ℕ)

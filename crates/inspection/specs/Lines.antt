@@ -1,5 +1,5 @@
 -- What is printed of the volumes of a rack, and what is wrong with them.
-use Rattle.std.specs.Prelude.{◌≡◌, ◌⊎◌, ◌≤◌, ℕ, Bool, List, [], ◌∷◌, length, Option, None, Some, Result, Ok, Err, slice_get}
+use Rattle.std.specs.Prelude.{◌≡◌, ◌⊎◌, ◌≤◌, ℕ, Bool, List, [], ◌∷◌, length, Option, None, Some, Result, Ok, Err, IfOk, OnErr, slice_get}
 use Rattle.std.specs.List.{flat_map}
 use Rattle.std.specs.Io.KnownBytes.{Appends}
 use Rattle.wol_disk.specs.Disk.{State, Rose}
@@ -18,7 +18,7 @@ use Rattle.troubles.specs.Troubles.{trouble_of, trouble_of_part}
 use Rattle.rack_parts.specs.declared.rack.Rack.{Rack}
 use Rattle.rack_parts.specs.declared.volume_fault.VolumeFault.{VolumeFault}
 use Rattle.inspection.specs.Looks.{LooksAt}
-use Rattle.inspection.specs.Racks.{IsStationAt}
+use Rattle.inspection.specs.Racks.{IsSameRack, IsStationAt, LeavesOthers}
 use Rattle.inspection.specs.declared.asked.Asked.{Asked}
 use Rattle.inspection.specs.declared.calls.Stop.{Stop}
 use Rattle.inspection.specs.declared.calls.Stop.TheVariants.{Sink, Memory}
@@ -83,6 +83,17 @@ IsTelling tells state config asked old new number t =
     TellsFault config old number t ⊎ TellsOrder tells state config asked old new number t
     ⊎ TellsFailed tells state config asked old new number t
 
+-- The text of a volume was appended: only its station is another, and there is what is told of it;
+-- or there was no memory, and the text is empty.
+pub record AppendsVolume {D E : Type 0} (tells : Bool) (state : D → State) (config : Config)
+    (asked : Asked) (old new : Rack D) (number : ℕ) (result : Result (Option Trouble) E)
+    (text : List ℕ) : Type 0 where
+  pub same : IsSameRack old new
+  pub others : LeavesOthers old new number
+  pub ok : IfOk result
+      (λ t. IsTelling tells state config asked old new number (record { trouble = t; text = text }))
+  pub err : OnErr result (text ≡ [])
+
 -- so it is of the first volumes, one after another
 pub record AreTellings {D : Type 0} (tells : Bool) (state : D → State) (config : Config)
     (asked : Asked) (old new : Rack D) (ts : List Telling) : Type 0 where
@@ -115,9 +126,12 @@ PrintsBy (Err Memory) config ts faults faults' printed new =
 PrintsBy (Err Sink) config ts faults faults' printed new =
     Rose faults faults' × AppendsFront printed new (text_of ts)
 
+-- the volumes of a rack were looked at and printed, and faults of the sink counted
 pub record PrintsVolumes {D : Type 0} (tells : Bool) (state : D → State) (config : Config)
     (asked : Asked) (old new : Rack D) (result : Result (Option Trouble) Stop) (faults faults' : ℕ)
     (printed printed' : Option (List ℕ)) : Type 0 where
+  pub same : IsSameRack old new
+  pub later : faults ≤ faults'
   pub told : List Telling
   pub are : AreTellings tells state config asked old new told
   pub prints : PrintsBy result config told faults faults' printed printed'

@@ -44,6 +44,11 @@ pub record IsSameStation {D : Type 0} (s t : Station D) : Type 0 where
   pub helps : AllByRecursion (λ n. IsHelp n.entry.operation) (notes_of (pass_mine s.worker))
       → AllByRecursion (λ n. IsHelp n.entry.operation) (notes_of (pass_mine t.worker))
 
+-- the stations of other volumes stay as they are
+abbrev pub LeavesOthers : {D : Type 0} → (r q : Rack D) → (volume : ℕ) → Type 0
+LeavesOthers {D} r q volume = (place : ℕ) (s : Station D) → slice_get r.stations.items place ≡ Some s
+    → (s.id ≡ volume → ⊥) → slice_get q.stations.items place ≡ Some s
+
 -- so it is of each station of a rack, and all else is the same
 pub record IsSameRack {D : Type 0} (r q : Rack D) : Type 0 where
   pub same : q ≡ record r { stations = q.stations }

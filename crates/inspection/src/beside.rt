@@ -1,10 +1,8 @@
 // The volumes of a run of stations are looked at for `check`, in four threads where so many can be had.
-ghost use Rattle.std.specs.Prelude.{◌≡◌, ◌<◌, ◌≤◌, ◌+◌, ℕ, List, length, IfOk, All};
+ghost use Rattle.std.specs.Prelude.{◌≡◌, ◌<◌, ◌≤◌, ◌+◌, length, IfOk};
+ghost use Rattle.std.specs.Thread.{IsSend, IsSync};
 ghost use Rattle.wol_config.specs.Configs.{IsValid};
-ghost use Rattle.manager.specs.declared.station.Station.{Station};
-ghost use Rattle.rack.specs.Racks.{IsStation, base_of_station};
-ghost use Rattle.inspection.specs.Looks.{IsConfiguredBase};
-ghost use Rattle.inspection.specs.Findings.{AreFoundTo, KeepsFound, CanAllBeLookedAt, AreEmpty, HaveFound, HasFound, CanBeLookedAt};
+ghost use Rattle.inspection.specs.Findings.{CanFindMore, HasFoundMore, CanAllBeLookedAt, AreEmpty, HaveFound, HasFound, CanBeLookedAt};
 
 use crate::asked::Asked;
 use crate::lines::look_station;
@@ -17,8 +15,11 @@ use std::thread::{Threads, join_mut};
 use wol_config::Config;
 use wol_disk::{Disk, NoMemory};
 
-// So many volumes are looked at before the lines of the first of them are printed, two by each thread.
+// So many volumes are looked at before the lines of the first of them are printed.
 const RUN: usize = 8;
+
+// A run is halved so many times, so that four threads look at two volumes each.
+const HALVINGS: u32 = 2;
 
 /// What a look at a volume found: how it ended, and the lines of a volume in order.
 #[derive(Drop)]
@@ -76,7 +77,6 @@ fn find_each<D: Disk, R: Wait>(
     findings: &mut [Finding],
 )
     requires valid { IsValid config.now }
-    requires count { length findings.old ≡ length stations.old }
     requires ahead { CanAllBeLookedAt config.now shared.now stations.old findings.old }
     ensures { HaveFound D.tells D.state config.now stations.old stations.new findings.new }
 {
@@ -92,58 +92,23 @@ fn find_each<D: Disk, R: Wait>(
     }
 }
 
-// Looks at the volumes of both lists of stations, in two threads.
-fn find_both<'a, D: Disk + Send, R: Threads + Wait + Sync>(
-    rt: &'a R,
-    alloc: Global,
-    shared: &'a Shared<D>,
-    config: &'a Config,
-    front: &'a mut [Station<D>],
-    front_findings: &'a mut [Finding],
-    back: &'a mut [Station<D>],
-    back_findings: &'a mut [Finding],
-)
-    requires valid { IsValid config.now }
-    requires front_count { length front_findings.old ≡ length front.old }
-    requires front_ahead { CanAllBeLookedAt config.now shared.now front.old front_findings.old }
-    requires back_count { length back_findings.old ≡ length back.old }
-    requires back_ahead { CanAllBeLookedAt config.now shared.now back.old back_findings.old }
-    ensures front { HaveFound D.tells D.state config.now front.old front.new front_findings.new }
-    ensures back { HaveFound D.tells D.state config.now back.old back.new back_findings.new }
-{
-    let again = alloc;
-    join_mut(
-        rt,
-        &mut ||
-            requires { IsValid config.now × (length front_findings.now ≡ length front.now)
-                × CanAllBeLookedAt config.now shared.now front.now front_findings.now }
-            ensures { HaveFound D.tells D.state config.entry.now front.entry.now front.exit.now
-                front_findings.exit.now }
-        { find_each(rt, alloc, shared, config, front, front_findings) },
-        &mut ||
-            requires { IsValid config.now × (length back_findings.now ≡ length back.now)
-                × CanAllBeLookedAt config.now shared.now back.now back_findings.now }
-            ensures { HaveFound D.tells D.state config.entry.now back.entry.now back.exit.now
-                back_findings.exit.now }
-        { find_each(rt, again, shared, config, back, back_findings) },
-    );
-}
-
-// Looks at the volumes of these stations, each half of them in a thread.
-fn find_halves<D: Disk + Send, R: Threads + Wait + Sync>(
+// Looks at the volumes of these stations. They are halved so many times, and each part is looked at in a thread where one
+// can be had.
+#[cycle(parts)]
+fn find_parts<D: Disk + Send, R: Threads + Wait + Sync>(
     rt: &R,
     alloc: Global,
     shared: &Shared<D>,
     config: &Config,
     stations: &mut [Station<D>],
     findings: &mut [Finding],
+    halvings: u32,
 )
     requires valid { IsValid config.now }
-    requires count { length findings.old ≡ length stations.old }
     requires ahead { CanAllBeLookedAt config.now shared.now stations.old findings.old }
     ensures { HaveFound D.tells D.state config.now stations.old stations.new findings.new }
 {
-    if stations.len() < 2 {
+    if halvings == 0 || stations.len() < 2 {
         find_each(rt, alloc, shared, config, stations, findings);
         return;
     }
@@ -159,11 +124,13 @@ fn find_halves<D: Disk + Send, R: Threads + Wait + Sync>(
         front_findings,
         back,
         back_findings,
+        halvings - 1,
     );
 }
 
-// Looks at the volumes of both lists of stations, in two threads for each.
-fn find_quarters<'a, D: Disk + Send, R: Threads + Wait + Sync>(
+// Looks at the volumes of both lists of stations, in two threads, each of which may halve its list so many times.
+#[cycle(parts)]
+fn find_both<'a, D: Disk + Send, R: Threads + Wait + Sync>(
     rt: &'a R,
     alloc: Global,
     shared: &'a Shared<D>,
@@ -172,12 +139,11 @@ fn find_quarters<'a, D: Disk + Send, R: Threads + Wait + Sync>(
     front_findings: &'a mut [Finding],
     back: &'a mut [Station<D>],
     back_findings: &'a mut [Finding],
+    halvings: u32,
 )
     requires valid { IsValid config.now }
-    requires front_count { length front_findings.old ≡ length front.old }
-    requires front_ahead { CanAllBeLookedAt config.now shared.now front.old front_findings.old }
-    requires back_count { length back_findings.old ≡ length back.old }
-    requires back_ahead { CanAllBeLookedAt config.now shared.now back.old back_findings.old }
+    requires front { CanAllBeLookedAt config.now shared.now front.old front_findings.old }
+    requires back { CanAllBeLookedAt config.now shared.now back.old back_findings.old }
     ensures front { HaveFound D.tells D.state config.now front.old front.new front_findings.new }
     ensures back { HaveFound D.tells D.state config.now back.old back.new back_findings.new }
 {
@@ -185,46 +151,17 @@ fn find_quarters<'a, D: Disk + Send, R: Threads + Wait + Sync>(
     join_mut(
         rt,
         &mut ||
-            requires { IsValid config.now × (length front_findings.now ≡ length front.now)
+            requires { IsSync R.row × IsSend D.row × IsValid config.now
                 × CanAllBeLookedAt config.now shared.now front.now front_findings.now }
             ensures { HaveFound D.tells D.state config.entry.now front.entry.now front.exit.now
                 front_findings.exit.now }
-        { find_halves(rt, alloc, shared, config, front, front_findings) },
+        { find_parts(rt, alloc, shared, config, front, front_findings, halvings) },
         &mut ||
-            requires { IsValid config.now × (length back_findings.now ≡ length back.now)
+            requires { IsSync R.row × IsSend D.row × IsValid config.now
                 × CanAllBeLookedAt config.now shared.now back.now back_findings.now }
             ensures { HaveFound D.tells D.state config.entry.now back.entry.now back.exit.now
                 back_findings.exit.now }
-        { find_halves(rt, again, shared, config, back, back_findings) },
-    );
-}
-
-// Looks at the volumes of these stations, each quarter of them in a thread where one can be had.
-fn find_all<D: Disk + Send, R: Threads + Wait + Sync>(
-    rt: &R,
-    alloc: Global,
-    shared: &Shared<D>,
-    config: &Config,
-    stations: &mut [Station<D>],
-    findings: &mut [Finding],
-)
-    requires valid { IsValid config.now }
-    requires count { length findings.old ≡ length stations.old }
-    requires ahead { CanAllBeLookedAt config.now shared.now stations.old findings.old }
-    ensures { HaveFound D.tells D.state config.now stations.old stations.new findings.new }
-{
-    let half = stations.len() / 2;
-    let (front, back) = stations.split_at_mut(half);
-    let (front_findings, back_findings) = findings.split_at_mut(half);
-    find_quarters(
-        rt,
-        alloc,
-        shared,
-        config,
-        front,
-        front_findings,
-        back,
-        back_findings,
+        { find_parts(rt, again, shared, config, back, back_findings, halvings) },
     );
 }
 
@@ -240,21 +177,16 @@ fn find_run<D: Disk + Send, R: Threads + Wait + Sync>(
     size: usize,
 )
     requires valid { IsValid config.now }
-    requires stations { All (λ s.
-        IsStation s × IsConfiguredBase config.now shared.now (base_of_station s)) stations.old }
-    requires going { (before : List (Station _))
-        × AreFoundTo D.tells D.state config.now before stations.old findings.old found }
+    requires going { CanFindMore D.tells D.state config.now shared.now stations.old findings.old found }
     requires size { found + size ≤ length stations.old }
-    ensures going { (before : List (Station _))
-        → AreFoundTo D.tells D.state config.now before stations.old findings.old found
-        → AreFoundTo D.tells D.state config.now before stations.new findings.new (found + size) }
-    ensures keeps { KeepsFound found stations.old stations.new findings.old findings.new }
+    ensures { HasFoundMore D.tells D.state config.now stations.old stations.new findings.old
+        findings.new found (found + size) }
 {
     let (_, ahead) = stations.split_at_mut(found);
     let (run, _) = ahead.split_at_mut(size);
     let (_, ahead_findings) = findings.split_at_mut(found);
     let (run_findings, _) = ahead_findings.split_at_mut(size);
-    find_all(rt, alloc, shared, config, run, run_findings);
+    find_parts(rt, alloc, shared, config, run, run_findings, HALVINGS);
 }
 
 /// Looks at the volumes of the next run of stations, unless that of the station at this place was looked at, and answers
@@ -270,17 +202,12 @@ pub(crate) fn find_through<D: Disk + Send, R: Threads + Wait + Sync>(
     place: usize,
 ) -> usize
     requires valid { IsValid config.now }
-    requires stations { All (λ s.
-        IsStation s × IsConfiguredBase config.now shared.now (base_of_station s)) stations.old }
-    requires going { (before : List (Station _))
-        × AreFoundTo D.tells D.state config.now before stations.old findings.old found }
+    requires going { CanFindMore D.tells D.state config.now shared.now stations.old findings.old found }
     requires place { place < length stations.old }
     ensures place { place < result }
     ensures more { found ≤ result }
-    ensures going { (before : List (Station _))
-        → AreFoundTo D.tells D.state config.now before stations.old findings.old found
-        → AreFoundTo D.tells D.state config.now before stations.new findings.new result }
-    ensures keeps { KeepsFound found stations.old stations.new findings.old findings.new }
+    ensures found { HasFoundMore D.tells D.state config.now stations.old stations.new findings.old
+        findings.new found result }
 {
     if place < found {
         return found;

@@ -7,7 +7,7 @@ ghost use Rattle.volume_images.specs.Left.{IsTold};
 ghost use Rattle.volume_images.specs.Volumes.{NoneOut};
 ghost use Rattle.rack.specs.Opens.{KeepsAllSound, KeepsOthers, LeavesAll};
 ghost use Rattle.open_rack.specs.Sessions.{OpensAndCloses};
-ghost use Rattle.inspection.specs.Racks.{CanLook, IsSameRack};
+ghost use Rattle.inspection.specs.Racks.{CanLook};
 ghost use Rattle.inspection.specs.Lines.{PrintsVolumes, first_of};
 ghost use Rattle.inspection.specs.declared.asked.Asked.TheVariants.{Check};
 ghost use Rattle.inspection.specs.Runs.{Completes, Inspects, MayComplete};
@@ -74,10 +74,8 @@ fn print_volumes<D: Disk, R: Wait, K: Sink>(
 ) -> Result<Option<Trouble>, Stop>
     requires valid { IsValid config.now }
     requires rack { CanLook config.now rack.old }
-    ensures same { IsSameRack rack.old rack.new }
-    ensures content { PrintsVolumes D.tells D.state config.now asked rack.old rack.new result
+    ensures { PrintsVolumes D.tells D.state config.now asked rack.old rack.new result
         (K.faults out.old) (K.faults out.new) (K.taken out.old) (K.taken out.new) }
-    ensures later { K.faults out.old ≤ K.faults out.new }
 {
     let mut first = None;
     let mut text = Vec::new(alloc);
@@ -101,10 +99,8 @@ fn print_checks<D: Disk + Send, R: Threads + Wait + Sync, K: Sink>(
 ) -> Result<Option<Trouble>, Stop>
     requires valid { IsValid config.now }
     requires rack { CanLook config.now rack.old }
-    ensures same { IsSameRack rack.old rack.new }
-    ensures content { PrintsVolumes D.tells D.state config.now Check rack.old rack.new result
+    ensures { PrintsVolumes D.tells D.state config.now Check rack.old rack.new result
         (K.faults out.old) (K.faults out.new) (K.taken out.old) (K.taken out.new) }
-    ensures later { K.faults out.old ≤ K.faults out.new }
 {
     let mut room = no_findings(alloc, rack.stations.len())?;
     let findings = room.as_mut_slice();
@@ -140,10 +136,8 @@ fn print_lines<D: Disk + Send, R: Threads + Wait + Sync, K: Sink>(
 ) -> Result<Option<Trouble>, Stop>
     requires valid { IsValid config.now }
     requires rack { CanLook config.now rack.old }
-    ensures same { IsSameRack rack.old rack.new }
-    ensures content { PrintsVolumes D.tells D.state config.now asked rack.old rack.new result
+    ensures { PrintsVolumes D.tells D.state config.now asked rack.old rack.new result
         (K.faults out.old) (K.faults out.new) (K.taken out.old) (K.taken out.new) }
-    ensures later { K.faults out.old ≤ K.faults out.new }
 {
     match asked {
         Asked::Check => print_checks(rt, alloc, rack, config, out),
@@ -171,8 +165,7 @@ where
         → IsTold (KeepsAllSound config.now) (B.state bay.old).told (B.state bay.new).told }
     ensures others { IsTold (KeepsOthers config.now) (B.state bay.old).told (B.state bay.new).told }
     ensures did { IfOk result (λ c. OpensAndCloses B.Part.tells B.Part.state config.now
-        (λ before after. IsSameRack before after × (K.faults out.old ≤ K.faults out.new)
-        × PrintsVolumes B.Part.tells B.Part.state config.now asked before after c.answer
+        (λ before after. PrintsVolumes B.Part.tells B.Part.state config.now asked before after c.answer
         (K.faults out.old) (K.faults out.new) (K.taken out.old) (K.taken out.new))
         (B.state bay.old) (B.state bay.new) c.spindles.items) }
     ensures left { OnErr result (IsTrue B.Part.tells

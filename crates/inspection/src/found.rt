@@ -6,7 +6,7 @@ ghost use Rattle.rack_parts.specs.declared.rack.Rack.{Rack};
 ghost use Rattle.log_dump.specs.declared.fault.DumpFault.TheVariants.{NoMemory as no_memory};
 ghost use Rattle.inspection.specs.Racks.{CanLook};
 ghost use Rattle.inspection.specs.Lines.{trouble_told};
-ghost use Rattle.inspection.specs.Findings.{AreFoundTo, IsKnown, IsToldBy, KeepsFound, lines_of};
+ghost use Rattle.inspection.specs.Findings.{AreFoundTo, HasFoundMore, IsKnown, IsToldBy, lines_of};
 
 use crate::beside::{Finding, find_through};
 use crate::lines::{append_fault, append_trouble, place_of, trouble_told};
@@ -64,13 +64,8 @@ pub(crate) fn append_found<D: Disk + Send, R: Threads + Wait + Sync>(
     requires empty { out.old.items ≡ [] }
     ensures rest { rack.new ≡ record rack.old { stations = rack.new.stations } }
     ensures more { found.old ≤ found.new }
-    ensures going { (before : List (Station _))
-        → AreFoundTo D.tells D.state config.now before rack.old.stations.items findings.old
-        found.old
-        → AreFoundTo D.tells D.state config.now before rack.new.stations.items findings.new
-        found.new }
-    ensures keeps { KeepsFound found.old rack.old.stations.items rack.new.stations.items
-        findings.old findings.new }
+    ensures found { HasFoundMore D.tells D.state config.now rack.old.stations.items
+        rack.new.stations.items findings.old findings.new found.old found.new }
     ensures told { IfOk result (λ t. IsToldBy config.now rack.new findings.new found.new volume
         (record { trouble = t; text = out.new.items })) }
 {

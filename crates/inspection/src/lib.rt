@@ -11,7 +11,8 @@
 //! look leaves of it (`IsSameRack`: only the workers' passes are others); `Findings` what looks side by side found;
 //! `Lines` what is told of each volume, and how it was printed. In `proofs/`: `Serving` and `Looking` for a turn,
 //! `Placing` for a station among all, `Halves` for stations that are split among threads, `Ahead` for a run of them,
-//! `Judging` for what is told, `AsFound` for what was found, `Printing` for the loop, `SameRacks`.
+//! `Judging` for what is told, `AsFound` for what was found, `Printing` for the loop, `WorkedRacks` and `SameRacks` for
+//! racks of whose stations only the workers' passes are others.
 #![tactic(auto)]
 
 mod asked;
@@ -23,3 +24,4 @@ mod turn;
 
 pub use asked::Asked;
 pub use calls::{Stop, inspect};
+pub use lines::place_of;

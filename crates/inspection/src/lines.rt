@@ -1,5 +1,5 @@
 // The lines of one volume.
-ghost use Rattle.std.specs.Prelude.{◌≡◌, ◌⊎◌, ◌<◌, ◌++◌, ℕ, [], length, Some, Err, Ok, Contains, IfOk, OnOk, OnErr, slice_get, slice_set};
+ghost use Rattle.std.specs.Prelude.{◌≡◌, ◌⊎◌, ◌<◌, ◌++◌, ℕ, [], length, Some, Err, Ok, Contains, IfOk, OnOk, OnErr};
 ghost use Rattle.wol_config.specs.Configs.{IsValid};
 ghost use Rattle.manager.specs.declared.part.Part.{Part};
 ghost use Rattle.manager.specs.declared.station.Station.{Station};
@@ -8,8 +8,8 @@ ghost use Rattle.report.specs.Troubles.{IsAmong};
 ghost use Rattle.troubles.specs.Troubles.{trouble_of, trouble_of_part};
 ghost use Rattle.rack.specs.Racks.{IsStation, AreUnused, base_of_station};
 ghost use Rattle.inspection.specs.Looks.{IsConfiguredBase, LooksAt};
-ghost use Rattle.inspection.specs.Racks.{numbers_of, CanLook, IsSameStation, IsSameRack, IsStationAt};
-ghost use Rattle.inspection.specs.Lines.{IsTelling, LooksAtVolume, trouble_line, trouble_told};
+ghost use Rattle.inspection.specs.Racks.{numbers_of, CanLook, IsSameStation, IsSameRack, IsStationAt, LeavesOthers};
+ghost use Rattle.inspection.specs.Lines.{AppendsVolume, LooksAtVolume, trouble_line, trouble_told};
 
 use crate::asked::Asked;
 use crate::turn::look;
@@ -26,7 +26,7 @@ use wol_config::Config;
 use wol_disk::{Disk, NoMemory};
 
 /// The place of the station of this volume.
-pub(crate) fn place_of<D: Disk>(stations: &[Station<D>], volume: u32) -> usize
+pub fn place_of<D: Disk>(stations: &[Station<D>], volume: u32) -> usize
     requires { Contains (numbers_of stations.now) volume }
     ensures { (s : Station _) × IsStationAt stations.now volume result s }
 {
@@ -102,8 +102,7 @@ fn look_at<D: Disk, R: Wait>(
     requires there { Contains (numbers_of rack.old.stations.items) volume }
     requires empty { out.old.items ≡ [] }
     ensures same { IsSameRack rack.old rack.new }
-    ensures others { (place : ℕ) (s : Station _) → slice_get rack.old.stations.items place ≡ Some s
-        → (s.id ≡ volume → ⊥) → slice_get rack.new.stations.items place ≡ Some s }
+    ensures others { LeavesOthers rack.old rack.new volume }
     ensures looks { LooksAtVolume D.tells D.state config.now asked rack.old rack.new volume result
         out.new.items }
     ensures err { OnErr result (out.new.items ≡ []) }
@@ -180,12 +179,8 @@ fn append_open<D: Disk, R: Wait>(
     requires there { Contains (numbers_of rack.old.stations.items) volume }
     requires volume { volume < length config.now.volumes.items }
     requires empty { out.old.items ≡ [] }
-    ensures same { IsSameRack rack.old rack.new }
-    ensures others { (place : ℕ) (s : Station _) → slice_get rack.old.stations.items place ≡ Some s
-        → (s.id ≡ volume → ⊥) → slice_get rack.new.stations.items place ≡ Some s }
-    ensures ok { IfOk result (λ t. IsTelling D.tells D.state config.now asked rack.old rack.new
-        volume (record { trouble = t; text = out.new.items })) }
-    ensures err { OnErr result (out.new.items ≡ []) }
+    ensures { AppendsVolume D.tells D.state config.now asked rack.old rack.new volume result
+        out.new.items }
 {
     let trouble = trouble_told(look_at(rt, alloc, asked, rack, config, volume, out))?;
     if let Some(trouble) = &trouble {
@@ -208,12 +203,8 @@ pub(crate) fn append_volume<D: Disk, R: Wait>(
     requires rack { CanLook config.now rack.old }
     requires volume { volume < length config.now.volumes.items }
     requires empty { out.old.items ≡ [] }
-    ensures same { IsSameRack rack.old rack.new }
-    ensures others { (place : ℕ) (s : Station _) → slice_get rack.old.stations.items place ≡ Some s
-        → (s.id ≡ volume → ⊥) → slice_get rack.new.stations.items place ≡ Some s }
-    ensures ok { IfOk result (λ t. IsTelling D.tells D.state config.now asked rack.old rack.new
-        volume (record { trouble = t; text = out.new.items })) }
-    ensures err { OnErr result (out.new.items ≡ []) }
+    ensures { AppendsVolume D.tells D.state config.now asked rack.old rack.new volume result
+        out.new.items }
 {
     let Some(fault) = rack.faults[volume as usize] else {
         return append_open(rt, alloc, asked, rack, config, volume, out);

@@ -13,7 +13,7 @@ find_one-requires-clause-ahead g c =
 pub loop-k-preserved : goal.loop-k-preserved
 loop-k-preserved g c =
     let i = c.loop-k.invariant in let k = c.loop-k.k in
-    let t = c.loop-k-test.true in let a = c.loop-k.auto.stations in let b = c.loop-k.auto.findings in let n = c.requires.count in
+    let t = c.loop-k-test.true in let a = c.loop-k.auto.stations in let b = c.loop-k.auto.findings in let n = c.requires.ahead.count in
     let within : k < length c.loop-k.stations = omega arith in
     let within_findings : k < length c.loop-k.findings = omega arith in
     let there = slice_get_read c.loop-k.stations (length c.loop-k.stations) k c.index-stations-k.result refl within c.index-stations-k.is in

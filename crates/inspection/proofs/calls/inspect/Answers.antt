@@ -16,14 +16,14 @@ returns-in_err-closed-clause-complete g c =
     λ m. inr (rw (p.1, p.2) refl)
 
 pub returns-clause-content : goal.returns-clause-content
-returns-clause-content g c = let session = c.in_ok-closed.ensures.did in inspected _ _ _ _ _ _ _ _ session _ _ _ _ _ session.done.2
+returns-clause-content g c = let session = c.in_ok-closed.ensures.did in inspected _ _ _ _ _ _ _ _ session _ _ _ _ _ session.done
 
 pub returns-clause-later : goal.returns-clause-later
-returns-clause-later g c = c.in_ok-closed.ensures.did.done.1
+returns-clause-later g c = c.in_ok-closed.ensures.did.done.later
 
 -- a look writes nothing
 pub returns-clause-left : goal.returns-clause-left
-returns-clause-left g c = let session = c.in_ok-closed.ensures.did in λ telling. session.left telling (all_quiet _ _ session.done.0.each session.opened.fresh)
+returns-clause-left g c = let session = c.in_ok-closed.ensures.did in λ telling. session.left telling (all_quiet _ _ session.done.same.each session.opened.fresh)
 
 pub returns-clause-complete : goal.returns-clause-complete
-returns-clause-complete g c = let session = c.in_ok-closed.ensures.did in look_completes _ _ _ _ _ _ _ _ session _ _ _ _ _ session.done.2
+returns-clause-complete g c = let session = c.in_ok-closed.ensures.did in look_completes _ _ _ _ _ _ _ _ session _ _ _ _ _ session.done

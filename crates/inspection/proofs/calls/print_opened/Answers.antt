@@ -42,7 +42,7 @@ returns-clause-did g c =
     let closed : IsClosed tells state config bay new c.print_lines-answer.new.rack c.close_all-spindles.result.items = record { count = e.count; each = e.spindles; stations = e.stations.0; pools = e.stations.1; parts = e.parts; lists = e.faulty } in
     opens_and_closes tells state config old bay new c.in_ok-rack.rack c.print_lines-answer.new.rack (again_same _ _ p.same) opened o.counts e.counts e.kept o.refused
     (gained_parts state config c.print_lines-answer.new.rack.rest bay.told new.told e.faulty)
-    _ _ (p.same, p.later, p.content) closed o.failed o.complete e.cause e.left e.volumes e.unopened
+    _ _ p closed o.failed o.complete e.cause e.left e.volumes e.unopened
 
 pub returns-clause-others : goal.returns-clause-others
 returns-clause-others g c =

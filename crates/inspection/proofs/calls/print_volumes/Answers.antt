@@ -12,25 +12,27 @@ loop-volume-init g c = record { empty = c.new-text.ensures.items; calm = refl; u
 pub append_volume-requires-clause-rack : goal.append_volume-requires-clause-rack
 append_volume-requires-clause-rack g c = can_look_still _ _ _ c.loop-volume.invariant.underway.same c.requires.rack
 
-pub returns-in_err-trouble-clause-same : goal.returns-in_err-trouble-clause-same
-returns-in_err-trouble-clause-same g c = rack_then _ _ _ c.loop-volume.invariant.underway.same c.append_volume.ensures.same
-
-pub returns-in_err-trouble-clause-content : goal.returns-in_err-trouble-clause-content
-returns-in_err-trouble-clause-content g c =
+pub returns-in_err-trouble : goal.returns-in_err-trouble
+returns-in_err-trouble g c =
     let p = err_from_is_err_and c.from_residual.result c.from_residual.ensures.1 in
     let u = c.loop-volume.invariant.underway in let a = c.append_volume.ensures in
-    rw (p.1, p.2) (record { told = u.told; are = tellings_still _ _ _ _ _ _ _ _ _ _ _ u a.same a.others; prints = (c.loop-volume.invariant.calm, u.prints) })
+    rw (p.1, p.2) (record {
+      same = rack_then _ _ _ u.same a.same;
+      later = omega (arith, c.loop-volume.invariant.calm);
+      told = u.told;
+      are = tellings_still _ _ _ _ _ _ _ _ _ _ _ u a.same a.others;
+      prints = (c.loop-volume.invariant.calm, u.prints);
+    })
 
-pub returns-in_err-write-clause-same : goal.returns-in_err-write-clause-same
-returns-in_err-write-clause-same g c = rack_then _ _ _ c.loop-volume.invariant.underway.same c.append_volume.ensures.same
-
-pub returns-in_err-write-clause-content : goal.returns-in_err-write-clause-content
-returns-in_err-write-clause-content g c =
+pub returns-in_err-write : goal.returns-in_err-write
+returns-in_err-write g c =
     let p = err_from_is_err_and c.from_residual-in_err-write.result c.from_residual-in_err-write.ensures.1 in
     let u = c.loop-volume.invariant.underway in let a = c.append_volume.ensures in
     let t : Telling = record { trouble = c.in_ok-trouble.trouble; text = c.append_volume.new.out.items } in
     let told = c.in_ok-trouble.ensures.ok in
     rw (p.1, p.2) (record {
+      same = rack_then _ _ _ u.same a.same;
+      later = omega (arith, c.loop-volume.invariant.calm, c.in_err-write.ensures.later);
       told = u.told ++ t ∷ [];
       are = tellings_more _ _ _ _ _ _ _ _ _ _ _ u a.same a.others (omega arith) t told;
       prints = (
