@@ -340,9 +340,20 @@ module _ {D : Type 0} (state : D → State) (m : Manager D) (ready : IsReady sta
 
 -- ---- The next chunk
 
+-- the blocks from lbn on are the next chunk, tidy or not
+pub record IsMet (covered : ℕ → Bool) (most from lbn count : ℕ) : Type 0 where
+  pub low : from ≤ lbn
+  pub bare : (x : ℕ) → from ≤ x → x < lbn → covered x ≡ false
+  pub some : 1 ≤ count
+  pub few : count ≤ most
+  pub run : (x : ℕ) → lbn ≤ x → x < lbn + count → covered x ≡ true
+  pub ends : count < most → covered (lbn + count) ≡ false
+
+pub met_of : {covered : ℕ → Bool} {es : List Listed} {most from : ℕ} {i : Item} → IsNext covered es most from i → IsMet covered most from i.lbn i.count
+met_of n = record { low = n.low; bare = n.bare; some = n.some; few = n.few; run = n.run; ends = n.ends }
+
 module _ {D : Type 0} (tells : Bool) (state : D → State) (most : ℕ) (old now : Manager D) (copied from : ℕ) (settled : Bool) (can : CanClean old) (copies : List Write) (b : Between tells state most old now copied from settled copies)
-    (ready : IsReady state now) (lbn count : ℕ) (low : from ≤ lbn) (bare : (x : ℕ) → from ≤ x → x < lbn → covered_in now x ≡ false)
-    (some : 1 ≤ count) (few : count ≤ most) (run : (x : ℕ) → lbn ≤ x → x < lbn + count → covered_in now x ≡ true) (ends : count < most → covered_in now (lbn + count) ≡ false) where
+    (ready : IsReady state now) (lbn count : ℕ) (met : IsMet (covered_in now) most from lbn count) where
   same_cover : (x : ℕ) → covered_in now x ≡ covered_in old x
   same_cover x = b.done.copied.goes_on.covered x
 
@@ -350,31 +361,31 @@ module _ {D : Type 0} (tells : Bool) (state : D → State) (most : ℕ) (old now
   first_one = record { lbn = lbn; count = count }
 
   pub end_within : lbn + count ≤ 2 ^ 32
-  end_within = let fits = chunk_fits state now lbn count ready some (λ x is. let w = inside_of lbn count x is in run x w.0 w.1) in let small = ready.ready.home_small.1 in omega (arith, fits, small)
+  end_within = let fits = chunk_fits state now lbn count ready met.some (λ x is. let w = inside_of lbn count x is in met.run x w.0 w.1) in let small = ready.ready.home_small.1 in omega (arith, fits, small)
 
   pub between_tidy : IsTidy (listed_in now.index.entries) lbn count → Between tells state most old now copied (lbn + count) settled copies
   between_tidy t = record {
     done = b.done;
     count = b.count;
-    few = let f = b.few in omega (arith, f, low);
+    few = let f = b.few in omega (arith, f, met.low);
     within = end_within;
     upper = one_more_old (λ first n. (version : ℕ) × IsUppermost (listed_in now.index.entries) version first n) b.upper (t.version, upper_of_tidy (listed_in now.index.entries) lbn count t);
     tidy = λ yes_. one_more_old (λ first n. IsTidy (listed_in now.index.entries) first n) (b.tidy yes_) t;
     some = b.some;
     cut = λ is. cut_behind (covered_in old) most lbn count chunk is;
-    behind = all_map (λ (w : Write). w.first < from) (λ (w : Write). w.first < lbn + count) (λ w lt. omega (arith, lt, low)) copies b.behind;
-    stays = λ f c least le. b.stays f c least (omega (arith, le, low));
+    behind = all_map (λ (w : Write). w.first < from) (λ (w : Write). w.first < lbn + count) (λ w lt. omega (arith, lt, met.low)) copies b.behind;
+    stays = λ f c least le. b.stays f c least (omega (arith, le, met.low));
   }
     where
       -- it is the next one, but for being tidy
       as_next : IsNext (covered_in old) [] most from first_one
       as_next = record {
-        low = low;
-        bare = λ x l h. sym (same_cover x) ∙ bare x l h;
-        some = some;
-        few = few;
-        run = λ x l h. sym (same_cover x) ∙ run x l h;
-        ends = λ less. sym (same_cover (lbn + count)) ∙ ends less;
+        low = met.low;
+        bare = λ x l h. sym (same_cover x) ∙ met.bare x l h;
+        some = met.some;
+        few = met.few;
+        run = λ x l h. sym (same_cover x) ∙ met.run x l h;
+        ends = λ less. sym (same_cover (lbn + count)) ∙ met.ends less;
         untidy = λ tidy. all_member (λ (e : Listed). ⊥) [] tidy.one.record_ tt tidy.one.listed;
       }
 
@@ -390,7 +401,7 @@ module _ {D : Type 0} (tells : Bool) (state : D → State) (most : ℕ) (old now
     items = first_one ∷ rest
 
     pub are_next : AreNext (covered_in now) (listed_in now.index.entries) most from items
-    are_next = (record { low = low; bare = bare; some = some; few = few; run = run; ends = ends; untidy = untidy }, more)
+    are_next = (record { low = met.low; bare = met.bare; some = met.some; few = met.few; run = met.run; ends = met.ends; untidy = untidy }, more)
 
     -- among the records at the beginning too
     were_next : AreNext (covered_in old) (listed_in old.index.entries) most from items
@@ -427,10 +438,10 @@ module _ {D : Type 0} (tells : Bool) (state : D → State) (most : ℕ) (old now
     }
       where
         tidy_before : settled ≡ true → AreTidyBelow (covered_in old) most lbn (listed_in now.index.entries)
-        tidy_before yes_ x lt is = ⊎_elim (λ l. b.tidy yes_ x l is) (λ g. absurd (clash (covered_in old x) is (sym (same_cover x) ∙ bare x g lt))) (cases_lt x from)
+        tidy_before yes_ x lt is = ⊎_elim (λ l. b.tidy yes_ x l is) (λ g. absurd (clash (covered_in old x) is (sym (same_cover x) ∙ met.bare x g lt))) (cases_lt x from)
 
         behind_later : AllByRecursion (λ (w : Write). w.first < lbn) copies
-        behind_later = all_map (λ (w : Write). w.first < from) (λ (w : Write). w.first < lbn) (λ w lt. omega (arith, lt, low)) copies b.behind
+        behind_later = all_map (λ (w : Write). w.first < from) (λ (w : Write). w.first < lbn) (λ w lt. omega (arith, lt, met.low)) copies b.behind
 
     pub between_copied : (k : ℕ) → 1 ≤ k → (t : HasRewritten tells state (take k items) now new) → Between tells state most old new (copied + count_of (take k items)) (end_of from (take k items)) false (copies ++ t.writes)
     between_copied k one t = record {
