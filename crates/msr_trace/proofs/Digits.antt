@@ -35,37 +35,15 @@ value_stops n b bytes h = elim (cases_Bool (is_digit b 10)) [
 pub value_stops_at : (n i : ℕ) (field : List ℕ) → i < length field → with_digit n (get_or field i 0) ≡ None → value_after n (drop i field) ≡ None
 value_stops_at n i field h k = at_drop_more (value_after n) field i 0 h ∙ value_stops n (get_or field i 0) (drop (i + 1) field) k
 
--- a byte that gives a number goes on with it
-pub value_goes_on : (n m b : ℕ) (bytes : List ℕ) → with_digit n b ≡ Some m → value_after n (b ∷ bytes) ≡ value_after m bytes
-value_goes_on n m b bytes h = elim (cases_Bool (is_digit b 10)) [
-  | inr other ↦ absurd (cc (rw other at h))
-  | inl digit ↦ elim (cases_Bool (nat_lt (n * 10 + digit_value b) (2 ^ 64))) [
-    | inr large ↦ absurd (cc (rw (digit, large) at h))
-    | inl small ↦
-        let is : n * 10 + digit_value b ≡ m = (let k = rw (digit, small) at h in cc k) in
-        rw (digit, is) refl
-  ]
-]
-
 -- no more digits
 pub value_ends : (n : ℕ) → n < 2 ^ 64 → value_after n [] ≡ Some n
 value_ends n h = rw (lt-ltb n (2 ^ 64) h) refl
-
--- few digits write a number that stays below 2^64 with any digit more
-pub small_enough : (n i count : ℕ) → n < 10 ^ i → i < count → count < 20 → n ≤ 1844674407370955160
-small_enough n i count small within short =
-    let few : 10 ^ i ≤ 10 ^ 18 = pow-le-pow_right {n = 10} (lit< tt) {j = 18} (omega (arith, within, short)) in
-    omega (arith, few, small)
 
 -- fewer than 20 digits write a number below 2^64
 pub small_end : (n i : ℕ) → n < 10 ^ i → i < 20 → n < 2 ^ 64
 small_end n i small short =
     let few : 10 ^ i ≤ 10 ^ 19 = pow-le-pow_right {n = 10} (lit< tt) {j = 19} (omega (arith, short)) in
     omega (arith, few, small)
-
--- with a digit more
-pub small_more : (n next i : ℕ) → n < 10 ^ i → next < n * 10 + 10 → next < 10 ^ (i + 1)
-small_more n next i small less = rw (pow_more 10 i) (omega (arith, small, less))
 
 -- ---- Runs of digits
 

@@ -16,7 +16,7 @@ pub fn number(field: &[u8]) -> Option<u64>
     if field.len() < 20 {
         few(field)
     } else {
-        value(field)
+        digit_by_digit(0, field)
     }
 }
 
@@ -45,27 +45,22 @@ fn few_after(value: u64, digits: &[u8]) -> Option<u64>
     ensures { result ≡ value_after value digits.now }
 {
     if digits.len() < 4 {
-        return one_by_one(value, digits);
+        return digit_by_digit(value, digits);
     }
     let (run, behind) = digits.split_at(4);
     if !are_digits(run) {
         return None;
     }
-    one_by_one(with_run(value, run), behind)
+    digit_by_digit(with_run(value, run), behind)
 }
 
-// The same, a digit at a time.
-fn one_by_one(value: u64, digits: &[u8]) -> Option<u64>
-    requires short { length digits.now < 20 }
-    requires small { value < 10 ^ (19 - length digits.now) }
+// The number that any number of digits write behind those of a number, if it is below 2^64.
+fn digit_by_digit(value: u64, digits: &[u8]) -> Option<u64>
     ensures { result ≡ value_after value digits.now }
 {
     let mut number = value;
     for byte in digits {
-        let Some(next) = with_small(number, *byte) else {
-            return None;
-        };
-        number = next;
+        number = with_digit(number, *byte)?;
     }
     Some(number)
 }
@@ -103,42 +98,10 @@ fn value_of(digit: u8) -> u64
     u64::from(digit - b'0')
 }
 
-// The number that any number of digits write, if it is below 2^64.
-fn value(field: &[u8]) -> Option<u64>
-    ensures { result ≡ value_after 0 field.now }
-{
-    let mut value = 0u64;
-    for byte in field {
-        let Some(next) = with_digit(value, *byte) else {
-            return None;
-        };
-        value = next;
-    }
-    Some(value)
-}
-
-// The greatest number that stays below 2^64 with any digit more.
-const ROOMY: u64 = (u64::MAX - 9) / 10;
-
-// A small number with one more digit.
-fn with_small(value: u64, byte: u8) -> Option<u64>
-    requires { value ≤ ROOMY }
-    ensures value { result ≡ with_digit value byte }
-    ensures bound { IfSome result (λ next. next < value * 10 + 10) }
-{
-    if !byte.is_ascii_digit() {
-        return None;
-    }
-    Some(value * 10 + u64::from(byte - b'0'))
-}
-
 // A number with one more digit.
 fn with_digit(value: u64, byte: u8) -> Option<u64>
     ensures { result ≡ with_digit value byte }
 {
-    if value <= ROOMY {
-        return with_small(value, byte);
-    }
     if !byte.is_ascii_digit() {
         return None;
     }

@@ -1,9 +1,0 @@
-use Rattle.std.proofs.Common.{◌≡◌, ◌<◌, ◌^◌, drop}
-use Rattle.msr_trace.specs.Numbers.{value_after}
-use Rattle.msr_trace.proofs.decimal.value.Given as goal
-
-abbrev pub invariant-loop-byte : goal.invariant-loop-byte
-invariant-loop-byte l = record {
-  goes_on : value_after 0 l.field ≡ value_after l.value (drop l.byte-index l.field);
-  small : l.value < 2 ^ 64;
-}
