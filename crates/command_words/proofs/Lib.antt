@@ -1,4 +1,4 @@
-pub mod Globals
+pub mod Gaining
 pub mod Asked
 pub mod Words
 pub mod Rows
@@ -8,4 +8,5 @@ pub mod Subcommands
 pub mod Taken
 pub mod TakenNames
 pub mod TakenOptions
+pub mod Spelled
 pub mod Unique

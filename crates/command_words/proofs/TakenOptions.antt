@@ -6,28 +6,27 @@ use Rattle.std.proofs.lemmas.List.{map-append}
 use Rattle.std.specs.List.{AllByRecursion, flat_map, fold}
 use Rattle.std.specs.Option.{option_map_or}
 use Rattle.std.specs.Str.{bytes_eq}
-use Rattle.clap.proofs.OnLiterals.{clap_on_literals}
 use Rattle.clap.specs.Facts.{explicit_source}
 use Rattle.clap.specs.Faults.{check_fault, defaults_fault, given_default_fault}
 use Rattle.clap.specs.Kinds.{Kinds, check_kinds, or_else}
-use Rattle.clap.specs.Simple.{Shape, built}
+use Rattle.clap.specs.Simple.{Shape}
 use Rattle.clap.specs.Walk.{first_of, has_row, nothing_held, with_default, with_values}
 use Rattle.clap.specs.Words.{Row, Rule, Text, new_app}
 use Rattle.clap.specs.declared.parser.matches.ValueSource.TheVariants.{DefaultValue}
 use Rattle.clap.specs.declared.builder.value_parser.Reading.TheVariants.{AsWritten}
-use Rattle.command_words.specs.Application.{the_app, with_options, with_trace}
-use Rattle.command_words.specs.Laws.{ReplayIsCommand, SoakIsCommand}
-use Rattle.command_words.specs.Table.{AreOptions, Given, each, each_in, mode_in, mode_text, reclaim, words_of, workers, workers_in}
+use Rattle.command_words.specs.Application.{with_options, with_trace}
+use Rattle.command_words.specs.Commands.{IsCommand}
+use Rattle.command_words.specs.Table.{AreOptions, Given, IsReplay, IsSoak, each, each_in, mode_in, mode_text, reclaim, words_of, workers, workers_in}
 use Rattle.command_words.specs.Values.{HasMode, HasOptions, HasWorkers}
 use Rattle.command_words.specs.declared.command.Command.TheVariants.{Replay, Soak}
+use Rattle.command_words.specs.declared.command.Generated.{Generated}
 use Rattle.command_words.specs.declared.command.Mode.{Mode}
 use Rattle.command_words.specs.declared.command.Mode.TheVariants.{Between}
 use Rattle.command_words.specs.declared.command.Options.{Options}
 use Rattle.command_words.proofs.AnyOrder.{AreToCome, IsNew, TakesOptions, all_new, are_small, given_all, name_of_given, named_each, named_mode, named_workers, past_lines, past_seed, row_of_given}
 use Rattle.command_words.proofs.Rows.{added, found_after, found_first, found_none, given_row, has_more, passed_over, row_from, row_of_name}
 use Rattle.command_words.proofs.Steps.{Holds, Leads, by_place, filled, filled_holds, leads_on, standing, switch, valued}
-use Rattle.command_words.proofs.Subcommands.{Enters}
-use Rattle.command_words.proofs.Taken.{Takes, asks_for, built_sub, nothing_holds, takes}
+use Rattle.command_words.proofs.Taken.{Takes, asks_for, built_sub, enters, nothing_holds, placed_arg, takes}
 use Rattle.command_words.proofs.Words.{IsPlain, plain_decimal}
 
 -- ---- Defaults
@@ -148,10 +147,6 @@ to_come_of given options are = record {
 abbrev replay : Shape
 replay = built_sub (with_options (new_app (codes "replay")))
 
-enters_replay : Enters (built the_app) (codes "replay") (built_sub (with_options (new_app (codes "replay"))))
-unfolding clap_on_literals
-enters_replay = record { turn = refl; stops = refl; found = refl; ends = refl }
-
 replay_options : TakesOptions (built_sub (with_options (new_app (codes "replay"))))
 replay_options = record { workers_long = refl; workers_id = refl; reclaim_long = refl; reclaim_id = refl; each_long = refl }
 
@@ -172,16 +167,16 @@ replay_rows rows =
 replay_ends : (rows : List Row) → or_else (defaults_fault rows replay.rules) (check_fault replay (fold with_default rows replay.rules) false) ≡ []
 replay_ends rows = ap (λ kinds. or_else kinds (check_fault replay (fold with_default rows replay.rules) false)) (replay_calm rows)
 
-takes_replay : (given : List Given) → AreToCome [] given → Takes (codes "replay") (flat_map words_of given) (with_each (map row_of_given given))
-takes_replay given to_come =
+takes_replay : (options : Options) (given : List Given) → AreToCome [] given → Takes (codes "replay") (flat_map words_of given) (with_each (map row_of_given given))
+takes_replay options given to_come =
     let all = given_all replay replay_options 1 [] nothing_held given [] (nothing_holds replay) (subst (AreToCome []) (sym (append-nil given)) to_come) in
     subst (Takes (codes "replay") (flat_map words_of given)) (replay_rows (map row_of_given given))
-    (takes (codes "replay") replay (flat_map words_of given) (map row_of_given given) 1 all.comes.there enters_replay refl all.comes.leads all.comes.holds (replay_ends (map row_of_given given)))
+    (takes (codes "replay") replay (flat_map words_of given) (map row_of_given given) 1 all.comes.there (enters (Replay options)) refl all.comes.leads all.comes.holds (replay_ends (map row_of_given given)))
 
-pub replay_is_command : ReplayIsCommand
+pub replay_is_command : (words : List Text) (options : Options) → IsReplay words options → IsCommand words (Replay options)
 replay_is_command words options is =
     asks_for words (codes "replay") (flat_map words_of is.given) (with_each (map row_of_given is.given)) (Replay options) is.spelled
-    (takes_replay is.given (to_come_of is.given options is.as_given))
+    (takes_replay options is.given (to_come_of is.given options is.as_given))
     (record { named = refl; values = has_options (map row_of_given is.given) is.given options is.as_given (λ name seed lines. refl) })
 
 -- ---- `soak`
@@ -189,28 +184,21 @@ replay_is_command words options is =
 abbrev soak : Shape
 soak = built_sub (with_options (with_trace (new_app (codes "soak"))))
 
-enters_soak : Enters (built the_app) (codes "soak") (built_sub (with_options (with_trace (new_app (codes "soak")))))
-unfolding clap_on_literals
-enters_soak = record { turn = refl; stops = refl; found = refl; ends = refl }
-
 soak_options : TakesOptions (built_sub (with_options (with_trace (new_app (codes "soak")))))
 soak_options = record { workers_long = refl; workers_id = refl; reclaim_long = refl; reclaim_id = refl; each_long = refl }
-
-abbrev placed : Text → ℕ → Rule
-placed name index = valued name None (Some index) true
 
 abbrev three : List Rule
 three = named (codes "workers") ∷ named (codes "reclaim") ∷ switch (codes "each") ∷ []
 
 soak_calm : (rows : List Row) → defaults_fault rows soak.rules ≡ []
 soak_calm rows =
-    calm_past (codes "SEED") None (Some 1) true rows (placed (codes "LINES") 2 ∷ three)
+    calm_past (codes "SEED") None (Some 1) true rows (placed_arg (codes "LINES") 2 ∷ three)
     ∙ calm_past (codes "LINES") None (Some 2) true rows three
     ∙ replay_calm rows
 
 soak_rows : (rows : List Row) → fold with_default rows soak.rules ≡ with_each rows
 soak_rows rows =
-    rows_past (codes "SEED") None (Some 1) true rows (placed (codes "LINES") 2 ∷ three)
+    rows_past (codes "SEED") None (Some 1) true rows (placed_arg (codes "LINES") 2 ∷ three)
     ∙ rows_past (codes "LINES") None (Some 2) true rows three
     ∙ replay_rows rows
 
@@ -302,9 +290,9 @@ module _ (before between behind : List Given) (seed lines : Text) where
       ap₂ (λ kinds rs. or_else kinds (check_fault soak rs false)) (soak_calm rows_found) (soak_rows rows_found)
       ∙ soak_checks (with_each rows_found) seed lines (each_aside (codes "SEED") rows_found refl ∙ seed_found) (each_aside (codes "LINES") rows_found refl ∙ lines_found)
 
-  takes_soak : IsPlain seed → IsPlain lines → AreToCome [] (before ++ (between ++ behind))
+  takes_soak : (asked : Generated) (options : Options) → IsPlain seed → IsPlain lines → AreToCome [] (before ++ (between ++ behind))
       → Takes (codes "soak") (soak_words before seed between lines behind) (with_each rows_found)
-  takes_soak plain_1 plain_2 to_come =
+  takes_soak asked options plain_1 plain_2 to_come =
       let a = map row_of_given before in
       let b = map row_of_given between in
       let c = map row_of_given behind in
@@ -332,15 +320,15 @@ module _ (before between behind : List Given) (seed lines : Text) where
       (leads_on soak (standing 2 h3) (standing 3 h4) (standing 3 h5) (lines ∷ []) (flat_map words_of behind) leads_4 third.comes.leads))) in
       let holds : Holds soak rows_found h5 = subst (λ rs. Holds soak rs h5) (regrouped a b c (given_row (codes "SEED") seed) (given_row (codes "LINES") lines)) third.comes.holds in
       subst (Takes (codes "soak") (soak_words before seed between lines behind)) (soak_rows rows_found)
-      (takes (codes "soak") soak (soak_words before seed between lines behind) rows_found 3 h5 enters_soak refl leads holds soak_ends)
+      (takes (codes "soak") soak (soak_words before seed between lines behind) rows_found 3 h5 (enters (Soak asked options)) refl leads holds soak_ends)
 
-pub soak_is_command : SoakIsCommand
+pub soak_is_command : (words : List Text) (asked : Generated) (options : Options) → IsSoak words asked options → IsCommand words (Soak asked options)
 soak_is_command words asked options is =
     let seed : Text = decimal asked.seed in
     let lines : Text = decimal asked.lines in
     let rows : List Row = soak_found is.before seed is.between lines is.behind in
     asks_for words (codes "soak") (soak_words is.before seed is.between lines is.behind) (with_each rows) (Soak asked options) is.spelled
-    (takes_soak is.before is.between is.behind seed lines (plain_decimal asked.seed (omega (arith, is.seed))) (plain_decimal asked.lines (omega (arith, is.lines)))
+    (takes_soak is.before is.between is.behind seed lines asked options (plain_decimal asked.seed (omega (arith, is.seed))) (plain_decimal asked.lines (omega (arith, is.lines)))
     (to_come_of (is.before ++ (is.between ++ is.behind)) options is.as_given))
     (record {
       named = refl;

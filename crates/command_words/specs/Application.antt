@@ -1,8 +1,10 @@
 -- The program as a command of `clap`: what its parse reads of it.
-use Rattle.std.specs.Prelude.{true, [], Some, codes}
-use Rattle.clap.specs.Words.{App, Rule, Text, new_app, new_rule, with_rule, with_subcommand}
+use Rattle.std.specs.Prelude.{◌≡◌, true, [], Some, codes}
+use Rattle.clap.specs.Words.{App, Rule, Text, app_of, new_app, new_rule, with_rule, with_subcommand}
 use Rattle.clap.specs.Simple.{new_shape}
 use Rattle.clap.specs.declared.builder.ArgAction.TheVariants.{SetTrue}
+use Rattle.clap.specs.declared.builder.Command.{Command}
+use Rattle.clap.specs.declared.builder.Command.TheViews.{out-Command}
 
 -- an argument that is known by its place, and has to be given
 abbrev pub positional_rule : Text → Rule
@@ -16,21 +18,27 @@ option_rule name = record (new_rule name) { long = Some name }
 abbrev pub flag_rule : Text → Rule
 flag_rule name = record (option_rule name) { action = Some SetTrue }
 
+-- the command gains arguments, none of which is one of its subcommands too
+pub record Gains (arguments : App → App) (before after : Command) : Type 0 where
+  pub app : app_of after ≡ arguments (app_of before)
+  pub globals : (out-Command after).has_globals ≡ (out-Command before).has_globals
+
+-- the command with two arguments of these names
+abbrev pub with_pair : (first second : Text) → App → App
+with_pair first second a = with_rule (with_rule a (positional_rule first)) (positional_rule second)
+
 -- the command with the arguments that name a volume
 abbrev pub with_volume : App → App
 with_volume a =
-    with_rule (with_rule (with_rule a (positional_rule (codes "HOST")))
-    (positional_rule (codes "DISK"))) (positional_rule (codes "BLOCKS"))
+    with_rule (with_pair (codes "HOST") (codes "DISK") a) (positional_rule (codes "BLOCKS"))
 
 -- the command with the arguments that name a generated trace
 abbrev pub with_trace : App → App
-with_trace a =
-    with_rule (with_rule a (positional_rule (codes "SEED"))) (positional_rule (codes "LINES"))
+with_trace a = with_pair (codes "SEED") (codes "LINES") a
 
 -- the command with the arguments that name a volume and one that logs for it
 abbrev pub with_names : App → App
-with_names a =
-    with_rule (with_rule a (positional_rule (codes "NAME"))) (positional_rule (codes "LOGGER"))
+with_names a = with_pair (codes "NAME") (codes "LOGGER") a
 
 -- the command with the argument that names a volume of the configuration
 abbrev pub with_name : App → App

@@ -33,25 +33,9 @@ pub record IsGen (words : List (List ℕ)) (asked : Generated) : Type 0 where
   pub seed : asked.seed < 2 ^ 63
   pub lines : asked.lines < 2 ^ 31
 
--- the words are `format`
-abbrev pub IsFormat : List (List ℕ) → Type 0
-IsFormat words = words ≡ codes "format" ∷ []
-
--- the words are `check`
-abbrev pub IsCheck : List (List ℕ) → Type 0
-IsCheck words = words ≡ codes "check" ∷ []
-
--- the words are `dump`
-abbrev pub IsDump : List (List ℕ) → Type 0
-IsDump words = words ≡ codes "dump" ∷ []
-
--- the words are `whatif`
-abbrev pub IsWhatIf : List (List ℕ) → Type 0
-IsWhatIf words = words ≡ codes "whatif" ∷ []
-
--- the words are `clean`
-abbrev pub IsClean : List (List ℕ) → Type 0
-IsClean words = words ≡ codes "clean" ∷ []
+-- the words are this one alone
+abbrev pub IsAlone : (command : List ℕ) → (words : List (List ℕ)) → Type 0
+IsAlone command words = words ≡ command ∷ []
 
 -- a word that may be a name: it doesn't begin with a dash
 abbrev pub IsName : List ℕ → Type 0
@@ -68,22 +52,9 @@ pub record IsOfNames (command : List ℕ) (words : List (List ℕ)) (named : Nam
   pub volume : IsName named.volume
   pub logger : IsName named.logger
 
--- the words are `view-add NAME LOGGER`
-abbrev pub IsViewAdd : List (List ℕ) → Named → Type 0
-IsViewAdd = IsOfNames (codes "view-add")
-
--- the words are `view-remove NAME LOGGER`
-abbrev pub IsViewRemove : List (List ℕ) → Named → Type 0
-IsViewRemove = IsOfNames (codes "view-remove")
-
--- the words are `nbd NAME`
-pub record IsNbd (words : List (List ℕ)) (name : List ℕ) : Type 0 where
-  pub spelled : words ≡ codes "nbd" ∷ name ∷ []
-  pub named : IsName name
-
--- the words are `serve NAME`
-pub record IsServe (words : List (List ℕ)) (name : List ℕ) : Type 0 where
-  pub spelled : words ≡ codes "serve" ∷ name ∷ []
+-- the words are this one and the name
+pub record IsOfName (command : List ℕ) (words : List (List ℕ)) (name : List ℕ) : Type 0 where
+  pub spelled : words ≡ command ∷ name ∷ []
   pub named : IsName name
 
 -- ---- The options of a run over a trace

@@ -1,8 +1,7 @@
 // The program's commands and their arguments, as `clap` is told of them.
 ghost use Rattle.std.specs.Prelude.{◌≡◌, false, IfOk};
 ghost use Rattle.clap.specs.Words.{app_of, rule_of};
-ghost use Rattle.clap.specs.declared.builder.Command.TheViews.{out-Command};
-ghost use Rattle.command_words.specs.Application.{option_rule, positional_rule, the_app, with_name, with_names, with_options, with_trace, with_volume};
+ghost use Rattle.command_words.specs.Application.{Gains, option_rule, positional_rule, the_app, with_name, with_options, with_pair, with_volume};
 
 use clap::{Arg, ArgAction, Command};
 use std::alloc::{AllocError, Global};
@@ -22,64 +21,50 @@ pub(crate) fn application<'a>(alloc: Global) -> Result<Command<'a>, AllocError>
         .subcommand(of_options(alloc, Command::new(alloc, "replay"))?)?
         .subcommand(Command::new(alloc, "check"))?
         .subcommand(Command::new(alloc, "dump"))?
-        .subcommand(of_trace(alloc, Command::new(alloc, "gen"))?)?
+        .subcommand(of_pair(alloc, Command::new(alloc, "gen"), "SEED", "LINES")?)?
         .subcommand(Command::new(alloc, "whatif"))?
-        .subcommand(of_view(alloc, Command::new(alloc, "view-add"))?)?
-        .subcommand(of_view(alloc, Command::new(alloc, "view-remove"))?)?
+        .subcommand(of_pair(alloc, Command::new(alloc, "view-add"), "NAME", "LOGGER")?)?
+        .subcommand(of_pair(alloc, Command::new(alloc, "view-remove"), "NAME", "LOGGER")?)?
         .subcommand(Command::new(alloc, "clean"))?
         .subcommand(of_name(alloc, Command::new(alloc, "nbd"))?)?
         .subcommand(of_name(alloc, Command::new(alloc, "serve"))?)?
-        .subcommand(of_options(alloc, of_trace(alloc, Command::new(alloc, "soak"))?)?)
+        .subcommand(of_options(
+            alloc,
+            of_pair(alloc, Command::new(alloc, "soak"), "SEED", "LINES")?,
+        )?)
+}
+
+// The command with two arguments of these names.
+fn of_pair<'a>(
+    alloc: Global,
+    command: Command<'a>,
+    first: &'a str,
+    second: &'a str,
+) -> Result<Command<'a>, AllocError>
+    ensures { IfOk result (Gains (with_pair first.entry.now second.entry.now) command.entry) }
+{
+    command
+        .arg(positional(alloc, first))?
+        .arg(positional(alloc, second))
 }
 
 // The command with the arguments that name a volume.
 fn of_volume<'a>(alloc: Global, command: Command<'a>) -> Result<Command<'a>, AllocError>
-    ensures app { IfOk result (λ made. app_of made ≡ with_volume (app_of command.entry)) }
-    ensures globals { IfOk result (λ made.
-        (out-Command made).has_globals ≡ (out-Command command.entry).has_globals) }
+    ensures { IfOk result (Gains with_volume command.entry) }
 {
-    command
-        .arg(positional(alloc, "HOST"))?
-        .arg(positional(alloc, "DISK"))?
-        .arg(positional(alloc, "BLOCKS"))
-}
-
-// The command with the arguments that name a generated trace.
-fn of_trace<'a>(alloc: Global, command: Command<'a>) -> Result<Command<'a>, AllocError>
-    ensures app { IfOk result (λ made. app_of made ≡ with_trace (app_of command.entry)) }
-    ensures globals { IfOk result (λ made.
-        (out-Command made).has_globals ≡ (out-Command command.entry).has_globals) }
-{
-    command
-        .arg(positional(alloc, "SEED"))?
-        .arg(positional(alloc, "LINES"))
-}
-
-// The command with the arguments that name a volume and one that logs for it.
-fn of_view<'a>(alloc: Global, command: Command<'a>) -> Result<Command<'a>, AllocError>
-    ensures app { IfOk result (λ made. app_of made ≡ with_names (app_of command.entry)) }
-    ensures globals { IfOk result (λ made.
-        (out-Command made).has_globals ≡ (out-Command command.entry).has_globals) }
-{
-    command
-        .arg(positional(alloc, "NAME"))?
-        .arg(positional(alloc, "LOGGER"))
+    of_pair(alloc, command, "HOST", "DISK")?.arg(positional(alloc, "BLOCKS"))
 }
 
 // The command with the argument that names a volume of the configuration.
 fn of_name<'a>(alloc: Global, command: Command<'a>) -> Result<Command<'a>, AllocError>
-    ensures app { IfOk result (λ made. app_of made ≡ with_name (app_of command.entry)) }
-    ensures globals { IfOk result (λ made.
-        (out-Command made).has_globals ≡ (out-Command command.entry).has_globals) }
+    ensures { IfOk result (Gains with_name command.entry) }
 {
     command.arg(positional(alloc, "NAME"))
 }
 
 // The command with the options of a run over a trace.
 fn of_options<'a>(alloc: Global, command: Command<'a>) -> Result<Command<'a>, AllocError>
-    ensures app { IfOk result (λ made. app_of made ≡ with_options (app_of command.entry)) }
-    ensures globals { IfOk result (λ made.
-        (out-Command made).has_globals ≡ (out-Command command.entry).has_globals) }
+    ensures { IfOk result (Gains with_options command.entry) }
 {
     command
         .arg(option(alloc, "workers"))?

@@ -1,11 +1,8 @@
-use Rattle.std.proofs.Common.{◌∙◌}
 use Rattle.std.proofs.lemmas.Result.{IfOk-weaker}
-use Rattle.clap.specs.declared.builder.Command.TheViews.{out-Command}
-use Rattle.command_words.proofs.Globals.{kept}
+use Rattle.command_words.proofs.Gaining.{gains_more, gains_one}
 use Rattle.command_words.proofs.application.of_volume.Goals as goal
 
-pub returns-clause-globals : goal.returns-clause-globals
-returns-clause-globals c =
-    let first = kept (out-Command c.args.command).has_globals c.positional.result.global (out-Command c.in_ok-arg.field-0).has_globals c.in_ok-arg.ensures.globals c.positional.ensures.global in
-    let second = kept (out-Command c.in_ok-arg.field-0).has_globals c.positional-2.result.global (out-Command c.in_ok-arg-2.field-0).has_globals c.in_ok-arg-2.ensures.globals c.positional-2.ensures.global in
-    IfOk-weaker c.arg-3.result _ _ (λ made h. kept (out-Command c.in_ok-arg-2.field-0).has_globals c.positional-3.result.global (out-Command made).has_globals h.globals c.positional-3.ensures.global ∙ second ∙ first) c.arg-3.ensures
+pub returns : goal.returns
+returns c =
+    let one = c.in_ok-of_pair.ensures in
+    IfOk-weaker c.arg.result _ _ (λ made h. gains_more _ _ _ _ _ one (gains_one c.in_ok-of_pair.field-0 made c.positional.result _ c.positional.ensures.rule c.positional.ensures.global h)) c.arg.ensures
