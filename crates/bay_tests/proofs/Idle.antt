@@ -1,6 +1,6 @@
 -- A rack with which nothing was done.
 use Rattle.std.proofs.Common.{◌≡◌, List, [], ◌∷◌, refl, sym, subst}
-use Rattle.std.specs.Prelude.{All, Bool, IsTrue}
+use Rattle.std.specs.Prelude.{All, Bool, IsTrue, Result, Ok, Err, IfOk, OnErr}
 use Rattle.std.specs.List.{AllZip}
 use Rattle.wol_disk.specs.Disk.{State}
 use Rattle.wol_bay.specs.Bay.{BayState}
@@ -31,3 +31,11 @@ pub left_idle : {D : Type 0} (tells : Bool) (state : D → State) (config : Conf
     → OpensAndCloses tells state config (λ before after. after ≡ before) old new spindles → IsTrue tells → IsTold (LeavesAll tells state config old new) old.told new.told
 left_idle tells state config old new spindles session telling =
     session.left telling (subst (λ (r : Rack _). All (λ s. IsQuiet s) r.stations.items) (sym session.done) (quiet_stations session.before.stations.items session.opened.fresh))
+
+-- whether it could be opened or not
+pub left_either : {C E : Type 0} (spindles_of : C → List SpindleView) {D : Type 0} (tells : Bool) (state : D → State) (config : Config) (old new : BayState) (answer : Result C E)
+    → IfOk answer (λ c. OpensAndCloses tells state config (λ before after. after ≡ before) old new (spindles_of c))
+    → OnErr answer (IsTrue tells → IsTold (LeavesAll tells state config old new) old.told new.told)
+    → IsTrue tells → IsTold (LeavesAll tells state config old new) old.told new.told
+left_either spindles_of tells state config old new (Ok c) did left = left_idle tells state config old new (spindles_of c) did
+left_either spindles_of tells state config old new (Err e) did left = left

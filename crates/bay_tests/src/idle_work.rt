@@ -1,5 +1,5 @@
 // The smallest command over all volumes: it opens them, does nothing with them, and closes them.
-ghost use Rattle.std.specs.Prelude.{◌≡◌, [], Some};
+ghost use Rattle.std.specs.Prelude.{◌≡◌, [], Some, IfOk};
 ghost use Rattle.wol_bay.specs.Bay.{outs};
 ghost use Rattle.wol_bay.specs.MemBay.{mem_bay_state};
 ghost use Rattle.wol_config.specs.Configs.{IsValid};
@@ -7,11 +7,12 @@ ghost use Rattle.volume_images.specs.Left.{IsTold};
 ghost use Rattle.volume_images.specs.Volumes.{NoneOut};
 ghost use Rattle.rack.specs.Opens.{KeepsOthers};
 ghost use Rattle.open_rack.specs.NotOpened.{LeavesBay};
+ghost use Rattle.open_rack.specs.Sessions.{OpensAndCloses};
 
 use crate::inspected::{FIVE, OWNED, tries};
 use fixtures::{Change, SRC0, THREE, USR0, WEB0, put};
 use inspection::Asked;
-use open_rack::{Work, with_open};
+use open_rack::{Closed, Work, with_open};
 use rack::Rack;
 use std::alloc::Global;
 use std::process::Abort;
@@ -52,7 +53,7 @@ fn open_and_close<R: Wait, B: Bay>(
     alloc: Global,
     config: &Config,
     bay: &mut B,
-) -> Result<(), NoMemory>
+) -> Result<Closed<()>, NoMemory>
     requires config { IsValid config.now }
     requires home { NoneOut config.now (B.state bay.old) }
     // none is out
@@ -62,9 +63,11 @@ fn open_and_close<R: Wait, B: Bay>(
     ensures leaves { LeavesBay B.Part.tells B.Part.state config.now
         (B.state bay.old) (B.state bay.new) }
     ensures others { IsTold (KeepsOthers config.now) (B.state bay.old).told (B.state bay.new).told }
+    // a rack was opened and closed as it was, with a spindle for each volume
+    ensures did { IfOk result (λ c. OpensAndCloses B.Part.tells B.Part.state config.now
+        (λ before after. after ≡ before) (B.state bay.old) (B.state bay.new) c.spindles.items) }
 {
-    let closed = with_open(rt, alloc, config, bay, Idle, &mut (), &mut ())?;
-    Ok(closed.answer)
+    with_open(rt, alloc, config, bay, Idle, &mut (), &mut ())
 }
 
 // The first volume has a record in a log of the second.
@@ -104,6 +107,7 @@ fn volumes_that_were_opened_and_closed_are_as_they_were(rt: HostRuntime) -> Resu
     put(alloc, &mut bay, &WEB0, WRITTEN)?;
     put(alloc, &mut bay, &SRC0, WRITTEN)?;
     keeps_all(&rt, alloc, &mut bay)?;
-    open_and_close(&rt, alloc, &config, &mut bay)?;
+    let closed = open_and_close(&rt, alloc, &config, &mut bay)?;
+    assert_eq!(rt; closed.spindles.len(), 3);
     keeps_all(&rt, alloc, &mut bay)
 }
