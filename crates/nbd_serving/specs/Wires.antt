@@ -18,6 +18,12 @@ pub record Wire : Type 0 where
   pub taken : Option (List ℕ)
   pub sink_faults : ℕ
 
+-- so they are, of a source and a sink
+abbrev pub wire : (left : Option (List ℕ)) → (source_faults : ℕ) → (taken : Option (List ℕ))
+    → (sink_faults : ℕ) → Wire
+wire left source_faults taken sink_faults =
+    record { left = left; source_faults = source_faults; taken = taken; sink_faults = sink_faults }
+
 -- the answer of a command whose session came to this
 abbrev pub answer_of : Result Ended NbdFault → Result Ended Stop
 answer_of (Ok e) = Ok e

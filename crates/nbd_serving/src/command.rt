@@ -10,6 +10,7 @@ ghost use Rattle.volume_images.specs.Volumes.{NoneOut};
 ghost use Rattle.rack.specs.Opens.{KeepsAllSound, KeepsOthers};
 ghost use Rattle.inspection.specs.Runs.{MayComplete};
 ghost use Rattle.nbd_serving.specs.Runs.{Completes, ServesNamed};
+ghost use Rattle.nbd_serving.specs.Wires.{wire};
 
 use crate::serving::{Beginning, Serving};
 use crate::stop::Stop;
@@ -70,18 +71,8 @@ pub fn serve_volume<R: Wait, S: Source, K: Sink, B: Bay>(
     ensures counts { (B.state bay.old).faults ≤ (B.state bay.new).faults }
     ensures content { ServesNamed B.Part.tells B.Part.state config.now beginning name.now
         (B.state bay.old) (B.state bay.new)
-        (record {
-          left = S.left input.old;
-          source_faults = S.faults input.old;
-          taken = K.taken out.old;
-          sink_faults = K.faults out.old;
-        })
-        (record {
-          left = S.left input.new;
-          source_faults = S.faults input.new;
-          taken = K.taken out.new;
-          sink_faults = K.faults out.new;
-        })
+        (wire (S.left input.old) (S.faults input.old) (K.taken out.old) (K.faults out.old))
+        (wire (S.left input.new) (S.faults input.new) (K.taken out.new) (K.faults out.new))
         result }
     // images of names that aren't configured are as they were
     ensures others { IsTrue B.Part.tells

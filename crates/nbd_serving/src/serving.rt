@@ -1,13 +1,13 @@
 // All volumes are open: one of them is served.
 ghost use Rattle.std.specs.Prelude.{◌≡◌, ◌<◌, ◌≤◌, Contains, length};
 ghost use Rattle.wol_config.specs.Configs.{IsValid, most_of};
-ghost use Rattle.manager.specs.declared.station.Station.{Station};
-ghost use Rattle.inspection.specs.Racks.{numbers_of, CanLook, IsStationAt};
+ghost use Rattle.inspection.specs.Racks.{numbers_of, CanLook};
 ghost use Rattle.open_rack.specs.Again.{IsRackAgain};
 ghost use Rattle.nbd_serving.specs.Racks.{Begins, ServesStation};
+ghost use Rattle.nbd_serving.specs.Wires.{wire};
 
 use crate::stop::{Stop, answer_of};
-use manager::Station;
+use inspection::place_of;
 use nbd_handshake::{Export, Shaken, shake};
 use nbd_session::{Ended, NbdFault};
 use nbd_station::serve_station;
@@ -29,19 +29,6 @@ pub enum Beginning {
     AtOnce,
     /// Behind a handshake, in which they agree on the volume.
     Handshake,
-}
-
-// The place of the station of this volume.
-fn place_of<D: Disk>(stations: &[Station<D>], volume: u32) -> usize
-    requires { Contains (numbers_of stations.now) volume }
-    ensures { (s : Station _) × IsStationAt stations.now volume result s }
-{
-    for place in 0..stations.len() {
-        if stations[place].id == volume {
-            return place;
-        }
-    }
-    unreachable!()
 }
 
 // The most blocks of one turn: a record lies in one segment, behind the segment's head and its own.
@@ -70,18 +57,8 @@ fn serve_open<R: Wait, D: Disk, S: Source, K: Sink>(
     requires volume { volume < length config.now.volumes.items }
     ensures again { IsRackAgain rack.old rack.new }
     ensures serves { ServesStation D.tells config.now rack.old rack.new volume
-        (record {
-          left = S.left input.old;
-          source_faults = S.faults input.old;
-          taken = K.taken out.old;
-          sink_faults = K.faults out.old;
-        })
-        (record {
-          left = S.left input.new;
-          source_faults = S.faults input.new;
-          taken = K.taken out.new;
-          sink_faults = K.faults out.new;
-        })
+        (wire (S.left input.old) (S.faults input.old) (K.taken out.old) (K.faults out.old))
+        (wire (S.left input.new) (S.faults input.new) (K.taken out.new) (K.faults out.new))
         result }
 {
     let home = config.volumes[volume as usize].home;
@@ -110,18 +87,8 @@ fn begin<S: Source, K: Sink>(
     requires valid { IsValid config.now }
     requires volume { volume < length config.now.volumes.items }
     ensures { Begins config.now volume beginning
-        (record {
-          left = S.left input.old;
-          source_faults = S.faults input.old;
-          taken = K.taken out.old;
-          sink_faults = K.faults out.old;
-        })
-        (record {
-          left = S.left input.new;
-          source_faults = S.faults input.new;
-          taken = K.taken out.new;
-          sink_faults = K.faults out.new;
-        })
+        (wire (S.left input.old) (S.faults input.old) (K.taken out.old) (K.faults out.old))
+        (wire (S.left input.new) (S.faults input.new) (K.taken out.new) (K.faults out.new))
         result }
 {
     match beginning {
@@ -147,14 +114,15 @@ pub(crate) struct Serving {
 impl<R: Wait, D: Disk, S: Source, K: Sink> Work<R, D, S, K> for Serving {
     ghost use Rattle.std.specs.Prelude.{◌<◌, length};
     ghost use Rattle.nbd_serving.specs.Racks.{ServesRack};
+    ghost use Rattle.nbd_serving.specs.Wires.{wire};
 
     type Answer = Result<Ended, Stop>;
 
     ghost Ready = { λ work config given out. work.volume < length config.volumes.items };
 
     ghost Did = { λ work config before after given rest out now answer. ServesRack D.tells config work.volume work.beginning before after
-        (record { left = S.left given; source_faults = S.faults given; taken = K.taken out; sink_faults = K.faults out })
-        (record { left = S.left rest; source_faults = S.faults rest; taken = K.taken now; sink_faults = K.faults now })
+        (wire (S.left given) (S.faults given) (K.taken out) (K.faults out))
+        (wire (S.left rest) (S.faults rest) (K.taken now) (K.faults now))
         answer };
 
     fn run(
