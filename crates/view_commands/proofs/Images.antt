@@ -28,8 +28,7 @@ use Rattle.view_change.specs.declared.answers.Change.TheVariants.{Add, Remove}
 use Rattle.view_change.specs.declared.answers.ChangeRefusal.{ChangeRefusal}
 use Rattle.view_change.specs.declared.answers.ChangeRefusal.TheVariants as change
 use Rattle.view_change.proofs.LabelPart.{stored_shows}
-use Rattle.view_commands.specs.Images.{AnswersFront, ChangesImage, ChangesInBay, FailsOnImage, IsNotWhole, IsWhole, LeavesBy, LeavesNewView, ShowsNewView, fault_of_bay, front_of, stop_of}
-use Rattle.view_commands.specs.declared.order.Stop.{Stop}
+use Rattle.view_commands.specs.Images.{AnswersFront, ChangesImage, ChangesInBay, FailsOnImage, IsNotWhole, IsWhole, LeavesBy, LeavesNewView, ShowsNewView, fault_of_bay, front_of, stop_of, told_as}
 use Rattle.view_commands.specs.declared.order.Stop.TheVariants as stop
 
 -- ---- Two parts
@@ -64,11 +63,6 @@ loaded_in_front own bs rest ids is = record {
 }
 
 -- ---- Answers
-
--- what the change of a part answers is told so
-abbrev pub told_as : (own : ℕ) → Result (List ℕ) ChangeRefusal → Result (List ℕ) Stop
-told_as own (Ok view) = Ok view
-told_as own (Err refusal) = Err (stop_of own refusal)
 
 may_not : (own : ℕ) (asked : Change) (ids : List ℕ) → id_of asked ≢ own → (e : ChangeRefusal) → RefusesView ids asked e → (bs : List Block) → IsLoaded own bs ids → AnswersFront own asked bs (Err (stop_of own e))
 may_not own (Add id) ids other (change.Already other_id) is bs loaded = inr (ids, loaded, (other, is.1))

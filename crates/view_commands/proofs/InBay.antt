@@ -20,12 +20,12 @@ use Rattle.view_change.specs.Changes.{Answers, MayShow, id_of}
 use Rattle.view_change.specs.declared.answers.Change.{Change}
 use Rattle.view_change.specs.declared.answers.ChangeRefusal.{ChangeRefusal}
 use Rattle.view_change.specs.declared.answers.ChangeRefusal.TheVariants as change
-use Rattle.view_commands.specs.Images.{ChangesInBay, FailsOnImage, IsDamagedAt, front_of, stop_of}
+use Rattle.view_commands.specs.Images.{ChangesInBay, FailsOnImage, IsDamagedAt, front_of, stop_of, told_as}
 use Rattle.view_commands.specs.Orders.{IsOfWords}
 use Rattle.view_commands.specs.declared.order.ViewRefusal.{ViewRefusal}
 use Rattle.view_commands.specs.declared.order.ViewRefusal.TheVariants.{Itself, Already, NotThere, ViewFull}
 use Rattle.view_commands.specs.declared.order.Stop.TheVariants as stop
-use Rattle.view_commands.proofs.Images.{ChangesPart, damaged_at, image_changed, told_as}
+use Rattle.view_commands.proofs.Images.{ChangesPart, damaged_at, image_changed}
 
 -- ---- The parts
 
@@ -77,7 +77,7 @@ part_changed own volumes asked d e r answer moments disk stored unwritten cause 
 }
 
 -- a refusal of the view isn't one of the words
-pub known_of : (own : ℕ) (e : ChangeRefusal) → ((id : ℕ) → e ≡ change.Unknown id → ⊥) → (r : ViewRefusal) → stop_of own e ≡ stop.Refused r → IsOfWords r → ⊥
+known_of : (own : ℕ) (e : ChangeRefusal) → ((id : ℕ) → e ≡ change.Unknown id → ⊥) → (r : ViewRefusal) → stop_of own e ≡ stop.Refused r → IsOfWords r → ⊥
 known_of own (change.Unknown id) never r is of_words = never id refl
 known_of own change.Itself never r is of_words = (let same : Itself ≡ r = cc is in subst IsOfWords (sym same) of_words)
 known_of own (change.Already id) never r is of_words = (let same : Already ≡ r = cc is in subst IsOfWords (sym same) of_words)
@@ -85,6 +85,24 @@ known_of own (change.NotThere id) never r is of_words = (let same : NotThere ≡
 known_of own change.ViewFull never r is of_words = (let same : ViewFull ≡ r = cc is in subst IsOfWords (sym same) of_words)
 known_of own (change.Damaged block) never r is of_words = absurd (cc is)
 known_of own change.Failed never r is of_words = absurd (cc is)
+
+pub known_as : (own : ℕ) (answer : Result (List ℕ) ChangeRefusal) → ((id : ℕ) → answer ≡ Err (change.Unknown id) → ⊥) → (r : ViewRefusal) → told_as own answer ≡ Err (stop.Refused r) → IsOfWords r → ⊥
+known_as own (Ok view) never r is of_words = absurd (cc is)
+known_as own (Err e) never r is of_words = known_of own e (λ id same. never id (ap Err same)) r (let same : stop_of own e ≡ stop.Refused r = cc is in same) of_words
+
+-- and never a fault of a sink
+not_sink : (own : ℕ) (e : ChangeRefusal) → stop_of own e ≡ stop.Sink → ⊥
+not_sink own (change.Unknown id) is = absurd (cc is)
+not_sink own change.Itself is = absurd (cc is)
+not_sink own (change.Already id) is = absurd (cc is)
+not_sink own (change.NotThere id) is = absurd (cc is)
+not_sink own change.ViewFull is = absurd (cc is)
+not_sink own (change.Damaged block) is = absurd (cc is)
+not_sink own change.Failed is = absurd (cc is)
+
+pub told_no_sink : (own : ℕ) (answer : Result (List ℕ) ChangeRefusal) → told_as own answer ≡ Err stop.Sink → ⊥
+told_no_sink own (Ok view) is = absurd (cc is)
+told_no_sink own (Err e) is = not_sink own e (let same : stop_of own e ≡ stop.Sink = cc is in same)
 
 -- a count that rose from nothing isn't nothing
 risen : (n : ℕ) → Rose 0 n → nat_lt 0 n ≡ true

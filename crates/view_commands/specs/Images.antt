@@ -42,6 +42,11 @@ stop_of volume change.ViewFull = stop.Refused ViewFull
 stop_of volume (change.Damaged block) = stop.Fault (Volume volume (trouble.Damaged volume block))
 stop_of volume change.Failed = stop.Fault (Volume volume trouble.Label)
 
+-- what is told of how the change ended
+abbrev pub told_as : (volume : ℕ) → Result (List ℕ) ChangeRefusal → Result (List ℕ) Stop
+told_as volume (Ok view) = Ok view
+told_as volume (Err refusal) = Err (stop_of volume refusal)
+
 -- ---- What was read
 
 -- label and view of an image, as it reads

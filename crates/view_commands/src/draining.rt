@@ -1,12 +1,12 @@
 // All volumes are open: one of them is drained, where its view is to lose a logger.
 ghost use Rattle.std.specs.Prelude.{◌≡◌, ◌<◌, ◌≤◌, ◌^◌, Some, Ok, Err, Contains, length, slice_get, IfSome, IfNone, IfErr, OnOk};
 ghost use Rattle.wol_config.specs.Configs.{IsValid};
-ghost use Rattle.manager.specs.declared.station.Station.{Station};
 ghost use Rattle.report.specs.declared.fault.Fault.TheVariants.{Volume};
-ghost use Rattle.inspection.specs.Racks.{numbers_of, CanLook, IsSameRack, IsStationAt};
+ghost use Rattle.inspection.specs.Racks.{numbers_of, CanLook, IsSameRack};
 ghost use Rattle.view_commands.specs.Drains.{TellsDrain, trouble_of_step};
 
-use manager::{Station, StepFault};
+use inspection::place_of;
+use manager::StepFault;
 use open_rack::{Work, first_closed};
 use rack::Rack;
 use reclaimer::Fetch;
@@ -17,19 +17,6 @@ use troubles::trouble_of_part;
 use view_change::{Change, drain_all};
 use wol_config::Config;
 use wol_disk::{Disk, NoMemory};
-
-// The place of the station of this volume.
-fn place_of<D: Disk>(stations: &[Station<D>], volume: u32) -> usize
-    requires { Contains (numbers_of stations.now) volume }
-    ensures { (s : Station _) × IsStationAt stations.now volume result s }
-{
-    for place in 0..stations.len() {
-        if stations[place].id == volume {
-            return place;
-        }
-    }
-    unreachable!()
-}
 
 // What is told of a volume whose drain was refused so.
 fn fault_of(volume: u32, fault: StepFault) -> Fault

@@ -5,7 +5,7 @@ ghost use Rattle.wol_config.specs.Configs.{IsValid};
 ghost use Rattle.wol_config.specs.declared.config.VolumeConf.{VolumeConf};
 ghost use Rattle.wol_model.specs.Images.{image_size};
 ghost use Rattle.view_change.specs.Changes.{id_of};
-ghost use Rattle.view_commands.specs.Images.{ChangesInBay, fault_of_bay, stop_of};
+ghost use Rattle.view_commands.specs.Images.{ChangesInBay, fault_of_bay, stop_of, told_as};
 ghost use Rattle.view_commands.specs.Orders.{IsOfWords};
 ghost use Rattle.view_commands.specs.declared.order.Stop.TheVariants as stop;
 ghost use Rattle.view_commands.specs.declared.order.ViewRefusal.{ViewRefusal};
@@ -72,6 +72,16 @@ fn stop_of(volume: u32, refusal: ChangeRefusal) -> Stop
     }
 }
 
+// What is told of how the change ended.
+fn told_as(volume: u32, answer: Result<View, ChangeRefusal>) -> Result<View, Stop>
+    ensures { result ≡ told_as volume answer }
+{
+    match answer {
+        Ok(view) => Ok(view),
+        Err(refusal) => Err(stop_of(volume, refusal)),
+    }
+}
+
 /// Changes the view in the image of one volume. The image is back in the bay at each exit.
 pub(crate) fn change_image<B: Bay>(
     alloc: Global,
@@ -105,8 +115,5 @@ pub(crate) fn change_image<B: Bay>(
     let answer = change(&token, &mut image.label, volume, volumes, asked);
     spindle.done(token);
     bay.detach(name, image.put_together(parts));
-    match answer {
-        Ok(view) => Ok(view),
-        Err(refusal) => Err(stop_of(volume, refusal)),
-    }
+    told_as(volume, answer)
 }
