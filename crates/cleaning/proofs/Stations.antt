@@ -1,25 +1,21 @@
 -- A rack of whose stations only the workers' passes are others, one of which cleaned its volume.
 use Rattle.std.proofs.Common.{◌≡◌, ◌<◌, ℕ, Bool, List, [], ◌∷◌, length, get_or, Some, Result, refl, sym, ap, subst, ◌∙◌, arith}
-use Rattle.std.specs.Prelude.{slice_get, slice_set, All}
+use Rattle.std.specs.Prelude.{slice_get, slice_set}
 use Rattle.std.specs.List.{AllZip}
 use Rattle.std.specs.declared.alloc.Global.{Global}
 use Rattle.std.specs.declared.vec.Vec.{Vec}
-use Rattle.std.proofs.lemmas.List.Elements.{All-from_recursion, recursion_from_All}
 use Rattle.std.proofs.lemmas.Option.{slice_get_read}
 use Rattle.wol_disk.specs.Disk.{State}
 use Rattle.wol_config.specs.declared.config.Config.{Config}
-use Rattle.spin_model.specs.declared.spindle.Spindle.{Spindle}
-use Rattle.spin_model.specs.declared.spindle.SpindleBase.{SpindleBase}
-use Rattle.turn_lock.specs.declared.pass.PassOf.{PassOf}
+use Rattle.turn_lock.specs.Passes.{IsFree, IsSamePass}
 use Rattle.manager.specs.Stands.{IsShared}
 use Rattle.manager.specs.declared.station.Station.{Station}
 use Rattle.manager.proofs.Lanes.{get_set, get_other}
-use Rattle.manager.proofs.Touched.{zip_all}
 use Rattle.manager.proofs.ReadThrough.{zip_self, zip_set, zip_then}
 use Rattle.rack.specs.Racks.{IsStation, base_of_station}
 use Rattle.rack_parts.specs.declared.rack.Rack.{Rack}
-use Rattle.open_rack.specs.Again.{IsPassAgain, IsRackAgain, IsStationAgain}
-use Rattle.open_rack.proofs.RacksAgain.{zip_weaker}
+use Rattle.open_rack.specs.Again.{IsRackAgain}
+use Rattle.inspection.proofs.WorkedRacks.{again_by, all_by, station_by}
 use Rattle.log_cleaner.specs.declared.answer.Cleaned.{Cleaned}
 use Rattle.log_cleaner.specs.declared.answer.CleanFault.{CleanFault}
 use Rattle.cleaning.specs.Racks.{CanCleanAll, CleansStation, IsSameButWorked, IsWorked}
@@ -46,23 +42,14 @@ module _ {D : Type 0} where
     each = zip_then IsSameButWorked station_then r.stations.items q.stations.items p.stations.items a.each b.each;
   }
 
-  is_station : (s t : Station D) → IsSameButWorked s t → IsStation s → IsStation t
-  is_station s t is was = subst IsStation (sym is.same) (record {
-    id = was.id;
-    passes = was.passes;
-    worker_ = record { own = is.pass.0 ∙ was.worker_.own; free = is.free was.worker_.free; number_is = is.pass.1 ∙ was.worker_.number_is };
-    helper_ = was.helper_;
-    keeper_ = was.keeper_;
-  })
+  only : (s t : Station D) → IsSameButWorked s t → (t ≡ record s { worker = t.worker }) × IsSamePass s.worker t.worker × (IsFree s.worker → IsFree t.worker)
+  only s t is = (is.same, is.pass, is.free)
 
   zip_length : (ss ts : List (Station D)) → AllZip IsSameButWorked ss ts → length ts ≡ length ss
   zip_length [] [] zip = refl
   zip_length [] (t ∷ ts) zip = absurd zip
   zip_length (s ∷ ss) [] zip = absurd zip
   zip_length (s ∷ ss) (t ∷ ts) zip = ap Rattle.std.proofs.Common.suc (zip_length ss ts zip.1)
-
-  each_all : (P Q : Station D → Type 0) → ((s t : Station D) → IsSameButWorked s t → P s → Q t) → (ss ts : List (Station D)) → AllZip IsSameButWorked ss ts → All P ss → All Q ts
-  each_all P Q f ss ts zip all = All-from_recursion Q ts (zip_all IsSameButWorked P Q f ss ts zip (recursion_from_All P ss all))
 
   -- what a rack's volumes need to be cleaned
   abbrev pub CanCleanStation : Config → Rattle.logger.specs.declared.shared.Shared.Shared D → Station D → Type 0
@@ -71,8 +58,8 @@ module _ {D : Type 0} where
   can_with : (config : Config) (r : Rack D) (ts : Vec (Station D) Global) → AllZip IsSameButWorked r.stations.items ts.items → CanCleanAll config r → CanCleanAll config (record r { stations = ts })
   can_with config r ts zip can = record {
     count = zip_length r.stations.items ts.items zip ∙ can.count;
-    each = each_all (CanCleanStation config r.shared) (CanCleanStation config r.shared) (λ s t is was. (
-      is_station s t is was.0,
+    each = all_by IsSameButWorked only (CanCleanStation config r.shared) (CanCleanStation config r.shared) (λ s t is was. (
+      station_by IsSameButWorked only s t is was.0,
       subst (λ (u : Station D). IsShared r.shared (base_of_station u)) (sym is.same) was.1,
       subst (λ (u : Station D). (base_of_station u).volume.began.most ≡ most_of config) (sym is.same) was.2,
     )) r.stations.items ts.items zip can.each;
@@ -87,16 +74,7 @@ module _ {D : Type 0} where
 
   -- the rack has again all that it came with
   pub again_worked : (r q : Rack D) → IsWorked r q → IsRackAgain r q
-  again_worked r q is =
-      let keepers : q.keepers ≡ r.keepers = ap (λ (w : Rack D). w.keepers) is.same in record {
-        only = is.same ∙ ap (λ (ks : Vec (PassOf Spindle SpindleBase) Global). record r { keepers = ks; stations = q.stations }) (sym keepers);
-        keepers = subst (λ (ks : Vec (PassOf Spindle SpindleBase) Global). AllZip IsPassAgain r.keepers.items ks.items) (sym keepers) (zip_self IsPassAgain (λ p. record { same = (refl, refl); free = λ f. f }) r.keepers.items);
-        stations = zip_weaker IsSameButWorked IsStationAgain (λ s t same. record {
-          id = ap (λ (w : Station D). w.id) same.same;
-          lock = ap (λ (w : Station D). w.lock) same.same;
-          passes = is_station s t same;
-        }) r.stations.items q.stations.items is.each;
-      }
+  again_worked r q is = again_by IsSameButWorked only r q is.same is.each
 
 -- one volume was cleaned
 module _ {D : Type 0} (tells : Bool) (state : D → State) (config : Config) (r : Rack D) (ts : Vec (Station D) Global) (k : ℕ) (b t : Station D) (within : k < length r.stations.items) (was : b ≡ get_or r.stations.items k b)
