@@ -48,8 +48,9 @@ pub record IsScan (blocks : ℕ) (s : Scan) : Type 0 where
 
 -- ---- Reads
 
--- What calls that only read leave of a part, whatever they answer: its images as they were, and its
--- count of failed calls too, unless one is told.
+-- What calls that only read leave of a part, whatever they answer: its images as they were. Its
+-- count of failed calls stays where they give something, and rose where they tell a failed call;
+-- where memory is out, nothing is said of it.
 pub record ReadsOnly {D T : Type 0} (state : D → State) (old new : Spun D)
     (res : Result T ScanFault) : Type 0 where
   pub values : (state_of state new).values ≡ (state_of state old).values

@@ -185,7 +185,7 @@ abbrev pub first_count : List Item → ℕ
 first_count [] = 0
 first_count (i ∷ items) = i.count
 
--- a group of writes: it has some, the blocks are theirs, and their versions stay below the last
+-- a group of writes: it has some, the blocks are theirs, and their versions stay below 2^63
 pub record IsGroup (g : Group) : Type 0 where
   pub version : (1 ≤ g.version) × (g.version + length g.items.now ≤ 2 ^ 63)
   pub some : 1 ≤ length g.items.now
@@ -262,8 +262,8 @@ pub data Wrote {D : Type 0} (state : D → State) (old new : Lane D) (count : �
       → Claimed state (lane_owner old) f n.segment added res → IsSpot index 1 res
       → Wrote state old new count added res
 
--- What else each write leaves: a lane at the same locks, which holds all that its pass does, asked
--- the pool for nothing and used the spindle once.
+-- What each write leaves: a lane at the same locks, which holds all that its pass does if it did so
+-- before, asked the pool for nothing and used the spindle once; and what the write moved.
 pub record HasWritten {D : Type 0} (state : D → State) (shared : Shared D) (old new : Lane D)
     (count : ℕ) (added : List Record) (res : Result Spot (ℕ × Failed)) : Type 0 where
   pub lane : IsLane state new
