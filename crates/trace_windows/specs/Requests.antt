@@ -1,9 +1,8 @@
 -- Requests as the program has them, with their numbers in the trace.
-use Rattle.std.specs.Prelude.{ℕ, ◌+◌, ◌-◌, ◌≤◌, ◌<◌, Bool, false, List, [], ◌∷◌, Option, None, Some, is_none, length, min}
+use Rattle.std.specs.Prelude.{ℕ, ◌+◌, ◌≤◌, ◌<◌, Bool, false, List, [], ◌∷◌, Option, None, Some, is_none, length}
 use Rattle.std.specs.List.{flat_map}
 use Rattle.wol_model.specs.Trace as trace
 use Rattle.wol_model.specs.Trace.{Target, Timed, TraceLine, Window, home_of, requests_of, volume_of}
-use Rattle.wol_config.specs.declared.config.Config.{Config}
 use Rattle.trace_windows.specs.declared.request.Request.{Request}
 
 -- a request as the model has it

@@ -1,5 +1,5 @@
 // What a line asks for: the volume that it belongs to, and its requests.
-ghost use Rattle.std.specs.Prelude.{◌≡◌, ◌<◌, ◌≤◌, ◌^◌, ◌++◌, ◌&&◌, ◌==◌, ℕ, length, map, position, take, IfSome, OnOk, OnErr};
+ghost use Rattle.std.specs.Prelude.{◌≡◌, false, ◌<◌, ◌≤◌, ◌^◌, ◌++◌, ◌&&◌, ◌==◌, ℕ, length, map, position, take, IfSome, OnOk, OnErr};
 ghost use Rattle.std.specs.List.{list_any};
 ghost use Rattle.std.specs.Str.{bytes_eq};
 ghost use Rattle.msr_trace.specs.Hosts.{mark_of};
@@ -28,28 +28,36 @@ fn place_of(volumes: &[VolumeConf], line: &Line) -> Option<usize>
         ≡ position (λ v. bytes_eq v.host line.now.host && v.disk == line.now.disk) volumes.now }
     ensures within { IfSome result (λ v. v < length volumes.now) }
 {
-    if !have_mark(volumes, line.host.mark()) {
-        return None;
-    }
+    let start = before_mark(volumes, line.host.mark());
+    let place = owner_among(&volumes[start..], line)?;
+    Some(start + place)
+}
+
+// The place of the first volume that has the line's host and disk.
+fn owner_among(volumes: &[VolumeConf], line: &Line) -> Option<usize>
+    ensures value { result
+        ≡ position (λ v. bytes_eq v.host line.now.host && v.disk == line.now.disk) volumes.now }
+    ensures within { IfSome result (λ v. v < length volumes.now) }
+{
     volumes.iter().position(|volume| owns(volume, line))
 }
 
-// Whether the host of a volume has this mark. Four volumes are looked at in a turn.
-fn have_mark(volumes: &[VolumeConf], mark: u16) -> bool
-    ensures { result ≡ list_any (λ v. mark_of v.host == mark) volumes.now }
+// How many volumes there are, in fours, before one whose host has this mark.
+fn before_mark(volumes: &[VolumeConf], mark: u16) -> usize
+    ensures within { result ≤ length volumes.now }
+    ensures none { list_any (λ v. mark_of v.host == mark) (take result volumes.now) ≡ false }
 {
-    let mut rest = volumes;
-    while rest.len() >= 4 {
-        let (four, others) = rest.split_at(4);
-        if have_mark_among(four, mark) {
-            return true;
+    let mut start = 0;
+    while volumes.len() - start >= 4 {
+        if have_mark_among(&volumes[start..start + 4], mark) {
+            return start;
         }
-        rest = others;
+        start += 4;
     }
-    have_mark_among(rest, mark)
+    start
 }
 
-// The same, of a few. It has no call, so that a known number of them is no loop.
+// Whether the host of one of a few volumes has this mark. It has no call, so that a known number of them is no loop.
 #[inline(always)]
 fn have_mark_among(few: &[VolumeConf], mark: u16) -> bool
     ensures { result ≡ list_any (λ v. mark_of v.host == mark) few.now }
