@@ -1,7 +1,7 @@
 -- The flags of a view's loggers, one more.
 use Rattle.std.proofs.Common.{◌≡◌, ◌+◌, ◌<◌, ℕ, zero, suc, Bool, false, List, [], ◌∷◌, ◌++◌, All, length, map, take, Some, slice_index_or, refl, sym, ap, subst, ◌∙◌, arith}
 use Rattle.std.specs.Prelude.{IfSome, slice_get, slice_set}
-use Rattle.std.proofs.lemmas.List.{map-append, take_more, take_more_set, length-map}
+use Rattle.std.proofs.lemmas.List.{map-append, take_more, take_more_set, length-map, get_or-map, set-get_or}
 use Rattle.std.proofs.lemmas.List.Elements.{All-get_or}
 use Rattle.std.proofs.lemmas.Option.{get_or_from_slice_get, none-some, same_Some}
 
@@ -16,6 +16,10 @@ mapped_at : {X : Type 0} (f : X → ℕ) (xs : List X) (k : ℕ) (x : X) (d : �
 mapped_at f [] k x d is = absurd (none-some x is)
 mapped_at f (y ∷ xs) zero x d is = ap f (same_Some y x is)
 mapped_at f (y ∷ xs) (suc k) x d is = mapped_at f xs k x d is
+
+-- a place of as many flags is one of a list
+pub place_of_flag : {X : Type 0} (now flags : List Bool) (xs : List X) (k : ℕ) → now ≡ flags → length flags ≡ length xs → k < length now → k < length xs
+place_of_flag now flags xs k is count within = let same : length now ≡ length flags = ap length is in omega arith
 
 module _ {X : Type 0} (f : X → ℕ) (xs : List X) (k r : ℕ) (within : k < length xs) (has : IfSome (slice_get xs k) (λ x. r ≡ f x)) where
   pub holds_too : (P : ℕ → Type 0) → All P (map f xs) → P r
@@ -37,3 +41,17 @@ module _ {X : Type 0} (f : X → ℕ) (xs : List X) (k r : ℕ) (within : k < le
       take_more_set flags k (slice_index_or awake r false) room
       ∙ (ap (λ (ys : List Bool). ys ++ slice_index_or awake r false ∷ []) front
       ∙ (ap (λ (v : ℕ). map (λ (u : ℕ). slice_index_or awake u false) (map f (take k xs)) ++ slice_index_or awake v false ∷ []) is ∙ sym right))
+
+  -- .. where it is set already
+  pub front_same : (flags awake : List Bool) → k < length flags → slice_index_or flags k false ≡ slice_index_or awake r false → take k flags ≡ map (λ v. slice_index_or awake v false) (map f (take k xs))
+      → take (k + 1) flags ≡ map (λ v. slice_index_or awake v false) (map f (take (k + 1) xs))
+  front_same flags awake room same front = subst (λ (bs : List Bool). take (k + 1) bs ≡ map (λ (v : ℕ). slice_index_or awake v false) (map f (take (k + 1) xs)))
+      (ap (slice_set flags k) (sym same) ∙ set-get_or flags k false) (front_more flags awake room front)
+
+  -- the flag that stands there
+  pub flag_at : (awake : List Bool) → slice_index_or (map (λ v. slice_index_or awake v false) (map f xs)) k false ≡ slice_index_or awake r false
+  flag_at awake =
+      let e = there_is xs k within in
+      let is : r ≡ f e.0 = rw e.1 at has in
+      let long : length (map f xs) ≡ length xs = length-map xs f in
+      get_or-map (λ (v : ℕ). slice_index_or awake v false) (map f xs) k 0 false (omega arith) ∙ ap (λ (v : ℕ). slice_index_or awake v false) (mapped_at f xs k e.0 0 e.1 ∙ sym is)

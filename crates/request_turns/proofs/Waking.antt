@@ -6,17 +6,18 @@ use Rattle.std.proofs.lemmas.List.Elements.{All-nil, All-cons}
 use Rattle.wol_disk.specs.Disk.{State}
 use Rattle.wol_model.specs.History.{Kept, keeper}
 use Rattle.wol_promise.specs.Policy.{Look}
-use Rattle.wol_promise.specs.Ruled.{IsKeep, last_look}
+use Rattle.wol_promise.specs.Ruled.{IsKeep}
 use Rattle.wol_promise.specs.Ruled as ruled
 use Rattle.wol_promise.specs.Ruled.{Noted}
 use Rattle.manager.specs.Seen.{look_of_manager}
 use Rattle.logger.specs.Lanes.{logger_of}
 use Rattle.logger.specs.declared.lane.Lane.{Lane}
-use Rattle.manager.specs.Stands.{Leaves, Stands, AreNamed}
+use Rattle.manager.specs.Stands.{Leaves, Stands, AreNamed, nones_at}
 use Rattle.manager.specs.declared.base.LaneBase.{LaneBase}
 use Rattle.manager.specs.declared.base.ManagerBase.{ManagerBase}
 use Rattle.manager.specs.declared.manager.Manager.{Manager}
-use Rattle.request_turns.specs.Begun.{WasTold}
+use Rattle.manager.proofs.Frames.{stands_kept, none_passed}
+use Rattle.request_turns.specs.Begun.{HasFlags, WasTold}
 use Rattle.request_turns.specs.Entries.{note_of}
 
 module _ {D : Type 0} (tells : Bool) (state : D → State) (old new : Manager D) (home : Bool) (ups : List Bool) (is : new ≡ record old { home_up = home; ups = record { items = ups } }) where
@@ -43,6 +44,13 @@ told_after tells state volume awake old new told b notes pass number s =
     let f : ℕ → Bool = λ v. slice_index_or awake v false in
     told_stands tells state old new _ _ told.flags b notes pass number
     (length-map (map logger_of old.lanes.items) f ∙ (length-map old.lanes.items logger_of ∙ sym s.keeps.ready.ready.flags)) (told.leaves pass) s
+
+-- .. and one that has these flags was told of them: nothing of it changes
+pub told_already : {D : Type 0} (tells : Bool) (state : D → State) (volume : ℕ) (awake : List Bool) (m : Manager D) → HasFlags volume awake m → WasTold tells state volume awake m m
+told_already tells state volume awake m f = record {
+  leaves = λ pass b notes n same note k. stands_kept tells state m b notes n [] note (none_passed (nones_at m.lanes.items b.lanes) notes n note.passed_is k.passed) k;
+  flags = λ t. record m { home_up = f.home t; ups = record { items = f.ups t } };
+}
 
 module _ {L : Type 0} (flags ups : List Bool) (lanes : List L) (g : L → ℕ) (f : ℕ → Bool) (long : length ups ≡ length lanes) (front : take (length lanes) flags ≡ map f (map g lanes)) where
   pub told_flags : take (length ups) flags ≡ map f (map g lanes)

@@ -18,6 +18,12 @@ module _ {D : Type 0} (state : D → State) (volume : ℕ) (awake : List Bool) w
     pub volume_in : volume < length awake
     pub view_in : All (λ (v : ℕ). v < length awake) (map logger_of m.lanes.items)
 
+-- its flags of home and of the view's loggers are these
+pub record HasFlags {D : Type 0} (volume : ℕ) (awake : List Bool) (m : Manager D) : Type 0 where
+  pub home : m.home_up ≡ slice_index_or awake volume false
+  pub ups : m.ups.items
+      ≡ map (λ (v : ℕ). slice_index_or awake v false) (map logger_of m.lanes.items)
+
 -- a manager was told which disks are awake
 pub record WasTold {D : Type 0} (tells : Bool) (state : D → State) (volume : ℕ) (awake : List Bool)
     (m n : Manager D) : Type 0 where

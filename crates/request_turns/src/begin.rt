@@ -1,11 +1,11 @@
 // The beginning of a window for one manager: it is told which disks are awake.
-ghost use Rattle.std.specs.Prelude.{◌≡◌, ◌≤◌, ◌<◌, false, All, length, map, take, slice_index_or};
+ghost use Rattle.std.specs.Prelude.{◌≡◌, ◌≤◌, ◌<◌, ◌↔◌, true, false, All, length, map, take, slice_index_or};
 ghost use Rattle.std.specs.List.{AllByRecursion};
 ghost use Rattle.turn_lock.specs.Passes.{pass_lock};
 ghost use Rattle.wol_model.specs.History.{keeper};
 ghost use Rattle.logger.specs.Lanes.{logger_of};
 ghost use Rattle.manager.specs.declared.base.LaneBase.{LaneBase};
-ghost use Rattle.request_turns.specs.Begun.{CanBeTold, HasBegunVolume, WasTold};
+ghost use Rattle.request_turns.specs.Begun.{CanBeTold, HasBegunVolume, HasFlags, WasTold};
 ghost use Rattle.request_turns.specs.Helped.{IsPassAt};
 
 use crate::noted::leave_step_in_place;
@@ -32,11 +32,34 @@ fn flags<D: Disk>(manager: &Manager<D>, awake: &[bool]) -> [bool; LANES]
     flags
 }
 
-// Tells a manager which disks are awake.
+// Whether a manager's flags say already which disks are awake.
+fn is_told<D: Disk>(manager: &Manager<D>, volume: usize, awake: &[bool]) -> bool
+    requires few { length manager.now.lanes.items ≤ 16 }
+    requires count { length manager.now.ups.items ≡ length manager.now.lanes.items }
+    requires volume { volume < length awake.now }
+    requires view { All (λ v. v < length awake.now) (map logger_of manager.now.lanes.items) }
+    ensures { (result ≡ true) ↔ HasFlags volume awake.now manager.now }
+{
+    if manager.home_up() != awake[volume] {
+        return false;
+    }
+    let ups = manager.ups();
+    for lane in 0..ups.len() {
+        if ups[lane] != awake[manager.logger(lane as u32) as usize] {
+            return false;
+        }
+    }
+    true
+}
+
+// Tells a manager which disks are awake. In most windows it was told so before.
 fn tell<D: Disk>(manager: &mut Manager<D>, volume: usize, awake: &[bool])
     requires { CanBeTold D.state volume awake.now manager.old }
     ensures { WasTold D.tells D.state volume awake.now manager.old manager.new }
 {
+    if is_told(manager, volume, awake) {
+        return;
+    }
     let ups = flags(manager, awake);
     let lanes = manager.ups().len();
     manager.begin(awake[volume], &ups[..lanes]);

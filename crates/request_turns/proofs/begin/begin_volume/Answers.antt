@@ -1,7 +1,7 @@
-use Rattle.std.proofs.Common.{◌≡◌, ◌<◌, false, [], map, slice_index_or, refl, sym, ap, subst, ◌∙◌, ℕ, length}
+use Rattle.std.proofs.Common.{◌<◌, false, [], map, slice_index_or, refl, sym, ap, subst, ◌∙◌, ℕ, length}
 use Rattle.std.specs.List.{AllByRecursion}
 use Rattle.turn_lock.specs.LockIds.{LockId}
-use Rattle.turn_lock.specs.Passes.{pass_lock, pass_number, pass_seen}
+use Rattle.turn_lock.specs.Passes.{pass_number, pass_seen}
 use Rattle.wol_model.specs.History.{Kept}
 use Rattle.wol_promise.specs.Policy.{Look}
 use Rattle.wol_promise.specs.Ruled.{last_look}

@@ -1,7 +1,10 @@
 use Rattle.std.proofs.Common.{◌≡◌, Bool, List, false, length, slice_index_or, ap, ◌∙◌}
 use Rattle.logger.specs.Lanes.{logger_of}
-use Rattle.request_turns.proofs.Waking.{told_flags}
+use Rattle.request_turns.proofs.Waking.{told_flags, told_already}
 use Rattle.request_turns.proofs.begin.tell.Goals as goal
+
+pub returns-then-is_told : goal.returns-then-is_told
+returns-then-is_told g c = told_already _ _ c.args.volume c.args.awake.now c.args.manager.now (c.is_told.ensures.0 c.if-is_told.true)
 
 pub returns : goal.returns
 returns g c =
