@@ -4,6 +4,7 @@ ghost use Rattle.std.specs.List.{flat_map, range_with_len};
 ghost use Rattle.wol_model.specs.Trace.{block_mark, mark, payload_block};
 ghost use Rattle.msr_trace.specs.Payload.{stamp};
 
+use std::simd::prelude::*;
 use wol_disk::Block;
 
 /// Fills blocks from `lbn` on with what the line with this number writes there: the numbers of the line and of the block,
@@ -21,29 +22,36 @@ pub fn fill(line: u64, lbn: u64, out: &mut [Block])
 fn fill_block(line: u64, lbn: u64, block: &mut Block)
     ensures { block.new ≡ payload_block line lbn }
 {
-    repeat(&stamp_of(line, lbn), block);
+    repeat(u8x16::from_array(stamp_of(line, lbn)), block);
 }
 
-// Fills a block with a stamp, in its place. It stands apart so that the stamp lies in memory and is copied whole: within its
-// caller it would be two numbers in registers, and be stored number by number.
-#[inline(never)]
-fn repeat(stamp: &[u8; 16], block: &mut Block)
-    ensures { block.new ≡ flat_map (λ _. stamp.now) (range_with_len 0 32) }
+// Fills a block with a stamp, in its place. A stamp is one vector, so that it stays in a register and a block is 32 stores.
+fn repeat(stamp: u8x16, block: &mut Block)
+    ensures { block.new ≡ flat_map (λ _. stamp) (range_with_len 0 32) }
 {
-    for i in 0..32 {
-        let at: usize = 16 * i;
-        put(stamp, &mut block[at..at + 16]);
+    for i in 0..8 {
+        let at: usize = 64 * i;
+        put_four(stamp, &mut block[at..at + 64]);
     }
 }
 
-// Writes a stamp where there is room for one, as one copy of 16 bytes.
-fn put(stamp: &[u8; 16], place: &mut [u8])
+// Writes a stamp four times where there is room for four.
+fn put_four(stamp: u8x16, place: &mut [u8])
+    requires { length place.old ≡ 64 }
+    ensures { place.new ≡ flat_map (λ _. stamp) (range_with_len 0 4) }
+{
+    put(stamp, &mut place[..16]);
+    put(stamp, &mut place[16..32]);
+    put(stamp, &mut place[32..48]);
+    put(stamp, &mut place[48..]);
+}
+
+// Writes a stamp where there is room for one.
+fn put(stamp: u8x16, place: &mut [u8])
     requires { length place.old ≡ 16 }
-    ensures { place.new ≡ stamp.now }
+    ensures { place.new ≡ stamp }
 {
-    if let Some(first) = place.first_chunk_mut::<16>() {
-        *first = *stamp;
-    }
+    stamp.copy_to_slice(place);
 }
 
 fn stamp_of(line: u64, lbn: u64) -> [u8; 16]

@@ -5,5 +5,5 @@ use Rattle.msr_trace.proofs.payload.repeat.Given as goal
 abbrev pub invariant-loop-i : goal.invariant-loop-i
 invariant-loop-i l = record {
   long : length l.block ≡ 512;
-  so_far : take (16 * l.i) l.block ≡ flat_map (λ k. l.stamp) (range_with_len 0 l.i);
+  so_far : take (64 * l.i) l.block ≡ flat_map (λ k. l.stamp) (range_with_len 0 (4 * l.i));
 }
