@@ -126,7 +126,8 @@ pub record CanOffer {D : Type 0} (state : D → State) (shared : Shared D) (m : 
   pub run : CanRun state shared m items from
   pub there : lane < length m.lanes.items
 
--- It answers with what it took, or has no room for the first item; then rooms are noted like this.
+-- What comes of the offer: the answer tells what the lane took. None comes where it has no room for
+-- the first item, and then this is what is noted of each lane's room.
 pub record HasOffered {D : Type 0} (tells : Bool) (state : D → State) (shared : Shared D)
     (lane : ℕ) (items : List Item) (from : List Block) (noted : List Room) (ran : Option Ran)
     (old new : Manager D) : Type 0 where

@@ -69,8 +69,8 @@ ReadsBlocks tells state m first count out answer =
     (after b.volume.began.array (writes (entries_of notes))) first (first + count))
 
 -- so many of the blocks come from logs as records cover, and the others from home
-abbrev pub AreCounted : List Indexed → (first count : ℕ) → Sources → Type 0
-AreCounted es first count sources =
+abbrev pub TellsSources : List Indexed → (first count : ℕ) → Sources → Type 0
+TellsSources es first count sources =
     (sources.logged ≡ count_by (is_covered (listed_in es)) (range_with_len first count))
     × (sources.home + sources.logged ≡ count)
 
@@ -84,8 +84,8 @@ pub record CanReadRun {D : Type 0} (state : D → State) (shared : Shared D) (m 
   pub fits : first + count ≤ (state_of state m.home).size
   pub source : IsSource m.index.entries first count only
 
--- What it leaves, answered or not: a manager that serves again, unless down, and has only read. The
--- disk of the source was needed and counts as awake.
+-- What it leaves, answered or not: a manager that is ready and has only read; a part that failed
+-- isn't told as down yet. No disk but that of the source was needed, and it counts as awake.
 pub record HasReadRun {D : Type 0} (state : D → State) (shared : Shared D) (first count : ℕ)
     (old new : Manager D) : Type 0 where
   pub ready : IsReady state new

@@ -8,7 +8,7 @@ ghost use Rattle.wol_model.specs.Index.{listed_in, is_covered};
 ghost use Rattle.wol_promise.specs.Policy.{woken};
 ghost use Rattle.manager.specs.Answers.{was_read};
 ghost use Rattle.manager.specs.Causes.{PartRose, NoneRose};
-ghost use Rattle.manager.specs.Reading.{CanReadRun, HasReadRun, ReadsBlocks, AreCounted, IsReadThrough, HasOnlyRead, NeedsSources, NeedsFirstOf};
+ghost use Rattle.manager.specs.Reading.{CanReadRun, HasReadRun, ReadsBlocks, TellsSources, IsReadThrough, HasOnlyRead, NeedsSources, NeedsFirstOf};
 ghost use Rattle.manager.specs.Seen.{look_of_manager};
 ghost use Rattle.manager.specs.Stands.{CanServe, IsReady, IsHome, IsSameManager, Leaves};
 ghost use Rattle.manager.specs.Stops.{StopsWith};
@@ -153,7 +153,7 @@ impl<D: Disk> Manager<D> {
         requires few { length out.old ≤ 128 }
         ensures run { HasReadRun D.state shared.now lbn (length out.old) self.old self.new }
         ensures content { ReadsBlocks D.tells D.state self.old lbn (length out.old) out.new result }
-        ensures counted { IfOk result (AreCounted self.old.index.entries lbn (length out.old)) }
+        ensures counted { IfOk result (TellsSources self.old.index.entries lbn (length out.old)) }
         ensures cause { IfErr result (PartRose D.state self.old self.new) }
         ensures calm { OnOk result (NoneRose D.state self.old self.new) }
     {
@@ -195,7 +195,7 @@ impl<D: Disk> Manager<D> {
         ensures needs { NeedsFirstOf self.old self.new lbn (length out.old) }
         ensures needs_all { OnOk result (NeedsSources self.old self.new lbn (length out.old)) }
         ensures content { ReadsBlocks D.tells D.state self.old lbn (length out.old) out.new result }
-        ensures counted { IfOk result (AreCounted self.old.index.entries lbn (length out.old)) }
+        ensures counted { IfOk result (TellsSources self.old.index.entries lbn (length out.old)) }
         ensures cause { IfErr result (PartRose D.state self.old self.new) }
         ensures calm { OnOk result (NoneRose D.state self.old self.new) }
     {
