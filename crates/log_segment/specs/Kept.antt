@@ -7,7 +7,7 @@ use Rattle.spin_model.specs.declared.spun.Spun.{Spun}
 
 -- What a call leaves of a part, whatever it writes: its length and its volume. A failure that it
 -- tells has its cause, and where it tells none there was none.
-pub record LeavesPart {D T E : Type 0} (state : D → State) (old new : Spun D) (res : Result T E) :
+pub record KeepsPart {D T E : Type 0} (state : D → State) (old new : Spun D) (res : Result T E) :
     Type 0 where
   pub size : (state_of state new).size ≡ (state_of state old).size
   pub cause : IsErr res → Rose (state_of state old).faults (state_of state new).faults

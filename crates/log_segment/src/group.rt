@@ -6,7 +6,7 @@ ghost use Rattle.wol_model.specs.Heads.{IsRecordHead, head_block, gate_block};
 ghost use Rattle.wol_model.specs.Log.{Record, EndsLog, HasFirstOf, written, end_of};
 ghost use Rattle.spin_model.specs.Spun.{volume_of, state_of, token_volume};
 ghost use Rattle.log_layout.specs.Values.{record_head};
-ghost use Rattle.log_segment.specs.Kept.{Keeps, LeavesPart};
+ghost use Rattle.log_segment.specs.Kept.{Keeps, KeepsPart};
 ghost use Rattle.log_segment.specs.Records.{group_of, count_of, AreItems};
 ghost use Rattle.log_segment.specs.Records as head;
 ghost use Rattle.log_segment.specs.Group.{reads_as, without_heads};
@@ -34,7 +34,7 @@ fn lay_blocks<D: Disk>(
     ensures any_moment { LeavesOnly (state_of D.state part.old) (state_of D.state part.new)
         (λ c. (d : List Block) × IsImageOf (state_of D.state part.old).values d
         × (take (at + 1) c ≡ take (at + 1) d)) }
-    ensures leaves { LeavesPart D.state part.old part.new result }
+    ensures leaves { KeepsPart D.state part.old part.new result }
 {
     let next = at as u64 + 1 + from.len() as u64;
     let gates = if next < part.blocks() { 1 } else { 0 };
@@ -64,7 +64,7 @@ fn lay_group<D: Disk>(
     ensures any_moment { (bs : List Block) → (state_of D.state part.old).values ≡ Some (only bs)
         → LeavesOnly (state_of D.state part.old) (state_of D.state part.new)
         (λ c. take (at + 1) c ≡ take (at + 1) bs) }
-    ensures leaves { LeavesPart D.state part.old part.new result }
+    ensures leaves { KeepsPart D.state part.old part.new result }
 {
     let mut place = at;
     let mut laid = 0;
@@ -108,7 +108,7 @@ fn put_head<D: Disk>(
     ensures any_moment { LeavesOnly (state_of D.state part.old) (state_of D.state part.new)
         (λ c. (d : List Block) × IsImageOf (state_of D.state part.old).values d
         × ((c ≡ d) ⊎ (c ≡ put at (head_block (record_head head.now) ∷ []) d))) }
-    ensures leaves { LeavesPart D.state part.old part.new result }
+    ensures leaves { KeepsPart D.state part.old part.new result }
 {
     let mut block = [0; 512];
     write_rec(head, &mut block);
@@ -143,7 +143,7 @@ fn lay_heads<D: Disk>(
         → LeavesOnly (state_of D.state part.old) (state_of D.state part.new)
         (IsBlend (front ++ (without_heads items.now from ++ rest))
         (front ++ (flat_map written (group_of owner version items.now from) ++ rest))) }
-    ensures leaves { LeavesPart D.state part.old part.new result }
+    ensures leaves { KeepsPart D.state part.old part.new result }
 {
     let mut place = at;
     let mut next = version;
@@ -180,7 +180,7 @@ pub fn append_records<D: Disk>(
         → at ≡ end_of rs
         → LeavesOnly (state_of D.state part.old) (state_of D.state part.new)
         (λ c. HasFirstOf c owner rs (group_of owner version items.now from.now)) }
-    ensures leaves { LeavesPart D.state part.old part.new result }
+    ensures leaves { KeepsPart D.state part.old part.new result }
 {
     lay_group(part, token, at, items, from)?;
     lay_heads(part, token, at, owner, version, items)

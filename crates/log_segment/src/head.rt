@@ -5,7 +5,7 @@ ghost use Rattle.wol_model.specs.Heads.{IsRecordHead};
 ghost use Rattle.wol_model.specs.Log.{Record, position_of};
 ghost use Rattle.spin_model.specs.Spun.{volume_of, state_of, token_volume};
 ghost use Rattle.log_layout.specs.Values.{record_head};
-ghost use Rattle.log_segment.specs.Kept.{Keeps, LeavesPart, IsFreeInAll, IsIdleOrClaimed, IsKeptOrTrimmed, IsKeptOrIdle};
+ghost use Rattle.log_segment.specs.Kept.{Keeps, KeepsPart, IsFreeInAll, IsIdleOrClaimed, IsKeptOrTrimmed, IsKeptOrIdle};
 
 use crate::store::store_block;
 use log_layout::{RecHead, SegHead, write_gate, write_rec, write_seg};
@@ -20,7 +20,7 @@ pub fn claim_part<D: Disk>(part: &mut Spun<D>, token: &Awake, owner: u32) -> Res
         → OnOk result (Keeps (state_of D.state part.new) owner []) }
     ensures any_moment { IsFreeInAll (state_of D.state part.old)
         → LeavesOnly (state_of D.state part.old) (state_of D.state part.new) (IsIdleOrClaimed owner) }
-    ensures leaves { LeavesPart D.state part.old part.new result }
+    ensures leaves { KeepsPart D.state part.old part.new result }
 {
     let mut block = [0; 512];
     write_gate(&mut block);
@@ -38,7 +38,7 @@ pub fn retire_part<D: Disk>(part: &mut Spun<D>, token: &Awake) -> Result<(), Fai
         → OnOk result ((ws : List (Values Block)) × ((state_of D.state part.new).values ≡ Some ws)) }
     ensures any_moment { (owner : ℕ) (rs : List Record) → Keeps (state_of D.state part.old) owner rs
         → LeavesOnly (state_of D.state part.old) (state_of D.state part.new) (IsKeptOrIdle owner rs) }
-    ensures leaves { LeavesPart D.state part.old part.new result }
+    ensures leaves { KeepsPart D.state part.old part.new result }
 {
     let mut block = [0; 512];
     write_seg(&SegHead::Free, &mut block);
@@ -65,7 +65,7 @@ pub fn store_head<D: Disk>(
         → slice_get rs k ≡ Some r → at ≡ position_of rs k → head.now.count ≡ r.head.count
         → LeavesOnly (state_of D.state part.old) (state_of D.state part.new)
         (IsKeptOrTrimmed head.now.owner rs k (record r { head = record_head head.now })) }
-    ensures leaves { LeavesPart D.state part.old part.new result }
+    ensures leaves { KeepsPart D.state part.old part.new result }
 {
     let mut block = [0; 512];
     write_rec(head, &mut block);

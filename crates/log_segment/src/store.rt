@@ -2,7 +2,7 @@
 ghost use Rattle.std.specs.Prelude.{◌≡◌, ◌⊎◌, ◌+◌, ◌≤◌, [], ◌∷◌, List, Some, option_map, OnOk};
 ghost use Rattle.wol_disk.specs.Disk.{Block, only, put, reads, LeavesOnly, IsImageOf};
 ghost use Rattle.spin_model.specs.Spun.{volume_of, state_of, token_volume};
-ghost use Rattle.log_segment.specs.Kept.{LeavesPart};
+ghost use Rattle.log_segment.specs.Kept.{KeepsPart};
 
 use spin_model::{Awake, Spun};
 use wol_disk::{Block, Disk, Failed};
@@ -29,7 +29,7 @@ pub fn store_block<D: Disk>(
     ensures from_images { LeavesOnly (state_of D.state part.old) (state_of D.state part.new)
         (λ c. (d : List Block) × IsImageOf (state_of D.state part.old).values d
         × ((c ≡ d) ⊎ (c ≡ put at (block.now ∷ []) d))) }
-    ensures leaves { LeavesPart D.state part.old part.new result }
+    ensures leaves { KeepsPart D.state part.old part.new result }
 {
     part.write(token, at, &[*block])?;
     part.sync(token)
