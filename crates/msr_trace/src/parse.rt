@@ -74,9 +74,7 @@ fn parse_text(alloc: Global, fields: &mut Fields, body: &[u8]) -> Result<Option<
 }
 
 // Reads a line without the carriage return at its end, or tells its first refusal. `csv` passes blank lines over, so they
-// are seen here first. It stands apart, since few lines come here.
-#[cold]
-#[inline(never)]
+// are seen here first.
 #[tactic(auto, unfolding(crate::specs::Lines::body_of))]
 fn parse_body(alloc: Global, fields: &mut Fields, body: &[u8]) -> Result<Option<Line>, LineFault>
     requires { list_any is_feed body.now ≡ false }
