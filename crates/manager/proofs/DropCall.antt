@@ -99,84 +99,103 @@ module _ {D : Type 0} (tells : Bool) (state : D → State) (m : Manager D) (b : 
 
 -- ---- the call
 
+-- the call found the record of this version, and its entry
+pub record IsFound {D : Type 0} (state : D → State) (m : Manager D) (version : ℕ) (r : Rec) : Type 0 where
+  pub ready : IsReady state m
+  pub up : m.down ≡ None
+  pub its : Found m.index.entries version r
+  pub index : IsIndex m.index.entries
+
+-- the mask of its blocks that may go
+pub record AreGoing {D : Type 0} (m : Manager D) (version given : ℕ) : Type 0 where
+  pub fits : given < 2 ^ 128
+  pub mask : IfSome (entry_at m.index.entries version) (λ e. IsMask e.listed.first (goes (listed_in m.index.entries) e.listed) given)
+
+-- what became of its lane
+pub record HasTurned {D : Type 0} (state : D → State) (old new : Lane D) : Type 0 where
+  pub is_lane : IsLane state new
+  pub same : IsSameLane old new
+  pub all : HoldsAll old → HoldsAll new
+  pub taken : taken_in new ≡ taken_in old
+  pub used : HasUsed old new
+
 -- the record of the call, its entry and its lane
-module _ {D : Type 0} (state : D → State) (m : Manager D) (ready : IsReady state m) (up : m.down ≡ None) (version : ℕ) (r : Rec) (f : Found m.index.entries version r) (index : IsIndex m.index.entries)
-    (given : ℕ) (fits : given < 2 ^ 128) (mask : IfSome (entry_at m.index.entries version) (λ e. IsMask e.listed.first (goes (listed_in m.index.entries) e.listed) given)) where
+module _ {D : Type 0} {state : D → State} {m : Manager D} {version : ℕ} {r : Rec} (call : IsFound state m version r) {given : ℕ} (going : AreGoing m version given) where
   abbrev e : Indexed
-  e = f.entry
+  e = call.its.entry
 
   abbrev keep : ℕ
   keep = bit_and r.keep (bit_not w128 given)
 
-  pub at : At m.index.entries version f.entry
-  at = entry_of_version m.index.entries version f.entry index.rising f.is
+  pub at : At m.index.entries version call.its.entry
+  at = entry_of_version m.index.entries version call.its.entry call.index.rising call.its.is
 
-  pub its : IsEntry (listed_in m.index.entries) f.entry.listed
-  its = entry_in m.index.entries f.entry index (among at)
+  pub its : IsEntry (listed_in m.index.entries) call.its.entry.listed
+  its = entry_in m.index.entries call.its.entry call.index (among at)
 
-  pub bits : IsMask f.entry.listed.first (goes (listed_in m.index.entries) f.entry.listed) given
-  bits = some_of (λ (d : Indexed). IsMask d.listed.first (goes (listed_in m.index.entries) d.listed) given) (entry_at m.index.entries version) f.entry mask f.is
+  pub bits : IsMask call.its.entry.listed.first (goes (listed_in m.index.entries) call.its.entry.listed) given
+  bits = some_of (λ (d : Indexed). IsMask d.listed.first (goes (listed_in m.index.entries) d.listed) given) (entry_at m.index.entries version) call.its.entry going.mask call.its.is
 
-  lane_is : f.entry.listed.lane ≡ r.lane
-  lane_is = sym f.record_.lane
+  lane_is : call.its.entry.listed.lane ≡ r.lane
+  lane_is = sym call.its.record_.lane
 
-  in_volume : IsInVolume (state_of state m.home).size f.entry
-  in_volume = all_member (IsInVolume (state_of state m.home).size) m.index.entries f.entry ready.ranges (among at)
+  in_volume : IsInVolume (state_of state m.home).size call.its.entry
+  in_volume = all_member (IsInVolume (state_of state m.home).size) m.index.entries call.its.entry call.ready.ranges (among at)
 
   -- its head
   pub version_ready : (1 ≤ r.version) × (r.version < 2 ^ 63)
   version_ready = (
-    let v = in_volume.least in let s = f.record_.version in omega arith,
-    let lt = all_member (λ (d : Indexed). d.listed.version < m.next) m.index.entries f.entry ready.below (among at) in let s = f.record_.version in let n = ready.next.1 in omega arith,
+    let v = in_volume.least in let s = call.its.record_.version in omega arith,
+    let lt = all_member (λ (d : Indexed). d.listed.version < m.next) m.index.entries call.its.entry call.ready.below (among at) in let s = call.its.record_.version in let n = call.ready.next.1 in omega arith,
   )
 
   pub count_ready : (1 ≤ r.count) × (r.count ≤ 128)
   count_ready = (
-    let c = some_count _ f.entry.listed.first (length f.entry.listed.keep) its.keeps in let s = f.record_.count in omega arith,
-    let c = its.count in let s = f.record_.count in omega arith,
+    let c = some_count _ call.its.entry.listed.first (length call.its.entry.listed.keep) its.keeps in let s = call.its.record_.count in omega arith,
+    let c = its.count in let s = call.its.record_.count in omega arith,
   )
 
   pub range_ready : r.lbn + r.count ≤ 2 ^ 32
-  range_ready = let w = its.within in let s = f.record_.count in let a = f.record_.first in omega arith
+  range_ready = let w = its.within in let s = call.its.record_.count in let a = call.its.record_.first in omega arith
 
   pub its_head : (h : RecHead) → h ≡ record { form = 2; keep = r.keep; owner = m.id; version = r.version; lbn = r.lbn; count = r.count } → record_head h ≡ record { form = 2; owner = m.id; version = version; first = r.lbn; count = r.count; mask = r.keep }
-  its_head h is = ap record_head is ∙ (λ j. record { form = 2; owner = m.id; version = (f.record_.version ∙ at.version_is) j; first = r.lbn; count = r.count; mask = r.keep })
+  its_head h is = ap record_head is ∙ (λ j. record { form = 2; owner = m.id; version = (call.its.record_.version ∙ at.version_is) j; first = r.lbn; count = r.count; mask = r.keep })
 
   pub its_owner : (h : RecHead) → h ≡ record { form = 2; keep = r.keep; owner = m.id; version = r.version; lbn = r.lbn; count = r.count } → h.owner ≡ m.id
   its_owner h is = ap (λ (g : RecHead). g.owner) is
 
   pub proper_keep : (h : RecHead) → h ≡ record { form = 2; keep = r.keep; owner = m.id; version = r.version; lbn = r.lbn; count = r.count } → 0 < given → IsProperPart (bit_and r.keep (bit_not w128 given)) h.keep
-  proper_keep h is some = subst (λ (g : RecHead). IsProperPart (bit_and r.keep (bit_not w128 given)) g.keep) (sym is) (proper m.index.entries f.entry r f.record_ its.count given fits bits some)
+  proper_keep h is some = subst (λ (g : RecHead). IsProperPart (bit_and r.keep (bit_not w128 given)) g.keep) (sym is) (proper m.index.entries call.its.entry r call.its.record_ its.count given going.fits bits some)
 
   -- what the index has after it
   pub given_entries : filter (λ (d : Indexed). keeps_a_block d.listed) (changed version (given_up given) m.index.entries) ≡ given_of version m.index.entries
   given_entries = ap (filter (λ (d : Indexed). keeps_a_block d.listed))
-      (at.then_is (given_up given) ∙ (λ i. at.front ++ given_is m.index.entries f.entry r f.record_ its.count given fits bits i ∷ at.back) ∙ sym (at.then_is (with_kept m.index.entries)))
+      (at.then_is (given_up given) ∙ (λ i. at.front ++ given_is m.index.entries call.its.entry r call.its.record_ its.count given going.fits bits i ∷ at.back) ∙ sym (at.then_is (with_kept m.index.entries)))
 
   -- the record is gone where it keeps nothing
   pub gone_is : (es : List Indexed) → es ≡ given_of version m.index.entries → eqb (bit_and r.keep (bit_not w128 given)) 0 ≡ is_none (entry_at es version)
   gone_is es same = subst (λ (l : List Indexed). eqb (bit_and r.keep (bit_not w128 given)) 0 ≡ is_none (entry_at l version)) (sym same) (by (eqb keep 0) refl)
     where
       by : (t : Bool) → eqb (bit_and r.keep (bit_not w128 given)) 0 ≡ t → eqb (bit_and r.keep (bit_not w128 given)) 0 ≡ is_none (entry_at (given_of version m.index.entries) version)
-      by true none = none ∙ sym (ap (λ (l : List Indexed). is_none (entry_at l version)) (given_list m.index.entries version f.entry index at false (sym (keeps_is m.index.entries f.entry r f.record_ its.count given fits bits) ∙ ap not none))
+      by true none = none ∙ sym (ap (λ (l : List Indexed). is_none (entry_at l version)) (given_list m.index.entries version call.its.entry call.index at false (sym (keeps_is m.index.entries call.its.entry r call.its.record_ its.count given going.fits bits) ∙ ap not none))
           ∙ ap is_none (none_of_version version (at.front ++ at.back) at.others))
-      by false some = some ∙ sym (ap (λ (l : List Indexed). is_none (entry_at l version)) (given_list m.index.entries version f.entry index at true (sym (keeps_is m.index.entries f.entry r f.record_ its.count given fits bits) ∙ ap not some))
-          ∙ ap is_none (one_of_version version at.front (with_kept m.index.entries f.entry) at.back (all_front (λ (d : Indexed). has_version version d ≡ false) at.front at.back at.others) at.version_is))
+      by false some = some ∙ sym (ap (λ (l : List Indexed). is_none (entry_at l version)) (given_list m.index.entries version call.its.entry call.index at true (sym (keeps_is m.index.entries call.its.entry r call.its.record_ its.count given going.fits bits) ∙ ap not some))
+          ∙ ap is_none (one_of_version version at.front (with_kept m.index.entries call.its.entry) at.back (all_front (λ (d : Indexed). has_version version d ≡ false) at.front at.back at.others) at.version_is))
 
-  module _ (old : Lane D) (lane : slice_get m.lanes.items r.lane ≡ Some old) where
+  module _ {old : Lane D} (lane : slice_get m.lanes.items r.lane ≡ Some old) where
     pub old_lane : IsReadyLane state m.id m.most old
-    old_lane = all_at (IsReadyLane state m.id m.most) m.lanes.items r.lane old lane ready.ready.each
+    old_lane = all_at (IsReadyLane state m.id m.most) m.lanes.items r.lane old lane call.ready.ready.each
 
     -- its segment is held and whole
     pub spot_ready : IsTrimmable old (record { segment = r.segment; pos = r.pos })
-    spot_ready = let s = spot_at state m ready up version r index f old lane in record { place = s.place; segment = s.segment; there = s.there; named = s.index; whole = s.segment_whole; fits = let w = s.fits in omega arith }
+    spot_ready = let s = spot_at state m call.ready call.up version r call.index call.its old lane in record { place = s.place; segment = s.segment; there = s.there; named = s.index; whole = s.segment_whole; fits = let w = s.fits in omega arith }
 
-    module _ (new : Lane D) (is_lane : IsLane state new) (same : IsSameLane old new) (all : HoldsAll old → HoldsAll new) (taken : taken_in new ≡ taken_in old) (used : HasUsed old new) where
+    module _ {new : Lane D} (turn : HasTurned state old new) where
       untaken : taken_in new ≡ None
-      untaken = taken ∙ old_lane.untaken
+      untaken = turn.taken ∙ old_lane.untaken
 
-      index_is : (o : HeldSegment D) → o.index ≡ r.segment → f.entry.index ≡ o.index
-      index_is o named = sym f.record_.segment ∙ sym named
+      index_is : (o : HeldSegment D) → o.index ≡ r.segment → call.its.entry.index ≡ o.index
+      index_is o named = sym call.its.record_.segment ∙ sym named
 
       -- ---- done
 
@@ -189,40 +208,40 @@ module _ {D : Type 0} (state : D → State) (m : Manager D) (ready : IsReady sta
           where
             by : Trimmed {T = T} {E = E} state old new (record { segment = r.segment; pos = r.pos }) (record { form = 2; owner = m.id; version = version; first = r.lbn; count = r.count; mask = r.keep }) (bit_and r.keep (bit_not w128 given)) (Ok x)
                 → IsReady state (record m { lanes = with_item m.lanes r.lane new; index = index'; ups = record { items = ups } })
-            by (in_place i o n there named held pool cut) = ready_given state m ready r.lane old new lane is_lane same all untaken ups flags version index' entries
-                (up_in_place state m ready up r.lane old lane version f.entry index at its.count lane_is r f.record_ given fits bits i o there (index_is o named) new is_lane same untaken n held cut.index cut.whole cut.fewer)
-            by (to_pool i o free there named held pool ok gave) = ready_given state m ready r.lane old new lane is_lane same all untaken ups flags version index' entries
-                (up_less state m ready up r.lane old lane version f.entry index at its.count lane_is r f.record_ given fits bits i o there (index_is o named) new is_lane same untaken held gave.fewer)
+            by (in_place i o n there named held pool cut) = ready_given state m call.ready r.lane old new lane turn.is_lane turn.same turn.all untaken ups flags version index' entries
+                (up_in_place state m call.ready call.up r.lane old lane version call.its.entry call.index at its.count lane_is r call.its.record_ given going.fits bits i o there (index_is o named) new turn.is_lane turn.same untaken n held cut.index cut.whole cut.fewer)
+            by (to_pool i o free there named held pool ok gave) = ready_given state m call.ready r.lane old new lane turn.is_lane turn.same turn.all untaken ups flags version index' entries
+                (up_less state m call.ready call.up r.lane old lane version call.its.entry call.index at its.count lane_is r call.its.record_ given going.fits bits i o there (index_is o named) new turn.is_lane turn.same untaken held gave.fewer)
             by (not_freed i o n there named held pool err stayed) = absurd (false≢true err)
 
         -- as many entries as are left in its segment
-        same_count : (o : HeldSegment D) (named : o.index ≡ r.segment) (es : List Indexed) → es ≡ given_of version m.index.entries → entries_at f.entry.listed.lane f.entry.index es ≡ entries_at r.lane o.index (given_of version m.index.entries)
+        same_count : (o : HeldSegment D) (named : o.index ≡ r.segment) (es : List Indexed) → es ≡ given_of version m.index.entries → entries_at call.its.entry.listed.lane call.its.entry.index es ≡ entries_at r.lane o.index (given_of version m.index.entries)
         same_count o named es entries = λ j. entries_at (lane_is j) (index_is o named j) (entries j)
 
-        pub lane_then : (es : List Indexed) → es ≡ given_of version m.index.entries → ChangesLane (IsTrimmedLane f.entry.index (entries_at f.entry.listed.lane f.entry.index es ≡ 0)) f.entry.listed.lane m.lanes.items (slice_set m.lanes.items r.lane new)
+        pub lane_then : (es : List Indexed) → es ≡ given_of version m.index.entries → ChangesLane (IsTrimmedLane call.its.entry.index (entries_at call.its.entry.listed.lane call.its.entry.index es ≡ 0)) call.its.entry.listed.lane m.lanes.items (slice_set m.lanes.items r.lane new)
         lane_then es entries = record {
           before = old;
           after = new;
           there = ap (slice_get m.lanes.items) lane_is ∙ lane;
-          set = ap (λ (q : ℕ). slice_set m.lanes.items q new) f.record_.lane;
+          set = ap (λ (q : ℕ). slice_set m.lanes.items q new) call.its.record_.lane;
           change = by moved;
         }
           where
             by : Trimmed {T = T} {E = E} state old new (record { segment = r.segment; pos = r.pos }) (record { form = 2; owner = m.id; version = version; first = r.lbn; count = r.count; mask = r.keep }) (bit_and r.keep (bit_not w128 given)) (Ok x)
-                → IsTrimmedLane f.entry.index (entries_at f.entry.listed.lane f.entry.index es ≡ 0) old new
+                → IsTrimmedLane call.its.entry.index (entries_at call.its.entry.listed.lane call.its.entry.index es ≡ 0) old new
             by (in_place i o n there named held pool cut) = record {
-              same = same;
-              used = used;
+              same = turn.same;
+              used = turn.used;
               kept = λ _. (pool, ap (map (λ (h : HeldSegment D). h.index)) held ∙ map_set (λ (h : HeldSegment D). h.index) (held_in old) i o n there cut.index);
               gave = λ none. absurd (let c = same_count o named es entries in let v = cut.valid in
-                  let n_is = valid_now state m ready up r.lane old lane version f.entry index at its.count lane_is r f.record_ given fits bits i o there (index_is o named) new is_lane same untaken n held cut.index cut.whole cut.fewer in omega (arith, c, v, n_is, none));
+                  let n_is = valid_now state m call.ready call.up r.lane old lane version call.its.entry call.index at its.count lane_is r call.its.record_ given going.fits bits i o there (index_is o named) new turn.is_lane turn.same untaken n held cut.index cut.whole cut.fewer in omega (arith, c, v, n_is, none));
             }
             by (to_pool i o free there named held pool ok gave) = record {
-              same = same;
-              used = used;
-              kept = λ some. absurd (some (same_count o named es entries ∙ none_left state m ready up r.lane old lane version f.entry index at its.count lane_is r f.record_ given fits bits i o there (index_is o named) new is_lane same untaken held gave.fewer));
+              same = turn.same;
+              used = turn.used;
+              kept = λ some. absurd (some (same_count o named es entries ∙ none_left state m call.ready call.up r.lane old lane version call.its.entry call.index at its.count lane_is r call.its.record_ given going.fits bits i o there (index_is o named) new turn.is_lane turn.same untaken held gave.fewer));
               gave = λ _. (
-                pool ∙ (λ j. pass_mine (pool_of old) ++ (pass_number (pool_of old), operation_of (Gave (f.record_.segment j))) ∷ []),
+                pool ∙ (λ j. pass_mine (pool_of old) ++ (pass_number (pool_of old), operation_of (Gave (call.its.record_.segment j))) ∷ []),
                 ap (map (λ (h : HeldSegment D). h.index)) held
                     ∙ removed_indexes (λ (h : HeldSegment D). h.index) (held_in old) (map (λ (t : ℕ × FreeSegment D). t.0) (option_to_list (taken_in old))) i o old_lane.lane.apart there
                     ∙ ap (λ (v : ℕ). filter (λ w. not (eqb w v)) (map (λ (h : HeldSegment D). h.index) (held_in old))) (sym (index_is o named)),
@@ -234,8 +253,8 @@ module _ {D : Type 0} (state : D → State) (m : Manager D) (ready : IsReady sta
         pub dropped_then : {G : Type 0} (gone : G) (index' : Contents) (ups : List Bool) → index'.entries ≡ given_of version m.index.entries → ups ≡ slice_set m.ups.items r.lane true
             → (d : Indexed) → entry_at m.index.entries version ≡ Some d → HasDropped version d m (record m { lanes = with_item m.lanes r.lane new; index = index'; ups = record { items = ups } }) (Ok gone)
         dropped_then {G} gone index' ups entries flags d is =
-            subst (λ (c : Indexed). HasDropped {T = G} version c m (record m { lanes = with_item m.lanes r.lane new; index = index'; ups = record { items = ups } }) (Ok gone)) (same_Some f.entry d (sym f.is ∙ is)) (record {
-              rest = ap (λ (u : List Bool). record m { lanes = with_item m.lanes r.lane new; index = index'; ups = record { items = u } }) (flags ∙ ap (λ (k : ℕ). slice_set m.ups.items k true) f.record_.lane);
+            subst (λ (c : Indexed). HasDropped {T = G} version c m (record m { lanes = with_item m.lanes r.lane new; index = index'; ups = record { items = ups } }) (Ok gone)) (same_Some call.its.entry d (sym call.its.is ∙ is)) (record {
+              rest = ap (λ (u : List Bool). record m { lanes = with_item m.lanes r.lane new; index = index'; ups = record { items = u } }) (flags ∙ ap (λ (k : ℕ). slice_set m.ups.items k true) call.its.record_.lane);
               lanes = lane_then index'.entries entries;
               ok = entries;
               err = tt;
@@ -252,13 +271,13 @@ module _ {D : Type 0} (state : D → State) (m : Manager D) (ready : IsReady sta
                 → Keeps tells state (record m { lanes = with_item m.lanes r.lane new; index = index'; ups = record { items = ups } }) b notes
             by (in_place i o n there named held pool cut) =
                 let more : nones_in (pass_mine (pool_of old)) ≤ nones_in (pass_mine (pool_of new)) = (let e = ap nones_in pool in omega (arith, e)) in
-                keeps_pieces tells state m b notes kp r.lane old new lane same more notes index' ups m.down (given_of version m.index.entries) entries flags
-                (stays tells state m b notes kp up r.lane old new lane is_lane same untaken version f.entry index at its.count lane_is r f.record_ given fits bits i o there (index_is o named) x n held cut) (ready_then index' ups entries flags) (passed_still tells state m b notes kp r.lane old new lane same more)
+                keeps_pieces tells state m b notes kp r.lane old new lane turn.same more notes index' ups m.down (given_of version m.index.entries) entries flags
+                (stays tells state m b notes kp call.up r.lane old new lane turn.is_lane turn.same untaken version call.its.entry call.index at its.count lane_is r call.its.record_ given going.fits bits i o there (index_is o named) x n held cut) (ready_then index' ups entries flags) (passed_still tells state m b notes kp r.lane old new lane turn.same more)
                 (ap takes_in pool) (omega arith) given_still
             by (to_pool i o free there named held pool ok gave) =
                 let more : nones_in (pass_mine (pool_of old)) ≤ nones_in (pass_mine (pool_of new)) = (let e = ap nones_in pool ∙ nones_more (pass_mine (pool_of old)) (pass_number (pool_of old), operation_of (Gave r.segment)) in omega (arith, e)) in
-                keeps_pieces tells state m b notes kp r.lane old new lane same more notes index' ups m.down (given_of version m.index.entries) entries flags
-                (leaves tells state m b notes kp up r.lane old new lane is_lane same untaken version f.entry index at its.count lane_is r f.record_ given fits bits i o there (index_is o named) _ free held gave) (ready_then index' ups entries flags) (passed_still tells state m b notes kp r.lane old new lane same more)
+                keeps_pieces tells state m b notes kp r.lane old new lane turn.same more notes index' ups m.down (given_of version m.index.entries) entries flags
+                (leaves tells state m b notes kp call.up r.lane old new lane turn.is_lane turn.same untaken version call.its.entry call.index at its.count lane_is r call.its.record_ given going.fits bits i o there (index_is o named) _ free held gave) (ready_then index' ups entries flags) (passed_still tells state m b notes kp r.lane old new lane turn.same more)
                 (ap takes_in pool ∙ takes_gave (pass_mine (pool_of old)) (pass_number (pool_of old)) r.segment) (omega arith) given_still
             by (not_freed i o n there named held pool err stayed) = absurd (false≢true err)
 
@@ -266,13 +285,13 @@ module _ {D : Type 0} (state : D → State) (m : Manager D) (ready : IsReady sta
         stops_then tells sound told index' ups flags was read b notes any kw = by moved
           where
             was_up : was.down ≡ None
-            was_up = sym read.down ∙ up
+            was_up = sym read.down ∙ call.up
 
             by : Trimmed {T = T} {E = E} state old new (record { segment = r.segment; pos = r.pos }) (record { form = 2; owner = m.id; version = version; first = r.lbn; count = r.count; mask = r.keep }) (bit_and r.keep (bit_not w128 given)) (Ok x)
                 → Stops state was (record m { lanes = with_item m.lanes r.lane new; index = index'; ups = record { items = ups } }) None b notes []
-            by (in_place i o n there named held pool cut) = in_place_stops tells state sound told was m read ready was_up up b notes kw r.lane old new lane i o there version f.entry at lane_is (index_is o named) r f.record_ its.count given fits bits n held cut.index
-                (cut_then tells state sound told was m read ready was_up up b notes kw r.lane old new lane i o there version f.entry at lane_is (index_is o named) r f.record_ its.count given fits bits n cut.any_moment)
-            by (to_pool i o free there named held pool ok gave) = less_stops_so tells state sound told was m read ready was_up up b notes kw r.lane old new lane i o there version f.entry at lane_is (index_is o named) r f.record_ its.count given fits bits held gave.bare
+            by (in_place i o n there named held pool cut) = in_place_stops tells state sound told was m read call.ready was_up call.up b notes kw r.lane old new lane i o there version call.its.entry at lane_is (index_is o named) r call.its.record_ its.count given going.fits bits n held cut.index
+                (cut_then tells state sound told was m read call.ready was_up call.up b notes kw r.lane old new lane i o there version call.its.entry at lane_is (index_is o named) r call.its.record_ its.count given going.fits bits n cut.any_moment)
+            by (to_pool i o free there named held pool ok gave) = less_stops_so tells state sound told was m read call.ready was_up call.up b notes kw r.lane old new lane i o there version call.its.entry at lane_is (index_is o named) r call.its.record_ its.count given going.fits bits held gave.bare
             by (not_freed i o n there named held pool err stayed) = absurd (false≢true err)
 
       -- ---- a call of the disk failed
@@ -285,19 +304,19 @@ module _ {D : Type 0} (state : D → State) (m : Manager D) (ready : IsReady sta
         broken_one = record m { lanes = with_item m.lanes r.lane new; ups = record { items = ups }; down = Some (part.Segment volume r.segment) }
 
         pub ready_broke : IsReady state (record m { lanes = with_item m.lanes r.lane new; ups = record { items = ups }; down = Some (part.Segment volume r.segment) })
-        ready_broke = ready_broken state m ready r.lane old new lane is_lane same all untaken ups flags (part.Segment volume r.segment)
+        ready_broke = ready_broken state m call.ready r.lane old new lane turn.is_lane turn.same turn.all untaken ups flags (part.Segment volume r.segment)
 
         -- the index has the record's entry still
-        one_still : 1 ≤ entries_at f.entry.listed.lane f.entry.index m.index.entries
-        one_still = one_there (λ (d : Indexed). eqb d.listed.lane f.entry.listed.lane && eqb d.index f.entry.index) m.index.entries f.entry (among at) (lies_there f.entry.listed.lane f.entry.index f.entry refl refl)
+        one_still : 1 ≤ entries_at call.its.entry.listed.lane call.its.entry.index m.index.entries
+        one_still = one_there (λ (d : Indexed). eqb d.listed.lane call.its.entry.listed.lane && eqb d.index call.its.entry.index) m.index.entries call.its.entry (among at) (lies_there call.its.entry.listed.lane call.its.entry.index call.its.entry refl refl)
 
-        pub lane_broke : ChangesLane (IsTrimmedLane f.entry.index (entries_at f.entry.listed.lane f.entry.index m.index.entries ≡ 0)) f.entry.listed.lane m.lanes.items (slice_set m.lanes.items r.lane new)
+        pub lane_broke : ChangesLane (IsTrimmedLane call.its.entry.index (entries_at call.its.entry.listed.lane call.its.entry.index m.index.entries ≡ 0)) call.its.entry.listed.lane m.lanes.items (slice_set m.lanes.items r.lane new)
         lane_broke = record {
           before = old;
           after = new;
           there = ap (slice_get m.lanes.items) lane_is ∙ lane;
-          set = ap (λ (q : ℕ). slice_set m.lanes.items q new) f.record_.lane;
-          change = record { same = same; used = used; kept = λ _. by moved_err; gave = λ none. absurd (let one = one_still in omega (arith, one, none)) };
+          set = ap (λ (q : ℕ). slice_set m.lanes.items q new) call.its.record_.lane;
+          change = record { same = turn.same; used = turn.used; kept = λ _. by moved_err; gave = λ none. absurd (let one = one_still in omega (arith, one, none)) };
         }
           where
             by : Trimmed {T = T} {E = E} state old new (record { segment = r.segment; pos = r.pos }) (record { form = 2; owner = m.id; version = version; first = r.lbn; count = r.count; mask = r.keep }) (bit_and r.keep (bit_not w128 given)) (Err x)
@@ -310,8 +329,8 @@ module _ {D : Type 0} (state : D → State) (m : Manager D) (ready : IsReady sta
         pub dropped_broke : (G : Type 0) (fault : StepFault) (d : Indexed) → entry_at m.index.entries version ≡ Some d
             → HasDropped {T = G} version d m (record m { lanes = with_item m.lanes r.lane new; ups = record { items = ups }; down = Some (part.Segment volume r.segment) }) (Err fault)
         dropped_broke G fault d is =
-            subst (λ (c : Indexed). HasDropped {T = G} version c m (record m { lanes = with_item m.lanes r.lane new; ups = record { items = ups }; down = Some (part.Segment volume r.segment) }) (Err fault)) (same_Some f.entry d (sym f.is ∙ is)) (record {
-              rest = ap (λ (u : List Bool). record m { lanes = with_item m.lanes r.lane new; ups = record { items = u }; down = Some (part.Segment volume r.segment) }) (flags ∙ ap (λ (k : ℕ). slice_set m.ups.items k true) f.record_.lane);
+            subst (λ (c : Indexed). HasDropped {T = G} version c m (record m { lanes = with_item m.lanes r.lane new; ups = record { items = ups }; down = Some (part.Segment volume r.segment) }) (Err fault)) (same_Some call.its.entry d (sym call.its.is ∙ is)) (record {
+              rest = ap (λ (u : List Bool). record m { lanes = with_item m.lanes r.lane new; ups = record { items = u }; down = Some (part.Segment volume r.segment) }) (flags ∙ ap (λ (k : ℕ). slice_set m.ups.items k true) call.its.record_.lane);
               lanes = lane_broke;
               ok = tt;
               err = refl;
@@ -337,31 +356,31 @@ module _ {D : Type 0} (state : D → State) (m : Manager D) (ready : IsReady sta
                 → pass_mine (pool_of new) ≡ pass_mine (pool_of old) → Keeps tells state (record m { lanes = with_item m.lanes r.lane new; ups = record { items = ups }; down = Some (part.Segment volume r.segment) }) b (notes ++ nt ∷ [])
             pieces_so o named pieces pool =
                 let more : nones_in (pass_mine (pool_of old)) ≤ nones_in (pass_mine (pool_of new)) = (let e = ap nones_in pool in omega (arith, e)) in
-                keeps_pieces tells state m b notes kp r.lane old new lane same more (notes ++ nt ∷ []) m.index ups (Some (part.Segment volume r.segment)) m.index.entries refl flags
+                keeps_pieces tells state m b notes kp r.lane old new lane turn.same more (notes ++ nt ∷ []) m.index ups (Some (part.Segment volume r.segment)) m.index.entries refl flags
                 (subst (λ (d : Part). Pieces tells state m b (notes ++ nt ∷ []) (slice_set m.lanes.items r.lane new) m.index.entries m.next (slice_set m.ups.items r.lane true) (Some d)) (λ j. part.Segment (sym volume_is j) (named j)) pieces)
-                ready_broke (none_passed (nones_at (slice_set m.lanes.items r.lane new) b.lanes) notes nt note.passed_is (passed_still tells state m b notes kp r.lane old new lane same more)) (ap takes_in pool) (down_counts m.down) kp.still
+                ready_broke (none_passed (nones_at (slice_set m.lanes.items r.lane new) b.lanes) notes nt note.passed_is (passed_still tells state m b notes kp r.lane old new lane turn.same more)) (ap takes_in pool) (down_counts m.down) kp.still
 
             by : Trimmed {T = T} {E = E} state old new (record { segment = r.segment; pos = r.pos }) (record { form = 2; owner = m.id; version = version; first = r.lbn; count = r.count; mask = r.keep }) (bit_and r.keep (bit_not w128 given)) (Err x)
                 → Keeps tells state (record m { lanes = with_item m.lanes r.lane new; ups = record { items = ups }; down = Some (part.Segment volume r.segment) }) b (notes ++ nt ∷ [])
             by (in_place i o n there named held pool cut) = pieces_so o named
-                (failed_pieces tells state sound m b notes kp up r.lane old new lane is_lane untaken i o there version f.entry at lane_is (index_is o named) r f.record_ its.count given fits bits n held cut.index cut.same cut.broken cut.cause
-                (cut_now tells state sound m b notes kp up r.lane old new lane is_lane untaken i o there version f.entry at lane_is (index_is o named) r f.record_ its.count given fits bits n cut.any_moment) nt note.operation_is note.drain) pool
+                (failed_pieces tells state sound m b notes kp call.up r.lane old new lane turn.is_lane untaken i o there version call.its.entry at lane_is (index_is o named) r call.its.record_ its.count given going.fits bits n held cut.index cut.same cut.broken cut.cause
+                (cut_now tells state sound m b notes kp call.up r.lane old new lane turn.is_lane untaken i o there version call.its.entry at lane_is (index_is o named) r call.its.record_ its.count given going.fits bits n cut.any_moment) nt note.operation_is note.drain) pool
             by (to_pool i o free there named held pool ok gave) = absurd (false≢true ok)
             by (not_freed i o n there named held pool err stayed) = pieces_so o named
-                (failed_pieces tells state sound m b notes kp up r.lane old new lane is_lane untaken i o there version f.entry at lane_is (index_is o named) r f.record_ its.count given fits bits n held stayed.index stayed.same stayed.broken stayed.cause
-                (freed_now tells state sound m b notes kp up r.lane old new lane is_lane untaken i o there version f.entry at lane_is (index_is o named) r f.record_ its.count given fits bits n stayed.bare stayed.any_moment) nt note.operation_is note.drain) pool
+                (failed_pieces tells state sound m b notes kp call.up r.lane old new lane turn.is_lane untaken i o there version call.its.entry at lane_is (index_is o named) r call.its.record_ its.count given going.fits bits n held stayed.index stayed.same stayed.broken stayed.cause
+                (freed_now tells state sound m b notes kp call.up r.lane old new lane turn.is_lane untaken i o there version call.its.entry at lane_is (index_is o named) r call.its.record_ its.count given going.fits bits n stayed.bare stayed.any_moment) nt note.operation_is note.drain) pool
 
         pub stops_broke : (tells : Bool) (sound : (d : D) → IsDisk (state d)) → IsTrue tells
             → StopsSince tells state m (record m { lanes = with_item m.lanes r.lane new; ups = record { items = ups }; down = Some (part.Segment volume r.segment) }) Always
         stops_broke tells sound told was read b notes any kw = by moved_err
           where
             was_up : was.down ≡ None
-            was_up = sym read.down ∙ up
+            was_up = sym read.down ∙ call.up
 
             by : Trimmed {T = T} {E = E} state old new (record { segment = r.segment; pos = r.pos }) (record { form = 2; owner = m.id; version = version; first = r.lbn; count = r.count; mask = r.keep }) (bit_and r.keep (bit_not w128 given)) (Err x)
                 → Stops state was (record m { lanes = with_item m.lanes r.lane new; ups = record { items = ups }; down = Some (part.Segment volume r.segment) }) None b notes []
-            by (in_place i o n there named held pool cut) = in_place_stops tells state sound told was m read ready was_up up b notes kw r.lane old new lane i o there version f.entry at lane_is (index_is o named) r f.record_ its.count given fits bits n held cut.index
-                (cut_then tells state sound told was m read ready was_up up b notes kw r.lane old new lane i o there version f.entry at lane_is (index_is o named) r f.record_ its.count given fits bits n cut.any_moment)
+            by (in_place i o n there named held pool cut) = in_place_stops tells state sound told was m read call.ready was_up call.up b notes kw r.lane old new lane i o there version call.its.entry at lane_is (index_is o named) r call.its.record_ its.count given going.fits bits n held cut.index
+                (cut_then tells state sound told was m read call.ready was_up call.up b notes kw r.lane old new lane i o there version call.its.entry at lane_is (index_is o named) r call.its.record_ its.count given going.fits bits n cut.any_moment)
             by (to_pool i o free there named held pool ok gave) = absurd (false≢true ok)
-            by (not_freed i o n there named held pool err stayed) = in_place_stops tells state sound told was m read ready was_up up b notes kw r.lane old new lane i o there version f.entry at lane_is (index_is o named) r f.record_ its.count given fits bits n held stayed.index
-                (freed_then tells state sound told was m read ready was_up up b notes kw r.lane old new lane i o there version f.entry at lane_is (index_is o named) r f.record_ its.count given fits bits n stayed.bare stayed.any_moment)
+            by (not_freed i o n there named held pool err stayed) = in_place_stops tells state sound told was m read call.ready was_up call.up b notes kw r.lane old new lane i o there version call.its.entry at lane_is (index_is o named) r call.its.record_ its.count given going.fits bits n held stayed.index
+                (freed_then tells state sound told was m read call.ready was_up call.up b notes kw r.lane old new lane i o there version call.its.entry at lane_is (index_is o named) r call.its.record_ its.count given going.fits bits n stayed.bare stayed.any_moment)

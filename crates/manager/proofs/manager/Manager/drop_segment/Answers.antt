@@ -1,5 +1,5 @@
 -- A segment is given up with all its records.
-use Rattle.std.proofs.Common.{◌<◌, ◌^◌, Bool, List, true, false, length, refl, ap, ◌∙◌, arith}
+use Rattle.std.proofs.Common.{◌≡◌, ◌<◌, ◌^◌, Bool, List, Some, true, false, length, refl, ap, ◌∙◌, arith}
 use Rattle.std.proofs.lemmas.Option.{slice_get_within}
 use Rattle.wol_model.specs.Index.{Indexed}
 use Rattle.wol_promise.proofs.Lists.{all_map}
@@ -11,9 +11,32 @@ use Rattle.listed_records.proofs.Forgetting.{flag_set}
 use Rattle.manager.proofs.ReadyLanes.{at_lane}
 use Rattle.volume_parts.proofs.PartReads.{never_some}
 use Rattle.manager.proofs.RetireCall.{calm_then, cause_broke, counted_there, dropped_broke, dropped_then, keeps_then, none_live, old_lane, ready_broke, ready_then, retirable, stands_broke, stops_broke, stops_then}
+use Rattle.manager.proofs.DropCall.{IsFound, HasTurned}
 use Rattle.manager.proofs.FetchRec.{lane_within, spot_in}
-use Rattle.std.specs.Prelude.{slice_index_or}
+use Rattle.std.specs.Prelude.{slice_get, slice_index_or}
+use Rattle.manager.proofs.manager.Manager.drop_segment.Given as given
+use Rattle.manager.proofs.manager.Manager.drop_segment.Goals.{After-index_mut-lane, After-retire, In-Some-find}
 use Rattle.manager.proofs.manager.Manager.drop_segment.Goals as goal
+
+-- ---- What the call found
+
+found : (g : given.Over) (c : In-Some-find g) → IsFound g.D.Disk.state c.args.self.now c.args.version c.in-Some-find.record
+found g c =
+    let m = c.args.self.now in
+    record {
+      ready = c.requires.ready;
+      up = never_some m.down c.in_default.not-Some;
+      its = found_of m.index.entries c.args.version c.in-Some-find.record c.in-Some-find.ensures.value;
+      index = c.in-Some-find.ensures.index;
+    }
+
+-- its lane
+lane : (g : given.Over) (c : After-index_mut-lane g) → IsFound g.D.Disk.state c.args.self.now c.args.version c.in-Some-find.record → slice_get c.args.self.now.lanes.items c.in-Some-find.record.lane ≡ Some c.index_mut-lane.result.now
+lane g c call = (spot_in g.D.Disk.state c.args.self.now call.ready call.up c.args.version c.in-Some-find.record call.index call.its c.index_mut-lane.result.now c.index_mut-lane.ensures.value).lane_is
+
+-- and what became of it
+turned : (g : given.Over) (c : After-retire g) → HasTurned g.D.Disk.state c.index_mut-lane.result.now c.retire.new.self
+turned g c = let t = c.retire.ensures in record { is_lane = t.lane; same = t.same; all = t.all; taken = t.taken; used = t.used }
 
 -- ---- The lane of the segment
 
@@ -25,70 +48,65 @@ index_mut-lane-requires g c = omega (arith, c.args.self.now.lanes.ok.0, lane_wit
 
 pub valid-count-requires : goal.valid-count-requires
 valid-count-requires g c =
-    let m = c.args.self.now in let state = g.D.Disk.state in let r = c.in-Some-find.record in
-    let up = never_some m.down c.in_default.not-Some in let f = found_of m.index.entries c.args.version r c.in-Some-find.ensures.value in let index = c.in-Some-find.ensures.index in
-    let l = c.index_mut-lane.result.now in let lane = (spot_in state m c.requires.ready up c.args.version r index f l c.index_mut-lane.ensures.value).lane_is in
-    retirable state m c.requires.ready up c.args.version r f index l lane
+    let p = goal.at.valid-count-requires g c in let call = found g p.In-Some-find in
+    retirable call (lane g p.After-index_mut-lane call)
 
 pub retire-requires : goal.retire-requires
 retire-requires g c =
-    let m = c.args.self.now in let state = g.D.Disk.state in let r = c.in-Some-find.record in
-    let up = never_some m.down c.in_default.not-Some in let f = found_of m.index.entries c.args.version r c.in-Some-find.ensures.value in let index = c.in-Some-find.ensures.index in
-    let l = c.index_mut-lane.result.now in let lane = (spot_in state m c.requires.ready up c.args.version r index f l c.index_mut-lane.ensures.value).lane_is in
+    let p = goal.at.retire-requires g c in let call = found g p.In-Some-find in let here = lane g p.After-index_mut-lane call in
     record {
-      lane = (old_lane state m c.requires.ready up c.args.version r f index l lane).lane;
-      at = all_at (IsAt c.args.shared.now) m.lanes.items r.lane l lane c.requires.at.lanes_;
-      segment = retirable state m c.requires.ready up c.args.version r f index l lane;
+      lane = (old_lane call here).lane;
+      at = all_at (IsAt c.args.shared.now) c.args.self.now.lanes.items c.in-Some-find.record.lane c.index_mut-lane.result.now here c.requires.at.lanes_;
+      segment = retirable call here;
     }
 
 -- ---- It was retired
 
 pub forget-requires : goal.forget-requires
 forget-requires g c =
-    let m = c.args.self.now in let state = g.D.Disk.state in let r = c.in-Some-find.record in
-    let up = never_some m.down c.in_default.not-Some in let f = found_of m.index.entries c.args.version r c.in-Some-find.ensures.value in let index = c.in-Some-find.ensures.index in
-    let l = c.index_mut-lane.result.now in let lane = (spot_in state m c.requires.ready up c.args.version r index f l c.index_mut-lane.ensures.value).lane_is in
+    let m = c.args.self.now in let r = c.in-Some-find.record in
+    let p = goal.at.forget-requires g c in let call = found g p.In-Some-find in let here = lane g p.After-index_mut-lane call in
     let flags = refill_set m.ups.items c.deref_mut.result.now r.lane true c.deref_mut.ensures.value in
-    let lt = slice_get_within m.lanes.items r.lane l lane in let long = c.requires.ready.ready.flags in let n = c.requires.ready.next.1 in
+    let lt = slice_get_within m.lanes.items r.lane c.index_mut-lane.result.now here in let long = c.requires.ready.ready.flags in let n = c.requires.ready.next.1 in
     record {
-      count = counted_there state m c.requires.ready up c.args.version r f index l lane c.valid-count.result c.valid-count.ensures;
+      count = counted_there call here c.valid-count.result c.valid-count.ensures;
       awake = ap (λ (us : List Bool). slice_index_or us r.lane false) (c.deref.ensures.0 ∙ flags) ∙ flag_set m.ups.items r.lane (omega (arith, lt, long));
       below = all_map (λ (e : Indexed). e.listed.version < m.next) (λ (e : Indexed). e.listed.version < 2 ^ 63) (λ e lt'. omega (arith, lt', n)) m.index.entries c.requires.ready.below;
-      covered = none_live state m c.requires.ready up c.args.version r f index (c.requires.covered f.entry f.is);
+      covered = none_live call (c.requires.covered call.its.entry call.its.is);
     }
 
 pub returns-in-Ok : goal.returns-in-Ok
 returns-in-Ok g c =
-    let m = c.args.self.now in let state = g.D.Disk.state in let r = c.in-Some-find.record in
-    let up = never_some m.down c.in_default.not-Some in let f = found_of m.index.entries c.args.version r c.in-Some-find.ensures.value in let index = c.in-Some-find.ensures.index in let none = none_live state m c.requires.ready up c.args.version r f index (c.requires.covered f.entry f.is) in
-    let l = c.index_mut-lane.result.now in let lane = (spot_in state m c.requires.ready up c.args.version r index f l c.index_mut-lane.ensures.value).lane_is in
-    let l' = c.retire.new.self in let t = c.retire.ensures in let flags = refill_set m.ups.items c.deref_mut.result.now r.lane true c.deref_mut.ensures.value in
+    let m = c.args.self.now in let r = c.in-Some-find.record in let l = c.index_mut-lane.result.now in let l' = c.retire.new.self in
+    let p = goal.at.returns-in-Ok g c in let call = found g p.In-Some-find in let none = none_live call (c.requires.covered call.its.entry call.its.is) in
+    let here = lane g p.After-index_mut-lane call in let turn = turned g p.After-retire in
+    let flags = refill_set m.ups.items c.deref_mut.result.now r.lane true c.deref_mut.ensures.value in let retired = c.in-Ok.ensures.retired in
     record {
-      ready = ready_then state m c.requires.ready up c.args.version r f index l lane l' t.lane t.same t.all t.taken t.used c.in-Ok.field-0 c.in-Ok.ensures.retired c.forget.new.index _ c.forget.ensures flags;
-      at = at_lane m r.lane l' c.requires.at t.at;
-      fault = (up, up);
-      calm = none_lane state m _ c.requires.ready refl r.lane l l' lane refl (calm_then state m c.requires.ready up c.args.version r f index l lane l' t.lane t.same t.all t.taken t.used c.in-Ok.field-0 c.in-Ok.ensures.retired);
-      dropped = dropped_then state m c.requires.ready up c.args.version r f index l lane l' t.lane t.same t.all t.taken t.used c.in-Ok.field-0 c.in-Ok.ensures.retired _ c.forget.new.index _ c.forget.ensures flags;
-      keeps = keeps_then state m c.requires.ready up c.args.version r f index l lane l' t.lane t.same t.all t.taken t.used c.in-Ok.field-0 c.in-Ok.ensures.retired none g.D.Disk.tells c.forget.new.index _ c.forget.ensures flags;
+      ready = ready_then call here turn c.in-Ok.field-0 retired c.forget.new.index _ c.forget.ensures flags;
+      at = at_lane m r.lane l' c.requires.at c.retire.ensures.at;
+      fault = (call.up, call.up);
+      calm = none_lane g.D.Disk.state m _ c.requires.ready refl r.lane l l' here refl (calm_then call here turn c.in-Ok.field-0 retired);
+      dropped = dropped_then call here turn c.in-Ok.field-0 retired _ c.forget.new.index _ c.forget.ensures flags;
+      keeps = keeps_then call here turn c.in-Ok.field-0 retired none g.D.Disk.tells c.forget.new.index _ c.forget.ensures flags;
       broke = tt;
-      any_moment = λ told. stops_then state m c.requires.ready up c.args.version r f index l lane l' t.lane t.same t.all t.taken t.used c.in-Ok.field-0 c.in-Ok.ensures.retired none g.D.Disk.tells g.met.D.Disk.sound told c.forget.new.index _ flags;
+      any_moment = λ told. stops_then call here turn c.in-Ok.field-0 retired none g.D.Disk.tells g.met.D.Disk.sound told c.forget.new.index _ flags;
     }
 
 -- ---- A call failed
 
 pub returns-in-Err : goal.returns-in-Err
 returns-in-Err g c =
-    let m = c.args.self.now in let state = g.D.Disk.state in let r = c.in-Some-find.record in
-    let up = never_some m.down c.in_default.not-Some in let f = found_of m.index.entries c.args.version r c.in-Some-find.ensures.value in let index = c.in-Some-find.ensures.index in let none = none_live state m c.requires.ready up c.args.version r f index (c.requires.covered f.entry f.is) in
-    let l = c.index_mut-lane.result.now in let lane = (spot_in state m c.requires.ready up c.args.version r index f l c.index_mut-lane.ensures.value).lane_is in
-    let l' = c.retire.new.self in let t = c.retire.ensures in let flags = refill_set m.ups.items c.deref_mut.result.now r.lane true c.deref_mut.ensures.value in
+    let m = c.args.self.now in let r = c.in-Some-find.record in
+    let p = goal.at.returns-in-Err g c in let call = found g p.In-Some-find in let none = none_live call (c.requires.covered call.its.entry call.its.is) in
+    let here = lane g p.After-index_mut-lane call in let turn = turned g p.After-retire in
+    let flags = refill_set m.ups.items c.deref_mut.result.now r.lane true c.deref_mut.ensures.value in let retired = c.in-Err.ensures.retired in
     record {
-      ready = ready_broke state m c.requires.ready up c.args.version r f index l lane l' t.lane t.same t.all t.taken t.used c.in-Err.field-0 c.in-Err.ensures.retired c.logger.result c.logger.ensures _ flags;
-      at = at_lane m r.lane l' c.requires.at t.at;
-      fault = (up, refl, cause_broke state m c.requires.ready up c.args.version r f index l lane l' t.lane t.same t.all t.taken t.used c.in-Err.field-0 c.in-Err.ensures.retired c.logger.result c.logger.ensures _ flags);
+      ready = ready_broke call here turn c.in-Err.field-0 retired c.logger.result c.logger.ensures _ flags;
+      at = at_lane m r.lane c.retire.new.self c.requires.at c.retire.ensures.at;
+      fault = (call.up, refl, cause_broke call here turn c.in-Err.field-0 retired c.logger.result c.logger.ensures _ flags);
       calm = tt;
-      dropped = dropped_broke state m c.requires.ready up c.args.version r f index l lane l' t.lane t.same t.all t.taken t.used c.in-Err.field-0 c.in-Err.ensures.retired c.logger.result c.logger.ensures _ flags (Unit {0}) _;
+      dropped = dropped_broke call here turn c.in-Err.field-0 retired c.logger.result c.logger.ensures _ flags (Unit {0}) _;
       keeps = tt;
-      broke = stands_broke state m c.requires.ready up c.args.version r f index l lane l' t.lane t.same t.all t.taken t.used c.in-Err.field-0 c.in-Err.ensures.retired c.logger.result c.logger.ensures _ flags none g.D.Disk.tells g.met.D.Disk.sound;
-      any_moment = λ told. stops_broke state m c.requires.ready up c.args.version r f index l lane l' t.lane t.same t.all t.taken t.used c.in-Err.field-0 c.in-Err.ensures.retired c.logger.result c.logger.ensures _ flags none g.D.Disk.tells g.met.D.Disk.sound told;
+      broke = stands_broke call here turn c.in-Err.field-0 retired c.logger.result c.logger.ensures _ flags none g.D.Disk.tells g.met.D.Disk.sound;
+      any_moment = λ told. stops_broke call here turn c.in-Err.field-0 retired c.logger.result c.logger.ensures _ flags none g.D.Disk.tells g.met.D.Disk.sound told;
     }
