@@ -94,7 +94,7 @@ pub record AppendsVolume {D E : Type 0} (tells : Bool) (state : D → State) (co
       (λ t. IsTelling tells state config asked old new number (record { trouble = t; text = text }))
   pub err : OnErr result (text ≡ [])
 
--- so it is of the first volumes, one after another
+-- what is told of some first volumes of a rack, in order
 pub record AreTellings {D : Type 0} (tells : Bool) (state : D → State) (config : Config)
     (asked : Asked) (old new : Rack D) (ts : List Telling) : Type 0 where
   pub few : length ts ≤ length config.volumes.items

@@ -46,10 +46,11 @@ pub record IsSameStation {D : Type 0} (s t : Station D) : Type 0 where
 
 -- the stations of other volumes stay as they are
 abbrev pub LeavesOthers : {D : Type 0} → (r q : Rack D) → (volume : ℕ) → Type 0
-LeavesOthers {D} r q volume = (place : ℕ) (s : Station D) → slice_get r.stations.items place ≡ Some s
+LeavesOthers {D} r q volume = (place : ℕ) (s : Station D)
+    → slice_get r.stations.items place ≡ Some s
     → (s.id ≡ volume → ⊥) → slice_get q.stations.items place ≡ Some s
 
--- so it is of each station of a rack, and all else is the same
+-- a rack is the same but for what the passes of its stations have seen and made
 pub record IsSameRack {D : Type 0} (r q : Rack D) : Type 0 where
   pub same : q ≡ record r { stations = q.stations }
   pub each : AllZip IsSameStation r.stations.items q.stations.items

@@ -177,7 +177,8 @@ fn find_run<D: Disk + Send, R: Threads + Wait + Sync>(
     size: usize,
 )
     requires valid { IsValid config.now }
-    requires going { CanFindMore D.tells D.state config.now shared.now stations.old findings.old found }
+    requires going { CanFindMore D.tells D.state config.now shared.now stations.old findings.old
+        found }
     requires size { found + size ≤ length stations.old }
     ensures { HasFoundMore D.tells D.state config.now stations.old stations.new findings.old
         findings.new found (found + size) }
@@ -202,7 +203,8 @@ pub(crate) fn find_through<D: Disk + Send, R: Threads + Wait + Sync>(
     place: usize,
 ) -> usize
     requires valid { IsValid config.now }
-    requires going { CanFindMore D.tells D.state config.now shared.now stations.old findings.old found }
+    requires going { CanFindMore D.tells D.state config.now shared.now stations.old findings.old
+        found }
     requires place { place < length stations.old }
     ensures place { place < result }
     ensures more { found ≤ result }

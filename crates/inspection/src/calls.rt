@@ -165,8 +165,8 @@ where
         → IsTold (KeepsAllSound config.now) (B.state bay.old).told (B.state bay.new).told }
     ensures others { IsTold (KeepsOthers config.now) (B.state bay.old).told (B.state bay.new).told }
     ensures did { IfOk result (λ c. OpensAndCloses B.Part.tells B.Part.state config.now
-        (λ before after. PrintsVolumes B.Part.tells B.Part.state config.now asked before after c.answer
-        (K.faults out.old) (K.faults out.new) (K.taken out.old) (K.taken out.new))
+        (λ before after. PrintsVolumes B.Part.tells B.Part.state config.now asked before after
+        c.answer (K.faults out.old) (K.faults out.new) (K.taken out.old) (K.taken out.new))
         (B.state bay.old) (B.state bay.new) c.spindles.items) }
     ensures left { OnErr result (IsTrue B.Part.tells
         → IsTold (LeavesAll B.Part.tells B.Part.state config.now (B.state bay.old)
