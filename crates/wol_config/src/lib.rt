@@ -20,3 +20,4 @@ pub use config::{Config, ConfigFault, VolumeConf};
 pub use key::Key;
 pub use name::Name;
 pub use read::{MOST_BYTES, read_config};
+pub use views::number_named;

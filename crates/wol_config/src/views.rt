@@ -64,8 +64,8 @@ fn view_of(texts: &[Value], own: usize, volumes: &[VolumeConf]) -> Option<View>
     View::new(&ids[..texts.len()])
 }
 
-// The number of the volume of this name, among their names.
-fn number_named(volumes: &[VolumeConf], name: &[u8]) -> Option<usize>
+/// The number of the volume of this name, if one has it.
+pub fn number_named(volumes: &[VolumeConf], name: &[u8]) -> Option<usize>
     ensures found { result ≡ number_named (names_of volumes.now) name.now }
     ensures within { IfSome result (λ n. n < length volumes.now) }
 {
