@@ -22,7 +22,7 @@ pub fn fill(line: u64, lbn: u64, out: &mut [Block])
 fn fill_block(line: u64, lbn: u64, block: &mut Block)
     ensures { block.new ≡ payload_block line lbn }
 {
-    repeat(u8x16::from_array(stamp_of(line, lbn)), block);
+    repeat(stamp_of(line, lbn), block);
 }
 
 // Fills a block with a stamp, in its place. A stamp is one vector, so that it stays in a register and a block is 32 stores.
@@ -54,13 +54,10 @@ fn put(stamp: u8x16, place: &mut [u8])
     stamp.copy_to_slice(place);
 }
 
-fn stamp_of(line: u64, lbn: u64) -> [u8; 16]
+fn stamp_of(line: u64, lbn: u64) -> u8x16
     ensures { result ≡ stamp line lbn }
 {
-    let mut stamp = [0u8; 16];
-    stamp[..8].copy_from_slice(&line.to_le_bytes());
-    stamp[8..].copy_from_slice(&lbn.to_le_bytes());
-    stamp
+    u64x2::from_array([line, lbn]).to_le_bytes()
 }
 
 /// The mark of what a read gives: the sum, modulo 2^64, of the first eight bytes of each block as a little-endian number.
