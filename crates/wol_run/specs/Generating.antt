@@ -6,8 +6,8 @@ use Rattle.wol_io.specs.Streams.{AppendsFront}
 use Rattle.wol_config.specs.declared.config.Config.{Config}
 use Rattle.trace_gen.specs.Generated.{lines, targets_of, text_of}
 use Rattle.command_words.specs.declared.command.Generated.{Generated}
-use Rattle.wol_run.specs.declared.listing.Stop.{Stop}
-use Rattle.wol_run.specs.declared.listing.Stop.TheVariants.{Sink, Memory}
+use Rattle.inspection.specs.declared.calls.Stop.{Stop}
+use Rattle.inspection.specs.declared.calls.Stop.TheVariants.{Sink, Memory}
 use Rattle.wol_run.specs.Settings.{HasConfig, IsFaultLine}
 use Rattle.wol_run.specs.Tops.{EndsWith}
 

@@ -5,44 +5,20 @@ ghost use Rattle.wol_disk.specs.Disk.{Rose};
 ghost use Rattle.wol_io.specs.Streams.{AppendsFront};
 ghost use Rattle.wol_config.specs.Configs.{IsValid};
 ghost use Rattle.wol_run.specs.Generating.{HandsOn, Prints, RunsGen};
-ghost use Rattle.wol_run.specs.declared.listing.Stop.TheVariants.{Sink as sink_failed, Memory as no_memory};
 
 use crate::settings::config_of;
 use crate::telling::{NO_MEMORY, end_with, tell_fault};
 use command_words::Generated;
+use inspection::Stop;
 use msr_trace::write_line;
 use std::alloc::Global;
 use trace_gen::Gen;
 use wol_config::Config;
-use wol_disk::{Failed, NoMemory};
+use wol_disk::Failed;
 use wol_io::{Sink, Source};
 
 // How many bytes of lines are gathered for a call of the sink.
 const CHUNK_BYTES: usize = 8_192;
-
-// Why not all lines were printed.
-enum Stop {
-    // The sink failed.
-    Sink,
-    // There was no memory.
-    Memory,
-}
-
-impl From<Failed> for Stop {
-    ghost from_gives = { λ _ e. e ≡ sink_failed };
-
-    fn from(_e: Failed) -> Stop {
-        Stop::Sink
-    }
-}
-
-impl From<NoMemory> for Stop {
-    ghost from_gives = { λ _ e. e ≡ no_memory };
-
-    fn from(_e: NoMemory) -> Stop {
-        Stop::Memory
-    }
-}
 
 /// Prints the lines of a generated trace on the volumes of the configuration that a source has, and answers the status.
 ///
