@@ -1,7 +1,7 @@
 -- What requests leave of a disk and of a sink.
-use Rattle.std.specs.Prelude.{◌≡◌, ℕ, ⊤, List, ◌++◌, take, Option, None, Some, option_map, Result, MatchResult}
+use Rattle.std.specs.Prelude.{◌≡◌, ℕ, ◌≤◌, ⊤, List, ◌++◌, take, Option, None, Some, option_map, Result, IsErrOf, MatchResult}
 use Rattle.std.specs.Io.KnownBytes.{Appends}
-use Rattle.wol_disk.specs.Disk.{Block, IsImageOf, Values, only, reads}
+use Rattle.wol_disk.specs.Disk.{Block, IsImageOf, Rose, Values, only, reads}
 use Rattle.wol_io.specs.Streams.{AppendsFront}
 use Rattle.wol_model.specs.Blocks.{after}
 use Rattle.wol_model.specs.History.{IsCut}
@@ -70,6 +70,12 @@ abbrev pub Serves : {T : Type 0} → (array : Option (List Block)) → List Requ
     → (old new : Option (List ℕ)) → (values : Option (List (Values Block))) → Type 0
 Serves array rs result old new values =
     MatchResult result (λ _. Answered array rs old new) (λ e. LeftBy e array rs old new values)
+
+-- a count of faults never falls, and it rose where this fault is answered
+pub record Counts {T : Type 0} (e : Fault) (result : Result T Fault)
+    (before now : ℕ) : Type 0 where
+  pub cause : IsErrOf result e → Rose before now
+  pub later : before ≤ now
 
 -- the count of a sink that isn't the fault is as before
 abbrev pub CalmBut : Fault → (before now : ℕ) → Type 0

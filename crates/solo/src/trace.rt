@@ -1,10 +1,9 @@
 // The lines of a trace, run as they come.
-ghost use Rattle.std.specs.Prelude.{◌≡◌, ◌+◌, ◌≤◌, ◌<◌, ◌^◌, true, length, OnOk, IsErrOf};
+ghost use Rattle.std.specs.Prelude.{◌≡◌, true, length, OnOk};
 ghost use Rattle.std.specs.Io.KnownBytes.{IsAtEnd};
-ghost use Rattle.wol_disk.specs.Disk.{Rose};
 ghost use Rattle.msr_trace.specs.Reading.{pending};
 ghost use Rattle.solo.specs.Volume.{IsVolume, target_of};
-ghost use Rattle.solo.specs.Served.{IsCalm, IsSettled, content_of};
+ghost use Rattle.solo.specs.Served.{Counts, IsCalm, IsSettled, content_of};
 ghost use Rattle.solo.specs.Runs.{Runs};
 ghost use Rattle.solo.specs.Faults.{fault_of};
 
@@ -39,14 +38,10 @@ pub fn run_lines<S: Source, D: Disk, K: Sink, G: Gate>(
         (K.taken out.new) (D.state part.new).values }
     ensures end { OnOk result (IsAtEnd (S.left lines.new.source)) }
     ensures same_borrow { S.borrow lines.new.source ≡ S.borrow lines.old.source }
-    ensures source { IsErrOf result Fault.Source
-        → Rose (S.faults lines.old.source) (S.faults lines.new.source) }
-    ensures source_later { S.faults lines.old.source ≤ S.faults lines.new.source }
-    ensures disk { IsErrOf result Fault.Disk
-        → Rose (D.state part.old).faults (D.state part.new).faults }
-    ensures disk_later { (D.state part.old).faults ≤ (D.state part.new).faults }
-    ensures cause { IsErrOf result Fault.Sink → Rose (K.faults out.old) (K.faults out.new) }
-    ensures later { K.faults out.old ≤ K.faults out.new }
+    ensures source { Counts Fault.Source result (S.faults lines.old.source)
+        (S.faults lines.new.source) }
+    ensures disk { Counts Fault.Disk result (D.state part.old).faults (D.state part.new).faults }
+    ensures sink { Counts Fault.Sink result (K.faults out.old) (K.faults out.new) }
     ensures calm { IsCalm result (K.faults out.old) (K.faults out.new) }
 {
     let mut tally = Tally {

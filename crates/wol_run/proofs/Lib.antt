@@ -23,4 +23,5 @@ mod Spent
 mod CausesTold
 mod Promised
 mod SoloTold
+mod SinkTold
 mod CommandsTold

@@ -1,5 +1,5 @@
 -- What a run of the program leaves, by its exit status.
-use Rattle.std.specs.Prelude.{◌≡◌, ℕ, ◌⊎◌, ⊤, List, Option, ◌^◌, ◌∷◌, length, Err}
+use Rattle.std.specs.Prelude.{◌≡◌, ℕ, ◌≤◌, ◌<◌, ◌⊎◌, ⊤, List, Option, ◌^◌, ◌∷◌, length, Err}
 use Rattle.std.specs.Io.KnownBytes.{Appends}
 use Rattle.wol_disk.specs.Disk.{Block, Rose, Values}
 use Rattle.wol_io.specs.Streams.{AppendsFront}
@@ -18,6 +18,13 @@ abbrev pub EndsWith : (text : List ℕ) → (wanted status : ℕ) → (printed n
     → Type 0
 EndsWith text wanted status printed new =
     ((status ≡ wanted) × Appends printed new text) ⊎ ((status ≡ 7) × AppendsFront printed new text)
+
+-- Status 7 is that of a sink that failed: its count of faults rose, which never falls, and a count
+-- that ends above where it began is told so.
+pub record TellsSink (before after status : ℕ) : Type 0 where
+  pub cause : status ≡ 7 → Rose before after
+  pub later : before ≤ after
+  pub calm : before < after → status ≡ 7
 
 -- the line of a fault was written; where there was no memory for that of a bad line, that of want
 -- of memory

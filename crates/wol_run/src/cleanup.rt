@@ -1,11 +1,10 @@
 // The volumes of the configuration, cleaned.
-ghost use Rattle.std.specs.Prelude.{◌≡◌, ◌≤◌, ◌<◌};
 ghost use Rattle.wol_disk.specs.Disk.{Rose};
 ghost use Rattle.solo.specs.Images.{NoneOut};
 ghost use Rattle.wol_run.specs.Cleaning.{RunsCleaning};
 ghost use Rattle.wol_run.specs.Completing.{HasSoundImages, HaveVersionsToClean};
 ghost use Rattle.wol_run.specs.Settings.{IsConfigured};
-ghost use Rattle.wol_run.specs.Tops.{IsDoneOrMemory};
+ghost use Rattle.wol_run.specs.Tops.{IsDoneOrMemory, TellsSink};
 
 use crate::settings::config_of;
 use crate::telling::tell_fault;
@@ -39,9 +38,7 @@ pub fn clean<R: Wait, C: Source, K: Sink, B: Bay>(
         → ¬ Rose (B.state bay.old).faults (B.state bay.new).faults
         → ¬ Rose (C.faults source.old) (C.faults source.new)
         → ¬ Rose (K.faults out.old) (K.faults out.new) → IsDoneOrMemory result }
-    ensures cause { result ≡ 7 → Rose (K.faults out.old) (K.faults out.new) }
-    ensures later { K.faults out.old ≤ K.faults out.new }
-    ensures calm { K.faults out.old < K.faults out.new → result ≡ 7 }
+    ensures sink { TellsSink (K.faults out.old) (K.faults out.new) result }
 {
     let config = match config_of(alloc, source) {
         Ok(config) => config,

@@ -1,5 +1,5 @@
 // Policies compared on a trace.
-ghost use Rattle.std.specs.Prelude.{◌≡◌, ◌⊎◌, ◌≤◌, ◌<◌, true};
+ghost use Rattle.std.specs.Prelude.{◌≡◌, ◌⊎◌, true};
 ghost use Rattle.wol_disk.specs.Disk.{Rose};
 ghost use Rattle.wol_config.specs.Configs.{IsValid};
 ghost use Rattle.replay.specs.Givens.{IsNew, borrow_of, faults_of};
@@ -8,7 +8,7 @@ ghost use Rattle.wol_run.specs.Comparing.{IsComparison, RunsWhatIf};
 ghost use Rattle.wol_run.specs.Completing.{IsGoodTrace};
 ghost use Rattle.wol_run.specs.Replaying.{HasLeft, HasSource, seen, trace_of};
 ghost use Rattle.wol_run.specs.Settings.{HasConfig, IsConfigured};
-ghost use Rattle.wol_run.specs.Tops.{IsDoneOrMemory};
+ghost use Rattle.wol_run.specs.Tops.{IsDoneOrMemory, TellsSink};
 
 use crate::settings::config_of;
 use crate::telling::tell_fault;
@@ -39,9 +39,7 @@ pub fn compare<C: Source, S: Source, K: Sink>(
         → IsConfigured (C.left source.old) → ¬ Rose (C.faults source.old) (C.faults source.new)
         → ¬ Rose (S.faults trace.old) (S.faults trace.new)
         → ¬ Rose (K.faults out.old) (K.faults out.new) → IsDoneOrMemory result }
-    ensures cause { result ≡ 7 → Rose (K.faults out.old) (K.faults out.new) }
-    ensures later { K.faults out.old ≤ K.faults out.new }
-    ensures calm { K.faults out.old < K.faults out.new → result ≡ 7 }
+    ensures sink { TellsSink (K.faults out.old) (K.faults out.new) result }
 {
     let config = match config_of(alloc, source) {
         Ok(config) => config,
@@ -71,9 +69,7 @@ fn compare_lines<S: Source, K: Sink>(
         (K.faults out.old) (K.faults out.new) (S.faults lines.source) (S.faults result.1.source)
         → IsDoneOrMemory result.0 }
     ensures same_borrow { S.borrow result.1.source ≡ S.borrow lines.source }
-    ensures cause { result.0 ≡ 7 → Rose (K.faults out.old) (K.faults out.new) }
-    ensures later { K.faults out.old ≤ K.faults out.new }
-    ensures calm { K.faults out.old < K.faults out.new → result.0 ≡ 7 }
+    ensures sink { TellsSink (K.faults out.old) (K.faults out.new) result.0 }
 {
     let mut given = Given::Trace(lines);
     let status = compare_given(alloc, config, &mut given, out);
@@ -103,9 +99,7 @@ fn compare_given<S: Source, K: Sink>(
         (faults_of S.faults given.old) (faults_of S.faults given.new) → IsDoneOrMemory result }
     ensures source_kept { HasSource given.old → HasSource given.new }
     ensures same_borrow { borrow_of S.borrow given.new ≡ borrow_of S.borrow given.old }
-    ensures cause { result ≡ 7 → Rose (K.faults out.old) (K.faults out.new) }
-    ensures later { K.faults out.old ≤ K.faults out.new }
-    ensures calm { K.faults out.old < K.faults out.new → result ≡ 7 }
+    ensures sink { TellsSink (K.faults out.old) (K.faults out.new) result }
 {
     match comparison::compare(alloc, config, given, out) {
         Ok(()) => 0,

@@ -1,12 +1,12 @@
 // The images of the configuration, formatted.
-ghost use Rattle.std.specs.Prelude.{◌≡◌, ◌≤◌, ◌<◌, IfOk};
-ghost use Rattle.wol_disk.specs.Disk.{Rose};
+ghost use Rattle.std.specs.Prelude.{◌≡◌, IfOk};
 ghost use Rattle.wol_model.specs.Heads.{IsShape};
 ghost use Rattle.wol_model.specs.Images.{image_size};
 ghost use Rattle.wol_config.specs.Configs.{IsValid};
 ghost use Rattle.volume_images.specs.Volumes.{shape_in};
 ghost use Rattle.solo.specs.Images.{NoneOut};
 ghost use Rattle.wol_run.specs.Formatting.{RunsFormat, fault_of, format_lines, trouble_of};
+ghost use Rattle.wol_run.specs.Tops.{TellsSink};
 
 use crate::settings::config_of;
 use crate::telling::{NO_MEMORY, end_with, tell_fault};
@@ -33,9 +33,7 @@ pub fn format<C: Source, K: Sink, B: Bay>(
     ensures home { NoneOut (B.state bay.new) }
     ensures content { RunsFormat (C.left source.old) (C.faults source.old) (C.faults source.new)
         (B.state bay.old) (B.state bay.new) result (K.taken out.old) (K.taken out.new) }
-    ensures cause { result ≡ 7 → Rose (K.faults out.old) (K.faults out.new) }
-    ensures later { K.faults out.old ≤ K.faults out.new }
-    ensures calm { K.faults out.old < K.faults out.new → result ≡ 7 }
+    ensures sink { TellsSink (K.faults out.old) (K.faults out.new) result }
 {
     let config = match config_of(alloc, source) {
         Ok(config) => config,

@@ -1,8 +1,8 @@
 // The volumes of the configuration, looked at.
-ghost use Rattle.std.specs.Prelude.{◌≡◌, ◌≤◌, ◌<◌};
+ghost use Rattle.std.specs.Prelude.{◌≡◌};
 ghost use Rattle.wol_disk.specs.Disk.{Rose};
 ghost use Rattle.solo.specs.Images.{NoneOut};
-ghost use Rattle.wol_run.specs.Tops.{IsDoneOrMemory};
+ghost use Rattle.wol_run.specs.Tops.{IsDoneOrMemory, TellsSink};
 ghost use Rattle.wol_run.specs.Settings.{IsConfigured};
 ghost use Rattle.wol_run.specs.Completing.{HasSoundImages};
 ghost use Rattle.wol_run.specs.Inspecting.{RunsLook, status_of_first};
@@ -42,9 +42,7 @@ where
         → ¬ Rose (B.state bay.old).faults (B.state bay.new).faults
         → ¬ Rose (C.faults source.old) (C.faults source.new)
         → ¬ Rose (K.faults out.old) (K.faults out.new) → IsDoneOrMemory result }
-    ensures cause { result ≡ 7 → Rose (K.faults out.old) (K.faults out.new) }
-    ensures later { K.faults out.old ≤ K.faults out.new }
-    ensures calm { K.faults out.old < K.faults out.new → result ≡ 7 }
+    ensures sink { TellsSink (K.faults out.old) (K.faults out.new) result }
 {
     let config = match config_of(alloc, source) {
         Ok(config) => config,

@@ -5,6 +5,7 @@ ghost use Rattle.wol_disk.specs.Disk.{Rose};
 ghost use Rattle.wol_io.specs.Streams.{AppendsFront};
 ghost use Rattle.wol_config.specs.Configs.{IsValid};
 ghost use Rattle.wol_run.specs.Generating.{HandsOn, Prints, RunsGen};
+ghost use Rattle.wol_run.specs.Tops.{TellsSink};
 
 use crate::settings::config_of;
 use crate::telling::{NO_MEMORY, end_with, tell_fault};
@@ -33,9 +34,7 @@ pub fn generate<C: Source, K: Sink>(
     requires few { asked.lines ≤ 2 ^ 31 }
     ensures content { RunsGen asked (C.left source.old) (C.faults source.old) (C.faults source.new)
         result (K.taken out.old) (K.taken out.new) }
-    ensures cause { result ≡ 7 → Rose (K.faults out.old) (K.faults out.new) }
-    ensures later { K.faults out.old ≤ K.faults out.new }
-    ensures calm { K.faults out.old < K.faults out.new → result ≡ 7 }
+    ensures sink { TellsSink (K.faults out.old) (K.faults out.new) result }
 {
     let config = match config_of(alloc, source) {
         Ok(config) => config,

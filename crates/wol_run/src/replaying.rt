@@ -1,5 +1,5 @@
 // Traces replayed on the volumes of the configuration.
-ghost use Rattle.std.specs.Prelude.{◌≡◌, ◌⊎◌, ◌≤◌, ◌<◌, ◌^◌, true};
+ghost use Rattle.std.specs.Prelude.{◌≡◌, ◌⊎◌, ◌≤◌, ◌^◌, true};
 ghost use Rattle.wol_disk.specs.Disk.{Rose};
 ghost use Rattle.wol_config.specs.Configs.{IsValid};
 ghost use Rattle.solo.specs.Images.{NoneOut};
@@ -9,7 +9,7 @@ ghost use Rattle.wol_run.specs.Replaying.{HasLeft, HasSource, IsReplay, RunsRepl
 ghost use Rattle.replay.specs.Completes.{MayComplete};
 ghost use Rattle.wol_run.specs.Completing.{HasSoundImages, HaveVersions, IsGoodTrace, seed_lines};
 ghost use Rattle.wol_run.specs.Settings.{HasConfig, IsConfigured};
-ghost use Rattle.wol_run.specs.Tops.{IsDoneOrMemory};
+ghost use Rattle.wol_run.specs.Tops.{IsDoneOrMemory, TellsSink};
 
 use crate::settings::config_of;
 use crate::telling::tell_fault;
@@ -60,9 +60,7 @@ where
         → ¬ Rose (C.faults source.old) (C.faults source.new)
         → ¬ Rose (S.faults trace.old) (S.faults trace.new)
         → ¬ Rose (K.faults out.old) (K.faults out.new) → IsDoneOrMemory result }
-    ensures cause { result ≡ 7 → Rose (K.faults out.old) (K.faults out.new) }
-    ensures later { K.faults out.old ≤ K.faults out.new }
-    ensures calm { K.faults out.old < K.faults out.new → result ≡ 7 }
+    ensures sink { TellsSink (K.faults out.old) (K.faults out.new) result }
 {
     let config = match config_of(alloc, source) {
         Ok(config) => config,
@@ -102,9 +100,7 @@ where
         → ¬ Rose (B.state bay.old).faults (B.state bay.new).faults
         → ¬ Rose (C.faults source.old) (C.faults source.new)
         → ¬ Rose (K.faults out.old) (K.faults out.new) → IsDoneOrMemory result }
-    ensures cause { result ≡ 7 → Rose (K.faults out.old) (K.faults out.new) }
-    ensures later { K.faults out.old ≤ K.faults out.new }
-    ensures calm { K.faults out.old < K.faults out.new → result ≡ 7 }
+    ensures sink { TellsSink (K.faults out.old) (K.faults out.new) result }
 {
     let config = match config_of(alloc, source) {
         Ok(config) => config,
@@ -146,9 +142,7 @@ where
         (K.faults out.new) (S.faults lines.source) (S.faults result.1.source)
         → IsDoneOrMemory result.0 }
     ensures same_borrow { S.borrow result.1.source ≡ S.borrow lines.source }
-    ensures cause { result.0 ≡ 7 → Rose (K.faults out.old) (K.faults out.new) }
-    ensures later { K.faults out.old ≤ K.faults out.new }
-    ensures calm { K.faults out.old < K.faults out.new → result.0 ≡ 7 }
+    ensures sink { TellsSink (K.faults out.old) (K.faults out.new) result.0 }
 {
     let mut given = Given::Trace(lines);
     let status = replay_given(rt, alloc, config, &mut given, options, out, bay, gate);
@@ -190,9 +184,7 @@ where
     ensures source_kept { HasSource given.old → HasSource given.new }
     ensures seed_kept { HasSource given.new → HasSource given.old }
     ensures same_borrow { borrow_of S.borrow given.new ≡ borrow_of S.borrow given.old }
-    ensures cause { result ≡ 7 → Rose (K.faults out.old) (K.faults out.new) }
-    ensures later { K.faults out.old ≤ K.faults out.new }
-    ensures calm { K.faults out.old < K.faults out.new → result ≡ 7 }
+    ensures sink { TellsSink (K.faults out.old) (K.faults out.new) result }
 {
     match replay::replay(
         rt,

@@ -3,7 +3,7 @@ ghost use Rattle.std.specs.Prelude.{◌≡◌, ◌≢◌, ◌≤◌, ◌<◌, �
 ghost use Rattle.wol_disk.specs.Disk.{Rose};
 ghost use Rattle.report.specs.Faults.{fault_text, status_of as status_of_report};
 ghost use Rattle.report.specs.Names.{printed_names};
-ghost use Rattle.wol_run.specs.Tops.{EndsWith, TellsFault, TellsStatus};
+ghost use Rattle.wol_run.specs.Tops.{EndsWith, TellsFault, TellsSink, TellsStatus};
 
 use crate::status::{bad_line_text, fault_text, status_of};
 use msr_trace::BadLine;
@@ -51,9 +51,7 @@ fn tell_line<K: Sink>(alloc: Global, out: &mut K, line: u64, why: BadLine) -> u8
     ensures content { TellsFault (Fault.BadLine line why) result (K.taken out.old)
         (K.taken out.new) }
     ensures status { (result ≡ 3) ⊎ (result ≡ 7) ⊎ (result ≡ 9) }
-    ensures cause { result ≡ 7 → Rose (K.faults out.old) (K.faults out.new) }
-    ensures later { K.faults out.old ≤ K.faults out.new }
-    ensures calm { K.faults out.old < K.faults out.new → result ≡ 7 }
+    ensures sink { TellsSink (K.faults out.old) (K.faults out.new) result }
 {
     let Ok(text) = bad_line_text(alloc, line, why) else {
         return end_with(out, fault_text(Fault::NoMemory), status_of(Fault::NoMemory));
@@ -73,9 +71,7 @@ pub fn tell_fault<K: Sink>(
     ensures content { EndsWith (fault_text (printed_names volumes.now) fault.now)
         (status_of_report fault.now) result (K.taken out.old) (K.taken out.new)
         ⊎ EndsWith (codes "fault 9 memory\n") 9 result (K.taken out.old) (K.taken out.new) }
-    ensures cause { result ≡ 7 → Rose (K.faults out.old) (K.faults out.new) }
-    ensures later { K.faults out.old ≤ K.faults out.new }
-    ensures calm { K.faults out.old < K.faults out.new → result ≡ 7 }
+    ensures sink { TellsSink (K.faults out.old) (K.faults out.new) result }
 {
     let mut text = Vec::new(alloc);
     match report::fault_text(volumes, fault, &mut text) {

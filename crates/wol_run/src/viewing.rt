@@ -1,12 +1,12 @@
 // The view of a volume of the configuration, changed.
-ghost use Rattle.std.specs.Prelude.{◌≡◌, ◌≤◌, ◌<◌, ◌⊎◌, codes};
+ghost use Rattle.std.specs.Prelude.{◌≡◌, ◌⊎◌, codes};
 ghost use Rattle.wol_disk.specs.Disk.{Rose};
 ghost use Rattle.solo.specs.Images.{NoneOut};
 ghost use Rattle.view_commands.specs.Orders.{refusal_text};
 ghost use Rattle.command_words.specs.Values.{named_by};
 ghost use Rattle.wol_run.specs.Completing.{HasSoundImages};
 ghost use Rattle.wol_run.specs.Settings.{IsConfigured};
-ghost use Rattle.wol_run.specs.Tops.{EndsWith, IsDoneOrMemory};
+ghost use Rattle.wol_run.specs.Tops.{EndsWith, IsDoneOrMemory, TellsSink};
 ghost use Rattle.wol_run.specs.Viewing.{RunsViewChange};
 
 use crate::settings::config_of;
@@ -43,9 +43,7 @@ pub fn change_view<R: Wait, C: Source, K: Sink, B: Bay>(
         → ¬ Rose (B.state bay.old).faults (B.state bay.new).faults
         → ¬ Rose (C.faults source.old) (C.faults source.new)
         → ¬ Rose (K.faults out.old) (K.faults out.new) → IsDoneOrMemory result ⊎ (result ≡ 15) }
-    ensures cause { result ≡ 7 → Rose (K.faults out.old) (K.faults out.new) }
-    ensures later { K.faults out.old ≤ K.faults out.new }
-    ensures calm { K.faults out.old < K.faults out.new → result ≡ 7 }
+    ensures sink { TellsSink (K.faults out.old) (K.faults out.new) result }
 {
     let config = match config_of(alloc, source) {
         Ok(config) => config,
@@ -69,9 +67,7 @@ fn tell_refusal<K: Sink>(alloc: Global, out: &mut K, order: &Order<'_>, refusal:
     ensures content { EndsWith (refusal_text order.now refusal) 15 result (K.taken out.old)
         (K.taken out.new)
         ⊎ EndsWith (codes "fault 9 memory\n") 9 result (K.taken out.old) (K.taken out.new) }
-    ensures cause { result ≡ 7 → Rose (K.faults out.old) (K.faults out.new) }
-    ensures later { K.faults out.old ≤ K.faults out.new }
-    ensures calm { K.faults out.old < K.faults out.new → result ≡ 7 }
+    ensures sink { TellsSink (K.faults out.old) (K.faults out.new) result }
 {
     let mut text = Vec::new(alloc);
     match refusal_line(order, refusal, &mut text) {

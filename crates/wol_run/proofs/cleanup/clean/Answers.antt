@@ -3,6 +3,7 @@ use Rattle.report.specs.Names.{printed_names}
 use Rattle.wol_run.proofs.Cleaned.{as_run, is_cleaning, may_clean, sink_said}
 use Rattle.wol_run.proofs.Completing.{complete_unread, replay_memory, replay_not_sink, rose_from, rose_later, told_memory}
 use Rattle.wol_run.proofs.ReplayFaults.{CanEnd}
+use Rattle.wol_run.proofs.SinkTold.{sink_failed, sink_kept}
 use Rattle.wol_run.proofs.Unread.{not_begun}
 use Rattle.wol_run.proofs.cleanup.clean.Goals as goal
 
@@ -30,7 +31,7 @@ returns-clause-content g c =
 
 pub returns-in-Err-clause-complete : goal.returns-in-Err-clause-complete
 returns-in-Err-clause-complete g c is versions configured bay source sink =
-    complete_unread _ _ _ c.tell_fault.result _ _ c.in-Err.fault c.in-Err.ensures.err configured source (λ seven. sink (c.tell_fault.ensures.cause seven)) c.tell_fault.ensures.content
+    complete_unread _ _ _ c.tell_fault.result _ _ c.in-Err.fault c.in-Err.ensures.err configured source (λ seven. sink (c.tell_fault.ensures.sink.cause seven)) c.tell_fault.ensures.content
 
 pub returns-in-Ok-clean_volumes-clause-complete : goal.returns-in-Ok-clean_volumes-clause-complete
 returns-in-Ok-clean_volumes-clause-complete g c is versions configured bay source sink = inl refl
@@ -42,19 +43,17 @@ returns-in-Err-Sink-clause-complete g c is versions configured bay source sink =
 
 pub returns-clause-complete : goal.returns-clause-complete
 returns-clause-complete g c is versions configured bay source sink =
-    let may = may_clean _ _ c.in-Ok.config c.in-Ok.ensures.ok _ _ _ _ is versions bay (λ rose. sink (rose_later _ _ _ rose c.tell_fault-in-Err-Fault.ensures.later)) in
+    let may = may_clean _ _ c.in-Ok.config c.in-Ok.ensures.ok _ _ _ _ is versions bay (λ rose. sink (rose_later _ _ _ rose c.tell_fault-in-Err-Fault.ensures.sink.later)) in
     let memory = replay_memory (Err c.in-Err-Fault.field-0) c.in-Err-Fault.field-0 c.in-Err-Fault.fault refl c.in-Err-Fault.field-0-is (as_run _ (c.in-Err-Fault.ensures.complete may)) in
-    told_memory (printed_names c.deref.result.now) c.in-Err-Fault.fault c.tell_fault-in-Err-Fault.result _ _ memory (λ seven. sink (rose_from _ _ _ c.in-Err-Fault.ensures.later (c.tell_fault-in-Err-Fault.ensures.cause seven))) c.tell_fault-in-Err-Fault.ensures.content
+    told_memory (printed_names c.deref.result.now) c.in-Err-Fault.fault c.tell_fault-in-Err-Fault.result _ _ memory (λ seven. sink (rose_from _ _ _ c.in-Err-Fault.ensures.later (c.tell_fault-in-Err-Fault.ensures.sink.cause seven))) c.tell_fault-in-Err-Fault.ensures.content
 
 -- ---- The sink
 
-pub returns-in-Err-Sink-clause-cause : goal.returns-in-Err-Sink-clause-cause
-returns-in-Err-Sink-clause-cause g c seven = sink_said _ _ _ _ _ _ _ _ _ _ (rw c.in-Err-Sink.field-0-is at c.in-Err-Sink.ensures.cleans)
+pub returns-in-Ok-clean_volumes-clause-sink : goal.returns-in-Ok-clean_volumes-clause-sink
+returns-in-Ok-clean_volumes-clause-sink g c = sink_kept _ _ 0 (λ no. omega (arith, no)) (sink_said _ _ _ _ _ _ _ _ _ _ c.in-Ok-clean_volumes.ensures.cleans)
 
-pub returns-in-Ok-clean_volumes-clause-calm : goal.returns-in-Ok-clean_volumes-clause-calm
-returns-in-Ok-clean_volumes-clause-calm g c less = absurd (let same = sink_said _ _ _ _ _ _ _ _ _ _ c.in-Ok-clean_volumes.ensures.cleans in omega (arith, same, less))
+pub returns-in-Err-Sink-clause-sink : goal.returns-in-Err-Sink-clause-sink
+returns-in-Err-Sink-clause-sink g c = sink_failed _ _ c.in-Err-Sink.ensures.later (sink_said _ _ _ _ _ _ _ _ _ _ (rw c.in-Err-Sink.field-0-is at c.in-Err-Sink.ensures.cleans))
 
-pub returns-clause-calm : goal.returns-clause-calm
-returns-clause-calm g c rose =
-    let calm = (sink_said _ _ _ _ _ _ _ _ _ _ (rw c.in-Err-Fault.field-0-is at c.in-Err-Fault.ensures.cleans)).0 in
-    c.tell_fault-in-Err-Fault.ensures.calm (rw calm rose)
+pub returns-clause-sink : goal.returns-clause-sink
+returns-clause-sink g c = rw (sink_said _ _ _ _ _ _ _ _ _ _ (rw c.in-Err-Fault.field-0-is at c.in-Err-Fault.ensures.cleans)).0 at c.tell_fault-in-Err-Fault.ensures.sink

@@ -17,7 +17,7 @@ returns-clause-content g c = look_cut _ _ _ _ _ _ _ _ _ _ _ c.in-Ok.config c.in-
 
 pub returns-in-Err-clause-complete : goal.returns-in-Err-clause-complete
 returns-in-Err-clause-complete g c is configured bay source sink =
-    complete_unread _ _ _ c.tell_fault.result _ _ c.in-Err.fault c.in-Err.ensures.err configured source (λ seven. sink (c.tell_fault.ensures.cause seven)) c.tell_fault.ensures.content
+    complete_unread _ _ _ c.tell_fault.result _ _ c.in-Err.fault c.in-Err.ensures.err configured source (λ seven. sink (c.tell_fault.ensures.sink.cause seven)) c.tell_fault.ensures.content
 
 pub returns-in-Ok-inspect-clause-complete : goal.returns-in-Ok-inspect-clause-complete
 returns-in-Ok-inspect-clause-complete g c is configured bay source sink =

@@ -17,7 +17,7 @@ returns-clause-source g c eight = absurd (seed_calm _ (Generated c.new.result c.
 
 pub returns-in-Err-clause-complete : goal.returns-in-Err-clause-complete
 returns-in-Err-clause-complete g c images versions configured bay source sink =
-    complete_unread _ _ _ c.tell_fault.result _ _ c.in-Err.fault c.in-Err.ensures.err configured source (λ seven. sink (c.tell_fault.ensures.cause seven)) c.tell_fault.ensures.content
+    complete_unread _ _ _ c.tell_fault.result _ _ c.in-Err.fault c.in-Err.ensures.err configured source (λ seven. sink (c.tell_fault.ensures.sink.cause seven)) c.tell_fault.ensures.content
 
 pub returns-clause-complete : goal.returns-clause-complete
 returns-clause-complete g c images versions configured bay source sink =

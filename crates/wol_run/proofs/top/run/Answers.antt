@@ -17,42 +17,42 @@ pub run-requires-clause-volume : goal.run-requires-clause-volume
 run-requires-clause-volume g c = range_of_solo c.in-Ok.command c.in-Solo.volume c.in-Solo.is (in_range _ c.in-Ok.command c.in-Ok.ensures.ok)
 
 pub returns-in-Gen-clause-promise : goal.returns-in-Gen-clause-promise
-returns-in-Gen-clause-promise g c = gen_promise _ _ _ _ _ _ c.generate.ensures.cause c.generate.ensures.calm c.in-Gen.asked (subst (IsCommand _) c.in-Gen.is c.in-Ok.ensures.ok) c.generate.ensures.content refl refl
+returns-in-Gen-clause-promise g c = gen_promise _ _ _ _ _ _ c.generate.ensures.sink.cause c.generate.ensures.sink.calm c.in-Gen.asked (subst (IsCommand _) c.in-Gen.is c.in-Ok.ensures.ok) c.generate.ensures.content refl refl
 
 pub returns-in-Format-clause-promise : goal.returns-in-Format-clause-promise
-returns-in-Format-clause-promise g c = format_promise _ _ _ _ _ _ c.format.ensures.cause c.format.ensures.calm (subst (IsCommand _) c.in-Format.is c.in-Ok.ensures.ok) c.format.ensures.content refl
+returns-in-Format-clause-promise g c = format_promise _ _ _ _ _ _ c.format.ensures.sink.cause c.format.ensures.sink.calm (subst (IsCommand _) c.in-Format.is c.in-Ok.ensures.ok) c.format.ensures.content refl
 
 pub returns-in-Check-clause-promise : goal.returns-in-Check-clause-promise
-returns-in-Check-clause-promise g c = check_promise _ _ _ _ _ _ c.inspect.ensures.cause c.inspect.ensures.calm c.inspect.ensures.complete refl (subst (IsCommand _) c.in-Check.is c.in-Ok.ensures.ok) c.inspect.ensures.content
+returns-in-Check-clause-promise g c = check_promise _ _ _ _ _ _ c.inspect.ensures.sink.cause c.inspect.ensures.sink.calm c.inspect.ensures.complete refl (subst (IsCommand _) c.in-Check.is c.in-Ok.ensures.ok) c.inspect.ensures.content
 
 pub returns-in-Dump-clause-promise : goal.returns-in-Dump-clause-promise
 returns-in-Dump-clause-promise g c =
-    dump_promise _ _ _ _ _ _ c.inspect-in-Dump.ensures.cause c.inspect-in-Dump.ensures.calm c.inspect-in-Dump.ensures.complete refl (subst (IsCommand _) c.in-Dump.is c.in-Ok.ensures.ok) c.inspect-in-Dump.ensures.content
+    dump_promise _ _ _ _ _ _ c.inspect-in-Dump.ensures.sink.cause c.inspect-in-Dump.ensures.sink.calm c.inspect-in-Dump.ensures.complete refl (subst (IsCommand _) c.in-Dump.is c.in-Ok.ensures.ok) c.inspect-in-Dump.ensures.content
 
 pub returns-in-Replay-clause-promise : goal.returns-in-Replay-clause-promise
 returns-in-Replay-clause-promise g c =
-    replay_promise _ _ _ _ _ _ c.replay.ensures.cause c.replay.ensures.calm c.in-Replay.options (subst (IsCommand _) c.in-Replay.is c.in-Ok.ensures.ok) c.replay.ensures.content c.replay.ensures.source c.replay.ensures.complete
+    replay_promise _ _ _ _ _ _ c.replay.ensures.sink.cause c.replay.ensures.sink.calm c.in-Replay.options (subst (IsCommand _) c.in-Replay.is c.in-Ok.ensures.ok) c.replay.ensures.content c.replay.ensures.source c.replay.ensures.complete
 
 pub returns-in-Soak-clause-promise : goal.returns-in-Soak-clause-promise
 returns-in-Soak-clause-promise g c =
-    soak_promise _ _ _ _ _ _ c.soak.ensures.cause c.soak.ensures.calm c.in-Soak.asked c.in-Soak.options (subst (IsCommand _) c.in-Soak.is c.in-Ok.ensures.ok) (c.soak.ensures.content _) c.soak.ensures.source c.soak.ensures.complete refl
+    soak_promise _ _ _ _ _ _ c.soak.ensures.sink.cause c.soak.ensures.sink.calm c.in-Soak.asked c.in-Soak.options (subst (IsCommand _) c.in-Soak.is c.in-Ok.ensures.ok) (c.soak.ensures.content _) c.soak.ensures.source c.soak.ensures.complete refl
 
 pub returns-in-WhatIf-clause-promise : goal.returns-in-WhatIf-clause-promise
 returns-in-WhatIf-clause-promise g c =
-    comparison_promise _ _ _ _ _ _ c.compare.ensures.cause c.compare.ensures.calm (subst (IsCommand _) c.in-WhatIf.is c.in-Ok.ensures.ok) c.compare.ensures.content c.compare.ensures.source c.compare.ensures.complete refl
+    comparison_promise _ _ _ _ _ _ c.compare.ensures.sink.cause c.compare.ensures.sink.calm (subst (IsCommand _) c.in-WhatIf.is c.in-Ok.ensures.ok) c.compare.ensures.content c.compare.ensures.source c.compare.ensures.complete refl
 
 pub returns-in-ViewAdd-clause-promise : goal.returns-in-ViewAdd-clause-promise
 returns-in-ViewAdd-clause-promise g c =
-    view_add_promise _ _ _ _ _ _ c.change_view.ensures.cause c.change_view.ensures.calm c.change_view.ensures.complete refl c.in-ViewAdd.names (subst (IsCommand _) c.in-ViewAdd.is c.in-Ok.ensures.ok) c.change_view.ensures.content
+    view_add_promise _ _ _ _ _ _ c.change_view.ensures.sink.cause c.change_view.ensures.sink.calm c.change_view.ensures.complete refl c.in-ViewAdd.names (subst (IsCommand _) c.in-ViewAdd.is c.in-Ok.ensures.ok) c.change_view.ensures.content
 
 pub returns-in-ViewRemove-clause-promise : goal.returns-in-ViewRemove-clause-promise
 returns-in-ViewRemove-clause-promise g c =
-    view_remove_promise _ _ _ _ _ _ c.change_view-in-ViewRemove.ensures.cause c.change_view-in-ViewRemove.ensures.calm c.change_view-in-ViewRemove.ensures.complete refl c.in-ViewRemove.names
+    view_remove_promise _ _ _ _ _ _ c.change_view-in-ViewRemove.ensures.sink.cause c.change_view-in-ViewRemove.ensures.sink.calm c.change_view-in-ViewRemove.ensures.complete refl c.in-ViewRemove.names
     (subst (IsCommand _) c.in-ViewRemove.is c.in-Ok.ensures.ok) c.change_view-in-ViewRemove.ensures.content
 
 pub returns-in-Clean-clause-promise : goal.returns-in-Clean-clause-promise
 returns-in-Clean-clause-promise g c =
-    clean_promise _ _ _ _ _ _ c.clean.ensures.cause c.clean.ensures.calm (subst (IsCommand _) c.in-Clean.is c.in-Ok.ensures.ok) c.clean.ensures.content c.clean.ensures.complete refl
+    clean_promise _ _ _ _ _ _ c.clean.ensures.sink.cause c.clean.ensures.sink.calm (subst (IsCommand _) c.in-Clean.is c.in-Ok.ensures.ok) c.clean.ensures.content c.clean.ensures.complete refl
 
 pub returns-in-Nbd-clause-promise : goal.returns-in-Nbd-clause-promise
 returns-in-Nbd-clause-promise g c =
@@ -71,11 +71,11 @@ pub returns-in-Err-clause-promise : goal.returns-in-Err-clause-promise
 returns-in-Err-clause-promise g c =
     let e = c.in-Err.fault in
     let bay = g.B.Bay.state c.args.bay.now in
-    let cause = has_cause e bay.told (g.B.Bay.state c.run.new.bay).told bay.faults (g.B.Bay.state c.run.new.bay).faults (g.S.Source.faults c.args.trace.now) (g.S.Source.faults c.run.new.trace) (λ is. (c.in-Err.ensures.disk (ap Err is), c.in-Err.ensures.faulty (ap Err is))) (λ is. c.in-Err.ensures.bay (ap Err is)) (λ is. c.in-Err.ensures.source (ap Err is)) in
+    let cause = has_cause e bay.told (g.B.Bay.state c.run.new.bay).told bay.faults (g.B.Bay.state c.run.new.bay).faults (g.S.Source.faults c.args.trace.now) (g.S.Source.faults c.run.new.trace) (λ is. (c.in-Err.ensures.disk (ap Err is), c.in-Err.ensures.faulty (ap Err is))) (λ is. c.in-Err.ensures.bay.cause (ap Err is)) (λ is. c.in-Err.ensures.source.cause (ap Err is)) in
     solo_fault_promise _ _ _ _ _ _
     (λ seven. elim (c.tell.ensures.cause seven) [
-      | inl is ↦ rose_later _ _ _ (c.in-Err.ensures.cause (ap Err is)) c.tell.ensures.later
-      | inr rose ↦ rose_from _ _ _ c.in-Err.ensures.later rose
+      | inl is ↦ rose_later _ _ _ (c.in-Err.ensures.sink.cause (ap Err is)) c.tell.ensures.later
+      | inr rose ↦ rose_from _ _ _ c.in-Err.ensures.sink.later rose
     ])
     (solo_calm e _ _ _ c.tell.result _ _ c.in-Err.ensures.calm c.tell.ensures.content c.tell.ensures.calm)
     c.in-Solo.volume (subst (IsCommand _) c.in-Solo.is c.in-Ok.ensures.ok) refl (Unit {0}) e _ c.tell.ensures.status c.tell.ensures.content cause c.in-Err.ensures.content

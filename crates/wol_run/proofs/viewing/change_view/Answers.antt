@@ -2,6 +2,7 @@ use Rattle.std.proofs.Common.{arith, inl, inr, refl, subst}
 use Rattle.report.specs.Names.{printed_names}
 use Rattle.wol_run.proofs.Completing.{complete_unread, may_look, rose_from, rose_later, told_memory}
 use Rattle.wol_run.proofs.ReplayFaults.{CanEnd}
+use Rattle.wol_run.proofs.SinkTold.{sink_failed, sink_kept}
 use Rattle.wol_run.proofs.Unread.{not_begun}
 use Rattle.wol_run.proofs.Viewed.{change_memory, change_not_sink, is_view_change, sink_said, told_refusal}
 use Rattle.wol_run.proofs.viewing.change_view.Goals as goal
@@ -36,7 +37,7 @@ returns-clause-content g c =
 
 pub returns-in-Err-clause-complete : goal.returns-in-Err-clause-complete
 returns-in-Err-clause-complete g c is configured bay source sink =
-    inl (complete_unread _ _ _ c.tell_fault.result _ _ c.in-Err.fault c.in-Err.ensures.err configured source (λ seven. sink (c.tell_fault.ensures.cause seven)) c.tell_fault.ensures.content)
+    inl (complete_unread _ _ _ c.tell_fault.result _ _ c.in-Err.fault c.in-Err.ensures.err configured source (λ seven. sink (c.tell_fault.ensures.sink.cause seven)) c.tell_fault.ensures.content)
 
 pub returns-in-Ok-change_view-clause-complete : goal.returns-in-Ok-change_view-clause-complete
 returns-in-Ok-change_view-clause-complete g c is configured bay source sink = inl (inl refl)
@@ -47,28 +48,24 @@ returns-in-Err-Sink-clause-complete g c is configured bay source sink =
 
 pub returns-in-Err-Refused-clause-complete : goal.returns-in-Err-Refused-clause-complete
 returns-in-Err-Refused-clause-complete g c is configured bay source sink =
-    told_refusal _ c.tell_refusal.result _ _ (λ seven. sink (rose_from _ _ _ c.in-Err-Refused.ensures.later (c.tell_refusal.ensures.cause seven))) c.tell_refusal.ensures.content
+    told_refusal _ c.tell_refusal.result _ _ (λ seven. sink (rose_from _ _ _ c.in-Err-Refused.ensures.later (c.tell_refusal.ensures.sink.cause seven))) c.tell_refusal.ensures.content
 
 pub returns-clause-complete : goal.returns-clause-complete
 returns-clause-complete g c is configured bay source sink =
-    let may = may_look _ _ c.in-Ok.config c.in-Ok.ensures.ok _ _ _ _ is bay (λ rose. sink (rose_later _ _ _ rose c.tell_fault-in-Err-Fault.ensures.later)) in
+    let may = may_look _ _ c.in-Ok.config c.in-Ok.ensures.ok _ _ _ _ is bay (λ rose. sink (rose_later _ _ _ rose c.tell_fault-in-Err-Fault.ensures.sink.later)) in
     let memory = change_memory c.in-Err-Fault.field-0 c.in-Err-Fault.fault c.in-Err-Fault.field-0-is (c.in-Err-Fault.ensures.complete may) in
-    inl (told_memory (printed_names c.deref.result.now) c.in-Err-Fault.fault c.tell_fault-in-Err-Fault.result _ _ memory (λ seven. sink (rose_from _ _ _ c.in-Err-Fault.ensures.later (c.tell_fault-in-Err-Fault.ensures.cause seven))) c.tell_fault-in-Err-Fault.ensures.content)
+    inl (told_memory (printed_names c.deref.result.now) c.in-Err-Fault.fault c.tell_fault-in-Err-Fault.result _ _ memory (λ seven. sink (rose_from _ _ _ c.in-Err-Fault.ensures.later (c.tell_fault-in-Err-Fault.ensures.sink.cause seven))) c.tell_fault-in-Err-Fault.ensures.content)
 
 -- ---- The sink
 
-pub returns-in-Err-Sink-clause-cause : goal.returns-in-Err-Sink-clause-cause
-returns-in-Err-Sink-clause-cause g c seven = sink_said _ _ _ _ _ _ _ _ _ _ _ (rw c.in-Err-Sink.field-0-is at c.in-Err-Sink.ensures.content)
+pub returns-in-Ok-change_view-clause-sink : goal.returns-in-Ok-change_view-clause-sink
+returns-in-Ok-change_view-clause-sink g c = sink_kept _ _ 0 (λ no. omega (arith, no)) (sink_said _ _ _ _ _ _ _ _ _ _ _ c.in-Ok-change_view.ensures.content)
 
-pub returns-in-Ok-change_view-clause-calm : goal.returns-in-Ok-change_view-clause-calm
-returns-in-Ok-change_view-clause-calm g c less = absurd (let same = sink_said _ _ _ _ _ _ _ _ _ _ _ c.in-Ok-change_view.ensures.content in omega (arith, same, less))
+pub returns-in-Err-Sink-clause-sink : goal.returns-in-Err-Sink-clause-sink
+returns-in-Err-Sink-clause-sink g c = sink_failed _ _ c.in-Err-Sink.ensures.later (sink_said _ _ _ _ _ _ _ _ _ _ _ (rw c.in-Err-Sink.field-0-is at c.in-Err-Sink.ensures.content))
 
-pub returns-in-Err-Refused-clause-calm : goal.returns-in-Err-Refused-clause-calm
-returns-in-Err-Refused-clause-calm g c rose =
-    let calm = sink_said _ _ _ _ _ _ _ _ _ _ _ (rw c.in-Err-Refused.field-0-is at c.in-Err-Refused.ensures.content) in
-    c.tell_refusal.ensures.calm (rw calm rose)
+pub returns-in-Err-Refused-clause-sink : goal.returns-in-Err-Refused-clause-sink
+returns-in-Err-Refused-clause-sink g c = rw (sink_said _ _ _ _ _ _ _ _ _ _ _ (rw c.in-Err-Refused.field-0-is at c.in-Err-Refused.ensures.content)) at c.tell_refusal.ensures.sink
 
-pub returns-clause-calm : goal.returns-clause-calm
-returns-clause-calm g c rose =
-    let calm = (sink_said _ _ _ _ _ _ _ _ _ _ _ (rw c.in-Err-Fault.field-0-is at c.in-Err-Fault.ensures.content)).0 in
-    c.tell_fault-in-Err-Fault.ensures.calm (rw calm rose)
+pub returns-clause-sink : goal.returns-clause-sink
+returns-clause-sink g c = rw (sink_said _ _ _ _ _ _ _ _ _ _ _ (rw c.in-Err-Fault.field-0-is at c.in-Err-Fault.ensures.content)).0 at c.tell_fault-in-Err-Fault.ensures.sink
