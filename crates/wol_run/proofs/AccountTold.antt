@@ -11,8 +11,7 @@ use Rattle.replay.specs.declared.given.Given.{Given}
 use Rattle.replay.specs.declared.session.Options.{Options}
 use Rattle.replay.specs.declared.stop.Stop.{Stop}
 use Rattle.replay.proofs.AccountKept.{keeps_account}
-use Rattle.wol_run.specs.Accounted.{RunsAccount}
-use Rattle.wol_run.specs.Replaying.{EndsReplay, GivenLines, RunsReplay}
+use Rattle.wol_run.specs.Replaying.{EndsReplay, GivenLines, IsReplay}
 use Rattle.wol_run.proofs.HeadlineTold.{not_begun_ends, of_success, on_told, same_status, same_taken}
 
 -- two statuses are one, or the second is that of a sink that failed, or of want of memory
@@ -53,14 +52,7 @@ module _ {D S T : Type 0} (tells : Bool) (state : D → State) (left : S → Opt
         reclaimed = a.reclaimed;
       }))
 
-pub runs_account : {D : Type 0} (tells : Bool) (state : D → State) (options : Options) (start : GivenLines) (left : Option (List ℕ)) (faults faults' : ℕ) (left_of_trace : Option (List ℕ)) (old new : BayState) (sink status : ℕ) (taken taken' : Option (List ℕ))
-    → RunsReplay tells state options start left faults faults' left_of_trace old new sink status taken taken' → RunsAccount tells state options.reclaim start left faults faults' left_of_trace old new status taken taken'
-runs_account tells state options start left faults faults' left_of_trace old new sink status taken taken' (inl run) = inl (record {
-  config = run.config;
-  has = run.has;
-  now = run.now;
-  rest = run.rest;
-  keeps = account_ends tells state (λ bytes. bytes) run.config options.reclaim start run.now old new run.result status taken run.printed_then taken'
-      (keeps_account tells state (λ bytes. bytes) run.config options start run.now old new sink run.sink_then taken run.printed_then run.result run.replayed) run.ends;
-})
-runs_account tells state options start left faults faults' left_of_trace old new sink status taken taken' (inr unread) = inr unread
+pub account_kept : {D : Type 0} (tells : Bool) (state : D → State) (options : Options) (start : GivenLines) (left left_of_trace : Option (List ℕ)) (old new : BayState) (sink status : ℕ) (taken taken' : Option (List ℕ))
+    → (run : IsReplay tells state options start left left_of_trace old new sink status taken taken') → KeepsAccount tells state (λ bytes. bytes) run.config options.reclaim start run.now old new status taken taken'
+account_kept tells state options start left left_of_trace old new sink status taken taken' run = account_ends tells state (λ bytes. bytes) run.config options.reclaim start run.now old new run.result status taken run.printed_then taken'
+    (keeps_account tells state (λ bytes. bytes) run.config options start run.now old new sink run.sink_then taken run.printed_then run.result run.replayed) run.ends

@@ -17,8 +17,7 @@ use Rattle.replay.specs.declared.stop.Stop.{Stop}
 use Rattle.replay.specs.declared.stop.Stop.TheVariants as stop
 use Rattle.replay.proofs.HeadlineKept.{keeps_headline}
 use Rattle.replay.proofs.Statuses.{not_sink, not_success}
-use Rattle.wol_run.specs.Headlined.{RunsHeadline}
-use Rattle.wol_run.specs.Replaying.{EndsReplay, GivenLines, RunsReplay}
+use Rattle.wol_run.specs.Replaying.{EndsReplay, GivenLines, IsReplay, RunsKept, RunsReplay}
 use Rattle.wol_run.specs.Tops.{EndsWith}
 
 -- ---- What is printed, and then the line of a fault
@@ -108,14 +107,14 @@ keeps_ends tells state left config each start now old new result status taken th
       printed = printed_ends config result _ status taken then taken' h.printed ends;
     }))
 
-pub runs_headline : {D : Type 0} (tells : Bool) (state : D → State) (options : Options) (start : GivenLines) (left : Option (List ℕ)) (faults faults' : ℕ) (left_of_trace : Option (List ℕ)) (old new : BayState) (sink status : ℕ) (taken taken' : Option (List ℕ))
-    → RunsReplay tells state options start left faults faults' left_of_trace old new sink status taken taken' → RunsHeadline tells state options.each start left faults faults' left_of_trace old new status taken taken'
-runs_headline tells state options start left faults faults' left_of_trace old new sink status taken taken' (inl run) = inl (record {
-  config = run.config;
-  has = run.has;
-  now = run.now;
-  rest = run.rest;
-  keeps = keeps_ends tells state (λ bytes. bytes) run.config options.each start run.now old new run.result status taken run.printed_then taken'
-      (keeps_headline tells state (λ bytes. bytes) run.config options start run.now old new sink run.sink_then taken run.printed_then run.result run.replayed) run.ends;
-})
-runs_headline tells state options start left faults faults' left_of_trace old new sink status taken taken' (inr unread) = inr unread
+-- what is kept of each run over a configuration that was had
+pub runs_kept : {D : Type 0} (tells : Bool) (state : D → State) (options : Options) (start : GivenLines) (left : Option (List ℕ)) (faults faults' : ℕ) (left_of_trace : Option (List ℕ)) (old new : BayState) (sink status : ℕ) (taken taken' : Option (List ℕ))
+    → (Keeps : Config → GivenLines → Type 0) → ((run : IsReplay tells state options start left left_of_trace old new sink status taken taken') → Keeps run.config run.now)
+    → RunsReplay tells state options start left faults faults' left_of_trace old new sink status taken taken' → RunsKept Keeps start left faults faults' left_of_trace old new status taken taken'
+runs_kept tells state options start left faults faults' left_of_trace old new sink status taken taken' Keeps keeps (inl run) = inl (record { config = run.config; has = run.has; now = run.now; rest = run.rest; keeps = keeps run })
+runs_kept tells state options start left faults faults' left_of_trace old new sink status taken taken' Keeps keeps (inr unread) = inr unread
+
+pub headline_kept : {D : Type 0} (tells : Bool) (state : D → State) (options : Options) (start : GivenLines) (left left_of_trace : Option (List ℕ)) (old new : BayState) (sink status : ℕ) (taken taken' : Option (List ℕ))
+    → (run : IsReplay tells state options start left left_of_trace old new sink status taken taken') → KeepsHeadline tells state (λ bytes. bytes) run.config options.each start run.now old new status taken taken'
+headline_kept tells state options start left left_of_trace old new sink status taken taken' run = keeps_ends tells state (λ bytes. bytes) run.config options.each start run.now old new run.result status taken run.printed_then taken'
+    (keeps_headline tells state (λ bytes. bytes) run.config options start run.now old new sink run.sink_then taken run.printed_then run.result run.replayed) run.ends

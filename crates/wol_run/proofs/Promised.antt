@@ -27,11 +27,11 @@ use Rattle.wol_run.specs.Run.{ComesToItsEnd, Does, IsAccountOf, IsCleaningOf, Is
 use Rattle.wol_run.specs.Settings.{HasConfig, HasNoConfig, IsFaultLine, line_of_fault}
 use Rattle.report.specs.Faults.{status_of}
 use Rattle.wol_run.specs.Tops.{EndsWith, RunsSolo}
-use Rattle.wol_run.proofs.AccountTold.{runs_account}
+use Rattle.wol_run.proofs.AccountTold.{account_kept}
 use Rattle.wol_run.proofs.Asked.{IsAlike, of_asked}
 use Rattle.wol_run.proofs.CausesTold.{at_status}
 use Rattle.wol_run.proofs.Complete.{no_both}
-use Rattle.wol_run.proofs.HeadlineTold.{runs_headline}
+use Rattle.wol_run.proofs.HeadlineTold.{headline_kept, runs_kept}
 use Rattle.wol_run.proofs.Unread.{ends_unread, line_unread, wanted_or_sink}
 
 -- ---- A configuration that is none
@@ -71,10 +71,10 @@ module _ {D : Type 0} (tells : Bool) (state : D → State) (words : List (List �
   }
 
   headline_of : (how : Serving × GivenLines) → IsReplayOf tells state before after status how → IsHeadlineOf tells state before after status how
-  headline_of (how, start) run = runs_headline tells state how _ _ _ _ _ _ _ _ _ _ _ run
+  headline_of (how, start) run = runs_kept tells state how start _ _ _ _ _ _ _ _ _ _ _ (headline_kept tells state how start _ _ _ _ _ _ _ _) run
 
   account_of : (how : Serving × GivenLines) → IsReplayOf tells state before after status how → IsAccountOf tells state before after status how
-  account_of (how, start) run = runs_account tells state how _ _ _ _ _ _ _ _ _ _ _ run
+  account_of (how, start) run = runs_kept tells state how start _ _ _ _ _ _ _ _ _ _ _ (account_kept tells state how start _ _ _ _ _ _ _ _) run
 
   -- what holds of lines that were replayed holds of those of each command that replays
   of_replayed : (P : Serving × GivenLines → Type 0) → ((how : Serving × GivenLines) → IsReplayOf tells state before after status how → P how)

@@ -10,8 +10,6 @@ pub mod Comparing
 pub mod Cleaning
 pub mod Viewing
 pub mod Completing
-pub mod Headlined
-pub mod Accounted
 pub mod Outside
 pub mod Serving
 pub mod Causes

@@ -95,6 +95,15 @@ pub record IsReplay {D : Type 0} (tells : Bool) (state : D → State) (options :
       sink_then printed printed_then result
   pub ends : EndsReplay config result status printed_then printed'
 
+-- the configuration was had, and this is kept of it and of the lines that were given
+pub record KeepsReplayed (left left_of_trace : Option (List ℕ))
+    (Keeps : Config → GivenLines → Type 0) : Type 0 where
+  pub config : Config
+  pub has : HasConfig left config
+  pub now : GivenLines
+  pub rest : HasLeft now left_of_trace
+  pub keeps : Keeps config now
+
 -- the configuration wasn't had: the text says why, and the bay and the trace are as they were
 pub record IsUnreplayed (start : GivenLines) (left left_of_trace : Option (List ℕ))
     (faults faults' : ℕ) (old new : BayState) (status : ℕ)
@@ -115,4 +124,12 @@ abbrev pub RunsReplay : {D : Type 0} → (tells : Bool) → (D → State) → (o
 RunsReplay tells state options start left faults faults' left_of_trace old new sink status printed
     printed' =
     IsReplay tells state options start left left_of_trace old new sink status printed printed'
+    ⊎ IsUnreplayed start left left_of_trace faults faults' old new status printed printed'
+
+-- what is kept of such a run, unless the configuration wasn't had
+abbrev pub RunsKept : (Keeps : Config → GivenLines → Type 0) → (start : GivenLines)
+    → (left : Option (List ℕ)) → (faults faults' : ℕ) → (left_of_trace : Option (List ℕ))
+    → (old new : BayState) → (status : ℕ) → (printed printed' : Option (List ℕ)) → Type 0
+RunsKept Keeps start left faults faults' left_of_trace old new status printed printed' =
+    KeepsReplayed left left_of_trace Keeps
     ⊎ IsUnreplayed start left left_of_trace faults faults' old new status printed printed'

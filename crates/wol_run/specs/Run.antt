@@ -4,8 +4,11 @@ use Rattle.std.specs.Prelude.{◌≡◌, ◌<◌, ◌⊎◌, ℕ, Bool, true, Li
 use Rattle.wol_disk.specs.Disk.{State}
 use Rattle.solo.specs.Volume.{target_of}
 use Rattle.solo.specs.declared.volume.Volume.{Volume}
+use Rattle.wol_config.specs.declared.config.Config.{Config}
 use Rattle.inspection.specs.declared.asked.Asked.{Asked}
 use Rattle.inspection.specs.declared.asked.Asked.TheVariants as asked
+use Rattle.replay.specs.Account.{KeepsAccount}
+use Rattle.replay.specs.Headlined.{KeepsHeadline}
 use Rattle.replay.specs.declared.session.Options.{Options as Serving}
 use Rattle.command_words.specs.Commands.{IsCommand, NoCommand}
 use Rattle.command_words.specs.declared.command.Command.{Command}
@@ -17,7 +20,6 @@ use Rattle.nbd_serving.specs.declared.serving.Beginning.{Beginning}
 use Rattle.nbd_serving.specs.declared.serving.Beginning.TheVariants.{AtOnce, Handshake}
 use Rattle.view_commands.specs.declared.order.Verb.{Verb}
 use Rattle.view_commands.specs.declared.order.Verb.TheVariants.{Add, Remove}
-use Rattle.wol_run.specs.Accounted.{RunsAccount}
 use Rattle.wol_run.specs.Causes.{IsCause, replayed_by}
 use Rattle.wol_run.specs.Cleaning.{RunsCleaning}
 use Rattle.wol_run.specs.Commands.{changes_view, serves_client, uses_config}
@@ -25,10 +27,9 @@ use Rattle.wol_run.specs.Comparing.{RunsWhatIf}
 use Rattle.wol_run.specs.Completing.{HasSoundImages, HaveVersions, HaveVersionsToClean, IsGoodTrace, seed_lines}
 use Rattle.wol_run.specs.Formatting.{RunsFormat}
 use Rattle.wol_run.specs.Generating.{RunsGen}
-use Rattle.wol_run.specs.Headlined.{RunsHeadline}
 use Rattle.wol_run.specs.Inspecting.{RunsLook}
 use Rattle.wol_run.specs.Outside.{LeavesUnused, NothingFailed, Outside}
-use Rattle.wol_run.specs.Replaying.{GivenLines, RunsReplay, lines_of, options_as, trace_of}
+use Rattle.wol_run.specs.Replaying.{GivenLines, RunsKept, RunsReplay, lines_of, options_as, trace_of}
 use Rattle.wol_run.specs.Serving.{RunsServing, wire}
 use Rattle.wol_run.specs.Settings.{HasNoConfig, IsConfigured}
 use Rattle.wol_run.specs.Tops.{EndsWith, IsDoneOrMemory, IsRunnable, RunsSolo}
@@ -37,19 +38,23 @@ use Rattle.wol_run.specs.Viewing.{RunsViewChange}
 -- ---- What each command does, of what is outside
 
 module _ {D : Type 0} (tells : Bool) (state : D → State) (before after : Outside) (status : ℕ) where
+  -- this is kept of lines that were replayed
+  abbrev pub IsKeptOf : (start : GivenLines) → (Config → GivenLines → Type 0) → Type 0
+  IsKeptOf start Keeps =
+      RunsKept Keeps start before.config.bytes before.config.faults after.config.faults
+      after.trace.bytes before.bay after.bay status before.sink.bytes after.sink.bytes
+
   -- the headline of lines that were replayed so
   abbrev pub IsHeadlineOf : Serving × GivenLines → Type 0
   IsHeadlineOf (how, start) =
-      RunsHeadline tells state how.each start before.config.bytes
-      before.config.faults after.config.faults after.trace.bytes
-      before.bay after.bay status before.sink.bytes after.sink.bytes
+      IsKeptOf start (λ config now. KeepsHeadline tells state (λ bytes. bytes) config how.each start
+      now before.bay after.bay status before.sink.bytes after.sink.bytes)
 
   -- the account of lines that were replayed so
   abbrev pub IsAccountOf : Serving × GivenLines → Type 0
   IsAccountOf (how, start) =
-      RunsAccount tells state how.reclaim start before.config.bytes
-      before.config.faults after.config.faults after.trace.bytes
-      before.bay after.bay status before.sink.bytes after.sink.bytes
+      IsKeptOf start (λ config now. KeepsAccount tells state (λ bytes. bytes) config how.reclaim
+      start now before.bay after.bay status before.sink.bytes after.sink.bytes)
 
   -- lines were replayed so
   abbrev pub IsReplayOf : Serving × GivenLines → Type 0
