@@ -86,6 +86,7 @@ use Rattle.wol_run.specs.Viewing.{EndsChange, IsViewChange, RefusesChange, view_
 use Rattle.wol_run.proofs.Asked.{of_asked, uses_alike}
 use Rattle.wol_run.proofs.FormatEndings.{ends_format}
 use Rattle.wol_run.proofs.GenEndings.{ends_gen}
+use Rattle.wol_run.proofs.HeadlineTold.{on_told}
 use Rattle.wol_run.proofs.ReplayEndings.{at_end, bad_of, more_of, of_call}
 use Rattle.wol_run.proofs.Spent.{spent_of}
 use Rattle.wol_run.proofs.Served.{bad_behind, bad_handshake, bad_magic, cut_request, fault_of_any}
@@ -96,12 +97,6 @@ use Rattle.wol_run.proofs.WindowFaults.{ends_window}
 if_told : (P Q : Told → Type 0) (o : Option Told) → ((t : Told) → P t → Q t) → IfSome o P → IfSome o Q
 if_told P Q None on h = tt
 if_told P Q (Some t) on h = on t h
-
--- .. and of those before and after
-told_in_words : (P Q : Told → Told → Type 0) (o n : Option Told) → ((old new : Told) → P old new → Q old new) → IsTold P o n → IsTold Q o n
-told_in_words P Q None n on h = h
-told_in_words P Q (Some old) None on h = h
-told_in_words P Q (Some old) (Some new) on h = on old new h
 
 -- ---- The first volume that isn't in order
 
@@ -162,6 +157,17 @@ module _ {D : Type 0} (tells : Bool) (state : D → State) (words : List (List �
     of_sink : status ≡ 7 → Cause status
     of_sink seven = at_status 7 status seven (row.sink_failed (sink seven))
 
+    -- a last text was written, or the sink failed
+    ended_cause : (text : List ℕ) (wanted : ℕ) (mid : Option (List ℕ)) → EndsWith text wanted status mid after.sink.bytes → (status ≡ wanted → Cause status) → Cause status
+    ended_cause text wanted mid ends cause = elim (wanted_or_sink text wanted status mid after.sink.bytes ends) [
+      | inl same ↦ cause same
+      | inr seven ↦ of_sink seven
+    ]
+
+    -- there was no memory
+    memory_cause : status ≡ 9 → Cause status
+    memory_cause nine = at_status 9 status nine row.no_memory
+
     -- the configuration wasn't had
     unread_cause : AskFor words uses_config → (text : List ℕ) (wanted : ℕ) → IsFaultLine before.config.bytes before.config.faults after.config.faults text wanted → status ≡ wanted → Cause status
     unread_cause asks text wanted line same = elim (ends_unread _ _ _ text wanted line) [
@@ -173,14 +179,8 @@ module _ {D : Type 0} (tells : Bool) (state : D → State) (words : List (List �
     -- the status is that of the fault, or the sink or memory failed
     told_cause : (names : List (List ℕ)) (f : Fault) (mid : Option (List ℕ)) → EndsWith (fault_text names f) (status_of f) status mid after.sink.bytes ⊎ EndsWith (codes "fault 9 memory\n") 9 status mid after.sink.bytes
         → (status ≡ status_of f → Cause status) → Cause status
-    told_cause names f mid (inl ends) cause = elim (wanted_or_sink _ (status_of f) status mid after.sink.bytes ends) [
-      | inl same ↦ cause same
-      | inr seven ↦ of_sink seven
-    ]
-    told_cause names f mid (inr ends) cause = elim (wanted_or_sink _ 9 status mid after.sink.bytes ends) [
-      | inl nine ↦ at_status 9 status nine row.no_memory
-      | inr seven ↦ of_sink seven
-    ]
+    told_cause names f mid (inl ends) cause = ended_cause _ (status_of f) mid ends cause
+    told_cause names f mid (inr ends) cause = ended_cause _ 9 mid ends memory_cause
 
     -- ---- Policies that were compared
 
@@ -201,14 +201,11 @@ module _ {D : Type 0} (tells : Bool) (state : D → State) (words : List (List �
         of_behind ls x (behind.whole done all calm more) ends = at_status 0 status ends.0 (row.done WhatIf is (λ asks. at_end before.trace.bytes after.trace.bytes run.now ls run.config run.rest all))
         of_behind ls x (behind.sink_failed all rose front) ends = of_sink ends.0
         of_behind ls x (behind.no_line refusal other refuses calm kept) ends = told_cause _ (fault_of_trace refusal) run.printed_then ends (no_further run.now ls refusal other refuses)
-        of_behind ls x (behind.memory calm kept) ends = told_cause _ fault.Memory run.printed_then ends (λ nine. at_status 9 status nine row.no_memory)
+        of_behind ls x (behind.memory calm kept) ends = told_cause _ fault.Memory run.printed_then ends memory_cause
 
       pub comparison_cause : IsComparisonOf before after status → Cause status
       comparison_cause (inl run) = of_behind run run.compares.run run.result run.compares.ends run.ends
-      comparison_cause (inr unread) = elim (wanted_or_sink unread.text unread.wanted status _ _ unread.ends) [
-        | inr seven ↦ of_sink seven
-        | inl same ↦ unread_cause (record { command = WhatIf; is = is; does = refl }) unread.text unread.wanted unread.line_ same
-      ]
+      comparison_cause (inr unread) = ended_cause unread.text unread.wanted _ unread.ends (unread_cause (record { command = WhatIf; is = is; does = refl }) unread.text unread.wanted unread.line_)
 
     pub gen_cause : (what : Generated) → IsCommand words (Gen what) → IsListingOf before after status what → Cause status
     gen_cause what is run = elim (ends_gen what _ _ _ status _ _ run) [
@@ -294,14 +291,11 @@ module _ {D : Type 0} (tells : Bool) (state : D → State) (words : List (List �
       ]
 
       pub look_cause : runs_trace command ≡ false → (what : Asked) → IsLookFor tells state before after status what → Cause status
-      look_cause none what run = elim (wanted_or_sink run.text run.wanted status _ _ run.ends) [
-        | inr seven ↦ of_sink seven
-        | inl same ↦ elim run.allowed [
-          | inl look ↦ by look (first_trouble look.told) refl (same ∙ look.done)
-          | inr (inl cut) ↦ at_status 9 status (same ∙ cut.memory) row.no_memory
-          | inr (inr untouched) ↦ unread_cause for_config run.text run.wanted untouched.line_ same
-        ]
-      ]
+      look_cause none what run = ended_cause run.text run.wanted _ run.ends (λ same. elim run.allowed [
+        | inl look ↦ by look (first_trouble look.told) refl (same ∙ look.done)
+        | inr (inl cut) ↦ memory_cause (same ∙ cut.memory)
+        | inr (inr untouched) ↦ unread_cause for_config run.text run.wanted untouched.line_ same
+      ])
         where
           by : (look : IsLook tells state what before.config.bytes before.bay after.bay run.text run.wanted) (first : Option Trouble) → first_trouble look.told ≡ first → status ≡ status_of_first (first_trouble look.told) → Cause status
           by look None is_first at = at_status 0 status (at ∙ ap status_of_first is_first) (done_without command is none)
@@ -316,26 +310,20 @@ module _ {D : Type 0} (tells : Bool) (state : D → State) (words : List (List �
 
           -- a refusal was told, or the sink or memory failed
           of_refusal : (refusal : ViewRefusal) → RefusesChange tells run.config run.order before.bay after.bay refusal → EndsSo (Err (view_stop.Refused refusal)) → Cause status
-          of_refusal refusal why (inl ends) = elim (wanted_or_sink _ 15 status run.printed_then after.sink.bytes ends) [
-            | inl same ↦ at_status 15 status same (row.view_refused (record {
-              config = run.config;
-              has = run.has;
-              command = command;
-              is = is;
-              verb = verb;
-              named = named;
-              changes = changes;
-              order = run.order;
-              is_order = run.is_order;
-              refusal = refusal;
-              cause = why;
-            }))
-            | inr seven ↦ of_sink seven
-          ]
-          of_refusal refusal why (inr ends) = elim (wanted_or_sink _ 9 status run.printed_then after.sink.bytes ends) [
-            | inl nine ↦ at_status 9 status nine row.no_memory
-            | inr seven ↦ of_sink seven
-          ]
+          of_refusal refusal why (inl ends) = ended_cause _ 15 run.printed_then ends (λ same. at_status 15 status same (row.view_refused (record {
+            config = run.config;
+            has = run.has;
+            command = command;
+            is = is;
+            verb = verb;
+            named = named;
+            changes = changes;
+            order = run.order;
+            is_order = run.is_order;
+            refusal = refusal;
+            cause = why;
+          })))
+          of_refusal refusal why (inr ends) = ended_cause _ 9 run.printed_then ends memory_cause
 
           of_failure : (volume : ℕ) (t : Trouble) → FailsWith tells run.config volume before.bay after.bay t → Cause (trouble_status t)
           of_failure volume t (changed.part part base owner begun faulty rose) = part_cause for_bay (part_named volume part) rose
@@ -365,8 +353,7 @@ module _ {D : Type 0} (tells : Bool) (state : D → State) (words : List (List �
               volume,
               logger,
               named_,
-              λ telling. told_in_words _ _ before.bay.told after.bay.told
-                  (λ old new h. record { ids = h.ids; at_entry = h.at_entry; cause = h.becomes.0 }) (views telling),
+              λ telling. on_told _ _ before.bay.told after.bay.told (views telling) (λ old new h. record { ids = h.ids; at_entry = h.at_entry; cause = h.becomes.0 }),
             )
 
             of_open : (view : List ℕ) (r : Result (Unit {0}) ViewStop) → ChangesOpen tells run.config volume change view before.bay after.bay r → EndsSo r → Cause status
@@ -377,17 +364,14 @@ module _ {D : Type 0} (tells : Bool) (state : D → State) (words : List (List �
 
           of_change : (r : Result (Unit {0}) ViewStop) → ChangesView tells state run.config run.order before.bay after.bay before.sink.faults run.sink_then before.sink.bytes run.printed_then r → EndsSo r → Cause status
           of_change r (changed.unknown refusal unknown prints same) ends = of_refusal refusal (inl unknown) ends
-          of_change r (changed.no_memory volume logger named_ prints leaves) ends = told_cause _ fault.Memory run.printed_then ends (λ nine. at_status 9 status nine row.no_memory)
+          of_change r (changed.no_memory volume logger named_ prints leaves) ends = told_cause _ fault.Memory run.printed_then ends memory_cause
           of_change r (changed.closed volume logger k f named_ prints first leaves) ends =
               told_cause _ (fault.Volume k (trouble_of f)) run.printed_then ends (λ same. at_status (trouble_status (trouble_of f)) status same (closed_cause run.config run.has k f first))
           of_change r (changed.opened volume logger view x named_ prints open_) ends = of_open volume logger named_ view x open_ ends
 
         pub view_cause : IsViewChangeOf tells state before after status (verb, named) → Cause status
         view_cause (inl run) = of_change run run.result run.changes run.ends
-        view_cause (inr unread) = elim (wanted_or_sink unread.text unread.wanted status _ _ unread.ends) [
-          | inr seven ↦ of_sink seven
-          | inl same ↦ unread_cause for_config unread.text unread.wanted unread.untouched.line_ same
-        ]
+        view_cause (inr unread) = ended_cause unread.text unread.wanted _ unread.ends (unread_cause for_config unread.text unread.wanted unread.untouched.line_)
 
       -- ---- Volumes that were cleaned
 
@@ -401,21 +385,18 @@ module _ {D : Type 0} (tells : Bool) (state : D → State) (words : List (List �
           of_cleaned : (r : Result (Unit {0}) Stop) → EndsCleaning tells state run.config before.bay after.bay before.sink.faults run.sink_then before.sink.bytes run.printed_then r → EndsReplay run.config r status run.printed_then after.sink.bytes → Cause status
           of_cleaned r (cleaned.whole told are all calm more) ends = at_status 0 status ends.0 (done_without Clean cleans_ refl)
           of_cleaned r (cleaned.refused told f are less cleans calm more) ends = told_cause _ (fault_of _ f) run.printed_then ends (of_clean_fault _ f cleans)
-          of_cleaned r (cleaned.no_memory told c are calm more) ends = told_cause _ fault.Memory run.printed_then ends (λ nine. at_status 9 status nine row.no_memory)
+          of_cleaned r (cleaned.no_memory told c are calm more) ends = told_cause _ fault.Memory run.printed_then ends memory_cause
           of_cleaned r (cleaned.sink_failed told c are rose front) ends = of_sink ends.0
 
           of_bay : (r : Result (Unit {0}) Stop) → CleansBay tells state run.config before.bay after.bay before.sink.faults run.sink_then before.sink.bytes run.printed_then r → EndsReplay run.config r status run.printed_then after.sink.bytes → Cause status
-          of_bay r (cleaned.unopened calm kept) ends = told_cause _ fault.Memory run.printed_then ends (λ nine. at_status 9 status nine row.no_memory)
+          of_bay r (cleaned.unopened calm kept) ends = told_cause _ fault.Memory run.printed_then ends memory_cause
           of_bay r (cleaned.closed k f calm kept first) ends =
               told_cause _ (fault.Volume k (trouble_of f)) run.printed_then ends (λ same. at_status (trouble_status (trouble_of f)) status same (closed_cause run.config run.has k f first))
           of_bay r (cleaned.ran x ended arrays) ends = of_cleaned x ended ends
 
         pub clean_cause : IsCleaningOf tells state before after status → Cause status
         clean_cause (inl run) = of_bay run run.result run.cleans run.ends
-        clean_cause (inr unread) = elim (wanted_or_sink unread.text unread.wanted status _ _ unread.ends) [
-          | inr seven ↦ of_sink seven
-          | inl same ↦ unread_cause for_config unread.text unread.wanted unread.untouched.line_ same
-        ]
+        clean_cause (inr unread) = ended_cause unread.text unread.wanted _ unread.ends (unread_cause for_config unread.text unread.wanted unread.untouched.line_)
 
       -- ---- A volume that was served
 
@@ -464,10 +445,7 @@ module _ {D : Type 0} (tells : Bool) (state : D → State) (words : List (List �
         pub serving_cause : IsServingOf tells state before after status (begins, name) → Cause status
         serving_cause (inl run) = of_named run.config run.has run.result run.serves run.done
         serving_cause (inr (inl unread)) = unread_cause for_config (line_of_fault unread.fault) (status_of unread.fault) (line_unread unread.fault _ _ _ unread.cause) unread.told
-        serving_cause (inr (inr none_)) = elim (wanted_or_sink _ 9 status _ _ none_.ends) [
-          | inl nine ↦ at_status 9 status nine row.no_memory
-          | inr seven_ ↦ of_sink seven_
-        ]
+        serving_cause (inr (inr none_)) = ended_cause _ 9 _ none_.ends memory_cause
 
       -- ---- Lines that were replayed
 
@@ -516,18 +494,15 @@ module _ {D : Type 0} (tells : Bool) (state : D → State) (words : List (List �
               | inr (inl lacks) ↦ at_status 9 status (at ∙ ap status_of lacks) row.no_memory
               | inr (inr (v, spent)) ↦ at_status 11 status (at ∙ ap status_of spent) (of_versions v s only (versions v spent) (sym same ∙ ap (λ (y : Fault). Err (stop.Fault y)) spent))
             ])
-            of_end x same memory ends = told_cause _ fault.Memory run.printed_then ends (λ nine. at_status 9 status nine row.no_memory)
+            of_end x same memory ends = told_cause _ fault.Memory run.printed_then ends memory_cause
             of_end x same (sink_failed rose) ends = of_sink ends.0
 
           of_replayed : (r : Result (Unit {0}) Stop) → Replayed tells state (λ bytes. bytes) run.config how start run.now before.bay after.bay before.sink.faults run.sink_then before.sink.bytes run.printed_then r → Ends r → Cause status
-          of_replayed r (no_memory asks leaves) ends = told_cause _ fault.Memory run.printed_then ends (λ nine. at_status 9 status nine row.no_memory)
+          of_replayed r (no_memory asks leaves) ends = told_cause _ fault.Memory run.printed_then ends memory_cause
           of_replayed r (closed k f asks first leaves) ends =
               told_cause _ (fault.Volume k (trouble_of f)) run.printed_then ends (λ same. at_status (trouble_status (trouble_of f)) status same (closed_cause run.config run.has k f first))
           of_replayed r (ran r2 of) ends = of_end r2 of r2 refl of.ends ends
 
         pub replay_cause : IsReplayOf tells state before after status (how, start) → Cause status
         replay_cause (inl run) = of_replayed run run.result run.replayed run.ends
-        replay_cause (inr unread) = elim (wanted_or_sink unread.text unread.wanted status _ _ unread.ends) [
-          | inr seven ↦ of_sink seven
-          | inl same ↦ unread_cause for_config unread.text unread.wanted unread.untouched.line_ same
-        ]
+        replay_cause (inr unread) = ended_cause unread.text unread.wanted _ unread.ends (unread_cause for_config unread.text unread.wanted unread.untouched.line_)

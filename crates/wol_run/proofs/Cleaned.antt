@@ -18,6 +18,7 @@ use Rattle.wol_run.specs.Cleaning.{IsCleaning}
 use Rattle.wol_run.specs.Completing.{HasSoundImages, HaveVersionsToClean}
 use Rattle.wol_run.specs.Replaying.{EndsReplay}
 use Rattle.wol_run.specs.Settings.{HasConfig}
+use Rattle.wol_run.proofs.Completing.{may_look}
 use Rattle.wol_run.proofs.ReplayFaults.{CanEnd}
 
 -- what ends a cleaning of a volume may end a run
@@ -47,15 +48,7 @@ module _ {D : Type 0} (tells : Bool) (state : D → State) (config : Config) (ol
 -- nothing stands in the way of a cleaning
 module _ (tells : Bool) (left : Option (List ℕ)) (config : Config) (has : HasConfig left config) (old new : BayState) (sink sink' : ℕ) where
   pub may_clean : (is : HasSoundImages tells left old) → HaveVersionsToClean left is.entry → ¬ Rose old.faults new.faults → ¬ Rose sink sink' → MayComplete tells config old new sink sink'
-  may_clean is versions bay_calm sink_calm = record {
-    telling = is.telling;
-    entry = is.entry;
-    entry_is = is.entry_is;
-    sound = is.sound config has;
-    bay_calm = bay_calm;
-    sink_calm = sink_calm;
-    versions = λ b begun. versions config has b begun;
-  }
+  may_clean is versions bay_calm sink_calm = record { looks = may_look tells left config has old new sink sink' is bay_calm sink_calm; versions = λ b begun. versions config has b begun }
 
 -- it came to its end as a run does
 pub as_run : (r : Result (Unit {0}) Stop) → Completes r → ByRun.Completes r

@@ -179,6 +179,26 @@ versions_of config b lines run more rest all same =
     let whole : HasVersions config b (run ++ (more ++ rest)) = subst (HasVersions config b) split all in
     omega (arith, whole, few)
 
+-- nothing stands in the way of a run of some first of these lines
+may_run : {S : Type 0} (tells : Bool) (left : S → Option (List ℕ)) (config : Config) (bytes : Option (List ℕ)) → HasConfig bytes config → (start now : Given S) (old new : BayState) (sink sink' source source' : ℕ) (is : HasSoundImages tells bytes old)
+    → ¬ Rose old.faults new.faults → ¬ Rose sink sink' → ¬ Rose source source' → ((number : ℕ) (why : BadLine) (ls : List (Option TraceLine)) → Refuses left (trace.Bad number why) start now ls → ⊥)
+    → ((ls : List (Option TraceLine)) → Refuses left trace.Spent start now ls → ⊥) → (lines : Config → List (Option TraceLine)) → HaveVersions bytes is.entry lines
+    → ((ls : List (Option TraceLine)) → HasGiven left (targets_of config) start now ls → (rest : List (Option TraceLine)) × (lines config ≡ ls ++ rest)) → MayComplete tells left config start now old new sink sink' source source'
+may_run tells left config bytes has start now old new sink sink' source source' is bay_calm sink_calm source_calm spelled few lines versions front = record {
+  telling = is.telling;
+  entry = is.entry;
+  entry_is = is.entry_is;
+  sound = is.sound config has;
+  bay_calm = bay_calm;
+  sink_calm = sink_calm;
+  source_calm = source_calm;
+  spelled = spelled;
+  few = few;
+  versions = λ b begun run more given.
+      let first = front (run ++ more) given in
+      versions_of config b (lines config) run more first.0 (versions config has b begun) first.1;
+}
+
 module _ {S : Type 0} (left : S → Option (List ℕ)) (config : Config) (lines : List (Option TraceLine)) (r q : Reading S) where
   module _ (none_held : r.held ≡ []) (none_given : r.given ≡ 0) (good : IsGoodTrace (left r.source) lines) where
     is_pending : pending left r ≡ Some good.bytes
@@ -207,20 +227,8 @@ module _ {S : Type 0} (left : S → Option (List ℕ)) (config : Config) (lines 
 
       pub may_replay : (tells : Bool) (bytes : Option (List ℕ)) → HasConfig bytes config → (old new : BayState) (is : HasSoundImages tells bytes old) → HaveVersions bytes is.entry (λ c. lines) → ¬ Rose old.faults new.faults
           → MayComplete tells left config (Trace r) (Trace q) old new sink sink' source source'
-      may_replay tells bytes has old new is versions bay_calm = record {
-        telling = is.telling;
-        entry = is.entry;
-        entry_is = is.entry_is;
-        sound = is.sound config has;
-        bay_calm = bay_calm;
-        sink_calm = sink_calm;
-        source_calm = source_calm;
-        spelled = none_bad;
-        few = not_spent;
-        versions = λ b begun run more given.
-            let front = given_front (pending left q) (run ++ more) given.0 in
-            versions_of config b lines run more front.0 (versions config has b begun) front.1;
-      }
+      may_replay tells bytes has old new is versions bay_calm =
+          may_run tells left config bytes has (Trace r) (Trace q) old new sink sink' source source' is bay_calm sink_calm source_calm none_bad not_spent (λ c. lines) versions (λ ls given. given_front (pending left q) ls given.0)
 
 -- ---- Seeds
 
@@ -258,20 +266,11 @@ module _ {S : Type 0} (left : S → Option (List ℕ)) (config : Config) (asked 
 pub may_soak : {S : Type 0} (tells : Bool) (left : S → Option (List ℕ)) (config : Config) (bytes : Option (List ℕ)) → HasConfig bytes config → (asked : Asked) (now : Given S) (old new : BayState) (sink sink' source source' : ℕ)
     → ¬ Rose source source' → IsWithin now → (is : HasSoundImages tells bytes old) → HaveVersions bytes is.entry (seed_lines asked) → ¬ Rose old.faults new.faults → ¬ Rose sink sink'
     → MayComplete tells left config (Generated (record { seed = asked.seed; given = 0 }) asked.lines) now old new sink sink' source source'
-may_soak tells left config bytes has asked now old new sink sink' source source' source_calm within is versions bay_calm sink_calm = record {
-  telling = is.telling;
-  entry = is.entry;
-  entry_is = is.entry_is;
-  sound = is.sound config has;
-  bay_calm = bay_calm;
-  sink_calm = sink_calm;
-  source_calm = source_calm;
-  spelled = λ number why ls bad. none_of_seed left (record { seed = asked.seed; given = 0 }) asked.lines now ls (trace.Bad number why) (λ same. subst IsBad same tt) bad;
-  few = λ ls spent. none_of_seed left (record { seed = asked.seed; given = 0 }) asked.lines now ls trace.Spent (λ same. subst IsSpent same tt) spent;
-  versions = λ b begun run more given.
-      let front = given_of_seed left config asked now (run ++ more) within given in
-      versions_of config b (seed_lines asked config) run more front.0 (versions config has b begun) front.1;
-}
+may_soak tells left config bytes has asked now old new sink sink' source source' source_calm within is versions bay_calm sink_calm =
+    may_run tells left config bytes has (Generated (record { seed = asked.seed; given = 0 }) asked.lines) now old new sink sink' source source' is bay_calm sink_calm source_calm
+    (λ number why ls bad. none_of_seed left (record { seed = asked.seed; given = 0 }) asked.lines now ls (trace.Bad number why) (λ same. subst IsBad same tt) bad)
+    (λ ls spent. none_of_seed left (record { seed = asked.seed; given = 0 }) asked.lines now ls trace.Spent (λ same. subst IsSpent same tt) spent)
+    (seed_lines asked) versions (λ ls given. given_of_seed left config asked now ls within given)
 
 -- ---- Ends of replays
 

@@ -81,28 +81,23 @@ other_status trouble.Label k four five six twelve is = four (sym is)
 other_status trouble.Home k four five six twelve is = four (sym is)
 other_status (trouble.Segment logger index) k four five six twelve is = four (sym is)
 
--- of what ends a run by a window the status is neither 3 nor 10
+-- the status of what ends a run by a window is one of those, 9 or 11: neither 3 nor 10
+other_window : (f : Fault) (k : ℕ) → IsOfWindow f → (k ≢ 4) → (k ≢ 5) → (k ≢ 6) → (k ≢ 9) → (k ≢ 11) → (k ≢ 12) → status_of f ≢ k
+other_window fault.Words k h four five six nine eleven twelve is = h
+other_window (fault.Config why) k h four five six nine eleven twelve is = h
+other_window (fault.Line line why) k h four five six nine eleven twelve is = h
+other_window (fault.Volume volume t) k h four five six nine eleven twelve is = other_status t k four five six twelve is
+other_window fault.ConfigSource k h four five six nine eleven twelve is = h
+other_window fault.TraceSource k h four five six nine eleven twelve is = h
+other_window fault.Memory k h four five six nine eleven twelve is = nine (sym is)
+other_window fault.Lines k h four five six nine eleven twelve is = h
+other_window (fault.Versions volume) k h four five six nine eleven twelve is = eleven (sym is)
+
 pub not_three : (f : Fault) → IsOfWindow f → status_of f ≢ 3
-not_three fault.Words h is = h
-not_three (fault.Config why) h is = h
-not_three (fault.Line line why) h is = h
-not_three (fault.Volume volume t) h is = other_status t 3 (λ e. omega (arith, e)) (λ e. omega (arith, e)) (λ e. omega (arith, e)) (λ e. omega (arith, e)) is
-not_three fault.ConfigSource h is = h
-not_three fault.TraceSource h is = h
-not_three fault.Memory h is = omega (arith, is)
-not_three fault.Lines h is = h
-not_three (fault.Versions volume) h is = omega (arith, is)
+not_three f h = other_window f 3 h (λ e. omega (arith, e)) (λ e. omega (arith, e)) (λ e. omega (arith, e)) (λ e. omega (arith, e)) (λ e. omega (arith, e)) (λ e. omega (arith, e))
 
 pub not_ten : (f : Fault) → IsOfWindow f → status_of f ≢ 10
-not_ten fault.Words h is = h
-not_ten (fault.Config why) h is = h
-not_ten (fault.Line line why) h is = h
-not_ten (fault.Volume volume t) h is = other_status t 10 (λ e. omega (arith, e)) (λ e. omega (arith, e)) (λ e. omega (arith, e)) (λ e. omega (arith, e)) is
-not_ten fault.ConfigSource h is = h
-not_ten fault.TraceSource h is = h
-not_ten fault.Memory h is = omega (arith, is)
-not_ten fault.Lines h is = h
-not_ten (fault.Versions volume) h is = omega (arith, is)
+not_ten f h = other_window f 10 h (λ e. omega (arith, e)) (λ e. omega (arith, e)) (λ e. omega (arith, e)) (λ e. omega (arith, e)) (λ e. omega (arith, e)) (λ e. omega (arith, e))
 
 -- a run that ends with status 8 ends by the source of its trace
 pub is_source : (f : Fault) → CanEnd f → status_of f ≡ 8 → f ≡ fault.TraceSource

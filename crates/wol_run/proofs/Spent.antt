@@ -29,6 +29,7 @@ use Rattle.replay.specs.declared.stop.Stop.TheVariants as stop
 use Rattle.replay.proofs.CountsLeft.{answers_joined}
 use Rattle.replay.proofs.WritesAnswered.{Among, among_left, among_of, among_right, among_volume, asked_writes, asks_write, logged_answered, one_less, writes_in}
 use Rattle.wol_config.specs.Configs.{most_of}
+use Rattle.wol_run.proofs.HeadlineTold.{on_told}
 
 -- the base of the volume's history, whose writes to logs took all versions
 pub record HasSpent (tells : Bool) (config : Config) (lines : List (Option TraceLine)) (old new : BayState) : Type 0 where
@@ -37,12 +38,6 @@ pub record HasSpent (tells : Bool) (config : Config) (lines : List (Option Trace
   pub logged : ℕ
   pub few : logged < writes_to base.owner (requests (most_of config) (targets_of config) lines)
   pub spent : 2 ^ 63 ≤ base.next + logged
-
--- it is told of one volume as of all
-on_told : (P Q : Rattle.wol_bay.specs.Bay.Told → Rattle.wol_bay.specs.Bay.Told → Type 0) (a b : Option Rattle.wol_bay.specs.Bay.Told) → IsTold P a b → ((o n : Rattle.wol_bay.specs.Bay.Told) → P o n → Q o n) → IsTold Q a b
-on_told P Q None b p all = p
-on_told P Q (Some o) None p all = p
-on_told P Q (Some o) (Some n) p all = all o n p
 
 module _ {S T : Type 0} (tells : Bool) (left : S → Option (List ℕ)) (config : Config) (options : Options) (start now : Given S) (old new : BayState) (result : Result T Stop) (sink sink' : ℕ) (printed printed' : Option (List ℕ))
     (r : Replays tells left config options start now old new result sink sink' printed printed') where
