@@ -1,5 +1,5 @@
 -- The volumes are cleaned one after another.
-use Rattle.std.proofs.Common.{◌≡◌, ◌⊎◌, inl, inr, ◌<◌, ◌≤◌, ◌+◌, ℕ, zero, suc, Bool, List, [], ◌∷◌, ◌++◌, length, get_or, option_map, Option, None, Some, Result, Ok, Err, refl, sym, ap, subst, ◌∙◌, arith, append-nil, append_assoc, length-append}
+use Rattle.std.proofs.Common.{◌≡◌, inl, inr, ◌<◌, ◌≤◌, ◌+◌, ℕ, zero, suc, Bool, List, [], ◌∷◌, ◌++◌, length, get_or, option_map, Option, None, Some, Result, Ok, Err, refl, sym, ap, subst, ◌∙◌, arith, append-nil, append_assoc, length-append}
 use Rattle.std.specs.Prelude.{slice_get}
 use Rattle.std.specs.Io.KnownBytes.{Appends}
 use Rattle.std.proofs.lemmas.Option.{get_or_from_slice_get, slice_get-map, slice_get_read, slice_get_within, same_Some}
@@ -17,6 +17,7 @@ use Rattle.rack_parts.specs.declared.rack.Rack.{Rack}
 use Rattle.replay.specs.declared.stop.Stop.TheVariants as stop
 use Rattle.log_cleaner.specs.declared.answer.Cleaned.{Cleaned}
 use Rattle.log_cleaner.specs.declared.answer.CleanFault.{CleanFault}
+use Rattle.inspection.proofs.Printing.{last_or_before}
 use Rattle.cleaning.specs.Lines.{clean_line, fault_of, lines_from, lines_of}
 use Rattle.cleaning.specs.Racks.{CleansAll, CleansFirst, CleansStation, IsSameButWorked, IsWorked, all_ok, whole, refused, no_memory, sink_failed}
 use Rattle.cleaning.proofs.Stations.{worked_self, worked_then}
@@ -42,16 +43,6 @@ pub ok_at : (cs : List Cleaned) (k : ℕ) (c : Cleaned) → slice_get cs k ≡ S
 ok_at [] k c is = absurd (let no : None ≡ Some c = is in cc)
 ok_at (d ∷ cs) zero c is = ap (λ (x : Cleaned). Some (Ok x)) (same_Some d c is)
 ok_at (d ∷ cs) (suc k) c is = ok_at cs k c is
-
--- an element of a list with one more
-last_or_before : {X : Type 0} (xs : List X) (x : X) (k : ℕ) (y : X) → slice_get (xs ++ x ∷ []) k ≡ Some y → (slice_get xs k ≡ Some y) ⊎ ((k ≡ length xs) × (y ≡ x))
-last_or_before [] x zero y is = inr (refl, sym (same_Some x y is))
-last_or_before [] x (suc k) y is = absurd (let no : None ≡ Some y = is in cc)
-last_or_before (z ∷ xs) x zero y is = inl is
-last_or_before (z ∷ xs) x (suc k) y is = elim (last_or_before xs x k y is) [
-  | inl before ↦ inl before
-  | inr (at, same) ↦ inr (ap suc at, same)
-]
 
 -- the name of the volume that was read at a place
 pub name_is : (vs : List VolumeConf) (k : ℕ) (v : VolumeConf) → k < length vs → v ≡ get_or vs k v → name_at (names_of vs) k ≡ v.name

@@ -123,7 +123,7 @@ module _ {D : Type 0} (tells : Bool) (state : D → State) (config : Config) (di
       where
         opens : (k : ℕ) → k < length (shapes_of config) → slice_get session.before.faults.items k ≡ Some None
         opens = (subst (λ (x : Option Told). IfSome x (λ t. Rattle.wol_model.specs.Images.AreSound (shapes_of config) (images_read config t) → (Rose old.faults new.faults → ⊥)
-            → (k : ℕ) → k < length (shapes_of config) → slice_get session.before.faults.items k ≡ Some None)) m.entry_is (session.complete m.telling)) m.sound m.bay_calm
+            → (k : ℕ) → k < length (shapes_of config) → slice_get session.before.faults.items k ≡ Some None)) m.looks.entry_is (session.complete m.looks.telling)) m.looks.sound m.looks.bay_calm
 
         all_open : (k : ℕ) → k < length session.before.faults.items → slice_get session.before.faults.items k ≡ Some None
         all_open k lt = opens k (let n = session.opened.rack.fault_count in omega (arith, lt, n))

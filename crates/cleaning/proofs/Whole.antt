@@ -257,16 +257,16 @@ module _ {D : Type 0} (tells : Bool) (state : D → State) (config : Config) (di
 
     pub run_completes : (answer : Result (Unit {0}) Stop) → EndsFor tells state config old new sink sink' printed printed' answer → MayComplete tells config old new sink sink' → Completes answer
     run_completes answer (runs.whole told are all calm prints) m = inl refl
-    run_completes answer (runs.refused told (DiskFault p) are within last calm prints) m = absurd (m.bay_calm (last.cause p refl))
+    run_completes answer (runs.refused told (DiskFault p) are within last calm prints) m = absurd (m.looks.bay_calm (last.cause p refl))
     run_completes answer (runs.refused told VersionsSpent are within last calm prints) m = absurd (m.versions last.base.volume.began
-        (at_entry (subst (λ (o : Option Told). IsTold (λ t n. IsBegun config (images_read config t) last.base.volume.began) o new.told) m.entry_is (last.begun m.telling))) (last.spent refl))
+        (at_entry (subst (λ (o : Option Told). IsTold (λ t n. IsBegun config (images_read config t) last.base.volume.began) o new.told) m.looks.entry_is (last.begun m.looks.telling))) (last.spent refl))
       where
-        at_entry : IsTold (λ t n. IsBegun config (images_read config t) last.base.volume.began) (Some m.entry) new.told → IsBegun config (images_read config m.entry) last.base.volume.began
+        at_entry : IsTold (λ t n. IsBegun config (images_read config t) last.base.volume.began) (Some m.looks.entry) new.told → IsBegun config (images_read config m.looks.entry) last.base.volume.began
         at_entry told = by new.told told
           where
-            by : (n : Option Told) → IsTold (λ t n. IsBegun config (images_read config t) last.base.volume.began) (Some m.entry) n → IsBegun config (images_read config m.entry) last.base.volume.began
+            by : (n : Option Told) → IsTold (λ t n. IsBegun config (images_read config t) last.base.volume.began) (Some m.looks.entry) n → IsBegun config (images_read config m.looks.entry) last.base.volume.began
             by None is = absurd is
             by (Some n) is = is
     run_completes answer (runs.refused told NoMemory are within last calm prints) m = inr refl
     run_completes answer (runs.no_memory told c are calm prints) m = inr refl
-    run_completes answer (runs.sink_failed told c are rose front) m = absurd (m.sink_calm rose)
+    run_completes answer (runs.sink_failed told c are rose front) m = absurd (m.looks.sink_calm rose)

@@ -6,7 +6,7 @@ use Rattle.wol_disk.specs.Disk.{Rose, State}
 use Rattle.wol_io.specs.Streams.{AppendsFront}
 use Rattle.wol_bay.specs.Bay.{BayState, Told}
 use Rattle.wol_model.specs.History.{worker}
-use Rattle.wol_model.specs.Images.{AreSound, Images, recovered_from}
+use Rattle.wol_model.specs.Images.{Images, recovered_from}
 use Rattle.wol_model.specs.Index.{AreRising, is_covered, listed_in}
 use Rattle.wol_promise.specs.Manager.{Base}
 use Rattle.wol_promise.specs.Ruled.{Noted}
@@ -25,6 +25,7 @@ use Rattle.rack.specs.Owners.{IsBegun}
 use Rattle.rack_parts.specs.declared.volume_fault.VolumeFault.{VolumeFault}
 use Rattle.open_rack.specs.NotOpened.{IsFirstClosed}
 use Rattle.open_rack.specs.Sessions.{LeavesRecords}
+use Rattle.inspection.specs.Runs as look
 use Rattle.replay.specs.declared.stop.Stop.{Stop}
 use Rattle.replay.specs.declared.stop.Stop.TheVariants as stop
 use Rattle.log_cleaner.specs.Chunks.{IsChunk}
@@ -134,17 +135,12 @@ module _ {D : Type 0} (tells : Bool) (state : D → State) (config : Config) (ol
 
 -- ---- When it has to come to its end
 
--- Nothing stands in the way: the images at entry are sound as they read, no call failed, and each
--- volume has versions for its chunks.
+-- Nothing stands in the way: the images at entry are sound as they read and no call failed, as for
+-- a look at them, and each volume has versions for its chunks.
 pub record MayComplete (tells : Bool) (config : Config) (old new : BayState) (sink sink' : ℕ) :
     Type 0 where
-  pub telling : IsTrue tells
-  pub entry : Told
-  pub entry_is : old.told ≡ Some entry
-  pub sound : AreSound (shapes_of config) (images_read config entry)
-  pub bay_calm : Rose old.faults new.faults → ⊥
-  pub sink_calm : Rose sink sink' → ⊥
-  pub versions : (b : Base) → IsBegun config (images_read config entry) b
+  pub looks : look.MayComplete tells config old new sink sink'
+  pub versions : (b : Base) → IsBegun config (images_read config looks.entry) b
       → LacksVersions (most_of config) b → ⊥
 
 -- it came to its end, or there was no memory

@@ -17,38 +17,20 @@ pub(crate) fn append_cleaned<'a>(
     ensures ok { OnOk result (out.new.items ≡ out.old.items ++ clean_line name.now cleaned.now) }
     ensures err { OnErr result (out.new.items ≡ out.old.items) }
 {
-    let name = Text(name);
-    let before = Number(cleaned.before);
-    let after = Number(cleaned.after);
-    let copied = Number(cleaned.copied);
+    let words = [
+        Text(b"clean"),
+        Text(name),
+        Text(b"records"),
+        Number(cleaned.before),
+        Text(b"to"),
+        Number(cleaned.after),
+        Text(b"copied"),
+        Number(cleaned.copied),
+        Text(b"full"),
+    ];
     if cleaned.full {
-        append_line(
-            &[
-                Text(b"clean"),
-                name,
-                Text(b"records"),
-                before,
-                Text(b"to"),
-                after,
-                Text(b"copied"),
-                copied,
-                Text(b"full"),
-            ],
-            out,
-        )
+        append_line(&words, out)
     } else {
-        append_line(
-            &[
-                Text(b"clean"),
-                name,
-                Text(b"records"),
-                before,
-                Text(b"to"),
-                after,
-                Text(b"copied"),
-                copied,
-            ],
-            out,
-        )
+        append_line(&words[..8], out)
     }
 }
