@@ -2,6 +2,7 @@ pub mod Lists
 pub mod Spinning
 pub mod Steps
 pub mod Doing
+mod Rounds
 pub mod Written
 pub mod Hosts
 pub mod Seeing
