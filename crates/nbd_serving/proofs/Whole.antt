@@ -11,7 +11,7 @@ use Rattle.report.specs.declared.fault.Fault.{Fault}
 use Rattle.spin_model.specs.Spindles.{SpindleView}
 use Rattle.volume_images.specs.Left.{IsTold}
 use Rattle.volume_images.specs.Volumes.{images_read, shapes_of}
-use Rattle.rack.specs.Opens.{KeepsAllSound, KeepsOthers, LeavesAll}
+use Rattle.rack.specs.Opens.{KeepsAllSound, LeavesAll}
 use Rattle.rack_parts.specs.declared.rack.Rack.{Rack}
 use Rattle.open_rack.specs.Sessions.{OpensAndCloses}
 use Rattle.open_rack.specs.NotOpened.{first_closed}
@@ -37,11 +37,7 @@ use Rattle.nbd_serving.specs.declared.stop.Stop.TheVariants as stop
 use Rattle.nbd_serving.proofs.Begun.{counts_behind, faults_begun}
 use Rattle.nbd_serving.proofs.Sessions.{all_kept, serves_open}
 
--- what isn't touched is as it was
-pub others_same : (config : Config) (o : Option Told) → IsTold (KeepsOthers config) o o
-others_same config None = refl
-others_same config (Some t) = λ name differs. refl
-
+-- what isn't touched is sound as it was
 pub sound_same : (config : Config) (o : Option Told) → IsTold (KeepsAllSound config) o o
 sound_same config None = refl
 sound_same config (Some t) = λ all images left. all images left

@@ -8,7 +8,7 @@ use Rattle.report.specs.declared.fault.Fault.{Fault}
 use Rattle.report.specs.declared.fault.Fault.TheVariants.{Memory, Volume}
 use Rattle.troubles.specs.Troubles.{trouble_of}
 use Rattle.volume_images.specs.Left.{IsTold}
-use Rattle.rack.specs.Opens.{KeepsAllSound, KeepsOthers, LeavesAll}
+use Rattle.rack.specs.Opens.{KeepsAllSound, LeavesAll}
 use Rattle.inspection.specs.Runs.{MayComplete}
 use Rattle.view_change.specs.declared.answers.Change.{Change}
 use Rattle.view_commands.specs.Orders.{AreNamed, change_of}
@@ -101,10 +101,6 @@ leaves_same tells state config b b' (Some t) = record {
   are_opened = λ v no. absurd (cc no);
   left = λ images is v there. (images, is, record { but = refl; all = λ or. refl });
 }
-
-pub others_same : (config : Config) (o : Option Told) → IsTold (KeepsOthers config) o o
-others_same config None = refl
-others_same config (Some t) = λ name differs. refl
 
 pub sound_same : (config : Config) (o : Option Told) → IsTold (KeepsAllSound config) o o
 sound_same config None = refl

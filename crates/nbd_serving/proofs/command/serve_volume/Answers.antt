@@ -1,8 +1,9 @@
 use Rattle.std.proofs.Common.{◌≡◌, refl, sym, ◌∙◌}
 use Rattle.std.proofs.lemmas.Result.{err_from_is_err_and}
 use Rattle.wol_config.specs.Documents.{names_of, number_named}
+use Rattle.rack.proofs.ImagesSent.{others_same}
 use Rattle.nbd_serving.specs.Runs as runs
-use Rattle.nbd_serving.proofs.Whole.{others_same, serves_complete, serves_named, sound_same}
+use Rattle.nbd_serving.proofs.Whole.{serves_complete, serves_named, sound_same}
 use Rattle.nbd_serving.proofs.command.serve_volume.Goals as goal
 
 pub returns-in_default-clause-content : goal.returns-in_default-clause-content

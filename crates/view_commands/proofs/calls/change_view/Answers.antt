@@ -1,9 +1,10 @@
 use Rattle.std.proofs.Common.{◌≡◌, Option, Some, Err, ℕ, refl, sym, ap, ◌∙◌}
 use Rattle.std.proofs.lemmas.Result.{err_from_is_err_and}
+use Rattle.rack.proofs.ImagesSent.{others_same}
 use Rattle.view_commands.specs.Orders.{AreNamed, number_in, unknown_of}
 use Rattle.view_commands.specs.Runs as runs
 use Rattle.view_commands.specs.declared.order.ViewRefusal.TheVariants.{UnknownLogger, UnknownVolume}
-use Rattle.view_commands.proofs.Lines.{completes_as, ended_view, leaves_same, others_same, printed_open, prints_complete, sound_same, still_completes}
+use Rattle.view_commands.proofs.Lines.{completes_as, ended_view, leaves_same, printed_open, prints_complete, sound_same, still_completes}
 use Rattle.view_commands.proofs.calls.change_view.Goals as goal
 
 pub returns-in_default-clause-content : goal.returns-in_default-clause-content
