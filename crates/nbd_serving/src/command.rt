@@ -1,9 +1,7 @@
 // A volume of a bay is served.
-ghost use Rattle.std.specs.Prelude.{◌≡◌, ◌<◌, ◌≤◌, length, IfSome, IsTrue, position};
-ghost use Rattle.std.specs.Str.{bytes_eq};
+ghost use Rattle.std.specs.Prelude.{◌≡◌, ◌≤◌, IsTrue};
 ghost use Rattle.wol_bay.specs.Bay.{outs};
 ghost use Rattle.wol_config.specs.Configs.{IsValid};
-ghost use Rattle.wol_config.specs.Documents.{names_of, number_named};
 ghost use Rattle.wol_disk.specs.Disk.{Rose};
 ghost use Rattle.volume_images.specs.Left.{IsTold};
 ghost use Rattle.volume_images.specs.Volumes.{NoneOut};
@@ -19,30 +17,8 @@ use open_rack::{Closed, with_open};
 use std::alloc::Global;
 use std::sync::Wait;
 use wol_bay::Bay;
-use wol_config::{Config, VolumeConf};
+use wol_config::{Config, number_named};
 use wol_io::{Sink, Source};
-
-// The number of the volume of this name.
-fn number_named(volumes: &[VolumeConf], name: &[u8]) -> Option<usize>
-    ensures found { result ≡ number_named (names_of volumes.now) name.now }
-    ensures within { IfSome result (λ number. number < length volumes.now) }
-{
-    place_named(volumes, name)
-}
-
-// The place of the volume of this name.
-fn place_named(volumes: &[VolumeConf], name: &[u8]) -> Option<usize>
-    ensures found { result ≡ position (λ v. bytes_eq v.name name.now) volumes.now }
-    ensures within { IfSome result (λ place. place < length volumes.now) }
-{
-    volumes.iter().position(|volume| is_named(volume, name))
-}
-
-fn is_named(volume: &VolumeConf, name: &[u8]) -> bool
-    ensures { result ≡ bytes_eq volume.now.name name.now }
-{
-    volume.name.as_bytes() == name
-}
 
 /// Serves the volume of this name to a client, whose requests the source gives and whose replies the sink takes, at once or
 /// behind a handshake on the same source and sink. All volumes are opened first, so that a client that is told of the volume

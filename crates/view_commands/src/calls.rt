@@ -1,9 +1,7 @@
 // The view of a volume of a bay is changed.
-ghost use Rattle.std.specs.Prelude.{◌≡◌, ◌<◌, ◌≤◌, length, Err, IfSome, IsTrue, position};
-ghost use Rattle.std.specs.Str.{bytes_eq};
+ghost use Rattle.std.specs.Prelude.{◌≡◌, ◌<◌, ◌≤◌, length, Err, IsTrue};
 ghost use Rattle.wol_bay.specs.Bay.{outs};
 ghost use Rattle.wol_config.specs.Configs.{IsValid};
-ghost use Rattle.wol_config.specs.Documents.{names_of, number_named};
 ghost use Rattle.volume_images.specs.Left.{IsTold};
 ghost use Rattle.volume_images.specs.Volumes.{NoneOut};
 ghost use Rattle.rack.specs.Opens.{KeepsAllSound, KeepsOthers, LeavesAll};
@@ -22,31 +20,9 @@ use std::alloc::Global;
 use std::sync::Wait;
 use view_change::Change;
 use wol_bay::Bay;
-use wol_config::{Config, VolumeConf};
+use wol_config::{Config, number_named};
 use wol_disk::NoMemory;
 use wol_io::Sink;
-
-// The number of the volume of this name.
-fn number_named(volumes: &[VolumeConf], name: &[u8]) -> Option<usize>
-    ensures found { result ≡ number_named (names_of volumes.now) name.now }
-    ensures within { IfSome result (λ number. number < length volumes.now) }
-{
-    place_of(volumes, name)
-}
-
-// The place of the volume of this name.
-fn place_of(volumes: &[VolumeConf], name: &[u8]) -> Option<usize>
-    ensures found { result ≡ position (λ v. bytes_eq v.name name.now) volumes.now }
-    ensures within { IfSome result (λ place. place < length volumes.now) }
-{
-    volumes.iter().position(|volume| is_named(volume, name))
-}
-
-fn is_named(volume: &VolumeConf, name: &[u8]) -> bool
-    ensures { result ≡ bytes_eq volume.now.name name.now }
-{
-    volume.name.as_bytes() == name
-}
 
 // Changes the view of a volume of a bay, all of whose volumes are opened first.
 fn change_volume<R: Wait, B: Bay>(
