@@ -17,7 +17,7 @@ use Rattle.block_cells.proofs.Stepping.{next_block, no_block, all_blocks}
 use Rattle.redirect_map.specs.declared.entry.Entry.{Entry}
 use Rattle.redirect_map.specs.declared.going.Sought.{Sought}
 use Rattle.redirect_map.specs.declared.going.Sought.TheVariants.{Due, Going}
-use Rattle.redirect_map.specs.Index.{is_sought, has_sought, IsFirst}
+use Rattle.redirect_map.specs.Index.{is_sought, has_sought, PassesOverNone}
 use Rattle.redirect_map.specs.Kept.{seen, keeps, is_version, IsInRange, IsUnhomed, AreEntries, NoneHomed}
 use Rattle.redirect_map.specs.Cells.{cell_of}
 use Rattle.redirect_map.specs.Marked.{there_bit, lane_bit, is_home, is_due_of, goes_of, sought_of, IsMarked, AreMarked, AreThere, begins, AreBegun}
@@ -429,7 +429,7 @@ begun_all covered items F M first mask count i b fits done before on = before (a
 pub first_sought : (sought : Sought) (items : List Entry) (F : ℕ → Option Cell) (M : ℕ → ℕ) (lanes : List Bool) (bits start : ℕ) (o : Option ℕ) → AreEntries items → ((x : ℕ) → F x ≡ cell_of items x) → AreMarked items F M
     → ((lane : ℕ) → slice_index_or lanes lane false ≡ true → has_bit bits (lane_bit sought lane) ≡ true)
     → IfSome o (λ v. (start ≤ v) × (bit_and (M v) bits ≡ 0 → ⊥)) → IfSome o (λ v. (w : ℕ) → start ≤ w → w < v → AreApart (M w) bits) → IfNone o ((w : ℕ) → start ≤ w → AreApart (M w) bits)
-    → IsFirst sought lanes (map seen items) start o
+    → PassesOverNone sought lanes (map seen items) start o
 first_sought sought items F M lanes bits start None es table marked wanted found least none = record {
   from = tt;
   least = tt;

@@ -130,9 +130,9 @@ is_sought Going = goes
 abbrev pub has_sought : Sought → List Listed → Listed → Bool
 has_sought sought es e = list_any (is_sought sought es e) (block_numbers e)
 
--- the answer is no version before `start`, and no record on these lanes from there on has what is
--- sought, before the version that is answered, or at all
-pub record IsFirst (sought : Sought) (lanes : List Bool) (es : List Indexed) (start : ℕ)
+-- no record from `start` on, on these lanes, has what is sought before the version that is answered,
+-- or, with none, at all; the answer is no version before `start`, and needn't have it itself
+pub record PassesOverNone (sought : Sought) (lanes : List Bool) (es : List Indexed) (start : ℕ)
     (answer : Option ℕ) : Type 0 where
   pub from : IfSome answer (λ v. start ≤ v)
   pub least : IfSome answer (λ v. AllByRecursion

@@ -7,13 +7,14 @@ ghost use Rattle.wol_model.specs.Extents.{newest};
 ghost use Rattle.wol_model.specs.Index.{listed_in, is_covered, is_live, is_older, is_homed, goes, keeps_a_block};
 ghost use Rattle.block_cells.specs.Masks.{IsMask};
 ghost use Rattle.block_cells.specs.Runs.{runs_of};
-ghost use Rattle.redirect_map.specs.Index.{cover_at, entry_at, HasVersion, entry_of, IsRecordOf, IsAnswer, changed, unhomed, with_homed, given_up, CanAdd, IsAdded, IsIndex, has_sought, IsFirst};
+ghost use Rattle.redirect_map.specs.Index.{cover_at, entry_at, HasVersion, entry_of, IsRecordOf, IsAnswer, changed, unhomed, with_homed, given_up, CanAdd, IsAdded, IsIndex, has_sought, PassesOverNone};
 
 use crate::entry::{Entry, unhome, with_homes};
 use crate::going::{Sought, all_going, any_sought};
 use crate::list::Entries;
 use crate::marking::{
-    exact_mask, lanes_mask, mark_all_exactly, mark_blocks, mark_given_up, new_mask, newest_versions,
+    all_lanes, exact_mask, lanes_mask, mark_all_exactly, mark_blocks, mark_given_up, new_mask,
+    newest_versions,
 };
 use block_cells::{Cell, Rec, any_covered, cover, held, held_both, newest_of, run_length, uncover};
 use std::alloc::Global;
@@ -339,25 +340,28 @@ impl Index {
         }
     }
 
-    /// The least version from `from` on that is marked as one that may have a block that is sought, on a lane that
-    /// is true in the list: none of these records with a lesser version has one, and where the answer is none no
-    /// record from `from` on has one. Whether the record of the answer has one is for the caller to see.
+    /// A version, from `from` on, before which no record from `from` on has a block that is sought on a lane that is
+    /// true in the list; and where the answer is none no record from `from` on has one. Whether there is a record of
+    /// this version, and whether it has one, is for the caller to see.
     pub fn first(&self, from: u64, lanes: &[bool], sought: Sought) -> Option<u64>
-        ensures { IsFirst sought lanes.now self.now.entries from result }
+        ensures { PassesOverNone sought lanes.now self.now.entries from result }
     {
+        if !self.marks.may_have(all_lanes(sought)) {
+            return None;
+        }
         self.marks.first(from, lanes_mask(lanes, sought))
     }
 
     /// `first` for due blocks.
     pub fn first_due(&self, from: u64, lanes: &[bool]) -> Option<u64>
-        ensures { IsFirst Sought.Due lanes.now self.now.entries from result }
+        ensures { PassesOverNone Sought.Due lanes.now self.now.entries from result }
     {
         self.first(from, lanes, Sought::Due)
     }
 
     /// `first` for blocks that may be given up.
     pub fn first_going(&self, from: u64, lanes: &[bool]) -> Option<u64>
-        ensures { IsFirst Sought.Going lanes.now self.now.entries from result }
+        ensures { PassesOverNone Sought.Going lanes.now self.now.entries from result }
     {
         self.first(from, lanes, Sought::Going)
     }

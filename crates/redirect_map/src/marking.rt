@@ -1,5 +1,5 @@
 // Marks of records that may have a due block, or one that goes, by version.
-ghost use Rattle.std.specs.Prelude.{◌≡◌, ◌<◌, ◌≤◌, ◌^◌, ◌+◌, ℕ, Bool, true, false, nat_eq, slice_index_or, Some, ◌==◌, ◌&&◌, ◌||◌};
+ghost use Rattle.std.specs.Prelude.{◌≡◌, ◌<◌, ◌≤◌, ◌^◌, ◌+◌, ◌%◌, ℕ, Bool, true, false, nat_eq, slice_index_or, Some, ◌==◌, ◌&&◌, ◌||◌};
 ghost use Rattle.std.specs.HashMap.{get};
 ghost use Rattle.wol_model.specs.Log.{has_bit};
 ghost use Rattle.version_marks.specs.Marks.{mask_of};
@@ -310,16 +310,37 @@ fn with_rest(mask: u64, i: u32, on: bool) -> u64
     if on { mask | 1 << i } else { mask }
 }
 
+// The rest of the next lane, by the rest of a lane.
+fn next_rest(rest: u32) -> u32
+    requires { rest < 63 }
+    ensures { (lane : ℕ) → rest ≡ lane % 63 → result ≡ (lane + 1) % 63 }
+{
+    if rest == 62 { 0 } else { rest + 1 }
+}
+
 // The bits of the lanes that are true in the list. Those of due records are the low ones.
 pub fn lanes_mask(lanes: &[bool], sought: Sought) -> u128
     ensures { (lane : ℕ) → slice_index_or lanes.now lane false ≡ true
         → has_bit result (lane_bit sought lane) ≡ true }
 {
     let mut mask = 0;
-    for (lane, on) in lanes.iter().enumerate() {
-        mask = with_rest(mask, (lane % LANES) as u32, *on);
+    let mut rest = 0;
+    for on in lanes {
+        mask = with_rest(mask, rest, *on);
+        rest = next_rest(rest);
     }
     let low = u128::from(mask);
+    match sought {
+        Sought::Due => low,
+        Sought::Going => low << 63,
+    }
+}
+
+// The bits of all lanes.
+pub fn all_lanes(sought: Sought) -> u128
+    ensures { (lane : ℕ) → has_bit result (lane_bit sought lane) ≡ true }
+{
+    let low = u128::from(u64::MAX >> 1);
     match sought {
         Sought::Due => low,
         Sought::Going => low << 63,

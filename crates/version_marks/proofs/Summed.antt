@@ -77,6 +77,14 @@ above nodes n (suc h) summed within =
     let e : n / 2 ^ h / 2 ≡ n / 2 ^ suc h = up ∙ ap (λ (k : ℕ). n / 2 ^ k) next in
     subst (λ (k : ℕ). IsWithin (get_or nodes n 0) (get_or nodes k 0)) e (λ i on. summed (n / 2 ^ h) (omega arith) i (above nodes n h summed within i on))
 
+-- the root has the bits of all nodes
+pub below_root : (nodes : List ℕ) (most n : ℕ) → IsSummed nodes → n ≤ most → 1 ≤ n → n < length nodes → IsWithin (get_or nodes n 0) (get_or nodes 1 0)
+below_root nodes zero n summed less from within = absurd (omega arith)
+below_root nodes (suc most) n summed less from within = ⊎_elim
+    (λ top. subst (λ (k : ℕ). IsWithin (get_or nodes n 0) (get_or nodes k 0)) top (λ i on. on))
+    (λ low. λ i on. below_root nodes most (n / 2) summed (omega arith) (omega arith) (omega arith) i (summed n within i on))
+    (cases_eq n 1)
+
 -- no leaf below a node has a bit that the node hasn't
 pub skipped : (nodes : List ℕ) (leaf h wanted n : ℕ) → IsSummed nodes → bit_and (get_or nodes (leaf / 2 ^ h) 0) wanted ≡ 0 → leaf ≤ n → n < (leaf / 2 ^ h + 1) * 2 ^ h → n < length nodes
     → AreApart (get_or nodes n 0) wanted

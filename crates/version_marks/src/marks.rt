@@ -1,5 +1,5 @@
 // Marks of versions.
-ghost use Rattle.std.specs.Prelude.{◌≡◌, ◌<◌, ◌≤◌, ◌+◌, ◌==◌, ◌&&◌, ℕ, length, not, nat_lt, slice_index, bit_and, OnOk, OnErr, IfOk, ◌^◌, IfSome, IfNone, if◌then◌else◌};
+ghost use Rattle.std.specs.Prelude.{◌≡◌, ◌<◌, ◌≤◌, ◌+◌, ◌==◌, ◌&&◌, ℕ, length, not, nat_lt, slice_index, bit_and, OnOk, OnErr, IfOk, ◌^◌, IfSome, IfNone, if◌then◌else◌, false};
 ghost use Rattle.std.specs.List.{count_by};
 ghost use Rattle.wol_model.specs.Index.{AreRising};
 ghost use Rattle.version_marks.specs.Marks.{mask_in, AreApart, mask_of};
@@ -194,6 +194,13 @@ impl VersionMarks {
         self.versions.truncate(place);
         self.versions.push_reserved(version);
         set_leaf(&mut self.nodes, place, mask);
+    }
+
+    /// Whether a version may have a bit of `wanted`: false only where none has.
+    pub fn may_have(&self, wanted: u128) -> bool
+        ensures { result ≡ false → (v : ℕ) → AreApart (mask_of self.now v) wanted }
+    {
+        self.nodes.len() > 1 && self.nodes[1] & wanted != 0
     }
 
     /// The least version from `from` on whose mask has a bit of `wanted`, and none where there is none.
