@@ -18,11 +18,11 @@ is_awake lanes e = slice_index_or lanes e.listed.lane false
 abbrev pub has_awake : Sought → List Bool → List Indexed → Indexed → Bool
 has_awake sought lanes es e = is_awake lanes e && has_sought sought (listed_in es) e.listed
 
--- a block of the record may go
+-- the record's lane is true, and a block of it may go
 abbrev pub can_go : List Bool → List Indexed → Indexed → Bool
 can_go = has_awake Going
 
--- or is due
+-- or its lane is true, and a block of it is due
 abbrev pub can_go_home : List Bool → List Indexed → Indexed → Bool
 can_go_home = has_awake Due
 

@@ -72,7 +72,8 @@ AreBegun covered es known masks b = (k : ℕ) (e : Entry) → slice_get es k ≡
 abbrev pub KeepsBits : Contents → Contents → Type 0
 KeepsBits old new = (v : ℕ) → IsWithin (mask_of old v) (mask_of new v)
 
--- the marks are right of entries of which this record is the newest of all blocks that it keeps
+-- the marks of the entries are right, and of each block that this record keeps its version is the
+-- newest
 pub record IsMarkedUnder (r : Rec) (es : List Entry) (known : ℕ → Option Cell)
     (masks : ℕ → ℕ) : Type 0 where
   pub entries : AreEntries es
