@@ -21,8 +21,10 @@ pub record TakesWrite {D : Type 0} (shared : Shared D) (first : ℕ) (blocks : L
   pub count : (1 ≤ length blocks) × (length blocks ≤ b.volume.began.most)
   pub fits : first + length blocks ≤ b.volume.began.home_blocks
 
--- In a turn that keeps the manager in its place no log had room for a write of these blocks. The
--- entry has what it passed by, and the manager, which is up, would keep for it.
+-- A write of these blocks was refused, since no log had room, in a turn that keeps the manager in
+-- its place. `n` is the note of that refusal: it changed nothing, and with the pools that it names
+-- as found empty the rules have no place for the write. The manager isn't down, and keeps up what
+-- it must for the entries with this one behind them.
 pub record IsFullInPlace {D : Type 0} (tells : Bool) (state : D → State) (first : ℕ)
     (blocks : List Block) (n : Noted) (p : ManagerPass D) : Type 0 where
   pub kept : n.entry.operation ≡ Kept

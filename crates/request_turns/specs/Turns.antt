@@ -99,9 +99,10 @@ abbrev pub StandsInPlace : {D : Type 0} → Bool → (D → State) → Noted →
 StandsInPlace {D} tells state n p = (m : Manager D) × IsInTurnWith m p
     × Stands tells state m (pass_lock p).base (notes_seen p ++ n ∷ [])
 
--- such a turn ended with this entry: behind it the part is down that the manager names, and no disk
--- call had failed where it names none
-pub record HasLeftInPlace {D : Type 0} (tells : Bool) (n : Noted) (p q : ManagerPass D) : Type 0 where
+-- Such a turn ended with this entry. Where the manager names a part as down, that part was down
+-- behind one of the entries up to this one; where it names none, no disk call had failed.
+pub record HasLeftInPlace {D : Type 0} (tells : Bool) (n : Noted) (p q : ManagerPass D) :
+    Type 0 where
   pub left : HasLeft tells n p q
   pub broken : (m : Manager D) (d : Part) → IsInTurnWith m p → m.down ≡ Some d
       → WasDown d (notes_seen q)
