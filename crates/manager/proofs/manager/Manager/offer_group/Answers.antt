@@ -22,7 +22,22 @@ use Rattle.listed_records.proofs.Elements.{refill_set, all_at}
 use Rattle.manager.proofs.GroupOffering.{all_taken_front, items_small, first_few, offered_unready, offered_position, offered_ready, offered_look, offered_stands, offered_failed, offered_stops, offered_cause}
 use Rattle.manager.proofs.ReadyLanes.{at_lane}
 use Rattle.manager.proofs.Placed.{away_more, away_takes, ready_away, keeps_away}
+use Rattle.manager.proofs.manager.Manager.offer_group.Given as given
+use Rattle.manager.proofs.manager.Manager.offer_group.Goals.{After-index_mut-reached, In-Some}
 use Rattle.manager.proofs.manager.Manager.offer_group.Goals as goal
+
+-- the lane that is asked
+there : (g : given.Over) (c : After-index_mut-reached g) → slice_get c.args.self.now.lanes.items c.args.lane ≡ Some c.index_mut-reached.result.now
+there g c =
+    let lanes = c.args.self.now.lanes.items in
+    slice_get_read lanes (length lanes) c.args.lane c.index_mut-reached.result.now refl c.requires.there c.index_mut-reached.ensures.value
+
+-- what it wrote, by its answer
+put_as : (g : given.Over) (c : In-Some g) (q : Result Spot (ℕ × Failed)) → c.in-Some.written ≡ q
+    → PutIn g.D.Disk.state c.index_mut-reached.result.now c.put_group.new.lane (room_for (take c.in-Some.count c.args.items.now)) (group_of (lane_owner c.index_mut-reached.result.now) c.args.self.now.next (take c.in-Some.count c.args.items.now) c.args.from.now) q
+put_as g c q is =
+    let old = c.index_mut-reached.result.now in let items = take c.in-Some.count c.args.items.now in
+    subst (λ (r : Result Spot (ℕ × Failed)). PutIn g.D.Disk.state old c.put_group.new.lane (room_for items) (group_of (lane_owner old) c.args.self.now.next items c.args.from.now) r) is c.in-Some.ensures.put
 
 pub put_group-requires-clause-items : goal.put_group-requires-clause-items
 put_group-requires-clause-items g c =
@@ -31,7 +46,7 @@ put_group-requires-clause-items g c =
 pub put_group-requires-clause-first : goal.put_group-requires-clause-first
 put_group-requires-clause-first g c =
     let m = c.args.self.now in let old = c.index_mut-reached.result.now in
-    let l = (all_at (IsReadyLane g.D.Disk.state m.id m.most) m.lanes.items c.args.lane old (slice_get_read m.lanes.items (length m.lanes.items) c.args.lane old refl c.requires.there c.index_mut-reached.ensures.value) c.requires.run.serves.ready.ready.each).long in
+    let l = (all_at (IsReadyLane g.D.Disk.state m.id m.most) m.lanes.items c.args.lane old (there g (goal.at.put_group-requires-clause-first g c).After-index_mut-reached) c.requires.run.serves.ready.ready.each).long in
     let f = first_few m.most (state_of g.D.Disk.state m.home).size c.args.items.now c.requires.run.each in two_more _ _ _ f l
 
 -- ---- It had no room
@@ -39,7 +54,7 @@ put_group-requires-clause-first g c =
 pub returns-in_default : goal.returns-in_default
 returns-in_default g c =
     let m = c.args.self.now in let t = c.in_default.ensures.turn in let e = c.put_group.ensures in let old = c.index_mut-reached.result.now in let new = c.put_group.new.lane in
-    let lane : slice_get m.lanes.items c.args.lane ≡ Some old = slice_get_read m.lanes.items (length m.lanes.items) c.args.lane old refl c.requires.there c.index_mut-reached.ensures.value in
+    let at = goal.at.returns-in_default g c in let lane = there g at.After-index_mut-reached in
     record {
       ready = ready_away g.D.Disk.state m c.args.lane old new lane e.lane t.same e.all e.none _ refl t.held c.requires.run.serves.ready;
       at = at_lane m c.args.lane new c.requires.run.serves.at e.at;
@@ -69,26 +84,23 @@ list_group-requires-clause-reserved g c =
 pub list_group-requires-clause-position : goal.list_group-requires-clause-position
 list_group-requires-clause-position g c =
     let state = g.D.Disk.state in let m = c.args.self.now in let e = c.put_group.ensures in let s = c.in-Some.ensures in let old = c.index_mut-reached.result.now in let new = c.put_group.new.lane in let n = c.in-Some.count in let items = c.args.items.now in
-    let lane : slice_get m.lanes.items c.args.lane ≡ Some old = slice_get_read m.lanes.items (length m.lanes.items) c.args.lane old refl c.requires.there c.index_mut-reached.ensures.value in
-    let put : PutIn state old new (room_for (take n items)) (group_of (lane_owner old) m.next (take n items) c.args.from.now) (Ok c.in-Ok.spot) =
-    subst (λ (q : Result Spot (ℕ × Failed)). PutIn state old new (room_for (take n items)) (group_of (lane_owner old) m.next (take n items) c.args.from.now) q) c.in-Ok.is s.put in
+    let at = goal.at.list_group-requires-clause-position g c in let lane = there g at.After-index_mut-reached in
+    let put = put_as g at.In-Some (Ok c.in-Ok.spot) c.in-Ok.is in
     offered_position state m c.args.lane old new lane e.lane s.turn.same e.all e.none c.requires.run.serves.ready items n s.count.0 s.count.1 c.args.from.now c.requires.run.each c.requires.run.blocks s.fits c.requires.run.serves.up c.in-Ok.spot put
 
 pub returns-in-Ok : goal.returns-in-Ok
 returns-in-Ok g c =
     let tells = g.D.Disk.tells in let state = g.D.Disk.state in let m = c.args.self.now in let e = c.put_group.ensures in let s = c.in-Some.ensures in let old = c.index_mut-reached.result.now in let new = c.put_group.new.lane in let n = c.in-Some.count in let items = c.args.items.now in let v = with_item m.lanes c.args.lane new in
-    let lane : slice_get m.lanes.items c.args.lane ≡ Some old = slice_get_read m.lanes.items (length m.lanes.items) c.args.lane old refl c.requires.there c.index_mut-reached.ensures.value in
-    let put : PutIn state old new (room_for (take n items)) (group_of (lane_owner old) m.next (take n items) c.args.from.now) (Ok c.in-Ok.spot) =
-    subst (λ (q : Result Spot (ℕ × Failed)). PutIn state old new (room_for (take n items)) (group_of (lane_owner old) m.next (take n items) c.args.from.now) q) c.in-Ok.is s.put in
+    let at = goal.at.returns-in-Ok g c in let lane = there g at.After-index_mut-reached in
+    let put = put_as g at.In-Some (Ok c.in-Ok.spot) c.in-Ok.is in
     let room = few_room n (length items) m.next _ s.count.1 c.requires.run.next in
-    let is_logger = slice_get-map logger_of m.lanes.items c.args.lane ∙ ap (option_map logger_of) lane ∙ ap Some (sym c.logger-logger.ensures) in
     record {
       ready = offered_ready state m c.args.lane old new lane e.lane s.turn.same e.all e.none c.requires.run.serves.ready items n s.count.0 s.count.1 c.args.from.now c.requires.run.each c.requires.run.blocks s.fits c.requires.run.serves.up c.in-Ok.spot put (with_item m.lanes c.args.lane new) c.list_group.new.index _ refl c.list_group.ensures (refill_set m.ups.items c.deref_mut.result.now c.args.lane true c.deref_mut.ensures.value) (few_room c.in-Some.count (length c.args.items.now) m.next _ s.count.1 c.requires.run.next);
       at = at_lane m c.args.lane new c.requires.run.serves.at e.at;
       turned_away = λ none. let no : true ≡ false = none in absurd (cc);
       taken = record {
         tried = s.count;
-        answer = is_logger;
+        answer = slice_get-map logger_of m.lanes.items c.args.lane ∙ ap (option_map logger_of) lane ∙ ap Some (sym c.logger-logger.ensures);
         rest = refl;
         lanes = record { before = old; after = new; there = lane; set = refl; change = s.turn };
         stands = λ b notes passed nt client note has kp.
@@ -112,11 +124,9 @@ returns-in-Ok g c =
 pub returns-in-Err : goal.returns-in-Err
 returns-in-Err g c =
     let tells = g.D.Disk.tells in let state = g.D.Disk.state in let m = c.args.self.now in let e = c.put_group.ensures in let s = c.in-Some.ensures in let old = c.index_mut-reached.result.now in let new = c.put_group.new.lane in let n = c.in-Some.count in let items = c.args.items.now in let v = with_item m.lanes c.args.lane new in
-    let lane : slice_get m.lanes.items c.args.lane ≡ Some old = slice_get_read m.lanes.items (length m.lanes.items) c.args.lane old refl c.requires.there c.index_mut-reached.ensures.value in
-    let put : PutIn state old new (room_for (take n items)) (group_of (lane_owner old) m.next (take n items) c.args.from.now) (Err (c.in-Err.index, c.in-Err.field-0-1)) =
-    subst (λ (q : Result Spot (ℕ × Failed)). PutIn state old new (room_for (take n items)) (group_of (lane_owner old) m.next (take n items) c.args.from.now) q) c.in-Err.is s.put in
+    let at = goal.at.returns-in-Err g c in let lane = there g at.After-index_mut-reached in
+    let put = put_as g at.In-Some (Err (c.in-Err.index, c.in-Err.field-0-1)) c.in-Err.is in
     let room = few_room n (length items) m.next _ s.count.1 c.requires.run.next in
-    let is_logger = slice_get-map logger_of m.lanes.items c.args.lane ∙ ap (option_map logger_of) lane ∙ ap Some (sym c.logger-logger.ensures) in
     let p = part.Segment c.logger-logger.result c.in-Err.index in let m' = record m { lanes = v; down = Some p } in
     record {
       ready = offered_unready state m c.args.lane old new lane e.lane s.turn.same e.all e.none c.requires.run.serves.ready v refl p;
@@ -124,7 +134,7 @@ returns-in-Err g c =
       turned_away = λ none. let no : true ≡ false = none in absurd (cc);
       taken = record {
         tried = s.count;
-        answer = is_logger;
+        answer = slice_get-map logger_of m.lanes.items c.args.lane ∙ ap (option_map logger_of) lane ∙ ap Some (sym c.logger-logger.ensures);
         rest = refl;
         lanes = record { before = old; after = new; there = lane; set = refl; change = s.turn };
         stands = λ b notes passed nt client note has kp.
