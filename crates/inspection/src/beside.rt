@@ -165,31 +165,6 @@ fn find_both<'a, D: Disk + Send, R: Threads + Wait + Sync>(
     );
 }
 
-// Looks at the volumes of the next run of stations, behind those that were looked at.
-fn find_run<D: Disk + Send, R: Threads + Wait + Sync>(
-    rt: &R,
-    alloc: Global,
-    shared: &Shared<D>,
-    config: &Config,
-    stations: &mut [Station<D>],
-    findings: &mut [Finding],
-    found: usize,
-    size: usize,
-)
-    requires valid { IsValid config.now }
-    requires going { CanFindMore D.tells D.state config.now shared.now stations.old findings.old
-        found }
-    requires size { found + size ≤ length stations.old }
-    ensures { HasFoundMore D.tells D.state config.now stations.old stations.new findings.old
-        findings.new found (found + size) }
-{
-    let (_, ahead) = stations.split_at_mut(found);
-    let (run, _) = ahead.split_at_mut(size);
-    let (_, ahead_findings) = findings.split_at_mut(found);
-    let (run_findings, _) = ahead_findings.split_at_mut(size);
-    find_parts(rt, alloc, shared, config, run, run_findings, HALVINGS);
-}
-
 /// Looks at the volumes of the next run of stations, unless that of the station at this place was looked at, and answers
 /// how many were.
 pub(crate) fn find_through<D: Disk + Send, R: Threads + Wait + Sync>(
@@ -215,15 +190,10 @@ pub(crate) fn find_through<D: Disk + Send, R: Threads + Wait + Sync>(
         return found;
     }
     let until = found.saturating_add(RUN).max(place + 1).min(stations.len());
-    find_run(
-        rt,
-        alloc,
-        shared,
-        config,
-        stations,
-        findings,
-        found,
-        until - found,
-    );
+    let (_, ahead) = stations.split_at_mut(found);
+    let (run, _) = ahead.split_at_mut(until - found);
+    let (_, ahead_findings) = findings.split_at_mut(found);
+    let (run_findings, _) = ahead_findings.split_at_mut(until - found);
+    find_parts(rt, alloc, shared, config, run, run_findings, HALVINGS);
     until
 }
