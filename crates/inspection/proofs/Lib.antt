@@ -14,3 +14,4 @@ pub mod Completing
 pub mod Halves
 pub mod Ahead
 pub mod AsFound
+pub mod AsPrinted

@@ -1,5 +1,5 @@
 -- What looks at volumes side by side found.
-use Rattle.std.specs.Prelude.{◌≡◌, ◌⊎◌, ◌++◌, ◌<◌, ◌≤◌, ℕ, Bool, List, [], length, Option, None, Some, Err, OnErr, slice_index_or, All}
+use Rattle.std.specs.Prelude.{◌≡◌, ◌⊎◌, ◌++◌, ◌<◌, ◌≤◌, ℕ, ⊤, Bool, List, [], length, Option, None, Some, Result, Err, IfOk, OnErr, slice_index_or, All}
 use Rattle.wol_disk.specs.Disk.{State}
 use Rattle.wol_config.specs.declared.config.Config.{Config}
 use Rattle.logger.specs.declared.shared.Shared.{Shared}
@@ -14,8 +14,9 @@ use Rattle.rack.specs.Racks.{IsStation, base_of_station}
 use Rattle.rack_parts.specs.declared.rack.Rack.{Rack}
 use Rattle.inspection.specs.Looks.{IsConfiguredBase, LooksAt}
 use Rattle.inspection.specs.Racks.{IsSameStation, IsStationAt}
-use Rattle.inspection.specs.Lines.{Telling, TellsFault, trouble_line, trouble_told}
-use Rattle.inspection.specs.declared.asked.Asked.TheVariants.{Check}
+use Rattle.inspection.specs.Lines.{AppendsVolume, Telling, TellsFault, trouble_line, trouble_told}
+use Rattle.inspection.specs.declared.asked.Asked.{Asked}
+use Rattle.inspection.specs.declared.asked.Asked.TheVariants.{Check, Dump}
 use Rattle.inspection.specs.declared.beside.Finding.{Finding}
 
 -- a station whose volume may be looked at, and a finding of nothing yet
@@ -112,3 +113,36 @@ pub record TellsFound {D : Type 0} (config : Config) (r : Rack D) (fs : List Fin
 abbrev pub IsToldBy : {D : Type 0} → Config → Rack D → List Finding → (n number : ℕ) → Telling
     → Type 0
 IsToldBy config r fs n number t = TellsFault config r number t ⊎ TellsFound config r fs n number t
+
+-- ---- The lines of the next volume
+
+-- Each station has a finding of nothing yet where volumes are looked at side by side.
+abbrev pub HasRoom : Asked → (stations : ℕ) → List Finding → Type 0
+HasRoom Check stations fs = (length fs ≡ stations) × AreEmpty fs
+HasRoom Dump stations fs = ⊤
+
+-- Side by side, the volumes of the first n stations were looked at.
+abbrev pub AreAhead : {D : Type 0} → (tells : Bool) → (D → State) → Config → Asked
+    → (ts : List (Station D)) → List Finding → (n : ℕ) → Type 0
+AreAhead {D} tells state config Check ts fs n =
+    (before : List (Station D)) × AreFoundTo tells state config before ts fs n
+AreAhead tells state config Dump ts fs n = ⊤
+
+-- The volumes of some more stations were looked at, and there is what is told of this volume.
+pub record AppendsFound {D E : Type 0} (tells : Bool) (state : D → State) (config : Config)
+    (old new : Rack D) (fs hs : List Finding) (n m number : ℕ) (result : Result (Option Trouble) E)
+    (text : List ℕ) : Type 0 where
+  pub rest : new ≡ record old { stations = new.stations }
+  pub more : n ≤ m
+  pub found : HasFoundMore tells state config old.stations.items new.stations.items fs hs n m
+  pub told : IfOk result
+      (λ t. IsToldBy config new hs m number (record { trouble = t; text = text }))
+
+-- The text of a volume was appended, after a look at it alone or at those of a run.
+abbrev pub AppendsNext : {D E : Type 0} → (tells : Bool) → (D → State) → Config → Asked
+    → (old new : Rack D) → (fs hs : List Finding) → (n m number : ℕ)
+    → Result (Option Trouble) E → (text : List ℕ) → Type 0
+AppendsNext tells state config Check old new fs hs n m number result text =
+    AppendsFound tells state config old new fs hs n m number result text
+AppendsNext tells state config Dump old new fs hs n m number result text =
+    AppendsVolume tells state config Dump old new number result text

@@ -9,14 +9,11 @@ ghost use Rattle.rack.specs.Opens.{KeepsAllSound, KeepsOthers, LeavesAll};
 ghost use Rattle.open_rack.specs.Sessions.{OpensAndCloses};
 ghost use Rattle.inspection.specs.Racks.{CanLook};
 ghost use Rattle.inspection.specs.Lines.{PrintsVolumes, first_of};
-ghost use Rattle.inspection.specs.declared.asked.Asked.TheVariants.{Check};
 ghost use Rattle.inspection.specs.Runs.{Completes, Inspects, MayComplete};
 ghost use Rattle.inspection.specs.declared.calls.Stop.TheVariants.{Sink as sink_failed, Memory as no_memory};
 
 use crate::asked::Asked;
-use crate::beside::no_findings;
-use crate::found::append_found;
-use crate::lines::append_volume;
+use crate::found::{append_next, findings_for};
 use open_rack::Closed;
 use rack::{Rack, close_all, open_all};
 use report::Trouble;
@@ -63,8 +60,8 @@ fn first_of(first: Option<Trouble>, other: Option<Trouble>) -> Option<Trouble>
     }
 }
 
-// Prints the lines of each volume in order, and answers what is wrong with the first that isn't in order.
-fn print_volumes<D: Disk, R: Wait, K: Sink>(
+// Prints what is asked of each volume of a rack, in order, and answers what is wrong with the first that isn't in order.
+fn print_volumes<D: Disk + Send, R: Threads + Wait + Sync, K: Sink>(
     rt: &R,
     alloc: Global,
     asked: Asked,
@@ -77,72 +74,21 @@ fn print_volumes<D: Disk, R: Wait, K: Sink>(
     ensures { PrintsVolumes D.tells D.state config.now asked rack.old rack.new result
         (K.faults out.old) (K.faults out.new) (K.taken out.old) (K.taken out.new) }
 {
+    let mut room = findings_for(alloc, asked, rack.stations.len())?;
+    let findings = room.as_mut_slice();
+    let mut found = 0;
     let mut first = None;
     let mut text = Vec::new(alloc);
-    for volume in 0..config.volumes.len() {
-        let trouble = append_volume(rt, alloc, asked, rack, config, volume as u32, &mut text)?;
+    for number in 0..config.volumes.len() {
+        let volume = number as u32;
+        let trouble = append_next(
+            rt, alloc, asked, rack, findings, &mut found, config, volume, &mut text,
+        )?;
         out.write(&text)?;
         text.clear();
         first = first_of(first, trouble);
     }
     Ok(first)
-}
-
-// Looks at the volumes side by side, a run of them after another, and prints the line of each in order. It answers what is
-// wrong with the first that isn't in order.
-fn print_checks<D: Disk + Send, R: Threads + Wait + Sync, K: Sink>(
-    rt: &R,
-    alloc: Global,
-    rack: &mut Rack<D>,
-    config: &Config,
-    out: &mut K,
-) -> Result<Option<Trouble>, Stop>
-    requires valid { IsValid config.now }
-    requires rack { CanLook config.now rack.old }
-    ensures { PrintsVolumes D.tells D.state config.now Check rack.old rack.new result
-        (K.faults out.old) (K.faults out.new) (K.taken out.old) (K.taken out.new) }
-{
-    let mut room = no_findings(alloc, rack.stations.len())?;
-    let findings = room.as_mut_slice();
-    let mut found = 0;
-    let mut first = None;
-    let mut lines = Vec::new(alloc);
-    for number in 0..config.volumes.len() {
-        let told = append_found(
-            rt,
-            alloc,
-            rack,
-            findings,
-            &mut found,
-            config,
-            number as u32,
-            &mut lines,
-        )?;
-        out.write(&lines)?;
-        lines.clear();
-        first = first_of(first, told);
-    }
-    Ok(first)
-}
-
-// Prints what is asked of each volume of a rack, in order, and answers what is wrong with the first that isn't in order.
-fn print_lines<D: Disk + Send, R: Threads + Wait + Sync, K: Sink>(
-    rt: &R,
-    alloc: Global,
-    asked: Asked,
-    rack: &mut Rack<D>,
-    config: &Config,
-    out: &mut K,
-) -> Result<Option<Trouble>, Stop>
-    requires valid { IsValid config.now }
-    requires rack { CanLook config.now rack.old }
-    ensures { PrintsVolumes D.tells D.state config.now asked rack.old rack.new result
-        (K.faults out.old) (K.faults out.new) (K.taken out.old) (K.taken out.new) }
-{
-    match asked {
-        Asked::Check => print_checks(rt, alloc, rack, config, out),
-        Asked::Dump => print_volumes(rt, alloc, Asked::Dump, rack, config, out),
-    }
 }
 
 // Opens all volumes, prints what is asked of each, and closes them.
@@ -174,7 +120,7 @@ where
     ensures unwritten { OnErr result (out.new ≡ out.old) }
 {
     let mut rack = open_all(alloc, rt, bay, config)?;
-    let answer = print_lines(rt, alloc, asked, &mut rack, config, out);
+    let answer = print_volumes(rt, alloc, asked, &mut rack, config, out);
     let spindles = close_all(rack, bay, config);
     Ok(Closed { answer, spindles })
 }

@@ -1,15 +1,16 @@
 // The lines of volumes that were looked at side by side.
-ghost use Rattle.std.specs.Prelude.{◌≡◌, ◌++◌, ◌<◌, ◌≤◌, List, [], length, Err, IfOk};
+ghost use Rattle.std.specs.Prelude.{◌≡◌, ◌++◌, ◌<◌, List, [], length, Err, IfOk};
 ghost use Rattle.wol_config.specs.Configs.{IsValid};
 ghost use Rattle.manager.specs.declared.station.Station.{Station};
 ghost use Rattle.rack_parts.specs.declared.rack.Rack.{Rack};
 ghost use Rattle.log_dump.specs.declared.fault.DumpFault.TheVariants.{NoMemory as no_memory};
 ghost use Rattle.inspection.specs.Racks.{CanLook};
 ghost use Rattle.inspection.specs.Lines.{trouble_told};
-ghost use Rattle.inspection.specs.Findings.{AreFoundTo, HasFoundMore, IsKnown, IsToldBy, lines_of};
+ghost use Rattle.inspection.specs.Findings.{AppendsFound, AppendsNext, AreAhead, AreFoundTo, HasRoom, IsKnown, lines_of};
 
-use crate::beside::{Finding, find_through};
-use crate::lines::{append_fault, append_trouble, place_of, trouble_told};
+use crate::asked::Asked;
+use crate::beside::{Finding, find_through, no_findings};
+use crate::lines::{append_fault, append_trouble, append_volume, place_of, trouble_told};
 use rack::Rack;
 use report::Trouble;
 use std::alloc::Global;
@@ -43,9 +44,9 @@ fn append_finding(
     Ok(trouble)
 }
 
-/// Appends the lines of a volume, and answers what is wrong with it. Where the volume of its station wasn't looked at, those
-/// of the next run are first.
-pub(crate) fn append_found<D: Disk + Send, R: Threads + Wait + Sync>(
+// Appends the lines of a volume, and answers what is wrong with it. Where the volume of its station wasn't looked at, those
+// of the next run are first.
+fn append_found<D: Disk + Send, R: Threads + Wait + Sync>(
     rt: &R,
     alloc: Global,
     rack: &mut Rack<D>,
@@ -62,12 +63,8 @@ pub(crate) fn append_found<D: Disk + Send, R: Threads + Wait + Sync>(
         found.old }
     requires volume { volume < length config.now.volumes.items }
     requires empty { out.old.items ≡ [] }
-    ensures rest { rack.new ≡ record rack.old { stations = rack.new.stations } }
-    ensures more { found.old ≤ found.new }
-    ensures found { HasFoundMore D.tells D.state config.now rack.old.stations.items
-        rack.new.stations.items findings.old findings.new found.old found.new }
-    ensures told { IfOk result (λ t. IsToldBy config.now rack.new findings.new found.new volume
-        (record { trouble = t; text = out.new.items })) }
+    ensures { AppendsFound D.tells D.state config.now rack.old rack.new findings.old findings.new
+        found.old found.new volume result out.new.items }
 {
     let Some(fault) = rack.faults[volume as usize] else {
         let place = place_of(&rack.stations, volume);
@@ -85,4 +82,46 @@ pub(crate) fn append_found<D: Disk + Send, R: Threads + Wait + Sync>(
         return append_finding(alloc, config, volume, &findings[place], out);
     };
     append_fault(alloc, config, volume, fault, out)
+}
+
+/// Room for what is found of the volumes of so many stations.
+pub(crate) fn findings_for(
+    alloc: Global,
+    asked: Asked,
+    stations: usize,
+) -> Result<Vec<Finding>, NoMemory>
+    ensures { IfOk result (λ fs. HasRoom asked stations fs.items) }
+{
+    match asked {
+        Asked::Check => no_findings(alloc, stations),
+        Asked::Dump => Ok(Vec::new(alloc)),
+    }
+}
+
+/// Appends the lines of a volume, and answers what is wrong with it. For `Check` the volumes of a run of stations are looked at
+/// side by side, the first time that the lines of one of them are asked for.
+pub(crate) fn append_next<D: Disk + Send, R: Threads + Wait + Sync>(
+    rt: &R,
+    alloc: Global,
+    asked: Asked,
+    rack: &mut Rack<D>,
+    findings: &mut [Finding],
+    found: &mut usize,
+    config: &Config,
+    volume: u32,
+    out: &mut Vec<u8>,
+) -> Result<Option<Trouble>, NoMemory>
+    requires valid { IsValid config.now }
+    requires rack { CanLook config.now rack.old }
+    requires ahead { AreAhead D.tells D.state config.now asked rack.old.stations.items findings.old
+        found.old }
+    requires volume { volume < length config.now.volumes.items }
+    requires empty { out.old.items ≡ [] }
+    ensures { AppendsNext D.tells D.state config.now asked rack.old rack.new findings.old
+        findings.new found.old found.new volume result out.new.items }
+{
+    match asked {
+        Asked::Check => append_found(rt, alloc, rack, findings, found, config, volume, out),
+        Asked::Dump => append_volume(rt, alloc, Asked::Dump, rack, config, volume, out),
+    }
 }

@@ -10,17 +10,17 @@ use Rattle.inspection.proofs.calls.print_opened.Goals as goal
 pub returns-in_err-rack-clause-none_out : goal.returns-in_err-rack-clause-none_out
 returns-in_err-rack-clause-none_out g c = none_out_still c.args.config.now (g.B.Bay.state c.args.bay.now) (g.B.Bay.state c.open_all.new.bay) c.in_err-rack.ensures.home c.requires.home
 
-pub print_lines-answer-requires-clause-rack : goal.print_lines-answer-requires-clause-rack
-print_lines-answer-requires-clause-rack g c κs within = can_look _ _ (g.B.Bay.state c.open_all.new.bay) _ c.in_ok-rack.ensures.rack
+pub print_volumes-answer-requires-clause-rack : goal.print_volumes-answer-requires-clause-rack
+print_volumes-answer-requires-clause-rack g c κs within = can_look _ _ (g.B.Bay.state c.open_all.new.bay) _ c.in_ok-rack.ensures.rack
 
 pub close_all-spindles-requires-clause-rack : goal.close_all-spindles-requires-clause-rack
 close_all-spindles-requires-clause-rack g c =
-    closable_again g.B.Part.Disk.state c.args.config.now c.in_ok-rack.rack c.print_lines-answer.new.rack (again_same _ _ c.print_lines-answer.ensures.same) (g.B.Bay.state c.open_all.new.bay) c.in_ok-rack.ensures.rack
+    closable_again g.B.Part.Disk.state c.args.config.now c.in_ok-rack.rack c.print_volumes-answer.new.rack (again_same _ _ c.print_volumes-answer.ensures.same) (g.B.Bay.state c.open_all.new.bay) c.in_ok-rack.ensures.rack
 
 pub returns-clause-home : goal.returns-clause-home
 returns-clause-home g c =
-    home_again c.args.config.now (g.B.Bay.state c.args.bay.now) (g.B.Bay.state c.open_all.new.bay) (g.B.Bay.state c.close_all-spindles.new.bay) c.in_ok-rack.rack c.print_lines-answer.new.rack
-    (rest_again g.B.Part.Disk.state c.args.config.now c.in_ok-rack.rack c.print_lines-answer.new.rack (again_same _ _ c.print_lines-answer.ensures.same)) c.requires.home c.in_ok-rack.ensures.out c.close_all-spindles.ensures.home
+    home_again c.args.config.now (g.B.Bay.state c.args.bay.now) (g.B.Bay.state c.open_all.new.bay) (g.B.Bay.state c.close_all-spindles.new.bay) c.in_ok-rack.rack c.print_volumes-answer.new.rack
+    (rest_again g.B.Part.Disk.state c.args.config.now c.in_ok-rack.rack c.print_volumes-answer.new.rack (again_same _ _ c.print_volumes-answer.ensures.same)) c.requires.home c.in_ok-rack.ensures.out c.close_all-spindles.ensures.home
 
 pub returns-clause-none_out : goal.returns-clause-none_out
 returns-clause-none_out g c = none_out_still c.args.config.now (g.B.Bay.state c.args.bay.now) (g.B.Bay.state c.close_all-spindles.new.bay) (returns-clause-home g c) c.requires.home
@@ -31,17 +31,17 @@ returns-clause-sound g c =
     let tells = g.B.Part.Disk.tells in let state = g.B.Part.Disk.state in let config = c.args.config.now in
     let old = g.B.Bay.state c.args.bay.now in let bay = g.B.Bay.state c.open_all.new.bay in let new = g.B.Bay.state c.close_all-spindles.new.bay in
     let opened : IsOpened tells state config old bay c.in_ok-rack.rack = record { rack = o.rack; fresh = o.fresh; fresh_keepers = o.fresh_keepers; began = o.began; there = o.there; kept = o.kept; faulty = o.faulty; unfaulty = o.unfaulty } in
-    λ telling. sound_since tells state config old bay new c.in_ok-rack.rack c.print_lines-answer.new.rack (again_same _ _ c.print_lines-answer.ensures.same) opened o.counts e.counts e.kept telling (λ t began there. e.sound t telling began there)
+    λ telling. sound_since tells state config old bay new c.in_ok-rack.rack c.print_volumes-answer.new.rack (again_same _ _ c.print_volumes-answer.ensures.same) opened o.counts e.counts e.kept telling (λ t began there. e.sound t telling began there)
 
 pub returns-clause-did : goal.returns-clause-did
 returns-clause-did g c =
-    let o = c.in_ok-rack.ensures in let e = c.close_all-spindles.ensures in let p = c.print_lines-answer.ensures in
+    let o = c.in_ok-rack.ensures in let e = c.close_all-spindles.ensures in let p = c.print_volumes-answer.ensures in
     let tells = g.B.Part.Disk.tells in let state = g.B.Part.Disk.state in let config = c.args.config.now in
     let old = g.B.Bay.state c.args.bay.now in let bay = g.B.Bay.state c.open_all.new.bay in let new = g.B.Bay.state c.close_all-spindles.new.bay in
     let opened : IsOpened tells state config old bay c.in_ok-rack.rack = record { rack = o.rack; fresh = o.fresh; fresh_keepers = o.fresh_keepers; began = o.began; there = o.there; kept = o.kept; faulty = o.faulty; unfaulty = o.unfaulty } in
-    let closed : IsClosed tells state config bay new c.print_lines-answer.new.rack c.close_all-spindles.result.items = record { count = e.count; each = e.spindles; stations = e.stations.0; pools = e.stations.1; parts = e.parts; lists = e.faulty } in
-    opens_and_closes tells state config old bay new c.in_ok-rack.rack c.print_lines-answer.new.rack (again_same _ _ p.same) opened o.counts e.counts e.kept o.refused
-    (gained_parts state config c.print_lines-answer.new.rack.rest bay.told new.told e.faulty)
+    let closed : IsClosed tells state config bay new c.print_volumes-answer.new.rack c.close_all-spindles.result.items = record { count = e.count; each = e.spindles; stations = e.stations.0; pools = e.stations.1; parts = e.parts; lists = e.faulty } in
+    opens_and_closes tells state config old bay new c.in_ok-rack.rack c.print_volumes-answer.new.rack (again_same _ _ p.same) opened o.counts e.counts e.kept o.refused
+    (gained_parts state config c.print_volumes-answer.new.rack.rest bay.told new.told e.faulty)
     _ _ p closed o.failed o.complete e.cause e.left e.volumes e.unopened
 
 pub returns-clause-others : goal.returns-clause-others
