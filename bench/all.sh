@@ -2,7 +2,8 @@
 # All figures in one table: each work with its lines a second, its processor seconds, the limit of the machine in the same run, and the ratio of the
 # two. Replays of generated lines over 3, 36 and 64 volumes (the most that may be configured), with 1, 2 and 4 workers and each mode of reclaim, and of
 # windows of 2 and of 64 lines over 36 volumes, with 1, 2, 4 and 8 workers, reclaim between and beside; on a memory file system, and synced on a
-# disk. Then four policies compared on generated lines over 36 volumes, lines that belong to nobody, and digests.
+# disk. Then four policies compared on generated lines over 36 volumes, lines that belong to nobody, and digests; and what bench/ratios.sh prints for
+# ten times as many lines.
 # The limit of a replay is what `dd` writes and syncs in the same folder just before: as many blocks of 4 KiB as there are lines, each synced, by as
 # many processes as there are workers. The limit of lines is `wc -l`, that of digests `sha256sum`. Of each replay and its limit the best of RUNS
 # runs counts, by turns, each on images just formatted.
@@ -16,6 +17,7 @@ runs=${RUNS:-3}
 load=$(cut -d ' ' -f 1 /proc/loadavg)
 program=$PWD/build/wol
 figures=$PWD/bench/FIGURES.md
+ratios=$PWD/bench/ratios.sh
 [ -x "$program" ] || { echo "bench/all.sh: no build/wol: run 'make build' first" >&2; exit 1; }
 memory=$(mktemp -d /dev/shm/wol-bench.XXXXXX)
 disk=$(mktemp -d "${DISK:-/var/tmp}/wol-bench.XXXXXX")
@@ -138,6 +140,7 @@ configure 4 >wol.toml
 compare "check of 4 volumes, a byte" $((4 * 100000 * 512)) "'$program' check" "head -q -c $((100000 * 512)) ./*.vol | sha256sum"
 cd "$disk"
 replays disk "$synced"
+table=$("$ratios" $((lines * 10)) $((synced * 2)) | tee /dev/stderr)
 # shellcheck disable=SC2016  # back quotes are text here
 {
     printf '# Figures\n\nMade by `bench/all.sh %s %s` on %s, on a machine with %s processors (%s) and %s of memory, under %s; ' \
@@ -149,4 +152,6 @@ replays disk "$synced"
     printf '`wc -l`; `sha256sum`. The ratio is speed over limit.\n\n'
     printf '| work | a second | CPU s | limit a second | ratio |\n|---|---|---|---|---|\n'
     cat "$rows"
+    printf '\n## Ratios\n\nThe least of what %s runs by turns spent, and the limit: the time by the clock of the plain program in the same place.\n\n%s\n' \
+        "$runs" "$table"
 } >"$figures"
