@@ -48,6 +48,7 @@ module _ {D : Type 0} (tells : Bool) (state : D → State) (config : Config) (ol
 -- nothing stands in the way of a cleaning
 module _ (tells : Bool) (left : Option (List ℕ)) (config : Config) (has : HasConfig left config) (old new : BayState) (sink sink' : ℕ) where
   pub may_clean : (is : HasSoundImages tells left old) → HaveVersionsToClean left is.entry → ¬ Rose old.faults new.faults → ¬ Rose sink sink' → MayComplete tells config old new sink sink'
+  unfolding may_look
   may_clean is versions bay_calm sink_calm = record { looks = may_look tells left config has old new sink sink' is bay_calm sink_calm; versions = λ b begun. versions config has b begun }
 
 -- it came to its end as a run does

@@ -75,7 +75,7 @@ complete_unread left faults faults' status printed new e cause is calm whole (in
 -- ---- Volumes that are looked at
 
 module _ (tells : Bool) (left : Option (List ℕ)) (config : Config) (has : HasConfig left config) (old new : BayState) (sink sink' : ℕ) where
-  pub may_look : HasSoundImages tells left old → ¬ Rose old.faults new.faults → ¬ Rose sink sink' → look.MayComplete tells config old new sink sink'
+  unfoldable pub may_look : HasSoundImages tells left old → ¬ Rose old.faults new.faults → ¬ Rose sink sink' → look.MayComplete tells config old new sink sink'
   may_look is bay_calm sink_calm = record {
     telling = is.telling;
     entry = is.entry;
