@@ -1,5 +1,5 @@
 -- What a manager is known to be when its turn comes.
-use Rattle.std.proofs.Common.{◌≡◌, ◌≤◌, ℕ, Bool, List, [], ◌∷◌, sym, subst, ap, ◌∙◌, arith}
+use Rattle.std.proofs.Common.{◌≡◌, ◌≤◌, ◌+◌, ℕ, Bool, List, [], ◌∷◌, sym, subst, ap, ◌∙◌, arith}
 use Rattle.std.specs.List.{AllByRecursion}
 use Rattle.std.specs.Prelude.{slice_index_or}
 use Rattle.turn_lock.specs.LockIds.{LockId}
@@ -14,6 +14,8 @@ use Rattle.manager.specs.Stands.{Keeps, IsHome, HasLocks, AreNamed, IsNamed, IsS
 use Rattle.manager.specs.declared.base.LaneBase.{LaneBase}
 use Rattle.manager.specs.declared.base.ManagerBase.{ManagerBase}
 use Rattle.manager.specs.declared.manager.Manager.{Manager}
+use Rattle.request_turns.specs.Full.{FitsVolume}
+use Rattle.request_turns.specs.Tried.{CanBeAsked}
 
 module _ {D : Type 0} (shared : Shared D) where
   lane_at : (l : Lane D) (b : LaneBase) → IsNamed l b → IsLaneShared shared b → IsAt shared l
@@ -51,3 +53,11 @@ module _ {D : Type 0} (shared : Shared D) where
     -- and they lie in its home
     pub fits_at : (n : ℕ) → n ≤ l.base.volume.began.home_blocks → n ≤ (state_of state m.home).size
     fits_at n fits = let e = is.upholds.places.home_size in let f = ap (λ (i : LockId ManagerBase). i.base.volume.began.home_blocks) same in omega (arith, e, f, fits)
+
+    -- it can be asked for blocks that fit its volume
+    pub can_be_asked : (first count : ℕ) → FitsVolume shared first count l.base → CanBeAsked state shared first count m
+    can_be_asked first count fit = record { ready = is.ready; at = home_at fit.at; some = fit.some; few = few_at count fit.few; fits = fits_at _ fit.fits }
+
+-- they fit it, by what its lock is known to have
+pub fits_volume : {D : Type 0} (shared : Shared D) (first count : ℕ) (k l : LockId ManagerBase) → k ≡ l → IsShared shared l.base → (1 ≤ count) × (count ≤ l.base.volume.began.most) → first + count ≤ l.base.volume.began.home_blocks → FitsVolume shared first count k.base
+fits_volume shared first count k l same at many fits = subst (λ (i : LockId ManagerBase). FitsVolume shared first count i.base) (sym same) (record { at = at; some = many.0; few = many.1; fits = fits })

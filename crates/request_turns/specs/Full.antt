@@ -1,5 +1,5 @@
 -- A write within a turn, and one for which no log had room.
-use Rattle.std.specs.Prelude.{◌≡◌, ◌≤◌, ◌+◌, ◌∷◌, ◌++◌, ℕ, Bool, List, [], None, length}
+use Rattle.std.specs.Prelude.{◌≡◌, ◌≤◌, ◌+◌, ◌∷◌, ◌++◌, ℕ, Bool, List, [], None}
 use Rattle.turn_lock.specs.Passes.{pass_lock, IsInTurnWith}
 use Rattle.wol_disk.specs.Disk.{State, Block}
 use Rattle.wol_model.specs.History.{Kept}
@@ -14,12 +14,13 @@ use Rattle.manager.specs.declared.manager.Manager.{Manager}
 use Rattle.request_turns.specs.Causes.{CanTake}
 use Rattle.request_turns.specs.Turns.{ManagerPass, began, notes_seen}
 
--- a volume with this base takes a write of these blocks from `first` on
-pub record TakesWrite {D : Type 0} (shared : Shared D) (first : ℕ) (blocks : List Block)
-    (b : ManagerBase) : Type 0 where
+-- a request of so many blocks from `first` on fits the volume with this base
+pub record FitsVolume {D : Type 0} (shared : Shared D) (first count : ℕ) (b : ManagerBase) :
+    Type 0 where
   pub at : IsShared shared b
-  pub count : (1 ≤ length blocks) × (length blocks ≤ b.volume.began.most)
-  pub fits : first + length blocks ≤ b.volume.began.home_blocks
+  pub some : 1 ≤ count
+  pub few : count ≤ b.volume.began.most
+  pub fits : first + count ≤ b.volume.began.home_blocks
 
 -- A write of these blocks was refused, since no log had room, in a turn that keeps the manager in
 -- its place. `n` is the note of that refusal: it changed nothing, and with the pools that it names

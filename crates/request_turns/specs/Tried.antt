@@ -1,6 +1,7 @@
 -- What the steps of a request's turn make of the manager.
 use Rattle.std.specs.Prelude.{◌≡◌, ◌≤◌, ◌+◌, ◌^◌, ◌↔◌, ℕ, Bool, List, [], None, Some, Result, Err, OnOk, IfOk, IfErr, IsSome, length, map, count_by}
 use Rattle.std.specs.List.{range_with_len}
+use Rattle.turn_lock.specs.Passes.{pass_seen, pass_mine, IsInTurnWith, IsSamePass}
 use Rattle.wol_disk.specs.Disk.{State, Block}
 use Rattle.spin_model.specs.Spun.{state_of}
 use Rattle.wol_model.specs.History.{worker}
@@ -28,13 +29,13 @@ use Rattle.manager.specs.declared.part.WriteRefusal.TheVariants.{Down, VersionsS
 use Rattle.manager.specs.declared.run.Ran.{Ran}
 use Rattle.request_turns.specs.Counts.{Counts, HasTaken}
 use Rattle.request_turns.specs.Entries.{read_outcome}
-use Rattle.request_turns.specs.Turns.{faulty_part}
+use Rattle.request_turns.specs.Turns.{ManagerPass, faulty_part}
 use Rattle.request_turns.specs.Written.{IsDiskFault}
 use Rattle.request_turns.specs.declared.outcome.Outcome.{Outcome}
 use Rattle.request_turns.specs.declared.tally.Tally.{Tally}
 
--- a manager can be asked for so many blocks from `first` on
-pub record CanRead {D : Type 0} (state : D → State) (shared : Shared D) (first count : ℕ)
+-- a manager can be asked to read or write so many blocks from `first` on
+pub record CanBeAsked {D : Type 0} (state : D → State) (shared : Shared D) (first count : ℕ)
     (m : Manager D) : Type 0 where
   pub ready : IsReady state m
   pub at : IsHome shared m
@@ -42,7 +43,7 @@ pub record CanRead {D : Type 0} (state : D → State) (shared : Shared D) (first
   pub few : count ≤ m.most
   pub fits : first + count ≤ (state_of state m.home).size
 
--- it gave these, with this answer
+-- it was asked to read them, and gave these blocks, with this answer
 pub record HasReplied {D : Type 0} (tells : Bool) (state : D → State) (first count : ℕ)
     (answer : Result Sources ReadRefusal) (o : Outcome) (blocks : List Block) (m n : Manager D) :
     Type 0 where
@@ -57,15 +58,7 @@ pub record HasReplied {D : Type 0} (tells : Bool) (state : D → State) (first c
   pub unchanged : IsSome m.down → n ≡ m
   pub failed : (p : Part) → answer ≡ Err (NotRead.DiskFault p) → n.down ≡ Some p
 
--- a manager can be asked to write these blocks from `first` on
-pub record CanWrite {D : Type 0} (state : D → State) (shared : Shared D) (first : ℕ)
-    (blocks : List Block) (m : Manager D) : Type 0 where
-  pub ready : IsReady state m
-  pub at : IsHome shared m
-  pub count : (1 ≤ length blocks) × (length blocks ≤ m.most)
-  pub fits : first + length blocks ≤ (state_of state m.home).size
-
--- it was, with this answer
+-- it was asked to write these blocks, with this answer
 pub record HasTried {D : Type 0} (tells : Bool) (state : D → State) (first : ℕ)
     (blocks : List Block) (answer : Result Place WriteRefusal) (m n : Manager D) : Type 0 where
   pub stands : Leaves tells state m n (written m.next first blocks answer)
@@ -77,7 +70,16 @@ pub record HasTried {D : Type 0} (tells : Bool) (state : D → State) (first : �
   pub versions : (answer ≡ Err VersionsSpent) ↔ ((m.down ≡ None) × (m.next ≡ 2 ^ 63))
   pub fault : TellsFault state answer m n
 
--- the same of some first ones of these items
+-- .. and it stands in its place in a turn that has seen no more since
+pub record HasTriedInPlace {D : Type 0} (tells : Bool) (state : D → State) (first : ℕ)
+    (blocks : List Block) (answer : Result Place WriteRefusal) (p q : ManagerPass D) : Type 0 where
+  pub same : IsSamePass p q
+  pub seen : pass_seen q ≡ pass_seen p
+  pub mine : pass_mine q ≡ pass_mine p
+  pub tried : (m : Manager D) → IsInTurnWith m p
+      → (n : Manager D) × IsInTurnWith n q × HasTried tells state first blocks answer m n
+
+-- a manager can be asked to write some first ones of these items
 pub record CanWriteSome {D : Type 0} (state : D → State) (shared : Shared D) (items : List Item)
     (from : List Block) (m : Manager D) : Type 0 where
   pub ready : IsReady state m
@@ -86,6 +88,7 @@ pub record CanWriteSome {D : Type 0} (state : D → State) (shared : Shared D) (
   pub items_ : AreItemsOf m.most (state_of state m.home).size items
   pub blocks : count_of items ≤ length from
 
+-- it was, with this answer
 pub record HasTriedSome {D : Type 0} (tells : Bool) (state : D → State) (items : List Item)
     (from : List Block) (ran : Ran) (m n : Manager D) : Type 0 where
   pub run : HasRun tells state items from ran.items ran.answer (ruled_run m n items from) m n

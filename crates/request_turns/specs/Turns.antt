@@ -1,5 +1,5 @@
 -- What turns of a manager's lock add to a pass: entries with their notes.
-use Rattle.std.specs.Prelude.{⊤, ◌≡◌, ◌⊎◌, ◌∷◌, ◌++◌, ℕ, Bool, true, List, [], Option, None, Some, map, is_some, IsTrue}
+use Rattle.std.specs.Prelude.{⊤, ◌≡◌, ◌⊎◌, ◌∷◌, ◌++◌, ℕ, Bool, true, false, List, [], Option, None, Some, map, is_some, IsTrue}
 use Rattle.std.specs.List.{AllByRecursion}
 use Rattle.turn_lock.specs.Histories.{Entry, own, Begins}
 use Rattle.turn_lock.specs.Passes.{pass_lock, pass_number, pass_seen, pass_mine, value_of, IsFree, IsInTurnWith, IsSamePass}
@@ -52,6 +52,11 @@ passed_or_none (Some m) = passed_in m.rooms.items
 
 abbrev pub passed_in_place : {D : Type 0} → ManagerPass D → List ℕ
 passed_in_place p = passed_or_none (value_of p)
+
+-- .. and behind a drain those of the note of the refusal before it
+abbrev pub passed_by : {D : Type 0} → (drained : Bool) → (refused : Noted) → ManagerPass D → List ℕ
+passed_by true refused p = refused.passed
+passed_by false refused p = passed_in_place p
 
 -- its next version
 abbrev pub next_or_none : {D : Type 0} → Option (Manager D) → ℕ

@@ -1,25 +1,24 @@
 // A write that no log has room for: all records are drained, and then the write goes home.
-ghost use Rattle.std.specs.Prelude.{◌≡◌, [], false, None, Some, OnOk, IfErr, is_ok};
+ghost use Rattle.std.specs.Prelude.{◌≡◌, [], false, None, Some, OnOk, IfErr, length};
 ghost use Rattle.turn_lock.specs.Passes.{pass_lock, pass_number, IsPassOf};
 ghost use Rattle.wol_model.specs.History.{worker, Broke};
 ghost use Rattle.wol_promise.specs.Policy.{drained};
 ghost use Rattle.wol_promise.specs.Ruled.{last_look};
-ghost use Rattle.manager.specs.Answers.{written};
 ghost use Rattle.manager.specs.Reclaim.{OnKept, OnFailed, KeepsOn, BreaksOff, Always};
 ghost use Rattle.manager.specs.Seen.{look_of_manager};
 ghost use Rattle.manager.specs.Stands.{IsReady, IsHome};
 ghost use Rattle.manager.specs.declared.manager.Manager.{Manager};
 ghost use Rattle.request_turns.specs.Counts.{HasTaken, IsTakenOff};
 ghost use Rattle.request_turns.specs.Entries.{note_of, refused_as, has_broken};
-ghost use Rattle.request_turns.specs.Tried.{CanWrite, HasTried, HasDrained};
-ghost use Rattle.request_turns.specs.Full.{IsFullInPlace, TakesWrite};
+ghost use Rattle.request_turns.specs.Tried.{HasDrained};
+ghost use Rattle.request_turns.specs.Full.{IsFullInPlace, FitsVolume};
 ghost use Rattle.request_turns.specs.Turns.{look_in_place, next_in_place, notes_seen, faulty_part, HasLeftInPlace, StandsInPlace};
 ghost use Rattle.request_turns.specs.Written.{HasWritten, IsDiskFault};
 
 use crate::noted::{Memo, leave_noted_in_place};
 use crate::outcome::Outcome;
 use crate::tally::Tally;
-use crate::write::{outcome_of, try_write};
+use crate::write::{leave_written, outcome_of, write_in_place};
 use logger::Shared;
 use manager::{Manager, Place, StepFault, WriteRefusal};
 use reclaimer::{Drain, Fetch, drain_step};
@@ -103,24 +102,6 @@ fn leave_broken<D: Disk, B: Memo, N: Memo>(lock: &TurnLock<Manager<D>>, pass: &m
     leave_noted_in_place::<D, N>(lock, pass);
 }
 
-// Ends a turn in which blocks were written after a drain. `B` has that note, and the next version that stood before.
-fn leave_drained<D: Disk, B: Memo, N: Memo>(
-    lock: &TurnLock<Manager<D>>,
-    pass: &mut Pass<Manager<D>>,
-    lbn: u64,
-    from: &[Block],
-    answer: &Result<Place, WriteRefusal>,
-)
-    requires own { IsPassOf lock.now pass.old }
-    requires note { N.note ≡ note_of (pass_number pass.old) (written B.next lbn from.now answer.now)
-        (look_in_place pass.old) B.note.passed (is_ok answer.now) }
-    requires value { StandsInPlace D.tells D.state N.note pass.old }
-    ensures { HasLeftInPlace D.tells N.note pass.old pass.new }
-{
-    let _ = from;
-    leave_noted_in_place::<D, N>(lock, pass);
-}
-
 // Writes home when no record is left, and ends the turn.
 fn write_home<D: Disk, R: Wait, B: Memo>(
     rt: &R,
@@ -139,18 +120,12 @@ fn write_home<D: Disk, R: Wait, B: Memo>(
         (notes_seen pass.old)) (look_in_place pass.old) }
     requires bare { look_in_place pass.old
         ≡ drained (last_look (pass_lock pass.old).base.volume.began.look (notes_seen pass.old)) }
-    requires blocks { TakesWrite shared.now lbn from.now (pass_lock pass.old).base }
+    requires blocks { FitsVolume shared.now lbn (length from.now) (pass_lock pass.old).base }
     requires refused { IsFullInPlace D.tells D.state lbn from.now B.note pass.old }
     ensures { HasWritten D.tells lbn from.now result tally.old tally.new pass.old pass.new }
 {
-    let answer = lock.change(
-        pass,
-        |m: &mut Manager<D>|
-            requires { CanWrite D.state shared.now lbn from.now m.now }
-            ensures { HasTried D.tells D.state lbn from.entry.now result m.old m.new }
-        { try_write(rt, m, shared, lbn, from) },
-    );
-    leave_drained::<D, B, Brand>(lock, pass, lbn, from, &answer);
+    let answer = write_in_place(rt, lock, pass, shared, lbn, from);
+    leave_written::<D, B, Brand>(lock, pass, lbn, from, &answer, true);
     tally.add_unless(has_broken(&answer), done);
     outcome_of(answer, true)
 }
@@ -171,7 +146,7 @@ pub(crate) fn drain_and_write<D: Disk, R: Wait, B: Memo>(
     requires client { pass_number pass.old ≡ worker }
     requires look { look_in_place pass.old
         ≡ last_look (pass_lock pass.old).base.volume.began.look (notes_seen pass.old) }
-    requires blocks { TakesWrite shared.now lbn from.now (pass_lock pass.old).base }
+    requires blocks { FitsVolume shared.now lbn (length from.now) (pass_lock pass.old).base }
     requires refused { IsFullInPlace D.tells D.state lbn from.now B.note pass.old }
     ensures { HasWritten D.tells lbn from.now result tally.old tally.new pass.old pass.new }
 {

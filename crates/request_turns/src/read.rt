@@ -12,7 +12,8 @@ ghost use Rattle.request_turns.specs.Requests.{IsWithin};
 ghost use Rattle.request_turns.specs.Answered.{HasAnswered};
 ghost use Rattle.request_turns.specs.Blocks.{HasReadBlocks};
 ghost use Rattle.request_turns.specs.Counts.{ReclaimsNothing};
-ghost use Rattle.request_turns.specs.Tried.{CanRead, HasReplied};
+ghost use Rattle.request_turns.specs.Full.{FitsVolume};
+ghost use Rattle.request_turns.specs.Tried.{CanBeAsked, HasReplied};
 ghost use Rattle.request_turns.specs.Turns.{look_in_place, notes_seen, HasLeft, WasDown, HasLeftInPlace, StandsInPlace};
 ghost use Rattle.request_turns.specs.Written.{HasRead};
 
@@ -78,10 +79,7 @@ fn read_within<D: Disk, R: Wait>(
     requires own { IsPassOf lock.now pass.old }
     requires turn { IsInTurn pass.old }
     requires client { pass_number pass.old ≡ worker }
-    requires shared { IsShared shared.now (pass_lock pass.old).base }
-    requires count { (1 ≤ length out.old)
-        × (length out.old ≤ (pass_lock pass.old).base.volume.began.most) }
-    requires fits { lbn + length out.old ≤ (pass_lock pass.old).base.volume.began.home_blocks }
+    requires blocks { FitsVolume shared.now lbn (length out.old) (pass_lock pass.old).base }
     requires value { Stands D.tells D.state turn.value (pass_lock pass.old).base
         (notes_seen pass.old) }
     ensures { HasRead D.tells lbn out.new result pass.old pass.new }
@@ -123,7 +121,7 @@ fn read_request<D: Disk, R: Wait>(
     request: &Request,
     payload: &mut Payload,
 ) -> (Result<Sources, ReadRefusal>, Outcome, Reply)
-    requires { CanRead D.state shared.now request.now.lbn request.now.count m.old }
+    requires { CanBeAsked D.state shared.now request.now.lbn request.now.count m.old }
     ensures { HasReplied D.tells D.state request.now.lbn request.now.count result.0 result.1
         result.2.value.items m.old m.new }
 {
@@ -173,7 +171,7 @@ pub fn read_turn<D: Disk, R: Wait>(
     let (answer, outcome, reply) = lock.change(
         pass,
         |m: &mut Manager<D>|
-            requires { CanRead D.state shared.now request.now.lbn request.now.count m.now }
+            requires { CanBeAsked D.state shared.now request.now.lbn request.now.count m.now }
             ensures { HasReplied D.tells D.state request.entry.now.lbn request.entry.now.count
                 result.0 result.1 result.2.value.items m.old m.new }
         { read_request(rt, m, shared, request, payload) },

@@ -1,4 +1,4 @@
-use Rattle.std.proofs.Common.{◌≡◌, ◌∷◌, ◌++◌, [], false, None, Result, Ok, Err, refl, sym, ap, subst, ◌∙◌}
+use Rattle.std.proofs.Common.{◌≡◌, ◌∷◌, ◌++◌, [], false, None, length, Result, Ok, Err, refl, sym, ap, subst, ◌∙◌}
 use Rattle.turn_lock.specs.Passes.{pass_lock}
 use Rattle.wol_model.specs.History.{Broke}
 use Rattle.wol_model.specs.Placing.{Full as Nowhere}
@@ -11,7 +11,7 @@ use Rattle.manager.specs.declared.manager.Manager.{Manager}
 use Rattle.manager.specs.declared.part.StepFault.{StepFault}
 use Rattle.request_turns.specs.Causes.{CanTake}
 use Rattle.request_turns.specs.Counts.{IsTakenOff}
-use Rattle.request_turns.specs.Full.{TakesWrite}
+use Rattle.request_turns.specs.Full.{FitsVolume}
 use Rattle.request_turns.specs.Tried.{HasDrained}
 use Rattle.request_turns.specs.Turns.{look_in_place, notes_seen}
 use Rattle.request_turns.proofs.Counting.{all_taken}
@@ -43,7 +43,7 @@ write_home-requires-clause-bare g c = let v = c.requires.refused.value in let k 
 
 pub write_home-requires-clause-blocks : goal.write_home-requires-clause-blocks
 write_home-requires-clause-blocks g c = let k = c.change-answer.ensures in
-    at_still c.args.pass.now c.change-answer.new.pass k.same k.seen (λ l es. TakesWrite c.args.shared.now c.args.lbn c.args.from.now l.base) c.requires.blocks
+    at_still c.args.pass.now c.change-answer.new.pass k.same k.seen (λ l es. FitsVolume c.args.shared.now c.args.lbn (length c.args.from.now) l.base) c.requires.blocks
 
 pub write_home-requires-clause-refused : goal.write_home-requires-clause-refused
 write_home-requires-clause-refused g c = let v = c.requires.refused.value in let k = c.change-answer.ensures in let w = k.worked v.0 v.1 in let p = c.args.pass.now in let i = c.change-answer.new.pass in

@@ -42,7 +42,8 @@ drain_and_write-outcome-requires-clause-blocks g c = let k = c.change-ran.ensure
     let long : length (take (get_or items 0 other).count c.args.from.now) ≡ (get_or items 0 other).count = length-take-le _ c.args.from.now (first_fits items c.args.from.now other c.requires.some c.requires.blocks) in
     let some = one.some in let few = one.few in let within = one.within in record {
       at = at_still p i k.same k.seen (λ l es. IsShared c.args.shared.now l.base) c.requires.shared;
-      count = (omega (arith, long, some), omega (arith, long, few));
+      some = omega (arith, long, some);
+      few = omega (arith, long, few);
       fits = omega (arith, long, within);
     }
 

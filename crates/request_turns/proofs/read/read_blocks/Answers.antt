@@ -1,5 +1,12 @@
+use Rattle.std.proofs.Common.{length}
+use Rattle.turn_lock.specs.Passes.{pass_lock}
 use Rattle.request_turns.proofs.ReadNotes.{read_blocks_, read_counted_}
+use Rattle.request_turns.proofs.Taking.{fits_volume}
 use Rattle.request_turns.proofs.read.read_blocks.Goals as goal
+
+pub read_within-requires-clause-blocks : goal.read_within-requires-clause-blocks
+read_within-requires-clause-blocks g c =
+    fits_volume c.args.shared.now c.args.lbn (length c.args.out.now) (pass_lock c.enter-turn.new.pass) (pass_lock c.args.pass.now) c.enter-turn.ensures.same.0 c.requires.shared c.requires.count c.requires.fits
 
 pub returns-clause-read : goal.returns-clause-read
 returns-clause-read g c = let e = c.enter-turn.ensures in

@@ -2,23 +2,18 @@ use Rattle.std.proofs.Common.{[], false, sym, subst, ◌∙◌}
 use Rattle.turn_lock.specs.Passes.{pass_lock, pass_number}
 use Rattle.manager.specs.Answers.{was_read}
 use Rattle.request_turns.specs.Answered.{HasAnswered}
-use Rattle.request_turns.specs.Tried.{CanRead, HasReplied}
+use Rattle.request_turns.specs.Tried.{CanBeAsked, HasReplied}
 use Rattle.request_turns.specs.declared.outcome.Outcome.{Outcome}
 use Rattle.request_turns.proofs.InPlace.{same_value, between, note_at, stands_at, left_from}
 use Rattle.request_turns.proofs.ReadNotes.{read_note, has_read, read_blocks_, read_counted_, read_answered}
-use Rattle.request_turns.proofs.Taking.{home_at, few_at, fits_at}
+use Rattle.request_turns.proofs.Taking.{can_be_asked}
 use Rattle.request_turns.proofs.read.read_turn.Goals as goal
 
 pub change-answer-requires-clause-work : goal.change-answer-requires-clause-work
 change-answer-requires-clause-work g c m at = let e = c.enter_in_place.ensures in let v = e.value in let s = v.2.keeps in let is = c.requires.within in
     let l = pass_lock c.args.pass.now in let k = pass_lock c.enter_in_place.new.pass in
-    subst (CanRead g.D.Disk.state c.args.shared.now c.args.request.now.lbn c.args.request.now.count) (same_value v.0 m.now c.enter_in_place.new.pass v.1 at) (record {
-      ready = s.ready;
-      at = home_at c.args.shared.now _ _ v.0 l k _ e.same.0 s c.requires.shared;
-      some = is.some;
-      few = few_at c.args.shared.now _ _ v.0 l k _ e.same.0 s _ is.few;
-      fits = fits_at c.args.shared.now _ _ v.0 l k _ e.same.0 s _ is.fits;
-    })
+    subst (CanBeAsked g.D.Disk.state c.args.shared.now c.args.request.now.lbn c.args.request.now.count) (same_value v.0 m.now c.enter_in_place.new.pass v.1 at)
+    (can_be_asked c.args.shared.now _ _ v.0 l k _ e.same.0 s _ _ (record { at = c.requires.shared; some = is.some; few = is.few; fits = is.fits }))
 
 pub leave_reply-requires-clause-value : goal.leave_reply-requires-clause-value
 leave_reply-requires-clause-value g c = let e = c.enter_in_place.ensures in let v = e.value in let p = c.enter_in_place.new.pass in let i = c.change-answer.new.pass in let k = c.change-answer.ensures in let w = k.worked v.0 v.1 in

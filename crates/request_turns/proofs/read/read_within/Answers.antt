@@ -1,11 +1,12 @@
 use Rattle.turn_lock.specs.Passes.{pass_lock}
 use Rattle.std.proofs.Common.{refl}
-use Rattle.request_turns.proofs.Taking.{home_at}
+use Rattle.request_turns.proofs.Taking.{can_be_asked}
 use Rattle.request_turns.proofs.ReadNotes.{read_note, has_read}
 use Rattle.request_turns.proofs.read.read_within.Goals as goal
 
-pub read-answer-requires-clause-at : goal.read-answer-requires-clause-at
-read-answer-requires-clause-at g c = home_at _ _ _ _ (pass_lock c.args.pass.now) (pass_lock c.args.pass.now) _ refl c.requires.value.keeps c.requires.shared
+pub read-answer-requires : goal.read-answer-requires
+read-answer-requires g c = let l = pass_lock c.args.pass.now in let a = can_be_asked c.args.shared.now _ _ c.args.turn.value l l _ refl c.requires.value.keeps c.args.lbn _ c.requires.blocks in
+    record { ready = a.ready; at = a.at; count = (a.some, a.few); fits = a.fits }
 
 pub leave_read-requires-clause-value : goal.leave_read-requires-clause-value
 leave_read-requires-clause-value g c =

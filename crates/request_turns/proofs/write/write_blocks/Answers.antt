@@ -1,14 +1,13 @@
-use Rattle.std.proofs.Common.{refl, sym, subst}
-use Rattle.turn_lock.specs.LockIds.{LockId}
-use Rattle.manager.specs.declared.base.ManagerBase.{ManagerBase}
-use Rattle.request_turns.specs.Full.{TakesWrite}
+use Rattle.std.proofs.Common.{length, refl}
+use Rattle.turn_lock.specs.Passes.{pass_lock}
 use Rattle.request_turns.proofs.Counting.{counted_turn}
+use Rattle.request_turns.proofs.Taking.{fits_volume}
 use Rattle.request_turns.proofs.WroteTurn.{wrote_blocks}
 use Rattle.request_turns.proofs.write.write_blocks.Goals as goal
 
 pub write_within-requires-clause-blocks : goal.write_within-requires-clause-blocks
 write_within-requires-clause-blocks g c =
-    subst (λ (l : LockId ManagerBase). TakesWrite c.args.shared.now c.args.lbn c.args.from.now l.base) (sym c.enter_in_place.ensures.same.0) (record { at = c.requires.shared; count = c.requires.count; fits = c.requires.fits })
+    fits_volume c.args.shared.now c.args.lbn (length c.args.from.now) (pass_lock c.enter_in_place.new.pass) (pass_lock c.args.pass.now) c.enter_in_place.ensures.same.0 c.requires.shared c.requires.count c.requires.fits
 
 pub returns-clause-written : goal.returns-clause-written
 returns-clause-written g c = let e = c.enter_in_place.ensures in
