@@ -1,10 +1,7 @@
 // Handshakes, byte by byte: what clients send, and what they get.
-ghost use Rattle.std.specs.Prelude.{length, ◌≤◌};
-
-use byteorder::{BigEndian, ByteOrder};
 use nbd_handshake::{Export, Shaken, Unagreed, shake};
-use nbd_session::NbdFault;
-use std::alloc::Global;
+use std::alloc::{AllocError, Global};
+use std::process::Abort;
 use std::test::Fail;
 use wol_io::{MemSink, MemSource};
 
@@ -16,185 +13,213 @@ const LIST: u32 = 3;
 
 const INFO: u32 = 6;
 
-pub const GO: u32 = 7;
+const GO: u32 = 7;
 
 const STRUCTURED_REPLY: u32 = 8;
 
-/// What a server sends first.
-pub const GREETING: [u8; 18] = *b"NBDMAGICIHAVEOPT\x00\x03";
+// What a server sends first.
+const GREETING: [u8; 18] = *b"NBDMAGICIHAVEOPT\x00\x03";
 
-/// The data of INFO and GO for `usr0`, with a question for its block sizes.
+// The data of INFO and GO for `usr0`, with a question for its block sizes.
 const USR0: [u8; 12] = *b"\x00\x00\x00\x04usr0\x00\x01\x00\x03";
 
-/// 1,000 blocks with flags, FLUSH and durable writes; and block sizes.
+// 1,000 blocks with flags, FLUSH and durable writes; and block sizes.
 const EXPORT: [u8; 12] = *b"\x00\x00\x00\x00\x00\x00\x00\x07\xd0\x00\x00\x0d";
 
-pub const SIZES: [u8; 14] = *b"\x00\x03\x00\x00\x02\x00\x00\x00\x10\x00\x02\x00\x00\x00";
+const SIZES: [u8; 14] = *b"\x00\x03\x00\x00\x02\x00\x00\x00\x10\x00\x02\x00\x00\x00";
 
-/// Appends an option.
-pub fn option(to: &mut Vec<u8>, number: u32, given: &[u8]) -> Result<(), Fail> {
-    let mut head = [0; 16];
-    head[..8].copy_from_slice(b"IHAVEOPT");
-    BigEndian::write_u32(&mut head[8..], number);
-    BigEndian::write_u32(&mut head[12..], given.len().min(9_999) as u32);
-    to.extend_from_slice(&head)?;
-    to.extend_from_slice(given)?;
-    Ok(())
+// An option's number and its data.
+type Asked<'a> = (u32, &'a [u8]);
+
+// The number of an option, the kind of a reply to it, and the reply's data.
+type Told<'a> = (u32, u32, &'a [u8]);
+
+// A kind of reply that ends an option well, one that tells of an export, and errors.
+const ACK: u32 = 1;
+
+const SERVER: u32 = 2;
+
+const ABOUT: u32 = 3;
+
+const UNSUPPORTED: u32 = 0x8000_0001;
+
+const INVALID: u32 = 0x8000_0003;
+
+const UNKNOWN: u32 = 0x8000_0006;
+
+// A client's flags and options.
+fn asked_of(alloc: Global, flags: u8, options: &[Asked<'_>]) -> Result<Vec<u8>, AllocError> {
+    let mut bytes = Vec::from_slice(alloc, &[0, 0, 0, flags])?;
+    for (number, data) in options {
+        bytes.extend_from_slice(b"IHAVEOPT")?;
+        bytes.extend_from_slice(&number.to_be_bytes())?;
+        bytes.extend_from_slice(&(data.len().min(9_999) as u32).to_be_bytes())?;
+        bytes.extend_from_slice(data)?;
+    }
+    Ok(bytes)
 }
 
-/// Appends a reply to an option.
-pub fn told(to: &mut Vec<u8>, number: u32, kind: u32, given: &[u8]) -> Result<(), Fail> {
-    let mut head = [0; 20];
-    BigEndian::write_u64(&mut head, 0x3_e889_0455_65a9);
-    BigEndian::write_u32(&mut head[8..], number);
-    BigEndian::write_u32(&mut head[12..], kind);
-    BigEndian::write_u32(&mut head[16..], given.len().min(9_999) as u32);
-    to.extend_from_slice(&head)?;
-    to.extend_from_slice(given)?;
-    Ok(())
+// The replies to options.
+fn told_of(alloc: Global, replies: &[Told<'_>]) -> Result<Vec<u8>, AllocError> {
+    let mut bytes = Vec::new(alloc);
+    for (number, kind, data) in replies {
+        bytes.extend_from_slice(b"\0\x03\xe8\x89\x04\x55\x65\xa9")?;
+        bytes.extend_from_slice(&number.to_be_bytes())?;
+        bytes.extend_from_slice(&kind.to_be_bytes())?;
+        bytes.extend_from_slice(&(data.len().min(9_999) as u32).to_be_bytes())?;
+        bytes.extend_from_slice(data)?;
+    }
+    Ok(bytes)
 }
 
-/// The client's flags.
-pub fn flags(alloc: Global, flags: u8) -> Result<Vec<u8>, Fail> {
-    Ok(Vec::from_slice(alloc, &[0, 0, 0, flags])?)
-}
-
-// How a handshake on `usr0`, which has 1,000 blocks, ends, and what the client got behind the greeting.
-fn shaken(
+// A handshake on `usr0`, which has 1,000 blocks, ends so, and behind the greeting the client gets this, where it is looked at.
+fn expect<R: Abort>(
+    rt: &R,
     alloc: Global,
     asked: Vec<u8>,
-    cuts: Vec<usize>,
-) -> Result<(Result<Shaken, NbdFault>, Vec<u8>), Fail> {
+    cuts: &[usize],
+    end: Shaken,
+    told: Option<&[u8]>,
+) -> Result<(), Fail> {
     let export = Export {
         name: b"usr0",
         blocks: 1000,
     };
-    let mut source = MemSource::new(asked, cuts, None);
+    let mut source = MemSource::new(asked, cuts.to_vec(alloc)?, None);
     let mut sink = MemSink::new(alloc, None);
-    let end = shake(alloc, &export, &mut source, &mut sink);
-    let got = sink.bytes();
-    if got.len() < 18 || &got[..18] != GREETING.as_slice() {
+    let found = shake(alloc, &export, &mut source, &mut sink);
+    assert!(rt; found == Ok(end), "{found:?}");
+    let Some(got) = sink.bytes().strip_prefix(GREETING.as_slice()) else {
         return Err(Fail::from("no greeting"));
-    }
-    Ok((end, Vec::from_slice(alloc, &got[18..])?))
+    };
+    assert!(rt; told.is_none_or(|told| got == told), "{got:?}");
+    Ok(())
 }
 
 #[test]
 fn a_client_goes(rt: HostRuntime) -> Result<(), Fail> {
-    let alloc = rt.alloc();
-    let mut asked = flags(alloc, 3)?;
-    option(&mut asked, STRUCTURED_REPLY, b"")?;
-    option(&mut asked, INFO, &USR0)?;
-    option(&mut asked, GO, b"\x00\x00\x00\x00\x00\x00")?;
-    let mut want = Vec::new(alloc);
-    told(&mut want, STRUCTURED_REPLY, 0x8000_0001, b"")?;
-    for number in [INFO, GO] {
-        told(&mut want, number, 3, &EXPORT)?;
-        told(&mut want, number, 3, &SIZES)?;
-        told(&mut want, number, 1, b"")?;
-    }
-    let cuts = Vec::from_slice(alloc, &[1, 2, 3, 4, 5, 6, 7])?;
-    let (end, got) = shaken(alloc, asked, cuts)?;
-    assert_eq!(rt; end, Ok(Shaken::Agreed));
-    assert_eq!(rt; got.as_slice(), want.as_slice());
-    Ok(())
+    let options: [Asked<'_>; 3] = [
+        (STRUCTURED_REPLY, b""),
+        (INFO, &USR0),
+        (GO, b"\x00\x00\x00\x00\x00\x00"),
+    ];
+    let replies: [Told<'_>; 7] = [
+        (STRUCTURED_REPLY, UNSUPPORTED, b""),
+        (INFO, ABOUT, &EXPORT),
+        (INFO, ABOUT, &SIZES),
+        (INFO, ACK, b""),
+        (GO, ABOUT, &EXPORT),
+        (GO, ABOUT, &SIZES),
+        (GO, ACK, b""),
+    ];
+    let asked = asked_of(rt.alloc(), 3, &options)?;
+    let told = told_of(rt.alloc(), &replies)?;
+    let cuts = [1, 2, 3, 4, 5, 6, 7];
+    expect(&rt, rt.alloc(), asked, &cuts, Shaken::Agreed, Some(&told))
 }
 
 #[test]
 fn an_export_is_taken_by_its_name(rt: HostRuntime) -> Result<(), Fail> {
     let alloc = rt.alloc();
     let rows: [(u8, &[u8]); 4] = [(0, &[0; 124]), (1, &[0; 124]), (2, &[]), (3, &[])];
-    for (flag, zeroes) in rows {
-        let mut asked = flags(alloc, flag)?;
-        option(&mut asked, EXPORT_NAME, b"usr0")?;
-        let (end, got) = shaken(alloc, asked, Vec::new(alloc))?;
-        let mut want = Vec::from_slice(alloc, &EXPORT[2..])?;
-        want.extend_from_slice(zeroes)?;
-        assert_eq!(rt; end, Ok(Shaken::Agreed));
-        assert_eq!(rt; got.as_slice(), want.as_slice());
+    for (flags, zeroes) in rows {
+        let asked = asked_of(alloc, flags, &[(EXPORT_NAME, b"usr0".as_slice())])?;
+        let mut told = Vec::from_slice(alloc, &EXPORT[2..])?;
+        told.extend_from_slice(zeroes)?;
+        expect(&rt, alloc, asked, &[], Shaken::Agreed, Some(&told))?;
     }
     Ok(())
 }
 
 #[test]
 fn a_client_looks_and_goes_away(rt: HostRuntime) -> Result<(), Fail> {
-    let alloc = rt.alloc();
-    let mut asked = flags(alloc, 3)?;
-    option(&mut asked, LIST, b"")?;
-    option(&mut asked, LIST, b"?")?;
-    option(&mut asked, INFO, b"\x00\x00\x00\x04web0\x00\x00")?;
-    option(&mut asked, GO, b"\x00\x00\x00\x05usr0\x00\x00")?;
-    option(&mut asked, GO, b"\x00\x00\x00\x04usr0\x00\x01\x00")?;
-    option(&mut asked, GO, b"\x00\x00\x00")?;
-    option(&mut asked, ABORT, b"")?;
-    let mut want = Vec::new(alloc);
-    told(&mut want, LIST, 2, b"\x00\x00\x00\x04usr0")?;
-    told(&mut want, LIST, 1, b"")?;
-    told(&mut want, LIST, 0x8000_0003, b"")?;
-    told(&mut want, INFO, 0x8000_0006, b"")?;
-    told(&mut want, GO, 0x8000_0003, b"")?;
-    told(&mut want, GO, 0x8000_0003, b"")?;
-    told(&mut want, GO, 0x8000_0003, b"")?;
-    told(&mut want, ABORT, 1, b"")?;
-    let (end, got) = shaken(alloc, asked, Vec::new(alloc))?;
-    assert_eq!(rt; end, Ok(Shaken::Unagreed(Unagreed::Aborted)));
-    assert_eq!(rt; got.as_slice(), want.as_slice());
-    Ok(())
+    let options: [Asked<'_>; 7] = [
+        (LIST, b""),
+        (LIST, b"?"),
+        (INFO, b"\x00\x00\x00\x04web0\x00\x00"),
+        (GO, b"\x00\x00\x00\x05usr0\x00\x00"),
+        (GO, b"\x00\x00\x00\x04usr0\x00\x01\x00"),
+        (GO, b"\x00\x00\x00"),
+        (ABORT, b""),
+    ];
+    let replies: [Told<'_>; 8] = [
+        (LIST, SERVER, b"\x00\x00\x00\x04usr0"),
+        (LIST, ACK, b""),
+        (LIST, INVALID, b""),
+        (INFO, UNKNOWN, b""),
+        (GO, INVALID, b""),
+        (GO, INVALID, b""),
+        (GO, INVALID, b""),
+        (ABORT, ACK, b""),
+    ];
+    let asked = asked_of(rt.alloc(), 3, &options)?;
+    let told = told_of(rt.alloc(), &replies)?;
+    let end = Shaken::Unagreed(Unagreed::Aborted);
+    expect(&rt, rt.alloc(), asked, &[], end, Some(&told))
 }
+
+// What a client sends, and how the handshake ends without a word from the server.
+const UNAGREED: [(&[u8], Unagreed); 11] = [
+    (b"", Unagreed::End),
+    (b"\x00\x00\x00", Unagreed::Cut),
+    (b"\x00\x00\x00\x04", Unagreed::BadFlags),
+    (b"GET ", Unagreed::BadFlags),
+    (b"\x00\x00\x00\x03", Unagreed::End),
+    (b"\x00\x00\x00\x03IHAVEOP", Unagreed::Cut),
+    (
+        b"\x00\x00\x00\x03IHAVEOPT\x00\x00\x00\x03\x00\x00\x00\x01",
+        Unagreed::Cut,
+    ),
+    (
+        b"\x00\x00\x00\x03IHAVEOPT\x00\x00\x00\x03\x00\x00\x10\x01",
+        Unagreed::TooLong,
+    ),
+    (
+        b"\x00\x00\x00\x03IHAVEOPS\x00\x00\x00\x03\x00\x00\x00\x00",
+        Unagreed::BadMagic,
+    ),
+    (
+        b"\x00\x00\x00\x03IHAVEOPT\x00\x00\x00\x01\x00\x00\x00\x04web0",
+        Unagreed::Unoffered,
+    ),
+    (
+        b"\x00\x00\x00\x03IHAVEOPT\x00\x00\x00\x01\x00\x00\x00\x05usr0",
+        Unagreed::Cut,
+    ),
+];
 
 #[test]
 fn bytes_that_are_no_handshake_end_it(rt: HostRuntime) -> Result<(), Fail> {
-    let alloc = rt.alloc();
-    let rows: [(&[u8], Unagreed); 11] = [
-        (b"", Unagreed::End),
-        (b"\x00\x00\x00", Unagreed::Cut),
-        (b"\x00\x00\x00\x04", Unagreed::BadFlags),
-        (b"GET ", Unagreed::BadFlags),
-        (b"\x00\x00\x00\x03", Unagreed::End),
-        (b"\x00\x00\x00\x03IHAVEOP", Unagreed::Cut),
-        (
-            b"\x00\x00\x00\x03IHAVEOPT\x00\x00\x00\x03\x00\x00\x00\x01",
-            Unagreed::Cut,
-        ),
-        (
-            b"\x00\x00\x00\x03IHAVEOPT\x00\x00\x00\x03\x00\x00\x10\x01",
-            Unagreed::TooLong,
-        ),
-        (
-            b"\x00\x00\x00\x03IHAVEOPS\x00\x00\x00\x03\x00\x00\x00\x00",
-            Unagreed::BadMagic,
-        ),
-        (
-            b"\x00\x00\x00\x03IHAVEOPT\x00\x00\x00\x01\x00\x00\x00\x04web0",
-            Unagreed::Unoffered,
-        ),
-        (
-            b"\x00\x00\x00\x03IHAVEOPT\x00\x00\x00\x01\x00\x00\x00\x05usr0",
-            Unagreed::Cut,
-        ),
-    ];
-    for (asked, end) in rows {
-        let (found, got) = shaken(alloc, Vec::from_slice(alloc, asked)?, Vec::new(alloc))?;
-        assert_eq!(rt; found, Ok(Shaken::Unagreed(end)));
-        assert!(rt; got.is_empty());
+    for (asked, end) in UNAGREED {
+        let asked = Vec::from_slice(rt.alloc(), asked)?;
+        expect(
+            &rt,
+            rt.alloc(),
+            asked,
+            &[],
+            Shaken::Unagreed(end),
+            Some(&[]),
+        )?;
     }
     Ok(())
 }
 
+// An option that is none, with the most data, and one that ends a handshake.
+const OTHER: Asked<'_> = (99, &[7; 4096]);
+
+const GOES: Asked<'_> = (GO, &USR0);
+
 #[test]
 fn options_are_at_most_sixty_four(rt: HostRuntime) -> Result<(), Fail> {
-    let alloc = rt.alloc();
     for (before, end) in [
         (63, Shaken::Agreed),
         (64, Shaken::Unagreed(Unagreed::TooMany)),
     ] {
-        let mut asked = flags(alloc, 3)?;
-        for _ in 0..before {
-            option(&mut asked, 99, &[7; 4096])?;
-        }
-        option(&mut asked, GO, &USR0)?;
-        let (found, _) = shaken(alloc, asked, Vec::new(alloc))?;
-        assert_eq!(rt; found, Ok(end));
+        let mut options: Vec<Asked<'_>> = Vec::new(rt.alloc());
+        options.resize(before, OTHER)?;
+        options.push(GOES)?;
+        let asked = asked_of(rt.alloc(), 3, &options)?;
+        expect(&rt, rt.alloc(), asked, &[], end, None)?;
     }
     Ok(())
 }

@@ -1,4 +1,4 @@
-//! Tests of handshakes and sessions of NBD: at a plain volume in memory whose turns fail as planned, and at volumes of a bay in memory.
+//! Tests of handshakes and sessions of NBD, at a plain volume in memory whose turns fail as planned.
 #![tactic(auto)]
 
 #[cfg(test)]
@@ -6,8 +6,4 @@ mod handshakes;
 #[cfg(test)]
 mod plain;
 #[cfg(test)]
-mod requests;
-#[cfg(test)]
 mod sessions;
-#[cfg(test)]
-mod volumes;

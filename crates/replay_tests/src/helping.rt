@@ -1,7 +1,7 @@
 // A helper that reclaims beside the requests of a window.
 use crate::gates::Awaiting;
-use crate::rows::{formatted, run};
 use crate::several::{between, stands_in};
+use crate::volumes::{formatted, run};
 use fixtures::THREE;
 use replay::Options;
 use request_workers::Reclaim;

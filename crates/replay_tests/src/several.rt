@@ -4,8 +4,11 @@ ghost use Rattle.replay.specs.Givens.{IsNew};
 ghost use Rattle.replay.specs.Sessions.{AreOptions};
 
 use crate::gates::Holding;
-use crate::rows::{formatted, run, status_of};
-use fixtures::{Change, DRAINING, DRAINS, Formatted, OFFLOADS, THREE, WEB0, generated_text, put};
+use crate::volumes::{formatted, run, status_of};
+use fixtures::{
+    AT_ONCE, Change, DRAINING, DRAINS, Formatted, LAST_VERSION, OFFLOADS, OFFLOADS_KEPT,
+    OFFLOADS_READ, READ_AND_WRITE, THREE, WEB0, generated_text, put,
+};
 use msr_trace::Lines;
 use replay::{Given, Options, replay};
 use request_workers::{Reclaim, Sharing};
@@ -18,36 +21,7 @@ use trace_gen::Gen;
 use wol_config::read_config;
 use wol_io::{MemSink, MemSource, NoGate};
 
-// Nothing is reclaimed: the second write of `usr` to a block that it logged is logged too, which wakes `web`.
-const KEPT: &[u8] = b"read 3 web0 16 2 4
-read 6 usr0 0 2 10
-read 8 usr0 2 2 2
-read 10 web0 0 1 4
-read 11 src0 10 1 7
-read 12 src0 10 2 7
-lines 12 blank 0 skipped 0
-reads 6 writes 6
-placed home 3 log 3 drains 0
-reclaimed blocks 0 records 0
-span 4000000000
-volume usr0 wakes 1 sleeps 2 awake 1200000000 standby 2800000000 energy 1290000
-volume web0 wakes 3 sleeps 3 awake 3500000000 standby 500000000 energy 3000000
-volume src0 wakes 1 sleeps 1 awake 600000000 standby 3400000000 energy 870000
-total wakes 5 sleeps 6 energy 5160000
-";
-
 const READ_ALONE: &[u8] = b"read 1 usr0 0 1 0\n";
-
-// One line of the first volume and two of the second, in one window.
-const AT_ONCE: &[u8] = b"128166372000000000,usr,0,Read,0,512,100
-128166372000000000,web,0,Read,0,512,100
-128166372000000000,web,0,Read,512,512,100
-";
-
-const READ_AND_WRITE: &[u8] = b"128166372000000000,usr,0,Read,0,512,100
-128166372100000000,usr,0,Write,0,512,100
-128166372200000000,usr,0,Read,0,512,100
-";
 
 /// Reclaim after the requests of each window, and workers for each window, however few its requests are.
 pub(crate) fn between(workers: u32) -> Options
@@ -103,7 +77,8 @@ fn records_are_kept_where_nothing_is_reclaimed(rt: HostRuntime) -> Result<(), Fa
         ..between(2)
     };
     let out = printed(&rt, rt.alloc(), THREE, OFFLOADS, off)?;
-    assert_eq!(rt; out.bytes(), KEPT);
+    assert!(rt; out.bytes().starts_with(OFFLOADS_READ));
+    assert_eq!(rt; out.bytes().get(OFFLOADS_READ.len()..), Some(OFFLOADS_KEPT));
     Ok(())
 }
 
@@ -118,16 +93,6 @@ fn volumes_are_served_side_by_side(rt: HostRuntime) -> Result<(), Fail> {
     assert!(&rt; !gate.is_late());
     Ok(())
 }
-
-// The second of three volumes has a record of the first of the last version.
-const LAST_VERSION: &[Change<'_>] = &[
-    ("web0", 1002, b"WOLSEGO1"),
-    (
-        "web0",
-        1003,
-        b"WOLREC01\x01\x00\x00\x00\x00\x00\x00\x00\xff\xff\xff\xff\xff\xff\xff\x7f\x07\x00\x00\x00\x00\x00\x00\x00\x01",
-    ),
-];
 
 #[test]
 fn no_version_comes_after_the_last(rt: HostRuntime) -> Result<(), Fail> {
