@@ -5,22 +5,4 @@
 #![tactic(auto)]
 
 #[cfg(test)]
-mod bay_calls;
-#[cfg(test)]
-mod file_bays;
-#[cfg(test)]
-mod file_lengths;
-#[cfg(test)]
-mod idle_work;
-#[cfg(test)]
-mod images;
-#[cfg(test)]
-mod inspected;
-#[cfg(test)]
-mod memory_bays;
-#[cfg(test)]
-mod racks;
-#[cfg(test)]
-mod record_lines;
-#[cfg(test)]
-mod same;
+mod tests;

@@ -7,26 +7,4 @@
 #![tactic(auto)]
 
 #[cfg(test)]
-mod amounts;
-#[cfg(test)]
-mod commands;
-#[cfg(test)]
-mod config_files;
-#[cfg(test)]
-mod config_refusals;
-#[cfg(test)]
-mod disks;
-#[cfg(test)]
-mod file_sources;
-#[cfg(test)]
-mod generated_lines;
-#[cfg(test)]
-mod same;
-#[cfg(test)]
-mod streams;
-#[cfg(test)]
-mod texts;
-#[cfg(test)]
-mod trace_lines;
-#[cfg(test)]
-mod windows;
+mod tests;

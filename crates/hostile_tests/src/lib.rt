@@ -6,18 +6,4 @@
 #![tactic(auto)]
 
 #[cfg(test)]
-mod calls;
-#[cfg(test)]
-mod faults;
-#[cfg(test)]
-mod reopening;
-#[cfg(test)]
-mod rows;
-#[cfg(test)]
-mod same;
-#[cfg(test)]
-mod served;
-#[cfg(test)]
-mod solo_stops;
-#[cfg(test)]
-mod stops;
+mod tests;

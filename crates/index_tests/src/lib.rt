@@ -3,20 +3,4 @@
 #![tactic(auto)]
 
 #[cfg(test)]
-mod agreement;
-#[cfg(test)]
-mod dice;
-#[cfg(test)]
-mod going;
-#[cfg(test)]
-mod list;
-#[cfg(test)]
-mod many;
-#[cfg(test)]
-mod overlapping;
-#[cfg(test)]
-mod placing;
-#[cfg(test)]
-mod same;
-#[cfg(test)]
-mod steps;
+mod tests;

@@ -3,10 +3,4 @@
 #![tactic(auto)]
 
 #[cfg(test)]
-mod layout;
-#[cfg(test)]
-mod pools;
-#[cfg(test)]
-mod spindles;
-#[cfg(test)]
-mod views;
+mod tests;

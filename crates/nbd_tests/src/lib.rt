@@ -2,8 +2,4 @@
 #![tactic(auto)]
 
 #[cfg(test)]
-mod handshakes;
-#[cfg(test)]
-mod plain;
-#[cfg(test)]
-mod sessions;
+mod tests;

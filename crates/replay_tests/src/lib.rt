@@ -3,22 +3,4 @@
 #![tactic(auto)]
 
 #[cfg(test)]
-mod clean_rows;
-#[cfg(test)]
-mod command_stops;
-#[cfg(test)]
-mod gates;
-#[cfg(test)]
-mod grouping;
-#[cfg(test)]
-mod helping;
-#[cfg(test)]
-mod served_volumes;
-#[cfg(test)]
-mod several;
-#[cfg(test)]
-mod stopping;
-#[cfg(test)]
-mod view_rows;
-#[cfg(test)]
-mod volumes;
+mod tests;

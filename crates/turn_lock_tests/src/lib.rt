@@ -13,6 +13,4 @@ pub use desk::{Desk, DeskBase, work_once};
 pub use gauge::Gauge;
 
 #[cfg(test)]
-mod turns;
-#[cfg(test)]
-mod worker;
+mod tests;

@@ -9,22 +9,9 @@
 
 mod calls;
 mod counting;
-#[cfg(test)]
-mod groups;
-#[cfg(test)]
-mod life;
-#[cfg(test)]
-mod locked;
-#[cfg(test)]
-mod making;
-#[cfg(test)]
-mod offload;
-#[cfg(test)]
-mod opening;
-#[cfg(test)]
-mod reclaim;
 mod rig;
-#[cfg(test)]
-mod segments;
 
 pub use rig::Rig;
+
+#[cfg(test)]
+mod tests;

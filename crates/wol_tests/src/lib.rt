@@ -3,12 +3,4 @@
 #![tactic(auto)]
 
 #[cfg(test)]
-mod calls;
-#[cfg(test)]
-mod forged;
-#[cfg(test)]
-mod runs;
-#[cfg(test)]
-mod same;
-#[cfg(test)]
-mod spoiled;
+mod tests;

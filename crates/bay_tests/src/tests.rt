@@ -1,0 +1,10 @@
+mod bay_calls;
+mod file_bays;
+mod file_lengths;
+mod idle_work;
+mod images;
+mod inspected;
+mod memory_bays;
+mod racks;
+mod record_lines;
+mod same;

@@ -1,0 +1,12 @@
+mod amounts;
+mod commands;
+mod config_files;
+mod config_refusals;
+mod disks;
+mod file_sources;
+mod generated_lines;
+mod same;
+mod streams;
+mod texts;
+mod trace_lines;
+mod windows;

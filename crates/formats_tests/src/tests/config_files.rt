@@ -1,0 +1,76 @@
+// Files that are configurations.
+use super::same::{same, same_at};
+use fixtures::{ONE_BLOCK_EACH, THREE};
+use std::test::Fail;
+use wol_config::read_config;
+
+const A_LOG_OF_ONE_SEGMENT: &str = r#"segment_blocks = 4
+awake_mw = 8000
+standby_mw = 1000
+wake_mj = 50000
+unknown = { key = [1, 2] }
+[[volume]]
+name = "a"
+host = "a"
+disk = 0
+home_blocks = 100
+segments = 0
+view = ["b"]
+[[volume]]
+name = "b"
+host = "b"
+disk = 0
+home_blocks = 100
+segments = 1
+view = []
+"#;
+
+#[test]
+fn three_volumes_that_off_load(rt: HostRuntime) -> Result<(), Fail> {
+    let config = read_config(rt.alloc(), THREE.as_bytes())?;
+    same(&rt, &config.segment_blocks, &16);
+    same(&rt, &config.timeout, &600_000_000);
+    same(&rt, &config.powers.awake_mw, &8_000);
+    same(&rt, &config.powers.standby_mw, &1_000);
+    same(&rt, &config.powers.wake_mj, &50_000);
+    same(&rt, &config.most(), &14);
+    assert!(rt; config.volumes.len() == 3);
+    let last = &config.volumes[2];
+    same(&rt, &last.name.as_str(), &"src0");
+    same(&rt, &last.host.as_bytes(), &b"src".as_slice());
+    same(&rt, &last.disk, &0);
+    same(&rt, &last.home, &1_000);
+    same(&rt, &last.segments, &4);
+    same(&rt, &last.view.ids(), &[1, 0].as_slice());
+    Ok(())
+}
+
+#[test]
+fn a_log_of_one_segment(rt: HostRuntime) -> Result<(), Fail> {
+    let config = read_config(rt.alloc(), A_LOG_OF_ONE_SEGMENT.as_bytes())?;
+    same_at(
+        &rt,
+        &config.timeout,
+        &600_000_000,
+        &"the timeout where the key is missing",
+    );
+    same(&rt, &config.most(), &2);
+    assert!(rt; config.volumes.len() == 2);
+    same(&rt, &config.volumes[0].view.ids(), &[1].as_slice());
+    same(&rt, &config.volumes[1].name.as_bytes(), &b"b".as_slice());
+    same(&rt, &config.volumes[1].segments, &1);
+    Ok(())
+}
+
+#[test]
+fn three_volumes_of_one_block(rt: HostRuntime) -> Result<(), Fail> {
+    let config = read_config(rt.alloc(), ONE_BLOCK_EACH.as_bytes())?;
+    assert!(rt; config.volumes.len() == 3);
+    for volume in &config.volumes {
+        same(&rt, &volume.home, &1);
+        same(&rt, &volume.segments, &1);
+    }
+    same(&rt, &config.volumes[0].view.ids(), &[1].as_slice());
+    assert!(rt; config.volumes[2].view.is_empty());
+    Ok(())
+}

@@ -1,0 +1,356 @@
+// A volume that is served to a client, at once or behind a handshake, while a disk, the client or its replies stop. Each session clears
+// a buffer of 32 MiB, so there is one of each kind.
+use super::calls::{Failing, Stream};
+use super::reopening;
+use super::rows::{Row, keeping};
+use super::same::{holds_at, same, same_at};
+use super::stops::{Remains, found, left_by, prepared, stopped};
+use fixtures::{CHOICES, Call, Left};
+use std::alloc::Global;
+use std::process::Abort;
+use std::sync::Wait;
+use std::test::Fail;
+use std::thread::Threads;
+use wol_disk::Block;
+
+// A request: its kind, its cookie, the first of its bytes, how many they are, and what each of its blocks is written with.
+type Request = (u8, u8, u64, u32, u8);
+
+const READ: u8 = 0;
+
+const WRITE: u8 = 1;
+
+const DISC: u8 = 2;
+
+const FLUSH: u8 = 3;
+
+// The first write joins what is in a log, the second goes home, the third finds the log full.
+const REQUESTS: [Request; 6] = [
+    (WRITE, 1, 512, 512, 0xa1),
+    (WRITE, 2, 2048, 1024, 0xa2),
+    (WRITE, 3, 0, 512, 0xa3),
+    (FLUSH, 4, 0, 0, 0),
+    (READ, 5, 0, 3072, 0),
+    (DISC, 6, 0, 0, 0),
+];
+
+// What comes in all replies: the head of that of this cookie, or none, and a block of this byte behind it, or none.
+const REPLIES: [(Option<u8>, Option<u8>); 10] = [
+    (Some(1), None),
+    (Some(2), None),
+    (Some(3), None),
+    (Some(4), None),
+    (Some(5), Some(0xa3)),
+    (None, Some(0xa1)),
+    (None, Some(0)),
+    (None, Some(0)),
+    (None, Some(0xa2)),
+    (None, Some(0xa2)),
+];
+
+// The lines of the volumes as the pieces of the writes come to stand.
+const LINES: &[&[&str]] = &[
+    &[
+        "u ok sha256 2f7d772534d5254e",
+        "u ok sha256 3354e092024533ff",
+        "u ok sha256 87de57e455d073d2",
+        "u ok sha256 d46c957b64409f6d",
+        "u ok sha256 5b2676ec9935f829",
+        "u ok sha256 5c1ffccbb33ce3be",
+    ],
+    &["w ok sha256 ad7facb2586fc6e9"],
+    &["s ok sha256 c2263bc55d55df72"],
+];
+
+// Which of the first volume's lines it has behind so many answered writes at least, and at most, where the next one is in flight.
+const BEHIND: [(usize, usize); 4] = [(0, 1), (1, 4), (4, 5), (5, 5)];
+
+// The length of a reply's head.
+const REPLY: usize = 16;
+
+// A part of an image, how many of its calls open its image for another, and how many then the volume itself.
+type Part<'a> = (&'a str, u32, u64, u64);
+
+const PARTS: [Part<'_>; 7] = [
+    ("u", 0, 0, 2),
+    ("u", 1, 0, 1),
+    ("w", 0, 2, 0),
+    ("w", 1, 0, 1),
+    ("w", 2, 2, 5),
+    ("w", 3, 2, 4),
+    ("s", 2, 0, 2),
+];
+
+// What a session begins with: the words of its command, what the client sends first, and what it gets for that.
+#[derive(Clone, Copy)]
+struct Opening<'a> {
+    words: &'a str,
+    asked: &'a [u8],
+    told: &'a [u8],
+}
+
+const AT_ONCE: Opening<'_> = Opening {
+    words: "nbd u",
+    asked: b"",
+    told: b"",
+};
+
+// The export of eight blocks is taken by its name.
+const SHAKEN: Opening<'_> = Opening {
+    words: "serve u",
+    asked: b"\0\0\0\x03IHAVEOPT\0\0\0\x01\0\0\0\x01u",
+    told: b"NBDMAGICIHAVEOPT\0\x03\0\0\0\0\0\0\x10\0\0\x0d",
+};
+
+// A session on volumes: what the client gets where nothing fails, and how much of that comes before the replies.
+#[derive(Clone, Copy)]
+struct Session<'a> {
+    row: Row<'a>,
+    wanted: &'a [u8],
+    told: usize,
+}
+
+// The error of a reply where a disk's call failed.
+const BROKE: &[u8] = &[0, 0, 0, 5];
+
+const MOST_CALLS: u64 = 1000;
+
+// All requests, behind these bytes.
+fn asked_of(alloc: Global, first: &[u8]) -> Result<Vec<u8>, Fail> {
+    let mut bytes = Vec::from_slice(alloc, first)?;
+    for (kind, cookie, place, length, byte) in REQUESTS {
+        bytes.extend_from_slice(b"\x25\x60\x95\x13\0\0\0")?;
+        bytes.extend_from_slice(&[kind, 0, 0, 0, 0, 0, 0, 0, cookie])?;
+        bytes.extend_from_slice(&place.to_be_bytes())?;
+        bytes.extend_from_slice(&length.to_be_bytes())?;
+        if kind == WRITE {
+            for _ in 0..length {
+                bytes.push(byte)?;
+            }
+        }
+    }
+    Ok(bytes)
+}
+
+// All replies, behind these bytes.
+fn told_of(alloc: Global, first: &[u8]) -> Result<Vec<u8>, Fail> {
+    let mut bytes = Vec::from_slice(alloc, first)?;
+    for (head, block) in REPLIES {
+        if let Some(cookie) = head {
+            bytes.extend_from_slice(b"\x67\x44\x66\x98\0\0\0\0\0\0\0\0\0\0\0")?;
+            bytes.push(cookie)?;
+        }
+        if let Some(byte) = block {
+            bytes.extend_from_slice(&[byte; 512])?;
+        }
+    }
+    Ok(bytes)
+}
+
+// How many of the writes are answered without an error. Their replies are the first.
+fn answered(replies: &[u8]) -> usize {
+    replies
+        .chunks(REPLY)
+        .take(3)
+        .filter(|reply| reply.get(4..8) == Some([0; 4].as_slice()))
+        .count()
+}
+
+impl Session<'_> {
+    // What the client gets before the replies, and the replies.
+    fn parts<'t>(&self, text: &'t [u8]) -> (&'t [u8], &'t [u8]) {
+        text.split_at(self.told.min(text.len()))
+    }
+
+    // Whether each reply is what it is otherwise or has the error of a disk's fault, and nothing is printed where a volume isn't
+    // open.
+    fn is_told(&self, left: &Remains) -> bool {
+        let (told, replies) = self.parts(&left.text);
+        let (wanted_first, wanted) = self.parts(self.wanted);
+        match left.status {
+            0 => told == wanted_first
+                && replies.chunks(REPLY).zip(wanted.chunks(REPLY)).take(5).all(|(
+                    reply,
+                    wanted,
+                )| reply.get(4..8) == Some(BROKE) || reply == wanted),
+            4 | 6 => left.text.is_empty(),
+            _ => false,
+        }
+    }
+}
+
+// Which of its lines the volume has: that behind the writes that were answered, or one that the next leaves in flight. The other
+// volumes have what they had.
+fn place_of<R: Abort + Threads + Wait + Sync>(
+    rt: &R,
+    alloc: Global,
+    session: &Session<'_>,
+    left: &Remains,
+) -> Result<usize, Fail> {
+    let places = found(rt, alloc, &session.row, &left.images)?;
+    let (_, replies) = session.parts(&left.text);
+    let (Some(place), Some((least, most))) = (places.first(), BEHIND.get(answered(replies))) else {
+        panic!(rt; "no volume");
+    };
+    let at = format!(in alloc; "{least} {place} {most}")?;
+    holds_at(rt, *least <= *place && *place <= *most, &at);
+    Ok(*place)
+}
+
+// Disks stop at each of their calls.
+fn try_choice<R: Abort + Threads + Wait + Sync>(
+    rt: &R,
+    alloc: Global,
+    session: &Session<'_>,
+    images: &[Vec<Block>],
+    left: Left,
+) -> Result<(), Fail> {
+    let row = &session.row;
+    let whole = stopped(rt, alloc, row, row.call, images, u64::MAX, left)?;
+    same(rt, &whole.status, &0);
+    same(rt, &whole.text.as_slice(), &session.wanted);
+    same(rt, &place_of(rt, alloc, session, &whole)?, &5);
+    let mut before = 0;
+    for calls in 0..whole.passed {
+        let stop = stopped(rt, alloc, row, row.call, images, calls, left)?;
+        let at = format!(in alloc; "{calls} {left:?}: {}", stop.status)?;
+        same_at(rt, &stop.passed, &calls, &at);
+        holds_at(rt, session.is_told(&stop), &at);
+        let place = place_of(rt, alloc, session, &stop)?;
+        holds_at(rt, place >= before, &at);
+        before = place;
+    }
+    Ok(())
+}
+
+// The session that begins so, with what the client sends and what it gets.
+fn session_of<'a>(opening: &Opening<'a>, trace: &'a [u8], wanted: &'a [u8]) -> Session<'a> {
+    Session {
+        row: Row {
+            call: Call {
+                words: opening.words,
+                trace,
+            },
+            lines: LINES,
+            ..keeping(opening.words, &[])
+        },
+        wanted,
+        told: opening.told.len(),
+    }
+}
+
+#[test]
+fn a_session_whose_disks_stop_keeps_what_was_answered(rt: HostRuntime) -> Result<(), Fail> {
+    let alloc = rt.alloc();
+    for opening in [AT_ONCE, SHAKEN] {
+        let trace = asked_of(alloc, opening.asked)?;
+        let wanted = told_of(alloc, opening.told)?;
+        let session = session_of(&opening, &trace, &wanted);
+        let images = prepared(&rt, alloc, &session.row)?;
+        for left in CHOICES {
+            try_choice(&rt, alloc, &session, &images, left)?;
+        }
+    }
+    Ok(())
+}
+
+#[test]
+fn a_check_that_stops_changes_nothing_after_a_session(rt: HostRuntime) -> Result<(), Fail> {
+    let trace = asked_of(rt.alloc(), AT_ONCE.asked)?;
+    reopening::try_row(&rt, rt.alloc(), &session_of(&AT_ONCE, &trace, &[]).row)
+}
+
+// Each call of a stream fails in turn: the replies before are out, and a write that isn't there whole isn't begun.
+fn try_stream<R: Abort + Threads + Wait + Sync>(
+    rt: &R,
+    alloc: Global,
+    session: &Session<'_>,
+    images: &[Vec<Block>],
+    stream: Stream,
+) -> Result<(), Fail> {
+    let row = &session.row;
+    for number in 0..MOST_CALLS {
+        let failing = Failing::Stream(stream, number);
+        let left = left_by(rt, alloc, row, row.call, images, failing, Left::AllNew)?;
+        let place = place_of(rt, alloc, session, &left)?;
+        let at = format!(in alloc; "{stream:?} {number}")?;
+        if left.status == 0 {
+            holds_at(rt, number > 5, &at);
+            same_at(rt, &left.text.as_slice(), &session.wanted, &at);
+            return Ok(());
+        }
+        same_at(rt, &left.status, &stream.status(), &at);
+        holds_at(rt, session.wanted.starts_with(&left.text), &at);
+        let (_, replies) = session.parts(&left.text);
+        let least = BEHIND.get(answered(replies)).map(|it| it.0);
+        holds_at(rt, stream == Stream::Sink || least == Some(place), &at);
+    }
+    panic!(rt; "it made a thousand calls")
+}
+
+#[test]
+fn a_client_that_fails_has_what_was_answered(rt: HostRuntime) -> Result<(), Fail> {
+    let alloc = rt.alloc();
+    for opening in [AT_ONCE, SHAKEN] {
+        let trace = asked_of(alloc, opening.asked)?;
+        let wanted = told_of(alloc, opening.told)?;
+        let session = session_of(&opening, &trace, &wanted);
+        let images = prepared(&rt, alloc, &session.row)?;
+        for stream in [Stream::Config, Stream::Trace, Stream::Sink] {
+            try_stream(&rt, alloc, &session, &images, stream)?;
+        }
+    }
+    Ok(())
+}
+
+// The status where the call of this number fails: within the session it is an error of a reply.
+fn status_at(part: Part<'_>, number: u64) -> u8 {
+    let (_, _, lends, opens) = part;
+    if number < lends {
+        6
+    } else if number - lends < opens {
+        4
+    } else {
+        0
+    }
+}
+
+// Each call of a part fails in turn.
+fn try_part<R: Abort + Threads + Wait + Sync>(
+    rt: &R,
+    alloc: Global,
+    session: &Session<'_>,
+    images: &[Vec<Block>],
+    part: Part<'_>,
+    left: Left,
+) -> Result<(), Fail> {
+    let (image, place, _, _) = part;
+    let row = &session.row;
+    for number in 0..MOST_CALLS {
+        let failing = Failing::Part(image, place, number);
+        let stop = left_by(rt, alloc, row, row.call, images, failing, left)?;
+        let status = status_at(part, number);
+        let at = format!(in alloc; "{image} {place} {number}")?;
+        same_at(rt, &stop.status, &status, &at);
+        holds_at(rt, session.is_told(&stop), &at);
+        let _place = place_of(rt, alloc, session, &stop)?;
+        if status == 0 && stop.text.as_slice() == session.wanted {
+            return Ok(());
+        }
+    }
+    panic!(rt; "it made a thousand calls")
+}
+
+#[test]
+fn each_call_of_a_disk_that_fails_in_a_session_is_told(rt: HostRuntime) -> Result<(), Fail> {
+    let alloc = rt.alloc();
+    let trace = asked_of(alloc, AT_ONCE.asked)?;
+    let wanted = told_of(alloc, AT_ONCE.told)?;
+    let session = session_of(&AT_ONCE, &trace, &wanted);
+    let images = prepared(&rt, alloc, &session.row)?;
+    for part in PARTS {
+        try_part(&rt, alloc, &session, &images, part, Left::AllOld)?;
+        try_part(&rt, alloc, &session, &images, part, Left::AllNew)?;
+    }
+    Ok(())
+}

@@ -1,0 +1,9 @@
+mod agreement;
+mod dice;
+mod going;
+mod list;
+mod many;
+mod overlapping;
+mod placing;
+mod same;
+mod steps;

@@ -1,0 +1,4 @@
+mod layout;
+mod pools;
+mod spindles;
+mod views;

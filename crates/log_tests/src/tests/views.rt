@@ -1,0 +1,118 @@
+// Labels and views that were written down by hand, stored in parts in memory and loaded.
+ghost use Rattle.std.specs.Prelude.{◌≡◌, IfOk};
+ghost use Rattle.wol_disk.specs.Memory.{mem_state};
+ghost use Rattle.spin_model.specs.Spun.{volume_of, disk_of, token_volume};
+
+use super::layout::block;
+use log_layout::{Label, View};
+use logger_view::{ViewFault, load, store_free, store_label, store_view};
+use spin_model::{Awake, Spindle, Spun};
+use std::alloc::Global;
+use std::process::Abort;
+use std::test::Fail;
+use wol_disk::{Failed, MemDisk, NoMemory};
+
+const LABEL: Label = Label {
+    id: 0,
+    home: 1_000,
+    segments: 4,
+    segment_blocks: 16,
+};
+
+// A part of volume 3 with two blocks of zeros.
+fn zeros(alloc: Global) -> Result<Spun<MemDisk>, NoMemory>
+    ensures volume { IfOk result (λ p. volume_of p ≡ 3) }
+    ensures size { IfOk result (λ p. (mem_state (disk_of p)).size ≡ 2) }
+{
+    Ok(Spun::new(3, MemDisk::new(alloc, 2)?))
+}
+
+// Stores label and view, and loads them for other volumes, one of which the view names.
+fn store_and_load(rt: &impl Abort, alloc: Global, token: &Awake) -> Result<(), Fail>
+    requires { token_volume token.now ≡ 3 }
+{
+    let mut part = zeros(alloc)?;
+    let view = View::new(&[1, 0]).ok_or("two ids")?;
+    let fresh = load(token, &mut part, 3);
+    assert!(rt; matches!(&fresh, Err(ViewFault::Damaged { block: 0 })));
+    store_view(token, &mut part, &view)?;
+    store_label(token, &mut part, &LABEL)?;
+    let mut blocks = [[9; 512]; 2];
+    part.read(token, 0, &mut blocks)?;
+    assert!(rt; blocks[0] == block(b"WOLVOL01\0\0\0\0\xe8\x03\0\0\0\0\0\0\x04\0\0\0\x10\0\0\0"));
+    assert!(rt; blocks[1] == block(b"WOLVIEW1\x02\0\0\0\x01\0\0\0\0\0\0\0"));
+    match load(token, &mut part, 3) {
+        Ok((label, view)) => {
+            assert_eq!(rt; label, LABEL);
+            assert_eq!(rt; view.ids(), [1, 0].as_slice());
+        }
+        Err(_) => return Err(Fail::from("not loaded")),
+    }
+    let own = load(token, &mut part, 1);
+    assert!(rt; matches!(&own, Err(ViewFault::Damaged { block: 1 })));
+    Ok(())
+}
+
+// The first of two damaged blocks is told, and a failed call before any damage.
+fn load_damaged(rt: &impl Abort, alloc: Global, token: &Awake) -> Result<(), Fail>
+    requires { token_volume token.now ≡ 3 }
+{
+    let mut part = zeros(alloc)?;
+    let segments_of_three = block(b"WOLVOL01\0\0\0\0\xe8\x03\0\0\0\0\0\0\x04\0\0\0\x03\0\0\0");
+    let view = block(b"WOLVIEW1\x01\0\0\0\x03\0\0\0");
+    part.write(token, 0, &[segments_of_three, view])?;
+    let both = load(token, &mut part, 3);
+    assert!(rt; matches!(&both, Err(ViewFault::Damaged { block: 0 })));
+    for call in 0..2 {
+        let mut disk = MemDisk::new(alloc, 2)?;
+        disk.fail(call)?;
+        let failed = load(token, &mut Spun::new(3, disk), 3);
+        assert!(rt; matches!(&failed, Err(ViewFault::Failed)));
+    }
+    Ok(())
+}
+
+// A part of zeros becomes a free segment; a failed call is told.
+fn free_segment(rt: &impl Abort, alloc: Global, token: &Awake) -> Result<(), Fail>
+    requires { token_volume token.now ≡ 3 }
+{
+    let mut part = Spun::new(3, MemDisk::new(alloc, 4)?);
+    store_free(token, &mut part)?;
+    let mut blocks = [[9; 512]; 2];
+    part.read(token, 0, &mut blocks)?;
+    assert!(rt; blocks[0] == block(b"WOLSEGF1"));
+    assert!(rt; blocks[1] == [0; 512]);
+    for call in 0..2 {
+        let mut disk = MemDisk::new(alloc, 4)?;
+        disk.fail(call)?;
+        assert_eq!(rt; store_free(token, &mut Spun::new(3, disk)), Err(Failed));
+    }
+    Ok(())
+}
+
+#[test]
+fn what_was_stored_is_loaded(rt: HostRuntime) -> Result<(), Fail> {
+    let mut spindle = Spindle::new(rt.alloc(), 3, 100);
+    let token = spindle.need();
+    let done = store_and_load(&rt, rt.alloc(), &token);
+    spindle.done(token);
+    done
+}
+
+#[test]
+fn the_first_damaged_block_is_told(rt: HostRuntime) -> Result<(), Fail> {
+    let mut spindle = Spindle::new(rt.alloc(), 3, 100);
+    let token = spindle.need();
+    let done = load_damaged(&rt, rt.alloc(), &token);
+    spindle.done(token);
+    done
+}
+
+#[test]
+fn a_part_of_zeros_becomes_a_free_segment(rt: HostRuntime) -> Result<(), Fail> {
+    let mut spindle = Spindle::new(rt.alloc(), 3, 100);
+    let token = spindle.need();
+    let done = free_segment(&rt, rt.alloc(), &token);
+    spindle.done(token);
+    done
+}

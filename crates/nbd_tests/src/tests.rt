@@ -1,0 +1,3 @@
+mod handshakes;
+mod plain;
+mod sessions;

@@ -1,0 +1,10 @@
+mod clean_rows;
+mod command_stops;
+mod gates;
+mod grouping;
+mod helping;
+mod served_volumes;
+mod several;
+mod stopping;
+mod view_rows;
+mod volumes;

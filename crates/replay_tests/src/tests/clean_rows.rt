@@ -1,0 +1,144 @@
+// Volumes with records that lie over one another are cleaned.
+ghost use Rattle.std.specs.Prelude.{◌≡◌, [], Some};
+ghost use Rattle.wol_bay.specs.Bay.{outs};
+ghost use Rattle.wol_bay.specs.MemBay.{mem_bay_state};
+ghost use Rattle.wol_config.specs.Configs.{IsValid};
+
+use super::volumes::{checked, off_loaded, parts, status_of};
+use cleaning::clean_volumes;
+use fixtures::{LAYERS, OFFLOADS, OVERLAPPING, THREE, config_text};
+use std::alloc::Global;
+use std::process::Abort;
+use std::sync::Wait;
+use std::test::Fail;
+use std::thread::Threads;
+use wol_bay::MemBay;
+use wol_config::{Config, read_config};
+use wol_io::MemSink;
+
+/// The status of a cleaning, and what is printed of it.
+pub(crate) fn cleaned<R: Wait>(
+    rt: &R,
+    alloc: Global,
+    config: &Config,
+    bay: &mut MemBay,
+) -> Result<(u8, Vec<u8>), Fail>
+    requires valid { IsValid config.now }
+    requires none { outs (mem_bay_state bay.old) ≡ Some [] }
+    ensures none { outs (mem_bay_state bay.new) ≡ Some [] }
+{
+    let mut out = MemSink::new(alloc, None);
+    let status = status_of(clean_volumes(rt, alloc, config, bay, &mut out));
+    Ok((status, Vec::from_slice(alloc, out.bytes())?))
+}
+
+// Volumes to which a trace was written, what a cleaning prints of them, and what one behind it. A check's first line has these numbers
+// before and behind, and else the same bytes; the other lines are the same.
+struct Row<'a> {
+    config: &'a str,
+    trace: &'a [u8],
+    /// Where the numbers of the first line begin: behind the name, ` ok sha256 ` and 64 digits.
+    numbers: usize,
+    before: &'a [u8],
+    first: &'a [u8],
+    behind: &'a [u8],
+    second: &'a [u8],
+}
+
+const ROWS: [Row<'_>; 3] = [
+    Row {
+        config: THREE,
+        trace: OFFLOADS,
+        numbers: 79,
+        before: b" records 2 segments 1\n",
+        first: b"clean usr0 records 2 to 1 copied 2
+clean web0 records 0 to 0 copied 0
+clean src0 records 1 to 1 copied 0
+",
+        behind: b" records 1 segments 1\n",
+        second: b"clean usr0 records 1 to 1 copied 0
+clean web0 records 0 to 0 copied 0
+clean src0 records 1 to 1 copied 0
+",
+    },
+    // The first volume logs on the one segment of the second, in which there is room for two records of two blocks.
+    Row {
+        config: config_text!(8:
+            "a" of "a" 8 0 "\"b\"",
+            "b" of "b" 1 1 ""
+        ),
+        trace: OVERLAPPING,
+        numbers: 76,
+        before: b" records 2 segments 1\n",
+        first: b"clean a records 2 to 2 copied 0 full
+clean b records 0 to 0 copied 0
+",
+        behind: b" records 2 segments 1\n",
+        second: b"clean a records 2 to 2 copied 0 full
+clean b records 0 to 0 copied 0
+",
+    },
+    // The first volume logs on the segments of the second, in each of which there is room for a chunk of six blocks.
+    Row {
+        config: config_text!(8:
+            "a" of "a" 32 0 "\"b\"",
+            "b" of "b" 1 16 ""
+        ),
+        trace: LAYERS,
+        numbers: 76,
+        before: b" records 9 segments 8\n",
+        first: b"clean a records 9 to 3 copied 16
+clean b records 0 to 0 copied 0
+",
+        behind: b" records 3 segments 3\n",
+        second: b"clean a records 3 to 3 copied 0
+clean b records 0 to 0 copied 0
+",
+    },
+];
+
+// A cleaning is done, and prints these lines.
+fn try_lines<R: Abort + Wait>(
+    rt: &R,
+    alloc: Global,
+    config: &Config,
+    bay: &mut MemBay,
+    lines: &[u8],
+) -> Result<(), Fail>
+    requires valid { IsValid config.now }
+    requires none { outs (mem_bay_state bay.old) ≡ Some [] }
+    ensures none { outs (mem_bay_state bay.new) ≡ Some [] }
+{
+    let (status, text) = cleaned(rt, alloc, config, bay)?;
+    assert!(rt;
+        status == 0 && text.as_slice() == lines,
+        "{status} {text:?}"
+    );
+    Ok(())
+}
+
+fn try_row<R: Abort + Threads + Wait + Sync>(
+    rt: &R,
+    alloc: Global,
+    row: &Row<'_>,
+) -> Result<(), Fail> {
+    let config = read_config(alloc, row.config.as_bytes())?;
+    let mut bay = off_loaded(rt, alloc, &config, row.trace)?;
+    let before = checked(rt, alloc, &config, &mut bay)?;
+    try_lines(rt, alloc, &config, &mut bay, row.first)?;
+    let behind = checked(rt, alloc, &config, &mut bay)?;
+    let kept = parts(rt, &before, row.numbers, row.before);
+    assert!(rt;
+        kept == parts(rt, &behind, row.numbers, row.behind),
+        "{behind:?}"
+    );
+    try_lines(rt, alloc, &config, &mut bay, row.second)
+}
+
+#[test]
+fn records_over_one_another_become_fewer_where_there_is_room(rt: HostRuntime) -> Result<(), Fail> {
+    for row in &ROWS {
+        try_row(&rt, rt.alloc(), row)?;
+    }
+    Ok(())
+}

@@ -1,4 +1,0 @@
-use Rattle.turn_lock_tests.proofs.turns.four_thousand.Given as goal
-
-abbrev pub ghost-new : goal.ghost-new
-ghost-new g a = a.value.count

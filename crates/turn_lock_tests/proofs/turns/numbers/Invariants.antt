@@ -1,4 +1,0 @@
-use Rattle.turn_lock_tests.proofs.turns.numbers.Given as goal
-
-abbrev pub ghost-new : goal.ghost-new
-ghost-new a = a.value.count

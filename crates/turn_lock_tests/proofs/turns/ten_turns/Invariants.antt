@@ -1,5 +1,0 @@
-use Rattle.turn_lock.specs.Passes.{IsPassOf, IsFree}
-use Rattle.turn_lock_tests.proofs.turns.ten_turns.Given as goal
-
-abbrev pub invariant-loop : goal.invariant-loop
-invariant-loop g l = IsPassOf l.lock l.pass × IsFree l.pass

@@ -1,0 +1,8 @@
+mod groups;
+mod life;
+mod locked;
+mod making;
+mod offload;
+mod opening;
+mod reclaim;
+mod segments;

@@ -1,0 +1,27 @@
+// A write to the log of another volume while the disk of its own is asleep.
+use super::making::{apart, new_rig};
+use manager::{Place, Sources};
+use std::test::Fail;
+use wol_model::Turned;
+
+#[test]
+fn a_write_goes_to_the_log_of_an_awake_logger_and_home_stays_asleep(
+    rt: HostRuntime,
+) -> Result<(), Fail> {
+    let mut rig = new_rig(&rt, rt.alloc());
+    rig.begin(false, true);
+    let wrote = rig.write(&rt, 0, &[[7; 512], [8; 512]]);
+    let mut out = [[0; 512]; 2];
+    let read = rig.read(&rt, 0, &mut out);
+    let remains = apart(&rt, rt.alloc(), rig);
+    assert_eq!(rt; wrote, Ok(Place::Log { logger: 1 }));
+    assert_eq!(rt; read, Ok(Sources { home: 0, logged: 2 }));
+    assert_eq!(rt; out, [[7; 512], [8; 512]]);
+    assert_eq!(rt;
+        remains.home.as_slice(),
+        [Turned::Down(600_000_000)].as_slice()
+    );
+    assert_eq!(rt; remains.logger.as_slice(), [].as_slice());
+    assert_eq!(rt; remains.free, 0);
+    Ok(())
+}

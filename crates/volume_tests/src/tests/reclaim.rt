@@ -1,0 +1,194 @@
+// Records that lie over one another go home, and what they keep is given up.
+ghost use Rattle.volume_tests.specs.Rigs.{IsRig};
+
+use super::making::{apart, new_rig};
+use crate::rig::Rig;
+use garbage_list::may_go;
+use manager::{Place, Sources};
+use reclaimer::{Drain, Fetched, Gone};
+use redirect_map::Index;
+use std::alloc::Global;
+use std::process::Abort;
+use std::sync::Wait;
+use std::test::Fail;
+use wol_model::Turned;
+
+// Where a record stands in its segment, and the blocks that it keeps, those of them that are live, may go, or are kept by
+// an older record too: bit i is block i of the record.
+#[derive(Clone, Copy, Debug, PartialEq, Eq)]
+struct Marks {
+    pos: u32,
+    keep: u128,
+    live: u128,
+    may_go: u128,
+    older: u128,
+}
+
+fn marks_of(index: &Index, version: u64) -> Option<Marks> {
+    let record = index.find(version)?;
+    Some(Marks {
+        pos: record.pos,
+        keep: record.keep,
+        live: index.live(version),
+        may_go: may_go(index, version),
+        older: index.older(version),
+    })
+}
+
+// Blocks 1 to 4 under version 1, and then 2 to 3 under version 2, in the log, since home is asleep.
+fn overlapping<R: Abort + Wait>(rt: &R, alloc: Global) -> Rig
+    ensures { IsRig result }
+{
+    let mut rig = new_rig(rt, alloc);
+    rig.begin(false, true);
+    let first = rig.write(rt, 1, &[[11; 512], [12; 512], [13; 512], [14; 512]]);
+    let second = rig.write(rt, 2, &[[22; 512], [23; 512]]);
+    assert_eq!(rt; first, Ok(Place::Log { logger: 1 }));
+    assert_eq!(rt; second, Ok(Place::Log { logger: 1 }));
+    rig
+}
+
+#[test]
+fn what_a_newer_record_covers_is_given_up_while_home_sleeps(rt: HostRuntime) -> Result<(), Fail> {
+    let mut rig = overlapping(&rt, rt.alloc());
+    let first = marks_of(rig.manager.index(), 1);
+    let second = marks_of(rig.manager.index(), 2);
+    let gone = [rig.invalidate_one(&rt), rig.invalidate_one(&rt)];
+    let first_after = marks_of(rig.manager.index(), 1);
+    let second_after = marks_of(rig.manager.index(), 2);
+    let covered = rig.manager.index().covered(1, 4);
+    let remains = apart(&rt, rt.alloc(), rig);
+    let marks = Marks {
+        pos: 1,
+        keep: 15,
+        live: 9,
+        may_go: 6,
+        older: 0,
+    };
+    assert_eq!(rt; first, Some(marks));
+    assert_eq!(rt;
+        first_after,
+        Some(Marks {
+            keep: 9,
+            may_go: 0,
+            ..marks
+        })
+    );
+    let marks = Marks {
+        pos: 6,
+        keep: 3,
+        live: 3,
+        may_go: 0,
+        older: 3,
+    };
+    assert_eq!(rt; second, Some(marks));
+    assert_eq!(rt; second_after, Some(Marks { older: 0, ..marks }));
+    assert_eq!(rt; gone, [Ok(Gone::Trimmed(1)), Ok(Gone::Nothing)]);
+    assert!(rt; covered);
+    assert_eq!(rt; remains.free, 0);
+    assert_eq!(rt;
+        remains.home.as_slice(),
+        [Turned::Down(600_000_000)].as_slice()
+    );
+    Ok(())
+}
+
+#[test]
+fn two_versions_go_home_and_are_gone_in_order(rt: HostRuntime) -> Result<(), Fail> {
+    let mut rig = overlapping(&rt, rt.alloc());
+    rig.begin(true, true);
+    let first = (rig.fetch(&rt), rig.put_home(&rt));
+    let second = (rig.fetch(&rt), rig.put_home(&rt));
+    let third = rig.fetch(&rt);
+    let marks = marks_of(rig.manager.index(), 2);
+    let gone = [
+        rig.invalidate_one(&rt),
+        rig.invalidate_one(&rt),
+        rig.invalidate_one(&rt),
+    ];
+    let mut out = [[0; 512]; 4];
+    let read = rig.read(&rt, 1, &mut out);
+    let remains = apart(&rt, rt.alloc(), rig);
+    assert_eq!(rt;
+        first,
+        (
+            Ok(Fetched::Some {
+                version: 1,
+                count: 4
+            }),
+            Ok(2)
+        )
+    );
+    assert_eq!(rt;
+        second,
+        (
+            Ok(Fetched::Some {
+                version: 2,
+                count: 2
+            }),
+            Ok(2)
+        )
+    );
+    assert_eq!(rt; third, Ok(Fetched::Nothing));
+    assert_eq!(rt; marks.map(|marks| marks.may_go), Some(0));
+    assert_eq!(rt;
+        gone,
+        [
+            Ok(Gone::Version(1)),
+            Ok(Gone::Version(2)),
+            Ok(Gone::Nothing)
+        ]
+    );
+    assert_eq!(rt; read, Ok(Sources { home: 4, logged: 0 }));
+    assert_eq!(rt; out, [[11; 512], [22; 512], [23; 512], [14; 512]]);
+    assert_eq!(rt; remains.free, 1);
+    Ok(())
+}
+
+#[test]
+fn a_block_that_was_overwritten_since_it_was_fetched_is_not_put_home(
+    rt: HostRuntime,
+) -> Result<(), Fail> {
+    let mut rig = new_rig(&rt, rt.alloc());
+    rig.begin(false, true);
+    let first = rig.write(&rt, 5, &[[1; 512]]);
+    rig.begin(true, true);
+    let fetched = rig.fetch(&rt);
+    let second = rig.write(&rt, 5, &[[2; 512]]);
+    let put = rig.put_home(&rt);
+    let mut out = [[0; 512]];
+    let read = rig.read(&rt, 5, &mut out);
+    let _remains = apart(&rt, rt.alloc(), rig);
+    assert_eq!(rt;
+        [first, second],
+        [Ok(Place::Log { logger: 1 }), Ok(Place::Log { logger: 1 })]
+    );
+    assert_eq!(rt;
+        fetched,
+        Ok(Fetched::Some {
+            version: 1,
+            count: 1
+        })
+    );
+    assert_eq!(rt; put, Ok(0));
+    assert_eq!(rt; read, Ok(Sources { home: 0, logged: 1 }));
+    assert_eq!(rt; out, [[2; 512]]);
+    Ok(())
+}
+
+#[test]
+fn a_drain_wakes_home_and_leaves_no_record(rt: HostRuntime) -> Result<(), Fail> {
+    let mut rig = overlapping(&rt, rt.alloc());
+    for (blocks, records) in [(0, 0), (2, 0), (0, 1), (2, 0), (0, 1)] {
+        assert_eq!(rt; rig.drain_step(&rt), Ok(Drain::Moved { blocks, records }));
+    }
+    let last = rig.drain_step(&rt);
+    let remains = apart(&rt, rt.alloc(), rig);
+    assert_eq!(rt; last, Ok(Drain::Bare));
+    assert_eq!(rt; remains.free, 1);
+    assert_eq!(rt;
+        remains.home.as_slice(),
+        [Turned::Down(600_000_000), Turned::Up(700_000_000)].as_slice()
+    );
+    Ok(())
+}

@@ -1,5 +1,0 @@
-use Rattle.solo.specs.Images.{NoneOut}
-use Rattle.wol_tests.proofs.runs.try_all.Given as goal
-
-abbrev pub invariant-loop-row : goal.invariant-loop-row
-invariant-loop-row g l = NoneOut (g.B.Bay.state l.bay)

@@ -1,0 +1,5 @@
+use Rattle.solo.specs.Images.{NoneOut}
+use Rattle.wol_tests.proofs.tests.runs.try_all.Given as goal
+
+abbrev pub invariant-loop-row : goal.invariant-loop-row
+invariant-loop-row g l = NoneOut (g.B.Bay.state l.bay)

@@ -1,0 +1,5 @@
+mod calls;
+mod forged;
+mod runs;
+mod same;
+mod spoiled;
