@@ -96,12 +96,19 @@ pub copied_line : (r : Option (Bor Line)) (l : Option Line) → option_copied r 
 copied_line None l is = rw (← is) refl
 copied_line (Some x) l is = rw (← is) refl
 
--- how the last window was left, by the sink
-pub last_ok : {D O : Type 0} (tells : Bool) (config : Config) (options : Options) (b : Batched) (s n : Session D) (faults : O → ℕ) (taken : O → Option (List ℕ)) (old now : O)
-    → ((b.lines ≡ 0) × (n ≡ s) × (now ≡ old)) ⊎ ((0 < b.lines) × GoesOn tells config options b s n (faults old) (faults now) (taken old) (taken now))
-    → ((b.lines ≡ 0) × (n ≡ s) × (faults now ≡ faults old) × Keeps (taken old) (taken now)) ⊎ ((0 < b.lines) × GoesOn tells config options b s n (faults old) (faults now) (taken old) (taken now))
-last_ok tells config options b s n faults taken old now (inl (empty, same, out)) = inl (empty, same, ap faults out, rw out (keeps_same (taken old)))
-last_ok tells config options b s n faults taken old now (inr goes) = inr goes
+-- how a window was left
+module _ {D O : Type 0} (tells : Bool) (config : Config) (options : Options) (b : Batched) (s n : Session D) (faults : O → ℕ) (taken : O → Option (List ℕ)) (old now : O) where
+  -- one with a line was served
+  pub window_served : 0 < b.lines → ((b.lines ≡ 0) × (n ≡ s) × (now ≡ old)) ⊎ ((0 < b.lines) × GoesOn tells config options b s n (faults old) (faults now) (taken old) (taken now))
+      → GoesOn tells config options b s n (faults old) (faults now) (taken old) (taken now)
+  window_served some (inl (none, same, out)) = absurd (omega (arith, none, some))
+  window_served some (inr (has, goes)) = goes
+
+  -- the last one, by the sink
+  pub last_ok : ((b.lines ≡ 0) × (n ≡ s) × (now ≡ old)) ⊎ ((0 < b.lines) × GoesOn tells config options b s n (faults old) (faults now) (taken old) (taken now))
+      → ((b.lines ≡ 0) × (n ≡ s) × (faults now ≡ faults old) × Keeps (taken old) (taken now)) ⊎ ((0 < b.lines) × GoesOn tells config options b s n (faults old) (faults now) (taken old) (taken now))
+  last_ok (inl (empty, same, out)) = inl (empty, same, ap faults out, rw out (keeps_same (taken old)))
+  last_ok (inr goes) = inr goes
 
 -- ---- What was served so far
 

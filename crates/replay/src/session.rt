@@ -154,8 +154,8 @@ impl<'l, D: Disk> Session<'l, D> {
         )
     }
 
-    // Serves a window: it is begun, its requests are run, the lines of its reads are printed where that is asked for, and then
-    // the run ends where a request was refused.
+    // Serves a window, unless it has no line: it is begun, its requests are run, the lines of its reads are printed where that is
+    // asked for, and then the run ends where a request was refused.
     fn serve<R: Wait, K: Sink, G: Gate>(
         &mut self,
         rt: &R,
@@ -178,15 +178,20 @@ impl<'l, D: Disk> Session<'l, D> {
         ensures same { AreSamePasses self.old.keepers.items self.new.keepers.items }
         ensures locks { self.new.floor.locks ≡ self.old.floor.locks }
         ensures few { OnOk result (AddsAtMost 131073 self.old.totals self.new.totals) }
-        ensures started { OnOk result (self.new.started ≡ true) }
-        ensures ok { OnOk result (GoesOn D.tells config.now options batch.now self.old self.new
-            (K.faults out.old) (K.faults out.new) (K.taken out.old) (K.taken out.new)) }
+        ensures started { OnOk result (0 < batch.now.lines → self.new.started ≡ true) }
+        ensures ok { OnOk result
+            (((batch.now.lines ≡ 0) × (self.new ≡ self.old) × (out.new ≡ out.old))
+            ⊎ ((0 < batch.now.lines) × GoesOn D.tells config.now options batch.now self.old self.new
+            (K.faults out.old) (K.faults out.new) (K.taken out.old) (K.taken out.new))) }
         ensures err { IfErr result (λ e.
-            EndsIn e D.tells config.now options batch.now self.old self.new (K.faults out.old)
-            (K.faults out.new) (K.taken out.old) (K.taken out.new)) }
+            (0 < batch.now.lines) × EndsIn e D.tells config.now options batch.now self.old
+            self.new (K.faults out.old) (K.faults out.new) (K.taken out.old) (K.taken out.new)) }
         ensures not_source { result ≢ Err (Stop.Fault Fault.TraceSource) }
         ensures later { K.faults out.old ≤ K.faults out.new }
     {
+        if batch.lines() == 0 {
+            return Ok(());
+        }
         self.begin(rt, alloc, shared, batch.moment())?;
         let window = calls::window(
             rt,
@@ -246,44 +251,6 @@ impl<'l, D: Disk> Session<'l, D> {
             self.serve(rt, alloc, config, options, shared, batch, out, crew)?;
         }
         Ok(())
-    }
-
-    // Serves the last window, if the trace has one.
-    fn serve_last<R: Wait, K: Sink, G: Gate>(
-        &mut self,
-        rt: &R,
-        alloc: Global,
-        config: &Config,
-        options: Options,
-        shared: &'l Shared<D>,
-        batch: &Batch,
-        out: &mut K,
-        crew: &mut Crew<'_, 'l, D, G>,
-    ) -> Result<(), Stop>
-        requires valid { IsValid config.now }
-        requires session { IsSession config.now shared.now self.old }
-        requires crew { IsCrew crew.old }
-        requires inside { AllByRecursion (IsInside (most_of config.now) (targets_of config.now))
-            batch.now.requests }
-        requires room { HasRoomFor 131073 self.old.totals }
-        ensures session { IsSession config.now shared.now self.new }
-        ensures crew { IsCrew crew.new }
-        ensures same { AreSamePasses self.old.keepers.items self.new.keepers.items }
-        ensures locks { self.new.floor.locks ≡ self.old.floor.locks }
-        ensures ok { OnOk result
-            (((batch.now.lines ≡ 0) × (self.new ≡ self.old) × (out.new ≡ out.old))
-            ⊎ ((0 < batch.now.lines) × GoesOn D.tells config.now options batch.now self.old self.new
-            (K.faults out.old) (K.faults out.new) (K.taken out.old) (K.taken out.new))) }
-        ensures err { IfErr result (λ e.
-            (0 < batch.now.lines) × EndsIn e D.tells config.now options batch.now self.old
-            self.new (K.faults out.old) (K.faults out.new) (K.taken out.old) (K.taken out.new)) }
-        ensures not_source { result ≢ Err (Stop.Fault Fault.TraceSource) }
-        ensures later { K.faults out.old ≤ K.faults out.new }
-    {
-        if batch.lines() == 0 {
-            return Ok(());
-        }
-        self.serve(rt, alloc, config, options, shared, batch, out, crew)
     }
 
     // What was counted of the trace.
@@ -368,7 +335,7 @@ impl<'l, D: Disk> Session<'l, D> {
                 }
                 Ok(None) => {
                     let batch = cutter.current();
-                    self.serve_last(rt, alloc, config, options, shared, batch, out, crew)?;
+                    self.serve(rt, alloc, config, options, shared, batch, out, crew)?;
                     return Ok(self.counted(cutter.tally()));
                 }
                 Err(fault) => {
@@ -376,7 +343,7 @@ impl<'l, D: Disk> Session<'l, D> {
                         return Err(Stop::Fault(Fault::Memory));
                     }
                     let batch = cutter.current();
-                    self.serve_last(rt, alloc, config, options, shared, batch, out, crew)?;
+                    self.serve(rt, alloc, config, options, shared, batch, out, crew)?;
                     return Err(Stop::Fault(fault_of_trace(fault)));
                 }
             }

@@ -35,19 +35,19 @@ returns-in_err-take-in-Ok-Some-clause-some g c =
     rw (p.1, p.2) (stops_at_line g.D.Disk.tells g.S.Source.left c.args.config.now c.args.options c.args.given.now c.args.self.now.floor c.args.self.now.keepers.items (g.K.Sink.faults c.args.out.now) (g.K.Sink.taken c.args.out.now)
     c.loop.given c.loop.cutter c.loop.self (g.K.Sink.faults c.loop.out) (g.K.Sink.taken c.loop.out) so c.next.new.self _ c.take.new.cutter _ c.take.new.self (g.K.Sink.faults c.take.new.out) (g.K.Sink.taken c.take.new.out) stops (next c.args.given.now (so.run ++ so.more) so.given))
 
-pub serve_last-requires-clause-inside : goal.serve_last-requires-clause-inside
-serve_last-requires-clause-inside g c =
+pub serve-requires-clause-inside : goal.serve-requires-clause-inside
+serve-requires-clause-inside g c =
     let so = c.loop.invariant.so_far in
     rw c.current-batch.ensures (current_lies c.args.config.now (so.run ++ so.more) so.ws c.loop.cutter c.requires.valid so.cut)
 
-pub returns-in_err-serve_last-in-Ok-None-clause-some : goal.returns-in_err-serve_last-in-Ok-None-clause-some
-returns-in_err-serve_last-in-Ok-None-clause-some g c =
-    let p = err_from_is_err_and c.from_residual-in_err-serve_last-in-Ok-None.result c.from_residual-in_err-serve_last-in-Ok-None.ensures.1 in
+pub returns-in_err-serve-in-Ok-None-clause-some : goal.returns-in_err-serve-in-Ok-None-clause-some
+returns-in_err-serve-in-Ok-None-clause-some g c =
+    let p = err_from_is_err_and c.from_residual-in_err-serve-in-Ok-None.result c.from_residual-in_err-serve-in-Ok-None.ensures.1 in
     let so = c.loop.invariant.so_far in
     let end = rw c.in-Ok-None.field-0-is at c.in-Ok-None.ensures.end in
-    let stops = rw c.current-batch.ensures at c.in_err-serve_last-in-Ok-None.ensures.err in
+    let stops = rw c.current-batch.ensures at c.in_err-serve-in-Ok-None.ensures.err in
     rw (p.1, p.2) (stops_last g.D.Disk.tells g.S.Source.left c.args.config.now c.args.options c.args.given.now c.args.self.now.floor c.args.self.now.keepers.items (g.K.Sink.faults c.args.out.now) (g.K.Sink.taken c.args.out.now)
-    c.loop.given c.loop.cutter c.loop.self (g.K.Sink.faults c.loop.out) (g.K.Sink.taken c.loop.out) so c.next.new.self _ c.serve_last.new.self (g.K.Sink.faults c.serve_last.new.out) (g.K.Sink.taken c.serve_last.new.out)
+    c.loop.given c.loop.cutter c.loop.self (g.K.Sink.faults c.loop.out) (g.K.Sink.taken c.loop.out) so c.next.new.self _ c.serve.new.self (g.K.Sink.faults c.serve.new.out) (g.K.Sink.taken c.serve.new.out)
     (at_end (end c.args.given.now (so.run ++ so.more) so.given).1) stops.0 stops.1 (end c.args.given.now (so.run ++ so.more) so.given).0)
 
 pub returns-in-Ok-None-clause-whole : goal.returns-in-Ok-None-clause-whole
@@ -55,10 +55,10 @@ returns-in-Ok-None-clause-whole g c =
     let so = c.loop.invariant.so_far in
     let end = rw c.in-Ok-None.field-0-is at c.in-Ok-None.ensures.end in
     let has = end c.args.given.now (so.run ++ so.more) so.given in
-    let ok = last_ok g.D.Disk.tells c.args.config.now c.args.options c.loop.cutter.current c.loop.self c.serve_last.new.self g.K.Sink.faults g.K.Sink.taken c.loop.out c.serve_last.new.out (rw c.current-batch.ensures at c.in_ok-serve_last-in-Ok-None.ensures.ok) in
+    let ok = last_ok g.D.Disk.tells c.args.config.now c.args.options c.loop.cutter.current c.loop.self c.serve.new.self g.K.Sink.faults g.K.Sink.taken c.loop.out c.serve.new.out (rw c.current-batch.ensures at c.in_ok-serve-in-Ok-None.ensures.ok) in
     let t = c.counted.ensures in
     serves_whole g.D.Disk.tells g.S.Source.left c.args.config.now c.args.options c.args.given.now c.args.self.now.floor c.args.self.now.keepers.items (g.K.Sink.faults c.args.out.now) (g.K.Sink.taken c.args.out.now)
-    c.loop.given c.loop.cutter c.loop.self (g.K.Sink.faults c.loop.out) (g.K.Sink.taken c.loop.out) so c.next.new.self c.serve_last.new.self c.counted.result (g.K.Sink.faults c.serve_last.new.out) (g.K.Sink.taken c.serve_last.new.out)
+    c.loop.given c.loop.cutter c.loop.self (g.K.Sink.faults c.loop.out) (g.K.Sink.taken c.loop.out) so c.next.new.self c.serve.new.self c.counted.result (g.K.Sink.faults c.serve.new.out) (g.K.Sink.taken c.serve.new.out)
     ok has.0 has.1 (rw c.tally.ensures.value at t.totals) (rw c.tally.ensures.value at t.started) (rw c.tally.ensures.value at t.ended) (rw c.tally.ensures.value at c.tally.ensures.order)
 
 pub loop-preserved : goal.loop-preserved
@@ -96,27 +96,27 @@ returns-then-is_memory-clause-some g c =
     c.loop.given c.loop.cutter c.loop.self (g.K.Sink.faults c.loop.out) (g.K.Sink.taken c.loop.out) so c.next.new.self [] c.loop.self.floor c.loop.self.keepers.items (g.K.Sink.faults c.loop.out) (g.K.Sink.taken c.loop.out)
     (rw (append-nil so.more) has.0) (not_run_same g.D.Disk.tells c.loop.self.floor) (none_further refl refl) refl (keeps_same (g.K.Sink.taken c.loop.out))
 
-pub serve_last-requires-in-Err-clause-inside : goal.serve_last-requires-in-Err-clause-inside
-serve_last-requires-in-Err-clause-inside g c =
+pub serve-requires-in-Err-clause-inside : goal.serve-requires-in-Err-clause-inside
+serve-requires-in-Err-clause-inside g c =
     let so = c.loop.invariant.so_far in
     rw c.current-batch-in-Err.ensures (current_lies c.args.config.now (so.run ++ so.more) so.ws c.loop.cutter c.requires.valid so.cut)
 
-pub returns-in_err-serve_last-in-Err-clause-some : goal.returns-in_err-serve_last-in-Err-clause-some
-returns-in_err-serve_last-in-Err-clause-some g c =
-    let p = err_from_is_err_and c.from_residual-in_err-serve_last-in-Err.result c.from_residual-in_err-serve_last-in-Err.ensures.1 in
+pub returns-in_err-serve-in-Err-clause-some : goal.returns-in_err-serve-in-Err-clause-some
+returns-in_err-serve-in-Err-clause-some g c =
+    let p = err_from_is_err_and c.from_residual-in_err-serve-in-Err.result c.from_residual-in_err-serve-in-Err.ensures.1 in
     let so = c.loop.invariant.so_far in
     let has = c.in-Err.ensures.refused c.args.given.now (so.run ++ so.more) so.given in
-    let stops = rw c.current-batch-in-Err.ensures at c.in_err-serve_last-in-Err.ensures.err in
+    let stops = rw c.current-batch-in-Err.ensures at c.in_err-serve-in-Err.ensures.err in
     rw (p.1, p.2) (stops_last g.D.Disk.tells g.S.Source.left c.args.config.now c.args.options c.args.given.now c.args.self.now.floor c.args.self.now.keepers.items (g.K.Sink.faults c.args.out.now) (g.K.Sink.taken c.args.out.now)
-    c.loop.given c.loop.cutter c.loop.self (g.K.Sink.faults c.loop.out) (g.K.Sink.taken c.loop.out) so c.next.new.self _ c.serve_last-in-Err.new.self (g.K.Sink.faults c.serve_last-in-Err.new.out) (g.K.Sink.taken c.serve_last-in-Err.new.out)
+    c.loop.given c.loop.cutter c.loop.self (g.K.Sink.faults c.loop.out) (g.K.Sink.taken c.loop.out) so c.next.new.self _ c.serve-in-Err.new.self (g.K.Sink.faults c.serve-in-Err.new.out) (g.K.Sink.taken c.serve-in-Err.new.out)
     (at_refusal c.in-Err.fault (λ is. let none : false ≡ is_no_memory c.in-Err.fault = c.if-is_memory.ensures in let some : is_no_memory c.in-Err.fault ≡ true = ap is_no_memory is in cc) has.1) stops.0 stops.1 has.0)
 
 pub returns-in-Err-clause-some : goal.returns-in-Err-clause-some
 returns-in-Err-clause-some g c =
     let so = c.loop.invariant.so_far in
     let has = c.in-Err.ensures.refused c.args.given.now (so.run ++ so.more) so.given in
-    let ok = last_ok g.D.Disk.tells c.args.config.now c.args.options c.loop.cutter.current c.loop.self c.serve_last-in-Err.new.self g.K.Sink.faults g.K.Sink.taken c.loop.out c.serve_last-in-Err.new.out (rw c.current-batch-in-Err.ensures at c.in_ok-serve_last-in-Err.ensures.ok) in
+    let ok = last_ok g.D.Disk.tells c.args.config.now c.args.options c.loop.cutter.current c.loop.self c.serve-in-Err.new.self g.K.Sink.faults g.K.Sink.taken c.loop.out c.serve-in-Err.new.out (rw c.current-batch-in-Err.ensures at c.in_ok-serve-in-Err.ensures.ok) in
     let other : c.in-Err.fault ≢ refusal.NoMemory = (λ is. let none : false ≡ is_no_memory c.in-Err.fault = c.if-is_memory.ensures in let some : is_no_memory c.in-Err.fault ≡ true = ap is_no_memory is in cc) in
     rw c.fault_of_trace.ensures (no_line g.D.Disk.tells g.S.Source.left c.args.config.now c.args.options c.args.given.now c.args.self.now.floor c.args.self.now.keepers.items (g.K.Sink.faults c.args.out.now) (g.K.Sink.taken c.args.out.now)
-    c.loop.given c.loop.cutter c.loop.self (g.K.Sink.faults c.loop.out) (g.K.Sink.taken c.loop.out) so c.next.new.self c.in-Err.fault c.serve_last-in-Err.new.self (g.K.Sink.faults c.serve_last-in-Err.new.out) (g.K.Sink.taken c.serve_last-in-Err.new.out)
+    c.loop.given c.loop.cutter c.loop.self (g.K.Sink.faults c.loop.out) (g.K.Sink.taken c.loop.out) so c.next.new.self c.in-Err.fault c.serve-in-Err.new.self (g.K.Sink.faults c.serve-in-Err.new.out) (g.K.Sink.taken c.serve-in-Err.new.out)
     ok other has.0 has.1)
