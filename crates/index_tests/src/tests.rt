@@ -1,6 +1,5 @@
 mod agreement;
 mod dice;
-mod going;
 mod list;
 mod many;
 mod overlapping;

@@ -3,7 +3,7 @@ use Rattle.std.specs.List.{AllByRecursion}
 use Rattle.redirect_map.specs.Index.{with_homed}
 use Rattle.garbage_list.specs.Least.{HasLane}
 use Rattle.garbage_list.proofs.Lanes.{all_changed}
-use Rattle.index_tests.proofs.tests.going.put_home_next.Goals as goal
+use Rattle.index_tests.proofs.tests.overlapping.put_home_next.Goals as goal
 
 pub returns : goal.returns
 returns c = subst (AllByRecursion (HasLane c.args.lanes.now)) (sym c.set_homed.ensures.entries)

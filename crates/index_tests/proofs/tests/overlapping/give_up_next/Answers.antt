@@ -4,7 +4,7 @@ use Rattle.wol_model.specs.Index.{Indexed, keeps_a_block}
 use Rattle.redirect_map.specs.Index.{given_up}
 use Rattle.garbage_list.specs.Least.{HasLane}
 use Rattle.garbage_list.proofs.Lanes.{all_changed, all_filtered}
-use Rattle.index_tests.proofs.tests.going.give_up_next.Goals as goal
+use Rattle.index_tests.proofs.tests.overlapping.give_up_next.Goals as goal
 
 pub returns : goal.returns
 returns c = subst (AllByRecursion (HasLane c.args.lanes.now)) (sym c.trim.ensures.entries)
