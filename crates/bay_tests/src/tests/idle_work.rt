@@ -9,8 +9,8 @@ ghost use Rattle.rack.specs.Opens.{KeepsOthers};
 ghost use Rattle.open_rack.specs.NotOpened.{LeavesBay};
 ghost use Rattle.open_rack.specs.Sessions.{OpensAndCloses};
 
-use super::inspected::{FIVE, OWNED, tries};
-use fixtures::{Change, SRC0, THREE, USR0, WEB0, put};
+use super::inspected::{FIVE, tries};
+use fixtures::{Change, OWNED, SRC0, THREE, USR0, WEB0, put};
 use inspection::Asked;
 use open_rack::{Closed, Work, with_open};
 use rack::Rack;

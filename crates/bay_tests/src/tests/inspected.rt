@@ -3,7 +3,10 @@ ghost use Rattle.std.specs.Prelude.{◌≡◌, [], Some};
 ghost use Rattle.wol_bay.specs.Bay.{outs};
 ghost use Rattle.wol_bay.specs.MemBay.{mem_bay_state};
 
-use fixtures::{Change, Formatted, ONE_BLOCK_EACH, SRC0, THREE, USR0, WEB0, put};
+use fixtures::{
+    Change, Formatted, LONG, MANY, ONE_BLOCK_EACH, OTHER_LONG, OTHER_MANY, OTHER_PAST, OWNED, PAST,
+    SRC0, THREE, USR0, WEB0, put,
+};
 use inspection::{Asked, inspect};
 use rack::format;
 use std::alloc::Global;
@@ -120,9 +123,7 @@ const SRC_WITHOUT_USR: &[u8] = b"src0 logger 0 missing\n";
 
 const BEHIND: &[u8] = b"usr0 damaged 1003 of web0\n";
 
-// The first or the second segment of web0, or the first of src0, is owned by usr0.
-pub(crate) const OWNED: Change<'_> = ("web0", 1002, b"WOLSEGO1\x00\x00\x00\x00");
-
+// The second segment of web0, or the first of src0, is owned by usr0.
 const OWNED_TOO: Change<'_> = ("web0", 1018, b"WOLSEGO1\x00\x00\x00\x00");
 
 const ELSEWHERE: Change<'_> = ("src0", 1002, b"WOLSEGO1\x00\x00\x00\x00");
@@ -139,25 +140,6 @@ const LAST: &[u8] =
 
 const OTHER_LAST: &[u8] =
     b"WOLREC02\x00\x00\x00\x00\x00\x00\x00\x00\xff\xff\xff\xff\xff\xff\xff\x7f\x00\x00\x00\x00\x00\x00\x00\x00\x01\x00\x00\x00\x01";
-
-// Heads of 129 blocks, of blocks 999 and 1000, and of 15 blocks.
-const MANY: &[u8] =
-    b"WOLREC01\x01\x00\x00\x00\x00\x00\x00\x00\x05\x00\x00\x00\x00\x00\x00\x00\x00\x00\x00\x00\x00\x00\x00\x00\x81";
-
-const OTHER_MANY: &[u8] =
-    b"WOLREC02\x00\x00\x00\x00\x00\x00\x00\x00\x05\x00\x00\x00\x00\x00\x00\x00\x00\x00\x00\x00\x00\x00\x00\x00\x81\x00\x00\x00\x01";
-
-const PAST: &[u8] =
-    b"WOLREC01\x01\x00\x00\x00\x00\x00\x00\x00\x05\x00\x00\x00\x00\x00\x00\x00\xe7\x03\x00\x00\x00\x00\x00\x00\x02";
-
-const OTHER_PAST: &[u8] =
-    b"WOLREC02\x00\x00\x00\x00\x00\x00\x00\x00\x05\x00\x00\x00\x00\x00\x00\x00\xe7\x03\x00\x00\x00\x00\x00\x00\x02\x00\x00\x00\x03";
-
-const LONG: &[u8] =
-    b"WOLREC01\x01\x00\x00\x00\x00\x00\x00\x00\x05\x00\x00\x00\x00\x00\x00\x00\x00\x00\x00\x00\x00\x00\x00\x00\x0f";
-
-const OTHER_LONG: &[u8] =
-    b"WOLREC02\x00\x00\x00\x00\x00\x00\x00\x00\x05\x00\x00\x00\x00\x00\x00\x00\x00\x00\x00\x00\x00\x00\x00\x00\x0f\x00\x00\x00\xff\x7f";
 
 // Heads that keep no block, and one that keeps a block that its record hasn't.
 const NONE_KEPT: &[u8] =
@@ -200,47 +182,48 @@ const SEVEN_1000: &[u8] =
 const USR_WITH_THREE: &[u8] =
     b"usr0 ok sha256 2d4da04b861bb9dbe77c871415931785a18138d6db035f1bbcd0cf8277c6fc23 records 3 segments 1\n";
 
-// Both segments have records of blocks 1 to 3, the first with versions from 4 on and the second from 5 on.
-const TWICE: Row<'_> = (
-    &[
-        OWNED,
-        ("web0", 1003, FOUR_1),
-        ("web0", 1005, FIVE_2),
-        ("web0", 1007, SIX_3),
-        OWNED_TOO,
-        ("web0", 1019, FIVE_1),
-        ("web0", 1021, SIX_2),
-        ("web0", 1023, SEVEN_3),
-    ],
-    5,
-    [b"usr0 twins 1005 of web0 and 1019 of web0\n", WEB, SRC],
-);
-
-// The first segment has no record, and the third record of the second passes the end.
-const PASSES: Row<'_> = (
-    &[
-        OWNED,
-        OWNED_TOO,
-        ("web0", 1019, FIVE_998),
-        ("web0", 1021, SIX_999),
-        ("web0", 1023, SEVEN_1000),
-    ],
-    5,
-    [b"usr0 damaged 1023 of web0\n", WEB, SRC],
-);
-
-// The first segment has three records, and the second none.
-const HOLDS_NOTHING: Row<'_> = (
-    &[
-        OWNED,
-        ("web0", 1003, FOUR_1),
-        ("web0", 1005, FIVE_2),
-        ("web0", 1007, SIX_3),
-        OWNED_TOO,
-    ],
-    0,
-    [USR_WITH_THREE, WEB, SRC],
-);
+const MANY_RECORDS: &[Row<'_>] = &[
+    // both segments have records of blocks 1 to 3, the first with versions from 4 on and the second from 5 on: told are the first
+    // two of the least version with both their places
+    (
+        &[
+            OWNED,
+            ("web0", 1003, FOUR_1),
+            ("web0", 1005, FIVE_2),
+            ("web0", 1007, SIX_3),
+            OWNED_TOO,
+            ("web0", 1019, FIVE_1),
+            ("web0", 1021, SIX_2),
+            ("web0", 1023, SEVEN_3),
+        ],
+        5,
+        [b"usr0 twins 1005 of web0 and 1019 of web0\n", WEB, SRC],
+    ),
+    // the first segment has no record, and the third record of the second passes the end: its block is told
+    (
+        &[
+            OWNED,
+            OWNED_TOO,
+            ("web0", 1019, FIVE_998),
+            ("web0", 1021, SIX_999),
+            ("web0", 1023, SEVEN_1000),
+        ],
+        5,
+        [b"usr0 damaged 1023 of web0\n", WEB, SRC],
+    ),
+    // the first segment has three records, and the second none, which is not held then
+    (
+        &[
+            OWNED,
+            ("web0", 1003, FOUR_1),
+            ("web0", 1005, FIVE_2),
+            ("web0", 1007, SIX_3),
+            OWNED_TOO,
+        ],
+        0,
+        [USR_WITH_THREE, WEB, SRC],
+    ),
+];
 
 const IMAGES: &[Row<'_>] = &[
     (&[], 0, [USR, WEB, SRC]),
@@ -351,36 +334,11 @@ const DUMPED: &[Row<'_>] = &[
 ];
 
 #[test]
-fn forged_images(rt: HostRuntime) -> Result<(), Fail> {
-    tries_rows(&rt, rt.alloc(), Asked::Check, IMAGES)
-}
-
-#[test]
-fn refused_records_of_either_form(rt: HostRuntime) -> Result<(), Fail> {
-    tries_rows(&rt, rt.alloc(), Asked::Check, REFUSED)
-}
-
-#[test]
-fn accepted_records_of_either_form(rt: HostRuntime) -> Result<(), Fail> {
-    tries_rows(&rt, rt.alloc(), Asked::Check, ACCEPTED)?;
+fn forged_images_are_told(rt: HostRuntime) -> Result<(), Fail> {
+    for rows in [IMAGES, REFUSED, ACCEPTED, MANY_RECORDS] {
+        tries_rows(&rt, rt.alloc(), Asked::Check, rows)?;
+    }
     tries_rows(&rt, rt.alloc(), Asked::Dump, DUMPED)
-}
-
-#[test]
-fn the_first_two_records_of_the_least_version_are_told_with_both_places(
-    rt: HostRuntime,
-) -> Result<(), Fail> {
-    tries_rows(&rt, rt.alloc(), Asked::Check, &[TWICE])
-}
-
-#[test]
-fn a_record_that_passes_the_end_is_told_with_its_block(rt: HostRuntime) -> Result<(), Fail> {
-    tries_rows(&rt, rt.alloc(), Asked::Check, &[PASSES])
-}
-
-#[test]
-fn a_segment_without_a_record_is_not_held(rt: HostRuntime) -> Result<(), Fail> {
-    tries_rows(&rt, rt.alloc(), Asked::Check, &[HOLDS_NOTHING])
 }
 
 // Eleven volumes, each with one block more than the last; the second logs on the fourth.

@@ -1,7 +1,10 @@
 // Images that no run wrote, through the words of each command. The lines were worked out by hand from the formats.
 use super::calls::make_call;
 use super::same::same_at;
-use fixtures::{Call, Change, SRC0, THREE, USR0, WEB0, put};
+use fixtures::{
+    Call, Change, LONG, MANY, OTHER_LONG, OTHER_MANY, OTHER_PAST, OWNED, PAST, SRC0, THREE, USR0,
+    WEB0, put,
+};
 use std::alloc::Global;
 use std::process::Abort;
 use std::sync::Wait;
@@ -21,28 +24,6 @@ const NAMES: [&str; 3] = ["usr0", "web0", "src0"];
 
 const ZEROS: &str =
     "ok sha256 2d4da04b861bb9dbe77c871415931785a18138d6db035f1bbcd0cf8277c6fc23 records 0 segments 0";
-
-// The first segment of web0 is owned by usr0.
-const OWNED: Change<'_> = ("web0", 1002, b"WOLSEGO1\x00\x00\x00\x00");
-
-// Heads of 129 blocks, of blocks 999 and 1000, and of 15 blocks, each in both forms.
-const MANY: &[u8] =
-    b"WOLREC01\x01\x00\x00\x00\x00\x00\x00\x00\x05\x00\x00\x00\x00\x00\x00\x00\x00\x00\x00\x00\x00\x00\x00\x00\x81";
-
-const OTHER_MANY: &[u8] =
-    b"WOLREC02\x00\x00\x00\x00\x00\x00\x00\x00\x05\x00\x00\x00\x00\x00\x00\x00\x00\x00\x00\x00\x00\x00\x00\x00\x81\x00\x00\x00\x01";
-
-const PAST: &[u8] =
-    b"WOLREC01\x01\x00\x00\x00\x00\x00\x00\x00\x05\x00\x00\x00\x00\x00\x00\x00\xe7\x03\x00\x00\x00\x00\x00\x00\x02";
-
-const OTHER_PAST: &[u8] =
-    b"WOLREC02\x00\x00\x00\x00\x00\x00\x00\x00\x05\x00\x00\x00\x00\x00\x00\x00\xe7\x03\x00\x00\x00\x00\x00\x00\x02\x00\x00\x00\x03";
-
-const LONG: &[u8] =
-    b"WOLREC01\x01\x00\x00\x00\x00\x00\x00\x00\x05\x00\x00\x00\x00\x00\x00\x00\x00\x00\x00\x00\x00\x00\x00\x00\x0f";
-
-const OTHER_LONG: &[u8] =
-    b"WOLREC02\x00\x00\x00\x00\x00\x00\x00\x00\x05\x00\x00\x00\x00\x00\x00\x00\x00\x00\x00\x00\x00\x00\x00\x00\x0f\x00\x00\x00\xff\x7f";
 
 // A damaged head behind the segment's, which is that of a log of usr0.
 const BEHIND: Forged<'_> = Forged {
