@@ -25,13 +25,12 @@ fn reads_and_writes_a_label(rt: HostRuntime) {
         segment_blocks: 16,
     };
     let b = block(b"WOLVOL01\0\0\0\0\xe8\x03\0\0\0\0\0\0\x04\0\0\0\x10\0\0\0");
-    assert_eq!(rt; read_label(&b), Some(label));
+    assert!(rt; read_label(&b) == Some(label));
     let mut written = [0xff; 512];
     write_label(&label, &mut written);
     assert!(rt; written == b);
-    assert_eq!(rt;
-        read_label(&block(b"WOLVOL01\0\0\0\0\xe8\x03\0\0\0\0\0\0\x04\0\0\0\x03\0\0\0")),
-        None,
+    assert!(rt;
+        read_label(&block(b"WOLVOL01\0\0\0\0\xe8\x03\0\0\0\0\0\0\x04\0\0\0\x03\0\0\0")) == None,
         "segments of 3"
     );
 }
@@ -40,8 +39,8 @@ fn reads_and_writes_a_label(rt: HostRuntime) {
 fn reads_and_writes_a_view(rt: HostRuntime) {
     let b = block(b"WOLVIEW1\x02\0\0\0\x01\0\0\0\0\0\0\0");
     let view = read_view(&b).expect(&rt, "a view");
-    assert_eq!(rt; view.ids(), [1, 0].as_slice());
-    assert_eq!(rt; view.len(), 2);
+    assert!(rt; view.ids() == [1, 0].as_slice());
+    assert!(rt; view.len() == 2);
     assert!(rt; !view.is_empty());
     let mut written = [0xff; 512];
     write_view(&view, &mut written);
@@ -56,7 +55,7 @@ fn reads_and_writes_a_view(rt: HostRuntime) {
 fn makes_views_of_distinct_ids(rt: HostRuntime) {
     let sixteen: [u32; 16] = [0, 1, 2, 3, 4, 5, 6, 7, 8, 9, 10, 11, 12, 13, 14, 15];
     let view = View::new(&sixteen).expect(&rt, "sixteen ids");
-    assert_eq!(rt; view.len(), 16);
+    assert!(rt; view.len() == 16);
     assert!(rt; View::new(&[7, 8, 7]).is_none());
     assert!(rt; View::new(&[0; 17]).is_none());
 }
@@ -68,14 +67,14 @@ fn reads_and_writes_segment_heads(rt: HostRuntime) {
         (SegHead::Owned(2), b"WOLSEGO1\x02\0\0\0"),
     ] {
         let b = block(front);
-        assert_eq!(rt; read_seg(&b), Some(head));
+        assert!(rt; read_seg(&b) == Some(head));
         let mut written = [0xff; 512];
         write_seg(&head, &mut written);
         assert!(rt; written == b);
     }
     let mut late = block(b"WOLSEGF1");
     late[511] = 1;
-    assert_eq!(rt; read_seg(&late), None, "a byte behind the head");
+    assert!(rt; read_seg(&late) == None, "a byte behind the head");
 }
 
 #[test]
@@ -89,7 +88,7 @@ fn reads_and_writes_both_forms_of_a_record_head(rt: HostRuntime) {
         count: 4,
     };
     let b = block(b"WOLREC01\x01\0\0\0\0\0\0\0\x01\0\0\0\0\0\0\0\x01\0\0\0\0\0\0\0\x04\0\0\0");
-    assert_eq!(rt; read_rec(&b), Some(older));
+    assert!(rt; read_rec(&b) == Some(older));
     let mut written = [0xff; 512];
     write_rec(&older, &mut written);
     assert!(rt; written == b);
@@ -98,7 +97,7 @@ fn reads_and_writes_both_forms_of_a_record_head(rt: HostRuntime) {
     let b = block(
         b"WOLREC02\0\0\0\0\0\0\0\0\x01\0\0\0\0\0\0\0\x01\0\0\0\0\0\0\0\x04\0\0\0\x0f\0\0\0",
     );
-    assert_eq!(rt; read_rec(&b), Some(newer));
+    assert!(rt; read_rec(&b) == Some(newer));
     write_rec(&newer, &mut written);
     assert!(rt; written == b);
 }
@@ -108,11 +107,11 @@ fn refuses_a_kept_block_that_the_record_does_not_have(rt: HostRuntime) {
     let b = block(
         b"WOLREC02\0\0\0\0\0\0\0\0\x01\0\0\0\0\0\0\0\x01\0\0\0\0\0\0\0\x04\0\0\0\x10\0\0\0",
     );
-    assert_eq!(rt; read_rec(&b), None);
+    assert!(rt; read_rec(&b) == None);
     let invalid = block(
         b"WOLREC01\x02\0\0\0\0\0\0\0\x01\0\0\0\0\0\0\0\x01\0\0\0\0\0\0\0\x04\0\0\0",
     );
-    assert_eq!(rt; read_rec(&invalid).map(|head| head.keep), Some(0));
+    assert!(rt; read_rec(&invalid).map(|head| head.keep) == Some(0));
 }
 
 #[test]

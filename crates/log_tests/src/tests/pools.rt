@@ -18,14 +18,14 @@ impl Blank for Sheet {
 #[test]
 fn takes_the_least_free_index(rt: HostRuntime) -> Result<(), Fail> {
     let mut pool = Pool::new(rt.alloc(), 4, 7, 8)?;
-    assert_eq!(rt; pool.len(), 0);
+    assert!(rt; pool.len() == 0);
     pool.give(2, Sheet('c'));
     pool.give(0, Sheet('a'));
     pool.hold(1, 0);
-    assert_eq!(rt; pool.len(), 2);
-    assert_eq!(rt; pool.take(), Some((0, Sheet('a'))));
-    assert_eq!(rt; pool.take(), Some((2, Sheet('c'))));
-    assert_eq!(rt; pool.take(), None);
+    assert!(rt; pool.len() == 2);
+    assert!(rt; pool.take() == Some((0, Sheet('a'))));
+    assert!(rt; pool.take() == Some((2, Sheet('c'))));
+    assert!(rt; pool.take() == None);
     assert!(rt; pool.is_empty());
     Ok(())
 }
@@ -53,7 +53,7 @@ fn turns_of_a_pass<R: Wait>(
 #[test]
 fn a_pass_takes_and_gives_in_turns(rt: HostRuntime) -> Result<(), Fail> {
     let (taken, pool) = turns_of_a_pass(&rt, rt.alloc()).ok_or("no memory")?;
-    assert_eq!(rt; taken, [Some((1, Sheet('b'))), None]);
+    assert!(rt; taken == [Some((1, Sheet('b'))), None]);
     assert!(rt; pool.is_empty());
     Ok(())
 }

@@ -33,9 +33,8 @@ fn sleeps_after_its_timeout_and_wakes_when_needed(rt: HostRuntime) -> Result<(),
     let (awake, spindle) = needed_after_a_nap(rt.alloc())?;
     assert!(rt; !awake);
     assert!(rt; spindle.is_awake());
-    assert_eq!(rt;
-        spindle.journal(),
-        [Turned::Down(600_000_000), Turned::Up(1_000_000_000)].as_slice()
+    assert!(rt;
+        spindle.journal() == [Turned::Down(600_000_000), Turned::Up(1_000_000_000)].as_slice()
     );
     Ok(())
 }
@@ -93,11 +92,8 @@ fn one_window<R: Wait>(
 fn a_part_is_reached_in_turns_of_its_spindle(rt: HostRuntime) -> Result<(), Fail> {
     let mut part = Spun::new(5, MemDisk::new(rt.alloc(), 2)?);
     let (awake, byte, spindle) = one_window(&rt, rt.alloc(), &mut part).ok_or("no memory")?;
-    assert_eq!(rt; awake, Ok(false));
-    assert_eq!(rt; byte, Some(7));
-    assert_eq!(rt;
-        spindle.journal(),
-        [Turned::Down(120), Turned::Up(130)].as_slice()
-    );
+    assert!(rt; awake == Ok(false));
+    assert!(rt; byte == Some(7));
+    assert!(rt; spindle.journal() == [Turned::Down(120), Turned::Up(130)].as_slice());
     Ok(())
 }

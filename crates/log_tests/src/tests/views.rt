@@ -43,8 +43,8 @@ fn store_and_load(rt: &impl Abort, alloc: Global, token: &Awake) -> Result<(), F
     assert!(rt; blocks[1] == block(b"WOLVIEW1\x02\0\0\0\x01\0\0\0\0\0\0\0"));
     match load(token, &mut part, 3) {
         Ok((label, view)) => {
-            assert_eq!(rt; label, LABEL);
-            assert_eq!(rt; view.ids(), [1, 0].as_slice());
+            assert!(rt; label == LABEL);
+            assert!(rt; view.ids() == [1, 0].as_slice());
         }
         Err(_) => return Err(Fail::from("not loaded")),
     }
@@ -85,7 +85,7 @@ fn free_segment(rt: &impl Abort, alloc: Global, token: &Awake) -> Result<(), Fai
     for call in 0..2 {
         let mut disk = MemDisk::new(alloc, 4)?;
         disk.fail(call)?;
-        assert_eq!(rt; store_free(token, &mut Spun::new(3, disk)), Err(Failed));
+        assert!(rt; store_free(token, &mut Spun::new(3, disk)) == Err(Failed));
     }
     Ok(())
 }
