@@ -1,5 +1,5 @@
 // Images that no run wrote, through the words of each command. The lines were worked out by hand from the formats.
-use super::calls::make_call;
+use super::calls::{NONE, make_call};
 use super::same::same_at;
 use fixtures::{
     Call, Change, LONG, MANY, OTHER_LONG, OTHER_MANY, OTHER_PAST, OWNED, PAST, SRC0, THREE, USR0,
@@ -154,7 +154,7 @@ fn expect<R: Abort + Threads + Wait + Sync>(
     put(alloc, &mut bay, &WEB0, image.changes)?;
     put(alloc, &mut bay, &SRC0, image.changes)?;
     let asked = Call { words, trace: LINE };
-    let (found, said) = make_call(rt, alloc, &mut bay, THREE.as_bytes(), asked)?;
+    let (found, said) = make_call(rt, alloc, &mut bay, THREE.as_bytes(), asked, NONE)?;
     let said = String::from_utf8_lossy(alloc, &said)?;
     same_at(rt, &said.as_str(), &text, &words);
     same_at(rt, &found, &status, &format_args!("{words}: {text}"));

@@ -3,7 +3,7 @@
 ghost use Rattle.solo.specs.Images.{NoneOut};
 ghost use Rattle.wol_bay.specs.MemBay.{mem_bay_state};
 
-use super::calls::make_call;
+use super::calls::{NONE, make_call};
 use super::same::{holds_at, same, same_at};
 use fixtures::{
     AFTER_STAYS, Call, RECLAIMS, ROOMY_THREE, SMALL_THREE, THREE_ROOMY, asked, bay_of, images_of,
@@ -153,7 +153,7 @@ fn called<R: Abort + Threads + Wait + Sync>(
     ensures { NoneOut (mem_bay_state bay.new) }
 {
     let call = Call { words, trace };
-    make_call(rt, alloc, bay, ROOMY_THREE.as_bytes(), call)
+    make_call(rt, alloc, bay, ROOMY_THREE.as_bytes(), call, NONE)
 }
 
 // Images of which the log of the second has what the others wrote.
@@ -235,7 +235,7 @@ fn spoiled_configurations_are_told_or_read(rt: HostRuntime) -> Result<(), Fail> 
     for _ in 0..CONFIGS {
         let config = spoiled_text(alloc, &mut generator, SMALL_THREE.as_bytes())?;
         let mut bay = MemBay::new(alloc);
-        let (status, text) = make_call(&rt, alloc, &mut bay, &config, asked("gen 7 3"))?;
+        let (status, text) = make_call(&rt, alloc, &mut bay, &config, asked("gen 7 3"), NONE)?;
         holds_at(&rt, matches!(status, 0 | 2), &status);
         assert!(rt; status == 0 || text.starts_with(b"fault 2 config "));
     }

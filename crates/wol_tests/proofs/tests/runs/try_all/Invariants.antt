@@ -1,5 +1,6 @@
 use Rattle.solo.specs.Images.{NoneOut}
+use Rattle.wol_bay.specs.MemBay.{mem_bay_state}
 use Rattle.wol_tests.proofs.tests.runs.try_all.Given as goal
 
 abbrev pub invariant-loop-row : goal.invariant-loop-row
-invariant-loop-row g l = NoneOut (g.B.Bay.state l.bay)
+invariant-loop-row g l = NoneOut (mem_bay_state l.bay)
