@@ -37,7 +37,7 @@ configure() {
 windows() {
     awk -v lines="$1" -v size="$2" 'BEGIN {
         for (i = 0; i < lines; i++)
-            printf "128166372%09d,h%d,0,%s,%d,4096,100\n", int(i / size) * 10000000, i % 36, i % 4 ? "Write" : "Read", i * 7 % 6000 * 4096
+            printf "%.0f0000000,h%d,0,%s,%d,4096,100\n", 12816637200 + int(i / size), i % 36, i % 4 ? "Write" : "Read", i * 7 % 6000 * 4096
     }'
 }
 

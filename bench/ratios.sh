@@ -29,7 +29,8 @@ def windows(count, size, host="h"):
     with open("trace.csv", "w") as file:
         for i in range(count):
             kind = "Write" if i % 4 else "Read"
-            file.write("128166372%09d,%s%d,0,%s,%d,4096,100\n" % (i // size * 10000000, host, i % 36, kind, i * 7 % 6000 * 4096))
+            second = 12816637200 + i // size
+            file.write("%d0000000,%s%d,0,%s,%d,4096,100\n" % (second, host, i % 36, kind, i * 7 % 6000 * 4096))
 
 
 def generate(count):
