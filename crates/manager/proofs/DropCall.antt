@@ -1,5 +1,5 @@
 -- A lane gave up blocks of one record: what the manager is then, clause by clause.
-use Rattle.std.proofs.Common.{◌≡◌, ◌+◌, ◌≢◌, ◌<◌, ◌≤◌, ◌^◌, ℕ, zero, suc, Bool, true, false, cond, not, ◌&&◌, List, [], ◌∷◌, ◌++◌, map, length, Option, None, Some, Ok, Err, refl, sym, ap, subst, ◌∙◌, arith, eqb, bit_and}
+use Rattle.std.proofs.Common.{◌≡◌, ◌+◌, ◌≢◌, ◌<◌, ◌≤◌, ◌^◌, ℕ, zero, suc, Bool, true, false, cond, not, ◌&&◌, List, [], ◌∷◌, ◌++◌, map, length, Option, None, Some, Ok, Err, refl, sym, ap, subst, ◌∙◌, arith, eqb, bit_and, get_or}
 use Rattle.std.specs.Prelude.{IsTrue, slice_get, slice_set, remove, filter, is_none, IfSome, is_some}
 use Rattle.std.specs.Int.{bit_not, w128}
 use Rattle.std.specs.List.{AllByRecursion, list_any, range_with_len}
@@ -22,7 +22,7 @@ use Rattle.log_segment.specs.Records.{IsProperPart}
 use Rattle.log_segment.specs.declared.free.FreeSegment.{FreeSegment}
 use Rattle.block_cells.specs.Masks.{IsMask}
 use Rattle.block_cells.specs.declared.record.Rec.{Rec}
-use Rattle.redirect_map.specs.Index.{Contents, IsIndex, IsEntry, entry_at, changed, given_up, has_version}
+use Rattle.redirect_map.specs.Index.{Contents, IsAnswer, IsIndex, IsEntry, entry_at, changed, given_up, has_version}
 use Rattle.log_layout.specs.Values.{record_head}
 use Rattle.log_layout.specs.declared.record.RecHead.{RecHead}
 use Rattle.logger.specs.Lanes.{IsLane, HoldsAll, IsSameLane, HasUsed, IsTrimmable, Trimmed, in_place, to_pool, not_freed, held_in, taken_in, pool_of, logger_of}
@@ -38,17 +38,18 @@ use Rattle.manager.specs.declared.base.ManagerBase.{ManagerBase}
 use Rattle.manager.specs.declared.manager.Manager.{Manager}
 use Rattle.manager.specs.declared.part.Part.{Part}
 use Rattle.manager.specs.declared.part.StepFault.{StepFault}
-use Rattle.listed_records.proofs.Entries.{one_there, lies_there, At, Found, among, entry_in, entry_of_version, some_of, given_is, given_list, keeps_is, none_of_version, one_of_version, proper, still_changed, still_filter}
+use Rattle.listed_records.proofs.Entries.{one_there, lies_there, At, Found, found_of, among, entry_in, entry_of_version, some_of, given_is, given_list, keeps_is, none_of_version, one_of_version, proper, still_changed, still_filter}
 use Rattle.manager.proofs.Calm.{segment_rose}
 use Rattle.manager.proofs.DropKeeps.{stays, leaves}
 use Rattle.manager.proofs.DropReady.{up_in_place, up_less, valid_now, none_left, ready_given, ready_broken}
 use Rattle.manager.proofs.DropStops.{cut_now, freed_now, cut_then, freed_then, failed_pieces, in_place_stops, less_stops_so}
-use Rattle.manager.proofs.FetchRec.{spot_at}
+use Rattle.manager.proofs.FetchRec.{spot_at, spot_in}
 use Rattle.manager.proofs.Frames.{none_passed}
 use Rattle.listed_records.proofs.Elements.{all_at, map_set}
 use Rattle.manager.proofs.Putting.{Pieces}
 use Rattle.manager.proofs.ReadyLanes.{locks_set, nones_at_set, takes_of_set, down_counts}
 use Rattle.volume_parts.proofs.Lanes.{nones_more, takes_gave}
+use Rattle.volume_parts.proofs.PartReads.{never_some}
 use Rattle.manager.specs.declared.part.Part.TheVariants as part
 
 -- ---- indexes of segments
@@ -105,6 +106,14 @@ pub record IsFound {D : Type 0} (state : D → State) (m : Manager D) (version :
   pub up : m.down ≡ None
   pub its : Found m.index.entries version r
   pub index : IsIndex m.index.entries
+
+-- as the index answered it
+pub found_as : {D : Type 0} (state : D → State) (m : Manager D) (version : ℕ) (r : Rec) → IsReady state m → ((p : Part) → m.down ≡ Some p → ⊥) → IsIndex m.index.entries → IsAnswer (entry_at m.index.entries version) (Some r) → IsFound state m version r
+found_as state m version r ready never index is = record { ready = ready; up = never_some m.down never; its = found_of m.index.entries version r is; index = index }
+
+-- its lane, as the code reaches it
+pub lane_in : {D : Type 0} {state : D → State} {m : Manager D} {version : ℕ} {r : Rec} → IsFound state m version r → (l : Lane D) → l ≡ get_or m.lanes.items r.lane l → slice_get m.lanes.items r.lane ≡ Some l
+lane_in {state = state} {m = m} {version = version} {r = r} call l is = (spot_in state m call.ready call.up version r call.index call.its l is).lane_is
 
 -- the mask of its blocks that may go
 pub record AreGoing {D : Type 0} (m : Manager D) (version given : ℕ) : Type 0 where

@@ -18,8 +18,8 @@ use Rattle.wol_promise.specs.Stands.{Upholds, IsPlaced}
 use Rattle.wol_promise.proofs.Covers.{any_found}
 use Rattle.wol_promise.proofs.GiveUps.{trims, drops}
 use Rattle.wol_promise.proofs.Kept.{other_flags}
-use Rattle.wol_promise.proofs.Lists.{all_swap, all_front, all_back, all_joined, member_behind, member_front}
-use Rattle.wol_promise.proofs.Retires.{AreEmpty}
+use Rattle.wol_promise.proofs.Lists.{all_swap, all_front, all_back, all_joined, member_behind}
+use Rattle.wol_promise.proofs.Retires.{AreEmpty, member_without}
 use Rattle.wol_promise.proofs.Trims.{trimmed}
 use Rattle.spin_model.specs.declared.spun.Spun.{Spun}
 use Rattle.log_segment.specs.Records.{count_valid}
@@ -104,15 +104,6 @@ module _ {P : Type 0} (es : List Indexed) (s : Held P) (j : ℕ) (q : Record) (e
       let covers = covers_same valid.0 ∙ valid.1 in
       let range = marked_within e.listed.first (keeping (listed_in es) e.listed).keep valid.0 covers in
       false≢true (sym none ∙ any_in_range (cover_of (keeping (listed_in es) e.listed)).covers e.listed.first (length (keeping (listed_in es) e.listed).keep) valid.0 range.0 range.1 covers)
-
--- ---- lists
-
-member_less : {X : Type 0} (front : List X) (s : X) (back : List X) (x : X) → Contains (front ++ s ∷ back) x → Contains (front ++ back) x ⊎ (s ≡ x)
-member_less [] s back x has = ⊎_elim (λ same. inr same) (λ there. inl there) (member_front s back x has)
-member_less (y ∷ front) s back x has = ⊎_elim
-    (λ same. inl (0, omega arith, same))
-    (λ rest. ⊎_elim (λ there. inl (member_behind y (front ++ back) x there)) (λ same. inr same) (member_less front s back x rest))
-    (member_front y (front ++ s ∷ back) x has)
 
 -- ---- the call
 
@@ -250,7 +241,7 @@ module _ {D : Type 0} (tells : Bool) (state : D → State) (m : Manager D) (b : 
         moved d is other = ⊎_elim
             (λ has. record { segment = is.segment; is_held = has; lane = is.lane; index = is.index; behind = is.behind; within = is.within })
             (λ here. absurd (false≢true (sym other ∙ lies_there k o.index d (is.lane ∙ ap (λ (v : Held (Spun D)). v.lane) (sym here)) (is.index ∙ ap (λ (v : Held (Spun D)). v.index) (sym here)))))
-            (member_less less.front s' less.back is.segment is.is_held)
+            (member_without less.front s' less.back is.segment is.is_held)
 
     pub empty_after : IsTrue tells → AreEmpty (p'.fs ++ trimmed p'.it (bit_and r.keep (bit_not w128 given)) ∷ p'.gs)
     empty_after told = none_valid (owner_of o.segment) (p'.fs ++ trimmed p'.it keep ∷ p'.gs)

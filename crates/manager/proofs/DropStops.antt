@@ -26,7 +26,7 @@ use Rattle.logger.specs.declared.lane.HeldSegment.{HeldSegment}
 use Rattle.logger.specs.declared.lane.Lane.{Lane}
 use Rattle.wol_promise.specs.Manager.{Held, Recovers, SegmentPart, SaysOwnerOrFree, extents_held, is_homed_in}
 use Rattle.wol_promise.specs.Ruled.{Noted, entries_of}
-use Rattle.wol_promise.specs.Stands.{LieInHome, Upholds, StandsFor, StopsSafely, IsWhole}
+use Rattle.wol_promise.specs.Stands.{LieInHome, Upholds, StandsFor, IsWhole}
 use Rattle.wol_promise.proofs.Choices.{AreLogs}
 use Rattle.wol_promise.proofs.Covers.{goes_is_may_go}
 use Rattle.wol_promise.proofs.Lists.{all_parts, all_mid, all_joined}
@@ -36,7 +36,7 @@ use Rattle.wol_promise.proofs.SoundSegments.{IsSoundBetween, sound_log, sound_id
 use Rattle.wol_promise.proofs.Stops.{still_stops}
 use Rattle.wol_promise.proofs.Trims.{trimmed}
 use Rattle.manager.specs.Reading.{IsReadThrough}
-use Rattle.manager.specs.Seen.{Logs, AllLanesHold, parts_of, seen, all_held}
+use Rattle.manager.specs.Seen.{Logs, parts_of, seen, all_held}
 use Rattle.manager.specs.Stands.{Keeps, IsReady}
 use Rattle.manager.specs.Stops.{ImageSince, HeldSince}
 use Rattle.manager.specs.declared.base.ManagerBase.{ManagerBase}
@@ -46,9 +46,9 @@ use Rattle.manager.proofs.DropPiece.{Piece, piece, was_held as its_held, was_lan
 use Rattle.listed_records.proofs.Entries.{At, among, kept_marks, keep_within}
 use Rattle.listed_records.proofs.Elements.{all_at, get_set}
 use Rattle.volume_parts.proofs.Lanes.{held_as, InLanes, in_lanes}
-use Rattle.manager.proofs.Putting.{Pieces, pieces_failed}
+use Rattle.manager.proofs.Putting.{Pieces, segment_failed}
 use Rattle.manager.proofs.ReadContent.{unbroken, upholds_up}
-use Rattle.manager.proofs.SinceReads.{home_since, logs_around, image_since, stops_with}
+use Rattle.manager.proofs.SinceReads.{StopsHere, home_since, logs_around, image_since, stops_with}
 use Rattle.manager.proofs.ReadKeeps.{held_read, upholds_read}
 use Rattle.listed_records.proofs.Vanishes.{gives_up, holds_trimmed, holds_without, three_stops, segment_breaks}
 use Rattle.manager.proofs.WentHome.{risen}
@@ -235,12 +235,8 @@ module _ {D : Type 0} (tells : Bool) (state : D → State) (sound : (d : D) → 
         left_stops tells state m b notes kp.logs kp.ready (upholds_up tells state m b notes kp up) up k old lane i o there version e at lane_is index_is r rec split.front split.records split.back split.is split.here few given fits bits kp.locks.owner told
         ((parts_of tells state).may_be m.home) (λ v. (parts_of tells state).may_be v.part) now (λ home is. is.1) both_sides.0 both_sides.1 (λ c is. left told c is.1))
 
-    now_is : all_held 0 (slice_set m.lanes.items k new) (split.lists split.records) ≡ split.front ++ now ∷ split.back
-    now_is = split.then_is new n split.records held ∙ (λ j. split.front ++ record { part = part_of n.segment; lane = k; index = same_index j; broken = broken j; records = split.records } ∷ split.back)
-
     pub failed_pieces : Pieces tells state m b (notes ++ nt ∷ []) (slice_set m.lanes.items k new) m.index.entries m.next (slice_set m.ups.items k true) (Some (part.Segment (logger_of old) o.index))
-    failed_pieces = pieces_failed tells state m b notes (notes ++ nt ∷ []) kp k new untaken (split.lists split.records) (split.front ++ now ∷ split.back) (slice_set m.ups.items k true) (part.Segment (logger_of old) o.index)
-        (split.then_all (λ h rs. ⊤) (λ h rs holds. tt) new n split.records held tt) now_is fell.upholds
+    failed_pieces = segment_failed tells state m b notes (notes ++ nt ∷ []) kp k old new untaken i o n R split held same_index broken (slice_set m.ups.items k true) (part.Segment (logger_of old) o.index) fell.upholds
 
 -- ---- at any moment since an earlier one, after which there were reads alone
 
@@ -252,23 +248,16 @@ module _ {D : Type 0} (tells : Bool) (state : D → State) (sound : (d : D) → 
   abbrev RThen : HeldSegment D → List Record → Type 0
   RThen h rs = IsTrue tells → m.down ≡ None → Holds state h.segment rs
 
-  held_then : AllLanesHold (λ h rs. IsTrue tells → m.down ≡ None → Holds state h.segment rs) m.lanes.items kw.logs
-  held_then = held_read tells state was m b notes read ready was_up kw
-
   pub u_then : Upholds (parts_of tells state) b.volume.began (seen m kw.logs) notes (writes (entries_of notes)) None
   u_then = upholds_read tells state was m b notes read ready was_up kw
 
   pub owned_then : m.id ≡ b.volume.began.owner
   owned_then = read.same.id ∙ kw.locks.owner
 
-  abbrev StopsHere : List (Lane D) → Type 0
-  StopsHere lanes = (before after : Logs) → AllLanesHold (λ h rs. ⊤) was.lanes.items before → AllLanesHold (λ h rs. ⊤) lanes after
-      → StopsSafely (ImageSince state was.home m.home) (HeldSince state (all_held 0 was.lanes.items before) None) b.volume.began (entries_of notes) (all_held 0 lanes after) []
-
   -- ---- the segment stays in the lane
 
   pub split_then : InLanes RThen k 0 m.lanes.items kw.logs k i old o
-  split_then = in_lanes RThen k 0 m.lanes.items kw.logs k i old o (omega arith) lane there held_then
+  split_then = in_lanes RThen k 0 m.lanes.items kw.logs k i old o (omega arith) lane there (held_read tells state was m b notes read ready was_up kw)
 
   abbrev pub LeftThen : List Block → Type 0
   LeftThen c = Left tells state m b notes kw.logs ready u_then up k old lane i o there version e at lane_is index_is r rec split_then.front split_then.records split_then.back split_then.is split_then.here few given fits bits owned_then c
@@ -290,7 +279,7 @@ module _ {D : Type 0} (tells : Bool) (state : D → State) (sound : (d : D) → 
         let its = p tells state m b notes kw.logs ready u_then up k old lane i o there version e at lane_is index_is r rec split_then.front split_then.records split_then.back split_then.is split_then.here few given fits bits owned_then in
         image_since tells state sound told was m read ready was_up b notes kw split_then.front k o n split_then.records split_then.back split_then.is same_index LeftThen (λ c log. inl (subst (IsLog c b.volume.began.owner) (its.records_are told) log)) leaves
 
-    pub in_place_stops : StopsHere (slice_set m.lanes.items k new)
+    pub in_place_stops : StopsHere tells state sound told was m read ready was_up b notes kw (slice_set m.lanes.items k new)
     in_place_stops =
         let around = logs_around tells state sound told was m read ready was_up b notes kw split_then.front (held_as k o split_then.records) split_then.back split_then.is in
         stops_with tells state sound told was m read ready was_up b notes kw (slice_set m.lanes.items k new) (split_then.lists split_then.records) (split_then.then_all (λ h rs. ⊤) (λ h rs holds. tt) new n split_then.records held tt) (split_then.front ++ held_as k n split_then.records ∷ split_then.back) (split_then.then_is new n split_then.records held)
@@ -302,9 +291,9 @@ module _ {D : Type 0} (tells : Bool) (state : D → State) (sound : (d : D) → 
   module _ (held : held_in new ≡ remove (held_in old) i)
       (bare : IsBareAfter state o.segment r.pos (record { form = 2; owner = m.id; version = version; first = r.lbn; count = r.count; mask = r.keep }) (bit_and r.keep (bit_not w128 given))) where
     less : GoneLanes RThen k 0 m.lanes.items kw.logs k i old o
-    less = gone_lanes RThen k 0 m.lanes.items kw.logs k i old o (omega arith) lane there held_then
+    less = gone_lanes RThen k 0 m.lanes.items kw.logs k i old o (omega arith) lane there (held_read tells state was m b notes read ready was_up kw)
 
-    pub less_stops_so : StopsHere (slice_set m.lanes.items k new)
+    pub less_stops_so : StopsHere tells state sound told was m read ready was_up b notes kw (slice_set m.lanes.items k new)
     less_stops_so =
         let around = logs_around tells state sound told was m read ready was_up b notes kw less.front (held_as k o less.records) less.back less.is in
         stops_with tells state sound told was m read ready was_up b notes kw (slice_set m.lanes.items k new) less.lists (less.then_all (λ h rs. ⊤) (λ h rs holds. tt) new held) (less.front ++ less.back) (less.then_is new held)

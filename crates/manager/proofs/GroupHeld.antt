@@ -1,6 +1,6 @@
 -- A group of writes to a held segment: what the manager keeps up with its entry, and where it failed.
 use Rattle.std.proofs.Common.{◌≡◌, ◌≤◌, ◌+◌, ◌-◌, ◌^◌, ℕ, zero, suc, Bool, true, false, sym, subst, ◌∙◌, arith, List, [], ◌∷◌, ◌++◌, length, take, None, Some, refl, ap, replicate}
-use Rattle.std.specs.Prelude.{⊤, Contains, slice_get, slice_set, IsTrue}
+use Rattle.std.specs.Prelude.{slice_get, slice_set, IsTrue}
 use Rattle.std.specs.List.{flat_map}
 use Rattle.std.proofs.lemmas.List.{append-nil, length-replicate}
 use Rattle.std.proofs.lemmas.List.Elements.{Contains-append_right}
@@ -9,10 +9,9 @@ use Rattle.turn_lock.specs.LockIds.{LockId}
 use Rattle.seg_pool.specs.declared.base.PoolBase.{PoolBase}
 use Rattle.wol_disk.specs.Disk.{State, Block, IsDisk, LeavesOnly, Rose}
 use Rattle.wol_disk.proofs.Calls.{now_leaves}
-use Rattle.wol_model.specs.Extents.{IsValid}
-use Rattle.wol_model.specs.History.{Wrote, Broke, worker, writes, flight_of}
+use Rattle.wol_model.specs.History.{Wrote, Broke, worker, writes}
 use Rattle.wol_model.specs.Index.{listed_in}
-use Rattle.wol_model.specs.Log.{Record, IsLog, HasFirstOf, extent_of, written, end_of}
+use Rattle.wol_model.specs.Log.{Record, IsLog, HasFirstOf, written, end_of}
 use Rattle.spin_model.specs.declared.spun.Spun.{Spun}
 use Rattle.log_segment.specs.Segment.{IsWhole, IsBroken, Holds, part_of, disk_of, owner_of, place_of, room_of, segment_volume}
 use Rattle.log_segment.specs.Records.{group_of, count_of}
@@ -21,7 +20,7 @@ use Rattle.block_cells.specs.declared.record.Rec.{Rec}
 use Rattle.spin_model.specs.Spun.{state_of}
 use Rattle.wol_promise.specs.Manager.{Held, ManagerSeen, SegmentPart, AreInUse}
 use Rattle.wol_promise.specs.Policy.{Look}
-use Rattle.wol_promise.specs.Ruled.{Noted, entries_of, IsStep, last_look}
+use Rattle.wol_promise.specs.Ruled.{Noted, IsStep, last_look}
 use Rattle.wol_promise.specs.Stands.{Upholds, StandsFor}
 use Rattle.wol_promise.proofs.Lists.{all_swap}
 use Rattle.logger.specs.Lanes.{IsLane, IsHeld, IsSameLane, held_in, taken_in, lane_owner, logger_of, segments_in, pool_of}
@@ -32,9 +31,9 @@ use Rattle.manager.specs.Stands.{Keeps}
 use Rattle.manager.specs.declared.base.ManagerBase.{ManagerBase}
 use Rattle.manager.specs.declared.manager.Manager.{Manager}
 use Rattle.listed_records.proofs.Elements.{all_at, get_set}
-use Rattle.volume_parts.proofs.Lanes.{held_as, InLanes, in_lanes, image_is_log, untaken_set}
+use Rattle.volume_parts.proofs.Lanes.{held_as, InLanes, in_lanes, image_is_log}
 use Rattle.listed_records.proofs.Groups.{other_records, indexed_by, some_valid, group_more, group_breaks}
-use Rattle.manager.proofs.Putting.{parts, base, ws, is_up, old_lane, owner, logger, Pieces, pieces_failed}
+use Rattle.manager.proofs.Putting.{parts, base, ws, is_up, old_lane, owner, logger, HasValid, Pieces, pieces_more, segment_failed}
 use Rattle.manager.proofs.ReadContent.{unbroken, upholds_up}
 use Rattle.manager.proofs.WentHome.{risen}
 use Rattle.manager.specs.Listing.{recs_at, entered_all}
@@ -146,23 +145,11 @@ module _ {D : Type 0} (tells : Bool) (state : D → State) (m : Manager D) (b : 
           (group_fits (disk_of state n.segment).size (end_of ending.records) (lane_owner old) m.next items from (let e = ending.ends in let w = was_held.shape.size in let z = size in let p = was_held.shape.place.0 in let c = group_some m.most (state_of state m.home).size items some are in omega (arith, space, e, w, z, p, c, some)))
           step (look ∙ (λ t. record { home_up = m.home_up; ups = ups; next = sym next_is t; listed = listed_in (indexed_is t); down = down_of m.down }))
 
-      abbrev now_seen : ManagerSeen (Spun D)
-      now_seen = record { home = m.home; held = all_held 0 (slice_set m.lanes.items k new) (split.lists all_records); taken = all_taken 0 (slice_set m.lanes.items k new); indexed = entered_all m.index.entries recs; next = m.next + length items; home_up = m.home_up; ups = ups; down = down_of m.down }
-
-      seen_is : grown_one ≡ now_seen
-      seen_is = λ t. record { home = m.home; held = sym held_is t; taken = untaken_set state m.id m.most m.lanes.items k new kp.ready.ready.each untaken_now t; indexed = sym indexed_is t; next = next_is t; home_up = m.home_up; ups = ups; down = down_of m.down }
-
-      abbrev Used : Held (Spun D) → Type 0
-      Used v = (q : Record) × Contains v.records q × IsValid (extent_of q).cover
-
       pub group_put : Pieces tells state m b (notes ++ nt ∷ []) (slice_set m.lanes.items k new) (entered_all m.index.entries recs) (m.next + length items) ups m.down
-      group_put = record {
-        logs = split.lists all_records;
-        held = split.then_all R (λ h qs holds. holds) new n all_records held (λ told _. ok ending.records (ending.holds told));
-        upholds = subst (λ (q : ManagerSeen (Spun D)). Upholds (parts_of tells state) b.volume.began q (notes ++ nt ∷ []) (writes (entries_of (notes ++ nt ∷ []))) (flight_of (entries_of (notes ++ nt ∷ [])))) seen_is stood.upholds;
-        in_use = λ told is. subst AreInUse (sym held_is) (all_swap Used Used (λ v used. used) split.front (held_as k o split.records) now split.back (λ _. let v = some_valid b.volume.began.home_blocks m.next rs (group_nonempty (lane_owner old) m.next items from some) (group_new (lane_owner old) m.next m.most (state_of state m.home).size b.volume.began.home_blocks items from are kp.upholds.places.home_size enough) in (v.0, Contains-append_right ending.records rs v.0 v.1, v.2))
-            (subst AreInUse split.is (kp.in_use told up)));
-      }
+      group_put = pieces_more tells state m b notes (notes ++ nt ∷ []) kp k new untaken_now (split.lists all_records) (split.front ++ now ∷ split.back) _ _ indexed_is _ _ next_is ups
+          (split.then_all R (λ h qs holds. holds) new n all_records held (λ told _. ok ending.records (ending.holds told))) held_is stood.upholds
+          (λ told is. all_swap HasValid HasValid (λ v used. used) split.front (held_as k o split.records) now split.back (λ _. let v = some_valid b.volume.began.home_blocks m.next rs (group_nonempty (lane_owner old) m.next items from some) (group_new (lane_owner old) m.next m.most (state_of state m.home).size b.volume.began.home_blocks items from are kp.upholds.places.home_size enough) in (v.0, Contains-append_right ending.records rs v.0 v.1, v.2))
+          (subst AreInUse split.is (kp.in_use told up)))
 
     -- a call of its disk failed
     module _ (sound : (d : D) → IsDisk (state d)) (any_moment : (qs : List Record) → Holds state o.segment qs → LeavesOnly (disk_of state o.segment) (disk_of state n.segment) (λ c. HasFirstOf c (owner_of o.segment) qs rs))
@@ -172,9 +159,6 @@ module _ {D : Type 0} (tells : Bool) (state : D → State) (m : Manager D) (b : 
 
       abbrev then_ : Held (Spun D)
       then_ = record was { part = part_of n.segment; broken = true }
-
-      now_is : all_held 0 (slice_set m.lanes.items k new) (split.lists split.records) ≡ split.front ++ then_ ∷ split.back
-      now_is = split.then_is new n split.records held ∙ (λ t. split.front ++ record { part = part_of n.segment; lane = k; index = index t; broken = broken t; records = split.records } ∷ split.back)
 
       abbrev failed_one : ManagerSeen (Spun D)
       failed_one = record (seen m kp.logs) { held = split.front ++ then_ ∷ split.back; down = Some (SegmentPart (logger_of old) o.index) }
@@ -189,5 +173,4 @@ module _ {D : Type 0} (tells : Bool) (state : D → State) (m : Manager D) (b : 
           (logger_of old) (logger tells state m b notes kp k old lane) (broke ∙ ap Broke (sym (group_written (lane_owner old) m.next items from))) unruled (risen (disk_of state o.segment).faults (disk_of state n.segment).faults cause)
 
       pub group_put_failed : Pieces tells state m b (notes ++ nt ∷ []) (slice_set m.lanes.items k new) m.index.entries m.next m.ups.items (Some (part.Segment (logger_of old) o.index))
-      group_put_failed = pieces_failed tells state m b notes (notes ++ nt ∷ []) kp k new untaken_now (split.lists split.records) (split.front ++ then_ ∷ split.back) m.ups.items (part.Segment (logger_of old) o.index)
-          (split.then_all (λ h qs. ⊤) (λ h qs holds. tt) new n split.records held tt) now_is fell.upholds
+      group_put_failed = segment_failed tells state m b notes (notes ++ nt ∷ []) kp k old new untaken_now i o n R split held index broken m.ups.items (part.Segment (logger_of old) o.index) fell.upholds

@@ -1,6 +1,6 @@
 -- A group of writes to a segment that was claimed for it: what the manager keeps up with its entry, and where it failed.
 use Rattle.std.proofs.Common.{◌≡◌, ◌≢◌, ◌⊎◌, inl, inr, ⊎_elim, ◌<◌, ◌≤◌, ◌+◌, ◌-◌, ◌^◌, ℕ, Bool, true, false, sym, subst, ◌∙◌, arith, List, [], ◌∷◌, ◌++◌, length, map, take, None, Some, refl, ap, zero, suc}
-use Rattle.std.specs.Prelude.{⊤, Contains, slice_get, slice_set, IsTrue}
+use Rattle.std.specs.Prelude.{⊤, slice_get, slice_set, IsTrue}
 use Rattle.std.specs.List.{AllByRecursion}
 use Rattle.std.specs.Option.{option_to_list}
 use Rattle.std.proofs.Math.ListN.{length-set}
@@ -44,8 +44,8 @@ use Rattle.manager.specs.Seen.{parts_of, may_be, seen, all_held, all_taken, down
 use Rattle.manager.specs.Stands.{Keeps}
 use Rattle.manager.specs.declared.base.ManagerBase.{ManagerBase}
 use Rattle.manager.specs.declared.manager.Manager.{Manager}
-use Rattle.volume_parts.proofs.Lanes.{AtEnd, at_end, image_is_log, untaken_set}
-use Rattle.manager.proofs.Putting.{is_up, old_lane, owner, logger, Pieces, pieces_failed}
+use Rattle.volume_parts.proofs.Lanes.{AtEnd, at_end, image_is_log}
+use Rattle.manager.proofs.Putting.{is_up, old_lane, owner, logger, HasValid, Pieces, pieces_more, pieces_failed}
 use Rattle.manager.proofs.ReadContent.{unbroken, upholds_up}
 use Rattle.manager.proofs.WentHome.{risen}
 use Rattle.manager.specs.Listing.{recs_at, entered_all}
@@ -277,22 +277,10 @@ module _ {D : Type 0} (tells : Bool) (state : D → State) (m : Manager D) (b : 
           (group_fits (disk_of state n.segment).size 1 (lane_owner old) m.next items from (let z = size_is in omega (arith, z, space, some)))
           step (look ∙ (λ t. record { home_up = m.home_up; ups = ups; next = sym next_is t; listed = listed_in (indexed_is t); down = down_of m.down }))
 
-      abbrev then_seen : ManagerSeen (Spun D)
-      then_seen = record { home = m.home; held = all_held 0 (slice_set m.lanes.items k new) (ends.lists rs); taken = all_taken 0 (slice_set m.lanes.items k new); indexed = entered_all m.index.entries recs; next = m.next + length items; home_up = m.home_up; ups = ups; down = down_of m.down }
-
-      seen_is : with_all ≡ then_seen
-      seen_is = λ t. record { home = m.home; held = sym now_is t; taken = untaken_set state m.id m.most m.lanes.items k new kp.ready.ready.each untaken_now t; indexed = sym indexed_is t; next = next_is t; home_up = m.home_up; ups = ups; down = down_of m.down }
-
-      abbrev Used : Held (Spun D) → Type 0
-      Used v = (q : Record) × Contains v.records q × IsValid (extent_of q).cover
-
       pub group_claimed : Pieces tells state m b (notes ++ nt ∷ []) (slice_set m.lanes.items k new) (entered_all m.index.entries recs) (m.next + length items) ups m.down
-      group_claimed = record {
-        logs = ends.lists rs;
-        held = ends.then_all R (λ h qs holds. holds) new n rs held (λ told _. ok told);
-        upholds = subst (λ (q : ManagerSeen (Spun D)). Upholds (parts_of tells state) b.volume.began q (notes ++ nt ∷ []) (writes (entries_of (notes ++ nt ∷ []))) (flight_of (entries_of (notes ++ nt ∷ [])))) seen_is stood.upholds;
-        in_use = λ told is. subst AreInUse (sym now_is) (all_insert Used ends.front now ends.back (some_valid b.volume.began.home_blocks m.next rs (group_nonempty (lane_owner old) m.next items from some) (group_new (lane_owner old) m.next m.most (state_of state m.home).size b.volume.began.home_blocks items from are kp.upholds.places.home_size enough)) (subst AreInUse ends.is (kp.in_use told up)));
-      }
+      group_claimed = pieces_more tells state m b notes (notes ++ nt ∷ []) kp k new untaken_now (ends.lists rs) (ends.front ++ now ∷ ends.back) _ _ indexed_is _ _ next_is ups
+          (ends.then_all R (λ h qs holds. holds) new n rs held (λ told _. ok told)) now_is stood.upholds
+          (λ told is. all_insert HasValid ends.front now ends.back (some_valid b.volume.began.home_blocks m.next rs (group_nonempty (lane_owner old) m.next items from some) (group_new (lane_owner old) m.next m.most (state_of state m.home).size b.volume.began.home_blocks items from are kp.upholds.places.home_size enough)) (subst AreInUse ends.is (kp.in_use told up)))
 
     -- a call of its disk failed
     module _ (sound : (d : D) → IsDisk (state d)) (f : FreeSegment D) (any_moment : IsTrue tells → LeavesOnly (free_disk state f) (disk_of state n.segment) (λ c. IsIdle c ⊎ HasFirstOf c (lane_owner old) [] rs))

@@ -49,16 +49,7 @@ module _ {D : Type 0} (state : D → State) (sound : (d : D) → IsDisk (state d
 
   -- whether or not it told a part at fault after
   pub through_but_down : (k l : Manager D) → IsReadThrough state k l → IsReadThrough state k (record l { down = k.down })
-  through_but_down k l a = record {
-    same = record { id = a.same.id; most = a.same.most };
-    home = a.home;
-    spindle = a.spindle;
-    lanes = a.lanes;
-    index = a.index;
-    next = a.next;
-    rooms = a.rooms;
-    down = refl;
-  }
+  through_but_down k l a = subst (IsReadThrough state k) (λ i. record l { down = a.down i }) a
 
   pub through_then : (k l m : Manager D) → IsReadThrough state k l → IsReadThrough state l m → IsReadThrough state k m
   through_then k l m a b = record {

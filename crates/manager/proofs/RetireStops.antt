@@ -24,7 +24,7 @@ use Rattle.logger.specs.declared.lane.HeldSegment.{HeldSegment}
 use Rattle.logger.specs.declared.lane.Lane.{Lane}
 use Rattle.wol_promise.specs.Manager.{Held, Recovers, SegmentPart, SaysOwnerOrFree, extents_held, is_homed_in}
 use Rattle.wol_promise.specs.Ruled.{Noted, entries_of}
-use Rattle.wol_promise.specs.Stands.{LieInHome, Upholds, StandsFor, StopsSafely, IsWhole}
+use Rattle.wol_promise.specs.Stands.{LieInHome, Upholds, StandsFor, IsWhole}
 use Rattle.wol_promise.proofs.Choices.{AreLogs}
 use Rattle.wol_promise.proofs.GiveUps.{From, homed_before}
 use Rattle.wol_promise.proofs.Lists.{all_parts, all_mid, all_joined}
@@ -34,7 +34,7 @@ use Rattle.wol_promise.proofs.Stops.{still_stops}
 use Rattle.wol_promise.proofs.Wholes.{member_unfilter}
 use Rattle.manager.specs.Reading.{IsReadThrough}
 use Rattle.manager.specs.Reclaim.{NoneLiveIn, lies_elsewhere}
-use Rattle.manager.specs.Seen.{Logs, AllLanesHold, parts_of, seen, all_held}
+use Rattle.manager.specs.Seen.{Logs, parts_of, seen, all_held}
 use Rattle.manager.specs.Stands.{Keeps, IsReady, IsReadyLane}
 use Rattle.manager.specs.Stops.{ImageSince, HeldSince}
 use Rattle.manager.specs.declared.base.ManagerBase.{ManagerBase}
@@ -43,9 +43,9 @@ use Rattle.manager.proofs.DropPiece.{GoneLanes, gone_lanes}
 use Rattle.manager.proofs.DropStops.{says_free}
 use Rattle.listed_records.proofs.Elements.{all_at, get_set}
 use Rattle.volume_parts.proofs.Lanes.{held_as, InLanes, in_lanes}
-use Rattle.manager.proofs.Putting.{Pieces, pieces_failed}
+use Rattle.manager.proofs.Putting.{Pieces, segment_failed}
 use Rattle.manager.proofs.ReadContent.{unbroken, upholds_up}
-use Rattle.manager.proofs.SinceReads.{home_since, logs_around, image_since, stops_with}
+use Rattle.manager.proofs.SinceReads.{StopsHere, home_since, logs_around, image_since, stops_with}
 use Rattle.manager.proofs.ReadKeeps.{held_read, upholds_read}
 use Rattle.manager.proofs.Retiring.{upheld}
 use Rattle.listed_records.proofs.Vanishes.{three_stops, segment_breaks}
@@ -184,12 +184,8 @@ module _ {D : Type 0} (tells : Bool) (state : D → State) (sound : (d : D) → 
       left_stops tells state m b notes kp.logs (upholds_up tells state m b notes kp up) up k o none split.front split.records split.back split.is split.here owner_is told
       ((parts_of tells state).may_be m.home) (λ v. (parts_of tells state).may_be v.part) now (λ home is. is.1) both_sides.0 both_sides.1 (λ c is. image_now told c is.1))
 
-  now_is : all_held 0 (slice_set m.lanes.items k new) (split.lists split.records) ≡ split.front ++ now ∷ split.back
-  now_is = split.then_is new n split.records held ∙ (λ j. split.front ++ record { part = part_of n.segment; lane = k; index = not_freed.index j; broken = not_freed.broken j; records = split.records } ∷ split.back)
-
   pub failed_pieces : Pieces tells state m b (notes ++ nt ∷ []) (slice_set m.lanes.items k new) m.index.entries m.next (slice_set m.ups.items k true) (Some (part.Segment (logger_of old) o.index))
-  failed_pieces = pieces_failed tells state m b notes (notes ++ nt ∷ []) kp k new untaken (split.lists split.records) (split.front ++ now ∷ split.back) (slice_set m.ups.items k true) (part.Segment (logger_of old) o.index)
-      (split.then_all (λ h rs. ⊤) (λ h rs holds. tt) new n split.records held tt) now_is fell.upholds
+  failed_pieces = segment_failed tells state m b notes (notes ++ nt ∷ []) kp k old new untaken i o n R split held not_freed.index not_freed.broken (slice_set m.ups.items k true) (part.Segment (logger_of old) o.index) fell.upholds
 
 -- ---- at any moment since an earlier one, after which there were reads alone
 
@@ -198,9 +194,6 @@ module _ {D : Type 0} (tells : Bool) (state : D → State) (sound : (d : D) → 
     (k : ℕ) (old new : Lane D) (lane : slice_get m.lanes.items k ≡ Some old) (i : ℕ) (o : HeldSegment D) (there : slice_get (held_in old) i ≡ Some o) (none : NoneLiveIn k o.index m.index.entries) where
   abbrev RThen : HeldSegment D → List Record → Type 0
   RThen h rs = IsTrue tells → m.down ≡ None → Holds state h.segment rs
-
-  held_then : AllLanesHold (λ h rs. IsTrue tells → m.down ≡ None → Holds state h.segment rs) m.lanes.items kw.logs
-  held_then = held_read tells state was m b notes read ready was_up kw
 
   u_then : Upholds (parts_of tells state) b.volume.began (seen m kw.logs) notes (writes (entries_of notes)) None
   u_then = upholds_read tells state was m b notes read ready was_up kw
@@ -211,15 +204,11 @@ module _ {D : Type 0} (tells : Bool) (state : D → State) (sound : (d : D) → 
   owner_then : owner_of o.segment ≡ b.volume.began.owner
   owner_then = (all_at (IsHeld state (logger_of old) (lane_owner old) (segments_in old) (pool_of old)) (held_in old) i o there wl_then.lane.each).owned ∙ wl_then.owner ∙ read.same.id ∙ kw.locks.owner
 
-  abbrev StopsHere : List (Lane D) → Type 0
-  StopsHere lanes = (before after : Logs) → AllLanesHold (λ h rs. ⊤) was.lanes.items before → AllLanesHold (λ h rs. ⊤) lanes after
-      → StopsSafely (ImageSince state was.home m.home) (HeldSince state (all_held 0 was.lanes.items before) None) b.volume.began (entries_of notes) (all_held 0 lanes after) []
-
   -- ---- the segment stays in the lane
 
   module _ (n : HeldSegment D) (held : held_in new ≡ slice_set (held_in old) i n) (not_freed : NotFreed state o n) where
     split_then : InLanes RThen k 0 m.lanes.items kw.logs k i old o
-    split_then = in_lanes RThen k 0 m.lanes.items kw.logs k i old o (omega arith) lane there held_then
+    split_then = in_lanes RThen k 0 m.lanes.items kw.logs k i old o (omega arith) lane there (held_read tells state was m b notes read ready was_up kw)
 
     abbrev LeftThen : List Block → Type 0
     LeftThen c = IsLog c b.volume.began.owner split_then.records ⊎ IsIdle c
@@ -230,7 +219,7 @@ module _ {D : Type 0} (tells : Bool) (state : D → State) (sound : (d : D) → 
     image_left : (c : List Block) → HeldSince state (all_held 0 was.lanes.items kw.logs) None (held_as k n split_then.records) c → LeftThen c
     image_left = image_since tells state sound told was m read ready was_up b notes kw split_then.front k o n split_then.records split_then.back split_then.is not_freed.index LeftThen (λ c log. inl log) leaves
 
-    pub in_place_stops : StopsHere (slice_set m.lanes.items k new)
+    pub in_place_stops : StopsHere tells state sound told was m read ready was_up b notes kw (slice_set m.lanes.items k new)
     in_place_stops =
         let around = logs_around tells state sound told was m read ready was_up b notes kw split_then.front (held_as k o split_then.records) split_then.back split_then.is in
         stops_with tells state sound told was m read ready was_up b notes kw (slice_set m.lanes.items k new) (split_then.lists split_then.records) (split_then.then_all (λ h rs. ⊤) (λ h rs holds. tt) new n split_then.records held tt) (split_then.front ++ held_as k n split_then.records ∷ split_then.back) (split_then.then_is new n split_then.records held)
@@ -241,9 +230,9 @@ module _ {D : Type 0} (tells : Bool) (state : D → State) (sound : (d : D) → 
 
   module _ (held : held_in new ≡ remove (held_in old) i) where
     gone : GoneLanes RThen k 0 m.lanes.items kw.logs k i old o
-    gone = gone_lanes RThen k 0 m.lanes.items kw.logs k i old o (omega arith) lane there held_then
+    gone = gone_lanes RThen k 0 m.lanes.items kw.logs k i old o (omega arith) lane there (held_read tells state was m b notes read ready was_up kw)
 
-    pub gone_stops : StopsHere (slice_set m.lanes.items k new)
+    pub gone_stops : StopsHere tells state sound told was m read ready was_up b notes kw (slice_set m.lanes.items k new)
     gone_stops =
         let around = logs_around tells state sound told was m read ready was_up b notes kw gone.front (held_as k o gone.records) gone.back gone.is in
         stops_with tells state sound told was m read ready was_up b notes kw (slice_set m.lanes.items k new) gone.lists (gone.then_all (λ h rs. ⊤) (λ h rs holds. tt) new held) (gone.front ++ gone.back) (gone.then_is new held)

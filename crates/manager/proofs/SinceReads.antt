@@ -62,10 +62,14 @@ module _ {D : Type 0} (tells : Bool) (state : D → State) (sound : (d : D) → 
       (subst (λ (q : Spun D). ImageSince state q (part_of n.segment) c) (ap (λ (v : Held (Spun D)). v.part) same_one) image)
   image_since front k o n records back is same_index P so leaves c (was_free q none other image) = absurd (let no : None ≡ Some q = none in cc)
 
-  -- with these segments left it stops safely where a cut is recovered of them
+  -- with these lanes it stops safely
+  abbrev pub StopsHere : List (Lane D) → Type 0
+  StopsHere lanes = (before after : Logs) → AllLanesHold (λ h rs. ⊤) was.lanes.items before → AllLanesHold (λ h rs. ⊤) lanes after
+      → StopsSafely (ImageSince state was.home m.home) (HeldSince state (all_held 0 was.lanes.items before) None) b.volume.began (entries_of notes) (all_held 0 lanes after) []
+
+  -- with these segments left it does so where a cut is recovered of them
   pub stops_with : (lanes : List (Lane D)) (lists : Logs) → AllLanesHold (λ h rs. ⊤) lanes lists → (left : List (Held (Spun D))) → all_held 0 lanes lists ≡ left
       → Recovers (ImageSince state was.home m.home) (HeldSince state olds None) b.volume.began.owner left (IsCut b.volume.began.array (writes (entries_of notes)) [])
-      → (before after : Logs) → AllLanesHold (λ h rs. ⊤) was.lanes.items before → AllLanesHold (λ h rs. ⊤) lanes after
-      → StopsSafely (ImageSince state was.home m.home) (HeldSince state (all_held 0 was.lanes.items before) None) b.volume.began (entries_of notes) (all_held 0 lanes after) []
+      → StopsHere lanes
   stops_with lanes lists all left is recovers = stops_so tells state sound told was b notes kw was_up None (ImageSince state was.home m.home) lanes lists [] (λ h rs. ⊤) all
       (subst (λ (l : List (Held (Spun D))). Recovers (ImageSince state was.home m.home) (HeldSince state olds None) b.volume.began.owner l (IsCut b.volume.began.array (writes (entries_of notes)) [])) (sym is) recovers)

@@ -46,7 +46,7 @@ use Rattle.manager.specs.declared.manager.Manager.{Manager}
 use Rattle.manager.specs.declared.part.Part.{Part}
 use Rattle.manager.specs.declared.part.Part.TheVariants.{Home}
 use Rattle.listed_records.proofs.Entries.{all_changed, count_changed, At, among, still_changed}
-use Rattle.volume_parts.proofs.Lanes.{counted_as, lanes_map}
+use Rattle.volume_parts.proofs.Lanes.{counted_as}
 use Rattle.manager.proofs.Frames.{none_passed, ready_used}
 use Rattle.listed_records.proofs.Contents.{puts_from, last_put, same_write, live_block}
 use Rattle.manager.proofs.Moments.{stops_so}
@@ -55,8 +55,7 @@ use Rattle.manager.proofs.ReadContent.{unbroken, upholds_up}
 use Rattle.manager.proofs.ReadKeeps.{held_read}
 use Rattle.manager.proofs.ReadStops.{logs, moved}
 use Rattle.volume_parts.proofs.Held.{moved_extents}
-use Rattle.manager.proofs.WentHome.{risen}
-use Rattle.manager.proofs.ReadyLanes.{down_counts}
+use Rattle.manager.proofs.WentHome.{risen, home_failed}
 
 -- ---- the manager between its calls
 
@@ -214,22 +213,12 @@ module _ {D : Type 0} (tells : Bool) (state : D → State) (m : Manager D) (b : 
         → IsReady state (record m { home = part; spindle = spindle; home_up = true; down = Some (Home m.id) })
         → Stands tells state (record m { home = part; spindle = spindle; home_up = true; down = Some (Home m.id) }) b (notes ++ n ∷ [])
     put_fails n note partly rose ready =
-        let failed : Part = Home m.id in record {
-          keeps = record {
-            logs = kp.logs;
-            held = lanes_map (λ h rs. IsTrue tells → m.down ≡ None → Holds state h.segment rs) (λ h rs. IsTrue tells → Some failed ≡ None → Holds state h.segment rs)
-                (λ h rs holds told is. absurd (let no : Some failed ≡ None = is in cc)) m.lanes.items kp.logs kp.held;
-            upholds = (put_breaks (parts_of tells state) b.volume.began (seen m kp.logs) part size volume (puts_from 0 e.listed.first mask blocks) true m.ups.items notes n refl (upholds_up tells state m b notes kp up) (unbroken tells state m b notes kp up)
-                note.operation_is note.drain data_of
-                (λ x may. let from = partly_image (state_of state m.home).values e.listed.first mask blocks x (partly x may.1) in (from.0, (may.0, from.1), from.2))
-                (risen (state_of state m.home).faults (state_of state part).faults rose)).upholds;
-            in_use = λ told is. absurd (let no : Some failed ≡ None = is in cc);
-            passed = none_passed (nones_at m.lanes.items b.lanes) notes n note.passed_is kp.passed;
-            taken = let few = kp.taken in let c = down_counts m.down in omega (arith, few, c);
-            still = kp.still;
-            ready = ready;
-            locks = let l = kp.locks in record { pass = pass.0 ∙ l.pass; number = pass.1 ∙ l.number; each = l.each; owner = l.owner; most_ = l.most_; view = l.view };
-          };
+        record {
+          keeps = home_failed tells state m b notes kp part spindle pass (notes ++ n ∷ [])
+              (put_breaks (parts_of tells state) b.volume.began (seen m kp.logs) part size volume (puts_from 0 e.listed.first mask blocks) true m.ups.items notes n refl (upholds_up tells state m b notes kp up) (unbroken tells state m b notes kp up)
+              note.operation_is note.drain data_of
+              (λ x may. let from = partly_image (state_of state m.home).values e.listed.first mask blocks x (partly x may.1) in (from.0, (may.0, from.1), from.2))
+              (risen (state_of state m.home).faults (state_of state part).faults rose)).upholds (none_passed (nones_at m.lanes.items b.lanes) notes n note.passed_is kp.passed) ready;
           look = last_more b.volume.began.look notes n ∙ note.look_is;
         }
 

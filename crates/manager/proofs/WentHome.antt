@@ -15,12 +15,12 @@ use Rattle.spin_model.specs.declared.spun.Spun.{Spun}
 use Rattle.log_segment.specs.Segment.{Holds}
 use Rattle.wol_model.specs.Blocks.{block_of, after}
 use Rattle.wol_model.specs.Extents.{IsUncovered, covers_of, AreDistinct, newest}
-use Rattle.wol_model.specs.History.{Wrote, Broke, worker, writes}
+use Rattle.wol_model.specs.History.{Wrote, Broke, worker, writes, flight_of}
 use Rattle.wol_model.specs.Index.{Indexed, listed_in, is_covered}
 use Rattle.wol_model.proofs.Arrays.{after_put}
-use Rattle.wol_promise.specs.Manager.{Held, IsIndexOf, extents_held, is_homed_in}
+use Rattle.wol_promise.specs.Manager.{Held, HomePart, IsIndexOf, extents_held, is_homed_in}
 use Rattle.wol_promise.specs.Ruled.{Noted, HasPassed, last_look, entries_of}
-use Rattle.wol_promise.specs.Stands.{IsWhole, LiesInVolume, StopsSafely}
+use Rattle.wol_promise.specs.Stands.{Upholds, IsWhole, LiesInVolume, StopsSafely}
 use Rattle.wol_promise.proofs.HomeWrites.{home_more, home_breaks}
 use Rattle.wol_promise.proofs.OneMore.{last_more}
 use Rattle.wol_promise.proofs.Stops.{home_stops}
@@ -98,6 +98,24 @@ torn_image old at xs c torn = (torn.0, torn.1, (let P : List Block → Type 0 = 
 pub risen : (old new : ℕ) → Rose old new → 0 < new
 risen old new rose = ⊎_elim (λ lt. omega arith) (λ most. omega arith) rose
 
+-- what is kept up where a disk call of home failed
+pub home_failed : {D : Type 0} (tells : Bool) (state : D → State) (m : Manager D) (b : ManagerBase) (notes : List Noted) (keeps : Keeps tells state m b notes) (part : Spun D) (spindle : PassOf Spindle SpindleBase) → IsSamePass m.spindle spindle → (then_ : List Noted)
+    → Upholds (parts_of tells state) b.volume.began (record (seen m keeps.logs) { home = part; home_up = true; down = Some HomePart }) then_ (writes (entries_of then_)) (flight_of (entries_of then_)) → HasPassed (nones_at m.lanes.items b.lanes) then_
+    → IsReady state (record m { home = part; spindle = spindle; home_up = true; down = Some (Home m.id) }) → Keeps tells state (record m { home = part; spindle = spindle; home_up = true; down = Some (Home m.id) }) b then_
+home_failed tells state m b notes keeps part spindle pass then_ upholds passed ready =
+    let failed : Part = Home m.id in record {
+      logs = keeps.logs;
+      held = lanes_map (λ h rs. IsTrue tells → m.down ≡ None → Holds state h.segment rs) (λ h rs. IsTrue tells → Some failed ≡ None → Holds state h.segment rs)
+          (λ h rs holds told is. absurd (let no : Some failed ≡ None = is in cc)) m.lanes.items keeps.logs keeps.held;
+      upholds = upholds;
+      in_use = λ told is. absurd (let no : Some failed ≡ None = is in cc);
+      passed = passed;
+      taken = let t = keeps.taken in let c = down_counts m.down in omega (arith, t, c);
+      still = keeps.still;
+      ready = ready;
+      locks = let l = keeps.locks in record { pass = pass.0 ∙ l.pass; number = pass.1 ∙ l.number; each = l.each; owner = l.owner; most_ = l.most_; view = l.view };
+    }
+
 -- ---- the entry
 
 module _ {D : Type 0} (tells : Bool) (state : D → State) (m : Manager D) (b : ManagerBase) (notes : List Noted) (keeps : Keeps tells state m b notes) (up : m.down ≡ None)
@@ -153,21 +171,11 @@ module _ {D : Type 0} (tells : Bool) (state : D → State) (m : Manager D) (b : 
         → IsReady state (record m { home = part; spindle = spindle; home_up = true; down = Some (Home m.id) })
         → Stands tells state (record m { home = part; spindle = spindle; home_up = true; down = Some (Home m.id) }) b (notes ++ n ∷ [])
     home_fails ps note torn rose ready =
-        let failed : Part = Home m.id in record {
-          keeps = record {
-            logs = keeps.logs;
-            held = lanes_map (λ h rs. IsTrue tells → m.down ≡ None → Holds state h.segment rs) (λ h rs. IsTrue tells → Some failed ≡ None → Holds state h.segment rs)
-                (λ h rs holds told is. absurd (let no : Some failed ≡ None = is in cc)) m.lanes.items keeps.logs keeps.held;
-            upholds = (home_breaks (parts_of tells state) b.volume.began (seen m keeps.logs) part size volume notes n (home_write first blocks) (upholds_up tells state m b notes keeps up) (unbroken tells state m b notes keeps up) client refl uncovered_up lies
-                note.operation_is note.drain
-                (λ x may. let from = torn_image (state_of state m.home).values first blocks x (torn x may.1) in (from.0, (may.0, from.1), from.2))
-                (risen (state_of state m.home).faults (state_of state part).faults rose)).upholds;
-            in_use = λ told is. absurd (let no : Some failed ≡ None = is in cc);
-            passed = passed;
-            taken = let t = keeps.taken in let c = down_counts m.down in omega (arith, t, c);
-            still = keeps.still;
-            ready = ready;
-            locks = let l = keeps.locks in record { pass = pass.0 ∙ l.pass; number = pass.1 ∙ l.number; each = l.each; owner = l.owner; most_ = l.most_; view = l.view };
-          };
+        record {
+          keeps = home_failed tells state m b notes keeps part spindle pass (notes ++ n ∷ [])
+              (home_breaks (parts_of tells state) b.volume.began (seen m keeps.logs) part size volume notes n (home_write first blocks) (upholds_up tells state m b notes keeps up) (unbroken tells state m b notes keeps up) client refl uncovered_up lies
+              note.operation_is note.drain
+              (λ x may. let from = torn_image (state_of state m.home).values first blocks x (torn x may.1) in (from.0, (may.0, from.1), from.2))
+              (risen (state_of state m.home).faults (state_of state part).faults rose)).upholds passed ready;
           look = last_more b.volume.began.look notes n ∙ note.look_is;
         }

@@ -1,44 +1,28 @@
 -- What may go of a record is given up.
-use Rattle.std.proofs.Common.{◌≡◌, ◌<◌, ◌^◌, Bool, Some, true, length, refl, sym, ap, ◌∙◌, arith}
-use Rattle.std.specs.Prelude.{◌↔◌, slice_get}
+use Rattle.std.proofs.Common.{◌≡◌, ◌<◌, ◌^◌, Bool, true, length, refl, sym, ap, ◌∙◌, arith}
+use Rattle.std.specs.Prelude.{◌↔◌}
 use Rattle.redirect_map.specs.Index.{entry_at}
 use Rattle.wol_model.specs.Index.{Indexed, listed_in, has_going}
 use Rattle.logger.specs.Lanes.{IsAt}
 use Rattle.volume_parts.proofs.Calm.{calm_trim}
 use Rattle.manager.proofs.Calm.{none_lane}
 use Rattle.listed_records.proofs.Elements.{refill_set, all_at}
-use Rattle.manager.proofs.DropCall.{IsFound, AreGoing, HasTurned, old_lane, spot_ready, version_ready, count_ready, range_ready, its_head, its_owner, proper_keep, given_entries, gone_is, ready_then, ready_broke, dropped_then, keeps_then, stops_then, dropped_broke, cause_broke, stands_broke, stops_broke}
-use Rattle.manager.proofs.FetchRec.{lane_within, spot_in}
-use Rattle.listed_records.proofs.Entries.{found_of, some_of}
+use Rattle.manager.proofs.DropCall.{IsFound, found_as, lane_in, AreGoing, HasTurned, old_lane, spot_ready, version_ready, count_ready, range_ready, its_head, its_owner, proper_keep, given_entries, gone_is, ready_then, ready_broke, dropped_then, keeps_then, stops_then, dropped_broke, cause_broke, stands_broke, stops_broke}
+use Rattle.manager.proofs.FetchRec.{lane_within}
+use Rattle.listed_records.proofs.Entries.{some_of}
 use Rattle.manager.proofs.ReadyLanes.{at_lane}
-use Rattle.volume_parts.proofs.PartReads.{never_some}
 use Rattle.manager.proofs.manager.Manager.drop_rec.Given as given
-use Rattle.manager.proofs.manager.Manager.drop_rec.Goals.{After-index_mut-lane, After-may_go-given, After-trim, In-Some-find}
+use Rattle.manager.proofs.manager.Manager.drop_rec.Goals.{After-may_go-given, After-trim, In-Some-find}
 use Rattle.manager.proofs.manager.Manager.drop_rec.Goals as goal
 
 -- ---- What the call found
 
 found : (g : given.Over) (c : In-Some-find g) → IsFound g.D.Disk.state c.args.self.now c.args.version c.in-Some-find.record
-found g c =
-    let m = c.args.self.now in
-    record {
-      ready = c.requires.ready;
-      up = never_some m.down c.in_default.not-Some;
-      its = found_of m.index.entries c.args.version c.in-Some-find.record c.in-Some-find.ensures.value;
-      index = c.in-Some-find.ensures.index;
-    }
+found g c = found_as g.D.Disk.state c.args.self.now c.args.version c.in-Some-find.record c.requires.ready c.in_default.not-Some c.in-Some-find.ensures.index c.in-Some-find.ensures.value
 
 -- what goes of the record
 going : (g : given.Over) (c : After-may_go-given g) → AreGoing c.args.self.now c.args.version c.may_go-given.result
 going g c = record { fits = omega arith; mask = c.may_go-given.ensures.value }
-
--- its lane
-lane : (g : given.Over) (c : After-index_mut-lane g) → IsFound g.D.Disk.state c.args.self.now c.args.version c.in-Some-find.record → slice_get c.args.self.now.lanes.items c.in-Some-find.record.lane ≡ Some c.index_mut-lane.result.now
-lane g c call = (spot_in g.D.Disk.state c.args.self.now call.ready call.up c.args.version c.in-Some-find.record call.index call.its c.index_mut-lane.result.now c.index_mut-lane.ensures.value).lane_is
-
--- and what became of it
-turned : (g : given.Over) (c : After-trim g) → HasTurned g.D.Disk.state c.index_mut-lane.result.now c.trim.new.self
-turned g c = let t = c.trim.ensures in record { is_lane = t.lane; same = t.same; all = t.all; taken = t.taken; used = t.used }
 
 -- ---- The lane of the record
 
@@ -64,7 +48,7 @@ pub trim-requires : goal.trim-requires
 trim-requires g c =
     let m = c.args.self.now in let r = c.in-Some-find.record in let l = c.index_mut-lane.result.now in
     let p = goal.at.trim-requires g c in let call = found g p.In-Some-find in let goes = going g p.After-may_go-given in
-    let here = lane g p.After-index_mut-lane call in
+    let here = lane_in call c.index_mut-lane.result.now c.index_mut-lane.ensures.value in
     let was = old_lane call goes here in
     record {
       lane = was.lane;
@@ -78,11 +62,15 @@ trim-requires g c =
 
 -- ---- It was trimmed
 
+-- what became of its lane
+turned : (g : given.Over) (c : After-trim g) → HasTurned g.D.Disk.state c.index_mut-lane.result.now c.trim.new.self
+turned g c = let t = c.trim.ensures in record { is_lane = t.lane; same = t.same; all = t.all; taken = t.taken; used = t.used }
+
 pub returns-in-Ok : goal.returns-in-Ok
 returns-in-Ok g c =
     let m = c.args.self.now in let r = c.in-Some-find.record in let l = c.index_mut-lane.result.now in let l' = c.trim.new.self in
     let p = goal.at.returns-in-Ok g c in let call = found g p.In-Some-find in let goes = going g p.After-may_go-given in
-    let here = lane g p.After-index_mut-lane call in let turn = turned g p.After-trim in
+    let here = lane_in call c.index_mut-lane.result.now c.index_mut-lane.ensures.value in let turn = turned g p.After-trim in
     let head_is = its_head call goes c.head_of-head.result c.head_of-head.ensures.value in let moved = c.in-Ok.ensures.moved in
     let flags = refill_set m.ups.items c.deref_mut.result.now r.lane true c.deref_mut.ensures.value in let entries = c.trim-in-Ok.ensures.entries ∙ given_entries call goes in
     record {
@@ -103,7 +91,7 @@ pub returns-in-Err : goal.returns-in-Err
 returns-in-Err g c =
     let m = c.args.self.now in let r = c.in-Some-find.record in
     let p = goal.at.returns-in-Err g c in let call = found g p.In-Some-find in let goes = going g p.After-may_go-given in
-    let here = lane g p.After-index_mut-lane call in let turn = turned g p.After-trim in
+    let here = lane_in call c.index_mut-lane.result.now c.index_mut-lane.ensures.value in let turn = turned g p.After-trim in
     let head_is = its_head call goes c.head_of-head.result c.head_of-head.ensures.value in let moved = c.in-Err.ensures.moved in
     let flags = refill_set m.ups.items c.deref_mut.result.now r.lane true c.deref_mut.ensures.value in
     record {

@@ -1,42 +1,25 @@
 -- A segment is given up with all its records.
-use Rattle.std.proofs.Common.{◌≡◌, ◌<◌, ◌^◌, Bool, List, Some, true, false, length, refl, ap, ◌∙◌, arith}
+use Rattle.std.proofs.Common.{◌<◌, ◌^◌, Bool, List, true, false, length, refl, ap, ◌∙◌, arith}
 use Rattle.std.proofs.lemmas.Option.{slice_get_within}
 use Rattle.wol_model.specs.Index.{Indexed}
 use Rattle.wol_promise.proofs.Lists.{all_map}
 use Rattle.logger.specs.Lanes.{IsAt}
 use Rattle.manager.proofs.Calm.{none_lane}
 use Rattle.listed_records.proofs.Elements.{refill_set, all_at}
-use Rattle.listed_records.proofs.Entries.{found_of}
 use Rattle.listed_records.proofs.Forgetting.{flag_set}
 use Rattle.manager.proofs.ReadyLanes.{at_lane}
-use Rattle.volume_parts.proofs.PartReads.{never_some}
 use Rattle.manager.proofs.RetireCall.{calm_then, cause_broke, counted_there, dropped_broke, dropped_then, keeps_then, none_live, old_lane, ready_broke, ready_then, retirable, stands_broke, stops_broke, stops_then}
-use Rattle.manager.proofs.DropCall.{IsFound, HasTurned}
-use Rattle.manager.proofs.FetchRec.{lane_within, spot_in}
-use Rattle.std.specs.Prelude.{slice_get, slice_index_or}
+use Rattle.manager.proofs.DropCall.{IsFound, found_as, lane_in, HasTurned}
+use Rattle.manager.proofs.FetchRec.{lane_within}
+use Rattle.std.specs.Prelude.{slice_index_or}
 use Rattle.manager.proofs.manager.Manager.drop_segment.Given as given
-use Rattle.manager.proofs.manager.Manager.drop_segment.Goals.{After-index_mut-lane, After-retire, In-Some-find}
+use Rattle.manager.proofs.manager.Manager.drop_segment.Goals.{After-retire, In-Some-find}
 use Rattle.manager.proofs.manager.Manager.drop_segment.Goals as goal
 
 -- ---- What the call found
 
 found : (g : given.Over) (c : In-Some-find g) → IsFound g.D.Disk.state c.args.self.now c.args.version c.in-Some-find.record
-found g c =
-    let m = c.args.self.now in
-    record {
-      ready = c.requires.ready;
-      up = never_some m.down c.in_default.not-Some;
-      its = found_of m.index.entries c.args.version c.in-Some-find.record c.in-Some-find.ensures.value;
-      index = c.in-Some-find.ensures.index;
-    }
-
--- its lane
-lane : (g : given.Over) (c : After-index_mut-lane g) → IsFound g.D.Disk.state c.args.self.now c.args.version c.in-Some-find.record → slice_get c.args.self.now.lanes.items c.in-Some-find.record.lane ≡ Some c.index_mut-lane.result.now
-lane g c call = (spot_in g.D.Disk.state c.args.self.now call.ready call.up c.args.version c.in-Some-find.record call.index call.its c.index_mut-lane.result.now c.index_mut-lane.ensures.value).lane_is
-
--- and what became of it
-turned : (g : given.Over) (c : After-retire g) → HasTurned g.D.Disk.state c.index_mut-lane.result.now c.retire.new.self
-turned g c = let t = c.retire.ensures in record { is_lane = t.lane; same = t.same; all = t.all; taken = t.taken; used = t.used }
+found g c = found_as g.D.Disk.state c.args.self.now c.args.version c.in-Some-find.record c.requires.ready c.in_default.not-Some c.in-Some-find.ensures.index c.in-Some-find.ensures.value
 
 -- ---- The lane of the segment
 
@@ -49,11 +32,11 @@ index_mut-lane-requires g c = omega (arith, c.args.self.now.lanes.ok.0, lane_wit
 pub valid-count-requires : goal.valid-count-requires
 valid-count-requires g c =
     let p = goal.at.valid-count-requires g c in let call = found g p.In-Some-find in
-    retirable call (lane g p.After-index_mut-lane call)
+    retirable call (lane_in call c.index_mut-lane.result.now c.index_mut-lane.ensures.value)
 
 pub retire-requires : goal.retire-requires
 retire-requires g c =
-    let p = goal.at.retire-requires g c in let call = found g p.In-Some-find in let here = lane g p.After-index_mut-lane call in
+    let p = goal.at.retire-requires g c in let call = found g p.In-Some-find in let here = lane_in call c.index_mut-lane.result.now c.index_mut-lane.ensures.value in
     record {
       lane = (old_lane call here).lane;
       at = all_at (IsAt c.args.shared.now) c.args.self.now.lanes.items c.in-Some-find.record.lane c.index_mut-lane.result.now here c.requires.at.lanes_;
@@ -62,10 +45,14 @@ retire-requires g c =
 
 -- ---- It was retired
 
+-- what became of its lane
+turned : (g : given.Over) (c : After-retire g) → HasTurned g.D.Disk.state c.index_mut-lane.result.now c.retire.new.self
+turned g c = let t = c.retire.ensures in record { is_lane = t.lane; same = t.same; all = t.all; taken = t.taken; used = t.used }
+
 pub forget-requires : goal.forget-requires
 forget-requires g c =
     let m = c.args.self.now in let r = c.in-Some-find.record in
-    let p = goal.at.forget-requires g c in let call = found g p.In-Some-find in let here = lane g p.After-index_mut-lane call in
+    let p = goal.at.forget-requires g c in let call = found g p.In-Some-find in let here = lane_in call c.index_mut-lane.result.now c.index_mut-lane.ensures.value in
     let flags = refill_set m.ups.items c.deref_mut.result.now r.lane true c.deref_mut.ensures.value in
     let lt = slice_get_within m.lanes.items r.lane c.index_mut-lane.result.now here in let long = c.requires.ready.ready.flags in let n = c.requires.ready.next.1 in
     record {
@@ -79,7 +66,7 @@ pub returns-in-Ok : goal.returns-in-Ok
 returns-in-Ok g c =
     let m = c.args.self.now in let r = c.in-Some-find.record in let l = c.index_mut-lane.result.now in let l' = c.retire.new.self in
     let p = goal.at.returns-in-Ok g c in let call = found g p.In-Some-find in let none = none_live call (c.requires.covered call.its.entry call.its.is) in
-    let here = lane g p.After-index_mut-lane call in let turn = turned g p.After-retire in
+    let here = lane_in call c.index_mut-lane.result.now c.index_mut-lane.ensures.value in let turn = turned g p.After-retire in
     let flags = refill_set m.ups.items c.deref_mut.result.now r.lane true c.deref_mut.ensures.value in let retired = c.in-Ok.ensures.retired in
     record {
       ready = ready_then call here turn c.in-Ok.field-0 retired c.forget.new.index _ c.forget.ensures flags;
@@ -98,7 +85,7 @@ pub returns-in-Err : goal.returns-in-Err
 returns-in-Err g c =
     let m = c.args.self.now in let r = c.in-Some-find.record in
     let p = goal.at.returns-in-Err g c in let call = found g p.In-Some-find in let none = none_live call (c.requires.covered call.its.entry call.its.is) in
-    let here = lane g p.After-index_mut-lane call in let turn = turned g p.After-retire in
+    let here = lane_in call c.index_mut-lane.result.now c.index_mut-lane.ensures.value in let turn = turned g p.After-retire in
     let flags = refill_set m.ups.items c.deref_mut.result.now r.lane true c.deref_mut.ensures.value in let retired = c.in-Err.ensures.retired in
     record {
       ready = ready_broke call here turn c.in-Err.field-0 retired c.logger.result c.logger.ensures _ flags;
