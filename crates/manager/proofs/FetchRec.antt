@@ -21,7 +21,7 @@ use Rattle.logger.specs.Lanes.{AreWhole, ReadFrom, held_in}
 use Rattle.logger.specs.declared.lane.HeldSegment.{HeldSegment}
 use Rattle.logger.specs.declared.lane.Lane.{Lane}
 use Rattle.block_cells.specs.declared.record.Rec.{Rec}
-use Rattle.redirect_map.specs.Index.{entry_at, IsAnswer, IsIndex}
+use Rattle.redirect_map.specs.Index.{entry_at, IsAnswer, IsIndex, IsRecordOf}
 use Rattle.manager.specs.Reclaim.{AreOf, HasFetched}
 use Rattle.manager.specs.Seen.{all_held, parts_of}
 use Rattle.manager.specs.Stands.{Keeps, IsReady, IsPlacedIn}
@@ -31,7 +31,7 @@ use Rattle.manager.specs.declared.part.Part.{Part}
 use Rattle.listed_records.proofs.Entries.{Found, found_of, entry_of_version, among}
 use Rattle.listed_records.proofs.Elements.{all_at, get_of}
 use Rattle.volume_parts.proofs.Lanes.{Standing, held_as, standing, same_place}
-use Rattle.manager.proofs.ReadContent.{upholds_up}
+use Rattle.manager.proofs.ReadContent.{StandsIn, upholds_up}
 use Rattle.volume_parts.proofs.PartReads.{never_some, on_ok_like}
 use Rattle.log_segment.specs.Segment as log
 
@@ -46,33 +46,37 @@ pub record RecordSpot {D : Type 0} (m : Manager D) (r : Rec) (lane : Lane D) : T
   pub segment_whole : log.IsWhole segment.segment
   pub fits : r.pos + 1 + 0 + r.count ≤ blocks_of segment.segment
 
+-- so it is for an entry of the index
+pub spot_for : {D : Type 0} (state : D → State) (m : Manager D) → IsReady state m → m.down ≡ None → (e : Indexed) (r : Rec) → IsRecordOf e r → Contains m.index.entries e → (l : Lane D) × RecordSpot m r l
+spot_for {D} state m ready up e r rec has = (
+  placed.lane,
+  record {
+    lane_is = ap (slice_get m.lanes.items) rec.lane ∙ placed.lane_is;
+    place = there.0;
+    segment = placed.segment;
+    there = there.1;
+    index = placed.index ∙ sym rec.segment;
+    whole = whole;
+    segment_whole = all_at (λ (h : HeldSegment D). log.IsWhole h.segment) (held_in placed.lane) there.0 placed.segment there.1 whole;
+    fits = (let w = placed.within in let p = rec.pos in let c = rec.count in omega arith);
+  },
+)
+  where
+    placed : IsPlacedIn m.lanes.items e
+    placed = all_member (IsPlacedIn m.lanes.items) m.index.entries e (ready.up up).placed has
+
+    there : (k : ℕ) × (slice_get (held_in placed.lane) k ≡ Some placed.segment)
+    there = get_of (held_in placed.lane) placed.segment placed.held
+
+    whole : AreWhole (held_in placed.lane)
+    whole = all_at (λ (l : Lane D). AreWhole (held_in l)) m.lanes.items e.listed.lane placed.lane placed.lane_is (ready.up up).whole
+
 module _ {D : Type 0} (state : D → State) (m : Manager D) (ready : IsReady state m) (up : m.down ≡ None) (version : ℕ) (r : Rec) (index : IsIndex m.index.entries) (found : Found m.index.entries version r) where
   entry_among : Contains m.index.entries found.entry
   entry_among = among (entry_of_version m.index.entries version found.entry index.rising found.is)
 
   pub spot_of : (l : Lane D) × RecordSpot m r l
-  spot_of = (
-    placed.lane,
-    record {
-      lane_is = ap (slice_get m.lanes.items) found.record_.lane ∙ placed.lane_is;
-      place = there.0;
-      segment = placed.segment;
-      there = there.1;
-      index = placed.index ∙ sym found.record_.segment;
-      whole = whole;
-      segment_whole = all_at (λ (h : HeldSegment D). log.IsWhole h.segment) (held_in placed.lane) there.0 placed.segment there.1 whole;
-      fits = (let w = placed.within in let p = found.record_.pos in let c = found.record_.count in omega arith);
-    },
-  )
-    where
-      placed : IsPlacedIn m.lanes.items found.entry
-      placed = all_member (IsPlacedIn m.lanes.items) m.index.entries found.entry (ready.up up).placed entry_among
-
-      there : (k : ℕ) × (slice_get (held_in placed.lane) k ≡ Some placed.segment)
-      there = get_of (held_in placed.lane) placed.segment placed.held
-
-      whole : AreWhole (held_in placed.lane)
-      whole = all_at (λ (l : Lane D). AreWhole (held_in l)) m.lanes.items found.entry.listed.lane placed.lane placed.lane_is (ready.up up).whole
+  spot_of = spot_for state m ready up found.entry r found.record_ entry_among
 
   -- in the lane at its place, which the code reaches
   pub spot_at : (l : Lane D) → slice_get m.lanes.items r.lane ≡ Some l → RecordSpot m r l
@@ -92,23 +96,20 @@ module _ {D : Type 0} (state : D → State) (m : Manager D) (ready : IsReady sta
 
     -- the record as it stands in this segment
     pub record Stored (h : HeldSegment D) : Type 0 where
-      pub records : List Record
-      pub holds : Holds state h.segment records
-      pub place : ℕ
-      pub record_ : Record
-      pub there : slice_get records place ≡ Some record_
-      pub position : r.pos ≡ position_of records place
-      pub count : r.count ≡ length record_.blocks
-      pub data_ : IsDataOf b.volume.began ws version found.entry.listed.first record_.blocks
+      pub stands : StandsIn state r h
+      pub count : r.count ≡ length stands.record_.blocks
+      pub data_ : IsDataOf b.volume.began ws version found.entry.listed.first stands.record_.blocks
 
     pub stored_at : (l : Lane D) (i : ℕ) (h : HeldSegment D) → slice_get m.lanes.items r.lane ≡ Some l → slice_get (held_in l) i ≡ Some h → h.index ≡ r.segment → Stored h
     stored_at l i h is_lane is_held named_ = record {
-      records = standing_.records;
-      holds = standing_.has told up;
-      place = backed.k;
-      record_ = backed.record_;
-      there = there;
-      position = found.record_.pos ∙ backed.is_its.pos ∙ ap (λ (s : Held (Spun D)). position_of s.records backed.k) same;
+      stands = record {
+        records = standing_.records;
+        holds = standing_.has told up;
+        place = backed.k;
+        record_ = backed.record_;
+        there = there;
+        position = found.record_.pos ∙ backed.is_its.pos ∙ ap (λ (s : Held (Spun D)). position_of s.records backed.k) same;
+      };
       count = found.record_.count ∙ ap length backed.is_its.keep ∙ length-map-range_with_len (has_bit backed.record_.head.mask) 0 backed.record_.head.count ∙ sym named.counted;
       data_ = record {
         write = was.0;
@@ -186,9 +187,9 @@ data_blocks state m ready up version r index found tells b notes keeps before af
       known = d.known;
       named = d.named;
       range = d.range ∙ ap (λ (x : Indexed). x.listed.first) (same_Some found.entry e (sym found.is ∙ is));
-      data_ = d.data_ ∙ sym (same ∙ all_blocks (length before) st.record_.blocks (count ∙ st.count));
+      data_ = d.data_ ∙ sym (same ∙ all_blocks (length before) st.stands.record_.blocks (count ∙ st.count));
     })
-    (moved.content st.records st.place st.record_ st.holds st.there st.position (let c = st.count in omega arith)))
+    (moved.content st.stands.records st.stands.place st.stands.record_ st.stands.holds st.stands.there st.stands.position (let c = st.count in omega arith)))
 
 -- the lane of a record that the index answers is there
 pub lane_within : {D : Type 0} (state : D → State) (m : Manager D) → IsReady state m → ((p : Part) → m.down ≡ Some p → ⊥) → (version : ℕ) (r : Rec) → IsIndex m.index.entries → IsAnswer (entry_at m.index.entries version) (Some r) → r.lane < length m.lanes.items

@@ -31,6 +31,15 @@ use Rattle.listed_records.proofs.Contents.{newest_is, bare_block, record_block, 
 use Rattle.garbage_list.proofs.Nexts.{Answered}
 use Rattle.volume_parts.proofs.Lanes.{held_as, Standing, standing, same_place}
 
+-- a record as it stands in this segment
+pub record StandsIn {D : Type 0} (state : D → State) (r : Rec) (h : HeldSegment D) : Type 0 where
+  pub records : List Record
+  pub holds : Holds state h.segment records
+  pub place : ℕ
+  pub record_ : Record
+  pub there : slice_get records place ≡ Some record_
+  pub position : r.pos ≡ position_of records place
+
 -- ---- a manager that is up
 
 module _ {D : Type 0} (tells : Bool) (state : D → State) (m : Manager D) (b : ManagerBase) (notes : List Noted) (keeps : Keeps tells state m b notes) (up : m.down ≡ None) where
@@ -64,23 +73,20 @@ module _ {D : Type 0} (tells : Bool) (state : D → State) (m : Manager D) (b : 
 
     -- the record that the index names, with its blocks
     pub record Source (r : Rec) (h : HeldSegment D) : Type 0 where
-      pub records : List Record
-      pub holds : Holds state h.segment records
-      pub place : ℕ
-      pub record_ : Record
-      pub there : slice_get records place ≡ Some record_
-      pub position : r.pos ≡ position_of records place
-      pub within : first - r.lbn + n ≤ length record_.blocks
-      pub content : take n (drop (first - r.lbn) record_.blocks) ≡ slice_range (after b.volume.began.array (writes (entries_of notes))) first (first + n)
+      pub stands : StandsIn state r h
+      pub within : first - r.lbn + n ≤ length stands.record_.blocks
+      pub content : take n (drop (first - r.lbn) stands.record_.blocks) ≡ slice_range (after b.volume.began.array (writes (entries_of notes))) first (first + n)
 
     pub log_content : (long : first + n ≤ length vs) (some : 1 ≤ n) (r : Rec) → IsSource m.index.entries first n (Some r) → (l : Lane D) (i : ℕ) (h : HeldSegment D) → slice_get m.lanes.items r.lane ≡ Some l → slice_get (held_in l) i ≡ Some h → h.index ≡ r.segment → Source r h
     log_content long some r source l i h is_lane is_held index = record {
-      records = found.records;
-      holds = found.has told up;
-      place = backed.k;
-      record_ = backed.record_;
-      there = ap (λ (s : Held (Spun D)). slice_get s.records backed.k) (sym same) ∙ backed.is_there;
-      position = entry.record_.pos ∙ backed.is_its.pos ∙ ap (λ (s : Held (Spun D)). position_of s.records backed.k) same;
+      stands = record {
+        records = found.records;
+        holds = found.has told up;
+        place = backed.k;
+        record_ = backed.record_;
+        there = ap (λ (s : Held (Spun D)). slice_get s.records backed.k) (sym same) ∙ backed.is_there;
+        position = entry.record_.pos ∙ backed.is_its.pos ∙ ap (λ (s : Held (Spun D)). position_of s.records backed.k) same;
+      };
       within = omega (arith, counted, begins.0, ends.1);
       content =
           let at : backed.record_.head.first ≡ r.lbn = sym backed.is_its.first ∙ sym entry.record_.first in

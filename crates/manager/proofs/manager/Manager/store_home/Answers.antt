@@ -8,7 +8,8 @@ use Rattle.wol_model.proofs.Counts.{both, either}
 use Rattle.wol_promise.proofs.Lists.{all_member}
 use Rattle.block_cells.proofs.Bits.{has_bit-or}
 use Rattle.redirect_map.specs.Index.{entry_at}
-use Rattle.manager.specs.Reclaim.{put_block}
+use Rattle.std.specs.Prelude.{IsTrue}
+use Rattle.manager.specs.Reclaim.{put_block, AreOf, StopsSince}
 use Rattle.manager.specs.Stands.{IsInVolume}
 use Rattle.manager.specs.declared.part.Part.TheVariants.{Home}
 use Rattle.manager.proofs.Calm.{none_home}
@@ -17,7 +18,20 @@ use Rattle.manager.proofs.Frames.{ready_homed}
 use Rattle.volume_parts.proofs.Accesses.{put_same, put_like}
 use Rattle.volume_parts.proofs.PartReads.{never_some}
 use Rattle.manager.proofs.StoreHome.{ready_put, put_keeps, put_fails, put_stops}
+use Rattle.manager.proofs.manager.Manager.store_home.Given as given
+use Rattle.manager.proofs.manager.Manager.store_home.Goals.{After-put_at}
 use Rattle.manager.proofs.manager.Manager.store_home.Goals as goal
+
+-- the call stopped at any moment
+stops : (g : given.Over) (c : After-put_at g) → IsTrue g.D.Disk.tells
+    → StopsSince g.D.Disk.tells g.D.Disk.state c.args.self.now (record c.args.self.now { home = c.put_at.new.part }) (AreOf g.D.Disk.tells c.args.self.now.index.entries c.args.version c.args.from.now)
+stops g c told was read b notes known keeps =
+    let m = c.args.self.now in let f = found_of m.index.entries c.args.version c.in-Some-find.record c.in-Some-find.ensures.value in
+    let at = entry_of_version m.index.entries c.args.version f.entry c.in-Some-find.ensures.index.rising f.is in
+    let put = put_same g.D.Disk.state m.home c.put_at.new.part (put_block c.in-Some-find.record.lbn c.args.mask c.args.from.now) (put_block f.entry.listed.first c.args.mask c.args.from.now)
+    (ap (λ (n : ℕ). put_block n c.args.mask c.args.from.now) f.record_.first) c.put_at.ensures.put in
+    put_stops g.D.Disk.tells g.D.Disk.state g.met.D.Disk.sound told was m read c.requires.ready (sym read.down ∙ never_some m.down c.in_default.not-Some) b notes keeps c.args.version c.args.mask c.args.from.now f.entry at
+    (c.requires.count f.entry f.is) (c.requires.due f.entry f.is) (λ t. known t f.entry f.is) c.put_at.new.part put.any_moment
 
 pub put_at-requires-clause-few : goal.put_at-requires-clause-few
 put_at-requires-clause-few g c =
@@ -72,13 +86,7 @@ returns-in-Ok-clause-keeps g c b notes known keeps =
     put.ok (returns-in-Ok-clause-ready g c)
 
 pub returns-in-Ok-clause-any_moment : goal.returns-in-Ok-clause-any_moment
-returns-in-Ok-clause-any_moment g c told was read b notes known keeps =
-    let m = c.args.self.now in let p = c.in-Ok.ensures in let f = found_of m.index.entries c.args.version c.in-Some-find.record c.in-Some-find.ensures.value in
-    let at = entry_of_version m.index.entries c.args.version f.entry c.in-Some-find.ensures.index.rising f.is in
-    let put = put_same g.D.Disk.state m.home c.put_at.new.part (put_block c.in-Some-find.record.lbn c.args.mask c.args.from.now) (put_block f.entry.listed.first c.args.mask c.args.from.now)
-    (ap (λ (n : ℕ). put_block n c.args.mask c.args.from.now) f.record_.first) p.put in
-    put_stops g.D.Disk.tells g.D.Disk.state g.met.D.Disk.sound told was m read c.requires.ready (sym read.down ∙ never_some m.down c.in_default.not-Some) b notes keeps c.args.version c.args.mask c.args.from.now f.entry at
-    (c.requires.count f.entry f.is) (c.requires.due f.entry f.is) (λ t. known t f.entry f.is) c.put_at.new.part put.any_moment
+returns-in-Ok-clause-any_moment g c = stops g (goal.at.returns-in-Ok-clause-any_moment g c).After-put_at
 
 pub returns-in-Err-clause-broke : goal.returns-in-Err-clause-broke
 returns-in-Err-clause-broke g c b notes n known note keeps =
@@ -91,13 +99,7 @@ returns-in-Err-clause-broke g c b notes n known note keeps =
     (ready_homed g.D.Disk.state m c.put_at.new.part c.put_at.new.spindle (Some (Home m.id)) put.volume put.size p.same p.free p.settled p.used (never_some m.down c.in_default.not-Some) c.requires.ready)
 
 pub returns-in-Err-clause-any_moment : goal.returns-in-Err-clause-any_moment
-returns-in-Err-clause-any_moment g c told was read b notes known keeps =
-    let m = c.args.self.now in let p = c.in-Err.ensures in let f = found_of m.index.entries c.args.version c.in-Some-find.record c.in-Some-find.ensures.value in
-    let at = entry_of_version m.index.entries c.args.version f.entry c.in-Some-find.ensures.index.rising f.is in
-    let put = put_same g.D.Disk.state m.home c.put_at.new.part (put_block c.in-Some-find.record.lbn c.args.mask c.args.from.now) (put_block f.entry.listed.first c.args.mask c.args.from.now)
-    (ap (λ (n : ℕ). put_block n c.args.mask c.args.from.now) f.record_.first) p.put in
-    put_stops g.D.Disk.tells g.D.Disk.state g.met.D.Disk.sound told was m read c.requires.ready (sym read.down ∙ never_some m.down c.in_default.not-Some) b notes keeps c.args.version c.args.mask c.args.from.now f.entry at
-    (c.requires.count f.entry f.is) (c.requires.due f.entry f.is) (λ t. known t f.entry f.is) c.put_at.new.part put.any_moment
+returns-in-Err-clause-any_moment g c = stops g (goal.at.returns-in-Err-clause-any_moment g c).After-put_at
 
 pub returns-in-Ok-clause-calm : goal.returns-in-Ok-clause-calm
 returns-in-Ok-clause-calm g c = none_home g.D.Disk.state c.args.self.now _ c.requires.ready c.in-Ok.ensures.put.calm refl
