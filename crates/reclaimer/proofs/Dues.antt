@@ -2,6 +2,7 @@
 use Rattle.std.proofs.Common.{◌≡◌, ⊎_elim, ◌<◌, ◌≤◌, ◌+◌, ℕ, zero, suc, Bool, true, false, cond, not, ◌&&◌, ◌||◌, List, [], ◌∷◌, ◌++◌, map, length, length-append, refl, sym, ap, subst, ◌∙◌, arith, eqb, ltb}
 use Rattle.std.specs.Prelude.{Contains}
 use Rattle.std.specs.List.{AllByRecursion, list_any, filter, flat_map, count_by, range_with_len}
+use Rattle.std.proofs.Math.Bool.{and-true, and-false}
 use Rattle.std.proofs.lemmas.Bool.{ltb-true, lt-ltb, ne_eqb, eq-eqb, cases_lt}
 use Rattle.std.proofs.lemmas.List.{map-append}
 use Rattle.std.proofs.lemmas.List.Concat.{flat_map-append}
@@ -19,14 +20,6 @@ use Rattle.wol_promise.proofs.Lists.{all_map, all_mid, all_parts, all_joined, me
 use Rattle.reclaimer.proofs.TakenOff.{Taken, some_go, dues_in, each_member, filter_each, filter_nothing, filter_twice, filter_both}
 
 -- ---- truth values
-
-and_true : (x : Bool) → (x && true) ≡ x
-and_true true = refl
-and_true false = refl
-
-and_false : (x : Bool) → (x && false) ≡ false
-and_false true = refl
-and_false false = refl
 
 not_either : (x y z : Bool) → (x && not (y || z)) ≡ ((x && not y) && not z)
 not_either true true z = refl
@@ -233,9 +226,9 @@ module _ (front back : List Listed) (e : Listed) where
 
       at : (g t : Bool) → goes es e b ≡ g → ltb d.version e.version ≡ t → (has_newer (listed_covers front) d.version b || (((cover_of f').covers b && ltb d.version e.version) || has_newer (listed_covers back) d.version b))
           ≡ (has_newer (listed_covers front) d.version b || (((cover_of e).covers b && ltb d.version e.version) || has_newer (listed_covers back) d.version b))
-      at false t stays is = λ i. has_newer (listed_covers front) d.version b || (((keeps_then b ∙ (λ j. (cover_of e).covers b && not (stays j)) ∙ and_true ((cover_of e).covers b)) i && ltb d.version e.version) || has_newer (listed_covers back) d.version b)
+      at false t stays is = λ i. has_newer (listed_covers front) d.version b || (((keeps_then b ∙ (λ j. (cover_of e).covers b && not (stays j)) ∙ and-true ((cover_of e).covers b)) i && ltb d.version e.version) || has_newer (listed_covers back) d.version b)
       at true false goes_ is =
-          (λ i. has_newer (listed_covers front) d.version b || (((λ j. (cover_of f').covers b && is j) ∙ and_false ((cover_of f').covers b) ∙ sym (and_false ((cover_of e).covers b)) ∙ (λ j. (cover_of e).covers b && sym is j)) i || has_newer (listed_covers back) d.version b))
+          (λ i. has_newer (listed_covers front) d.version b || (((λ j. (cover_of f').covers b && is j) ∙ and-false ((cover_of f').covers b) ∙ sym (and-false ((cover_of e).covers b)) ∙ (λ j. (cover_of e).covers b && sym is j)) i || has_newer (listed_covers back) d.version b))
       at true true goes_ is =
           let lt = ltb-true d.version e.version is in
           let newer = newer_there b goes_ (older b covers lt) in
@@ -252,11 +245,11 @@ module _ (front back : List Listed) (e : Listed) where
   own_due b = at (goes es e b) refl
     where
       at : (g : Bool) → goes es e b ≡ g → due_by then_all f' b ≡ due_by all e b
-      at false stays = λ i. ((keeps_then b ∙ (λ j. (cover_of e).covers b && not (stays j)) ∙ and_true ((cover_of e).covers b)) i && not (own_newer b i)) && not ((homed_then b ∙ (λ j. is_homed e b && not (stays j)) ∙ and_true (is_homed e b)) i)
-      at true is = (λ i. ((keeps_then b ∙ (λ j. (cover_of e).covers b && not (is j)) ∙ and_false ((cover_of e).covers b)) i && not (has_newer then_all e.version b)) && not (is_homed f' b))
+      at false stays = λ i. ((keeps_then b ∙ (λ j. (cover_of e).covers b && not (stays j)) ∙ and-true ((cover_of e).covers b)) i && not (own_newer b i)) && not ((homed_then b ∙ (λ j. is_homed e b && not (stays j)) ∙ and-true (is_homed e b)) i)
+      at true is = (λ i. ((keeps_then b ∙ (λ j. (cover_of e).covers b && not (is j)) ∙ and-false ((cover_of e).covers b)) i && not (has_newer then_all e.version b)) && not (is_homed f' b))
           ∙ sym (⊎_elim
-          (λ newer. (λ i. ((cover_of e).covers b && not (newer i)) && not (is_homed e b)) ∙ (λ i. and_false ((cover_of e).covers b) i && not (is_homed e b)))
-          (λ homed. (λ i. ((cover_of e).covers b && not (has_newer all e.version b)) && not ((both (is_homed e b) (not (has_older all e.version b)) homed).0 i)) ∙ and_false ((cover_of e).covers b && not (has_newer all e.version b)))
+          (λ newer. (λ i. ((cover_of e).covers b && not (newer i)) && not (is_homed e b)) ∙ (λ i. and-false ((cover_of e).covers b) i && not (is_homed e b)))
+          (λ homed. (λ i. ((cover_of e).covers b && not (has_newer all e.version b)) && not ((both (is_homed e b) (not (has_older all e.version b)) homed).0 i)) ∙ and-false ((cover_of e).covers b && not (has_newer all e.version b)))
           (either (has_newer all e.version b) (is_homed e b && not (has_older all e.version b)) (both ((cover_of e).covers b) (has_newer all e.version b || (is_homed e b && not (has_older all e.version b))) is).1))
 
   own_dues : dues_by then_all f' ≡ dues_by all e

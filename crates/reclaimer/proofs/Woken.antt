@@ -2,6 +2,7 @@
 use Rattle.std.proofs.Common.{◌≡◌, ◌+◌, ℕ, suc, Bool, true, false, ◌||◌, List, [], ◌∷◌, map, length, None, Result, Ok, Err, refl, sym, ap, subst, ◌∙◌, arith, eqb}
 use Rattle.std.specs.Prelude.{IsTrue, IsErr, OnOk, slice_index_or}
 use Rattle.std.specs.List.{list_any, range_with_len}
+use Rattle.std.proofs.Math.Bool.{or-false}
 use Rattle.std.proofs.lemmas.Option.{none-some}
 use Rattle.wol_disk.specs.Disk.{State, IsDisk}
 use Rattle.wol_model.specs.Index.{Listed, listed_in}
@@ -29,13 +30,9 @@ same_flags (t ∷ flags) n f is =
     let rest = same_flags flags (n + 1) f (λ i. let e : n + 1 + i ≡ n + suc i = omega arith in ap f e ∙ is (suc i)) in
     λ i. here i ∷ rest i
 
-or_none : (t : Bool) → (t || false) ≡ t
-or_none true = refl
-or_none false = refl
-
 -- of a bare look nothing is drained but home's flag set
 bare_drained : (ups : List Bool) → map (λ k. slice_index_or ups k false || list_any {X = Listed} (λ d. false) []) (range_with_len 0 (length ups)) ≡ ups
-bare_drained ups = same_flags ups 0 (λ k. slice_index_or ups k false || false) (λ i. let e : 0 + i ≡ i = omega arith in or_none (slice_index_or ups (0 + i) false) ∙ ap (λ (k : ℕ). slice_index_or ups k false) e)
+bare_drained ups = same_flags ups 0 (λ k. slice_index_or ups k false || false) (λ i. let e : 0 + i ≡ i = omega arith in or-false (slice_index_or ups (0 + i) false) ∙ ap (λ (k : ℕ). slice_index_or ups k false) e)
 
 moved_nothing : (blocks records : ℕ) (answer : Result Drain StepFault) → answer ≡ Ok Bare → TellsMoved blocks records answer → ⊥
 moved_nothing blocks records answer is told = subst (TellsMoved blocks records) is told
