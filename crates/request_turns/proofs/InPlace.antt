@@ -16,7 +16,8 @@ use Rattle.manager.specs.declared.part.Part.{Part}
 use Rattle.manager.specs.Answers.{home_write}
 use Rattle.request_turns.specs.Causes.{IsCauseOfWrite}
 use Rattle.request_turns.specs.Counts.{CountsEntry}
-use Rattle.request_turns.specs.Entries.{note_of, full_note, step_operation, IsWrittenAs}
+use Rattle.request_turns.specs.Entries.{note_of, full_note, IsWrittenAs}
+use Rattle.request_turns.specs.Stepped.{step_note, StandsSteppedInPlace}
 use Rattle.request_turns.specs.Turns.{ManagerPass, coded, look_in_place, look_or_nothing, passed_in_place, passed_or_none, next_in_place, next_or_none, notes_seen, WasDown, HasLeft, Stays}
 use Rattle.request_turns.specs.Written.{HasWritten}
 use Rattle.request_turns.specs.declared.outcome.Outcome.{Outcome}
@@ -65,15 +66,11 @@ module _ {D : Type 0} (i j : ManagerPass D) (same : IsSamePass i j) (seen : pass
       (subst (λ (es : List Entry). Stands tells state m (pass_lock i).base (notes_of es)) (sym seen) s)
 
 module _ {D : Type 0} (p : ManagerPass D) (failed : Bool) where
-  abbrev step_note : Manager D → Noted
-  step_note m = note_of (pass_number p) (step_operation failed) (look_of_manager m) [] false
+  -- the note of its steps is the one that a pass knows
+  note_is : (m : Manager D) → IsInTurnWith m p → step_note (pass_number p) failed (look_of_manager m) ≡ step_note (pass_number p) failed (look_in_place p)
+  note_is m at = sym (ap (λ (l : List (ℕ × Option (Manager D))). step_note (pass_number p) failed (look_or_nothing (first_held l))) at.1)
 
-  -- it is the note that a pass knows
-  note_is : (m : Manager D) → IsInTurnWith m p → step_note m ≡ note_of (pass_number p) (step_operation failed) (look_in_place p) [] false
-  note_is m at = sym (ap (λ (l : List (ℕ × Option (Manager D))). note_of (pass_number p) (step_operation failed) (look_or_nothing (first_held l)) [] false) at.1)
-
-  module _ (tells : Bool) (state : D → State) (n : Noted) (is : n ≡ note_of (pass_number p) (step_operation failed) (look_in_place p) [] false)
-      (v : (m : Manager D) × IsInTurnWith m p × Stands tells state m (pass_lock p).base (notes_seen p ++ note_of (pass_number p) (step_operation failed) (look_of_manager m) [] false ∷ [])) where
+  module _ (tells : Bool) (state : D → State) (n : Noted) (is : n ≡ step_note (pass_number p) failed (look_in_place p)) (v : StandsSteppedInPlace tells state failed p) where
     number : n.entry.pass ≡ pass_number p
     number = ap (λ (k : Noted). k.entry.pass) is
 
@@ -85,7 +82,7 @@ module _ {D : Type 0} (p : ManagerPass D) (failed : Bool) where
 
     module _ (q : ManagerPass D) (seen : pass_seen q ≡ pass_seen p ++ (pass_number p, code_of n) ∷ []) where
       pub left_in_place : IsSamePass p q → IsFree q → pass_mine q ≡ pass_mine p ++ (pass_number p, code_of n) ∷ [] → (m : Manager D) → IsInTurnWith m p
-          → HasLeft tells (note_of (pass_number p) (step_operation failed) (look_of_manager m) [] false) p q
+          → HasLeft tells (step_note (pass_number p) failed (look_of_manager m)) p q
       left_in_place same free mine m at = subst (λ (k : Noted). HasLeft tells k p q) (is ∙ sym (note_is m at)) (has_left tells state v.0 p q n number noted seen same free mine)
 
       pub down_in_place : (m : Manager D) (d : Part) → IsInTurnWith m p → m.down ≡ Some d → WasDown d (notes_seen q)

@@ -5,8 +5,10 @@ use Rattle.wol_disk.specs.Disk.{State}
 use Rattle.wol_model.specs.History.{Kept, IsHelp}
 use Rattle.wol_promise.specs.Policy.{Look, AreReclaims, IsIdleLook}
 use Rattle.wol_promise.specs.Ruled.{Noted}
+use Rattle.logger.specs.declared.shared.Shared.{Shared}
 use Rattle.manager.specs.Reclaim.{OnKept, OnFailed, KeepsOn, BreaksOff, Always}
 use Rattle.manager.specs.Seen.{look_of_manager}
+use Rattle.manager.specs.Stands.{IsReady, IsHome}
 use Rattle.manager.specs.declared.manager.Manager.{Manager}
 use Rattle.manager.specs.declared.part.StepFault.{StepFault}
 use Rattle.request_turns.specs.Counts.{Counts, HasTaken}
@@ -17,18 +19,27 @@ use Rattle.request_turns.specs.declared.tally.Tally.{Tally}
 abbrev pub GoesOn : (l m : Look) → Type 0
 GoesOn l m = (k : Look) → AreReclaims k l → AreReclaims k m
 
--- a manager from which all that was due or could go was reclaimed, with this answer, and what was
--- counted
-pub record HasReclaimed {D T : Type 0} (tells : Bool) (state : D → State)
-    (answer : Result T StepFault) (done : Tally) (m n : Manager D) : Type 0 where
+-- What steps of reclaim with this answer made of a manager, and what of it was counted: it is ready
+-- still, and a refusal names the part that is down. Unless a disk call failed, its look goes on and
+-- it keeps up what it kept up.
+pub record Reclaims {D T : Type 0} (tells : Bool) (state : D → State) (shared : Shared D)
+    (answer : Result T StepFault) (t u : Tally) (m n : Manager D) : Type 0 where
+  pub ready : IsReady state n
+  pub at : IsHome shared n
   pub down : IfErr answer (λ f. n.down ≡ Some (faulty_part f))
-  pub idle : OnOk answer (IsIdleLook (look_of_manager n))
   pub look : OnKept answer (GoesOn (look_of_manager m) (look_of_manager n))
-  pub none : Tally
-  pub fresh : Counts 0 0 none
-  pub taken : OnKept answer (HasTaken none done (look_of_manager m) (look_of_manager n))
+  pub taken : OnKept answer (HasTaken t u (look_of_manager m) (look_of_manager n))
   pub keeps : OnKept answer (KeepsOn tells state m n Always)
   pub broke : OnFailed answer (BreaksOff tells state m n Always)
+
+-- a manager from which all that was due or could go was reclaimed, with this answer, and what was
+-- counted
+pub record HasReclaimed {D T : Type 0} (tells : Bool) (state : D → State) (shared : Shared D)
+    (answer : Result T StepFault) (done : Tally) (m n : Manager D) : Type 0 where
+  pub none : Tally
+  pub fresh : Counts 0 0 none
+  pub steps : Reclaims tells state shared answer none done m n
+  pub idle : OnOk answer (IsIdleLook (look_of_manager n))
 
 -- One turn, whose entry changes no content. It leaves an idle look, unless a step was refused; that
 -- comes only where the part that it names was down.

@@ -1,6 +1,7 @@
 pub mod Turns
 pub mod Requests
 pub mod Entries
+pub mod Stepped
 pub mod Answered
 pub mod Counts
 pub mod Causes

@@ -2,15 +2,16 @@
 //! turn, the beginning of a window.
 //!
 //! What is done in one turn of a manager's lock, and the entry that the turn leaves: `read.rt`, `write.rt` and
-//! `drain.rt` are the turns of a request, `group.rt` that of several writes, `reclaim.rt` the reclaim turn,
-//! `help.rt` the steps of a helper, `begin.rt` the beginning of a window, `look.rt` a look at a volume; `noted.rt`
-//! ends a turn with the entry that the proof names, after a read with the blocks of `reply.rt`, which have no bytes.
-//! A request's turns know their payload by the request; `read_blocks` and `write_blocks` are the same for blocks
-//! that the caller has. Of `specs/`: `Turns` has what a pass gains, `Tried` what a manager makes of the steps of a
-//! turn, `Entries` the entry of each outcome and the entries of requests in order (`AreMade`), `Causes` why it came,
-//! `Full` what a write for which no log had room leaves within its turn, `Answered`, `Blocks`, `Closed`, `Helped` and
-//! `Begun` what becomes of a pass, `Groups` what several writes leave, `Counts` what its own entries put home and
-//! dropped. `proofs/CountLaws` has the laws of these counts and `proofs/MadeLaws` those of the entries for callers.
+//! `drain.rt` are the turns of a request, `group.rt` that of several writes, `reclaim.rt` the reclaim turn, `help.rt`
+//! the steps of a helper, `begin.rt` the beginning of a window, `look.rt` a look at a volume; `noted.rt` ends a turn
+//! with the entry that the proof names, after a read with the blocks of `reply.rt`, which have no bytes. A request's
+//! turns know their payload by the request; `read_blocks` and `write_blocks` are the same for blocks that the caller
+//! has. Of `specs/`: `Turns` has what a pass gains, `Tried` what a manager makes of the steps of a turn, `Stepped` how
+//! a turn with steps of reclaim ends, `Entries` the entry of each outcome and the entries of requests in order
+//! (`AreMade`), `Causes` why it came, `Full` what a write for which no log had room leaves within its turn, `Answered`,
+//! `Blocks`, `Closed`, `Helped` and `Begun` what becomes of a pass, `Groups` what several writes leave, `Counts` what
+//! its own entries put home and dropped. `proofs/CountLaws` has the laws of these counts and `proofs/MadeLaws` those of
+//! the entries for callers.
 #![tactic(auto)]
 
 mod answer;

@@ -1,13 +1,12 @@
 // How a turn ends: with an entry that the caller's proof names, with its notes.
-ghost use Rattle.std.specs.Prelude.{ℕ, ◌≡◌, ◌++◌, ◌∷◌, [], false, None, Some};
-ghost use Rattle.turn_lock.specs.Passes.{pass_lock, pass_number, IsPassOf, IsInTurn, IsInTurnWith};
+ghost use Rattle.std.specs.Prelude.{ℕ, ◌≡◌, ◌++◌, ◌∷◌, [], None, Some};
+ghost use Rattle.turn_lock.specs.Passes.{pass_lock, pass_number, IsPassOf, IsInTurn};
 ghost use Rattle.wol_promise.specs.Code.{no_note};
 ghost use Rattle.wol_promise.specs.Ruled.{Noted};
 ghost use Rattle.manager.specs.Stands.{Stands};
 ghost use Rattle.manager.specs.Seen.{look_of_manager};
-ghost use Rattle.manager.specs.declared.manager.Manager.{Manager};
 ghost use Rattle.manager.specs.declared.part.Part.{Part};
-ghost use Rattle.request_turns.specs.Entries.{note_of, step_operation};
+ghost use Rattle.request_turns.specs.Stepped.{step_note, StandsStepped, StandsSteppedInPlace, HasLeftStep, HasLeftStepInPlace};
 ghost use Rattle.request_turns.specs.Turns.{look_in_place, notes_seen, HasLeft, HasLeftInPlace, IsBroken, StandsInPlace, WasDown};
 
 use manager::Manager;
@@ -55,14 +54,10 @@ fn leave_named<D: Disk, N: Memo>(
 )
     requires own { IsPassOf lock.now pass.old }
     requires turn { IsInTurn pass.old }
-    requires note { N.note ≡ note_of (pass_number pass.old) (step_operation failed)
-        (look_of_manager turn.value) [] false }
-    requires value { Stands D.tells D.state turn.value (pass_lock pass.old).base
-        (notes_seen pass.old ++ note_of (pass_number pass.old) (step_operation failed)
-        (look_of_manager turn.value) [] false ∷ []) }
-    ensures broken { (p : Part) → turn.value.down ≡ Some p → WasDown p (notes_seen pass.new) }
-    ensures left { HasLeft D.tells (note_of (pass_number pass.old) (step_operation failed)
-        (look_of_manager turn.value) [] false) pass.old pass.new }
+    requires note { N.note
+        ≡ step_note (pass_number pass.old) failed (look_of_manager turn.value) }
+    requires value { StandsStepped D.tells D.state failed turn.value pass.old }
+    ensures { HasLeftStep D.tells failed turn.value pass.old pass.new }
 {
     let _ = failed;
     leave_noted::<D, N>(lock, turn, pass);
@@ -77,12 +72,8 @@ pub(crate) fn leave_step<D: Disk>(
 )
     requires own { IsPassOf lock.now pass.old }
     requires turn { IsInTurn pass.old }
-    requires value { Stands D.tells D.state turn.value (pass_lock pass.old).base
-        (notes_seen pass.old ++ note_of (pass_number pass.old) (step_operation failed)
-        (look_of_manager turn.value) [] false ∷ []) }
-    ensures broken { (p : Part) → turn.value.down ≡ Some p → WasDown p (notes_seen pass.new) }
-    ensures left { HasLeft D.tells (note_of (pass_number pass.old) (step_operation failed)
-        (look_of_manager turn.value) [] false) pass.old pass.new }
+    requires value { StandsStepped D.tells D.state failed turn.value pass.old }
+    ensures { HasLeftStep D.tells failed turn.value pass.old pass.new }
 {
     leave_named::<D, Brand>(lock, turn, pass, failed);
 }
@@ -108,16 +99,9 @@ fn leave_named_in_place<D: Disk, N: Memo>(
 )
     requires own { IsPassOf lock.now pass.old }
     requires note { N.note
-        ≡ note_of (pass_number pass.old) (step_operation failed) (look_in_place pass.old) [] false }
-    requires value { (m : Manager _) × IsInTurnWith m pass.old
-        × Stands D.tells D.state m (pass_lock pass.old).base
-        (notes_seen pass.old ++ note_of (pass_number pass.old) (step_operation failed)
-        (look_of_manager m) [] false ∷ []) }
-    ensures broken { (m : Manager _) (p : Part) → IsInTurnWith m pass.old → m.down ≡ Some p
-        → WasDown p (notes_seen pass.new) }
-    ensures left { (m : Manager _) → IsInTurnWith m pass.old
-        → HasLeft D.tells (note_of (pass_number pass.old) (step_operation failed)
-        (look_of_manager m) [] false) pass.old pass.new }
+        ≡ step_note (pass_number pass.old) failed (look_in_place pass.old) }
+    requires value { StandsSteppedInPlace D.tells D.state failed pass.old }
+    ensures { HasLeftStepInPlace D.tells failed pass.old pass.new }
 {
     let _ = failed;
     lock.leave_in_place::<Brand>(pass);
@@ -130,15 +114,8 @@ pub(crate) fn leave_step_in_place<D: Disk>(
     failed: bool,
 )
     requires own { IsPassOf lock.now pass.old }
-    requires value { (m : Manager _) × IsInTurnWith m pass.old
-        × Stands D.tells D.state m (pass_lock pass.old).base
-        (notes_seen pass.old ++ note_of (pass_number pass.old) (step_operation failed)
-        (look_of_manager m) [] false ∷ []) }
-    ensures broken { (m : Manager _) (p : Part) → IsInTurnWith m pass.old → m.down ≡ Some p
-        → WasDown p (notes_seen pass.new) }
-    ensures left { (m : Manager _) → IsInTurnWith m pass.old
-        → HasLeft D.tells (note_of (pass_number pass.old) (step_operation failed)
-        (look_of_manager m) [] false) pass.old pass.new }
+    requires value { StandsSteppedInPlace D.tells D.state failed pass.old }
+    ensures { HasLeftStepInPlace D.tells failed pass.old pass.new }
 {
     leave_named_in_place::<D, Brand>(lock, pass, failed);
 }

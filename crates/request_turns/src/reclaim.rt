@@ -1,17 +1,15 @@
 // Reclaim in one turn: all that is due goes home, and then what may go is given up.
-ghost use Rattle.std.specs.Prelude.{◌≡◌, ◌<◌, ◌≤◌, ℕ, true, false, None, Ok, OnOk, IfErr, Some, length};
+ghost use Rattle.std.specs.Prelude.{◌≡◌, ◌<◌, ◌≤◌, ℕ, true, false, None, Ok, OnOk, length};
 ghost use Rattle.turn_lock.specs.Passes.{pass_lock};
 ghost use Rattle.wol_model.specs.History.{worker};
 ghost use Rattle.wol_model.specs.Index.{listed_in, left};
 ghost use Rattle.wol_promise.specs.Policy.{IsIdleLook};
-ghost use Rattle.manager.specs.Reclaim.{OnKept, OnFailed, KeepsOn, BreaksOff, Always};
 ghost use Rattle.manager.specs.Seen.{look_of_manager};
 ghost use Rattle.manager.specs.Stands.{IsReady, IsHome, IsShared};
 ghost use Rattle.reclaimer.specs.Fetches.{due_entry, going_entry};
-ghost use Rattle.request_turns.specs.Closed.{GoesOn, HasClosed, HasReclaimed};
-ghost use Rattle.request_turns.specs.Counts.{HasTaken, HasCounted};
+ghost use Rattle.request_turns.specs.Closed.{Reclaims, HasClosed, HasReclaimed};
+ghost use Rattle.request_turns.specs.Counts.{HasCounted};
 ghost use Rattle.request_turns.specs.Helped.{IsPassAt};
-ghost use Rattle.request_turns.specs.Turns.{faulty_part};
 
 use crate::answer::{has_failed, refusal_in};
 use crate::noted::leave_step_in_place;
@@ -33,17 +31,10 @@ fn put_due<R: Wait, D: Disk>(
 ) -> Result<(), StepFault>
     requires ready { IsReady D.state m.old }
     requires at { IsHome shared.now m.old }
-    ensures ready { IsReady D.state m.new }
-    ensures at { IsHome shared.now m.new }
-    ensures down { IfErr result (λ f. m.new.down ≡ Some (faulty_part f)) }
+    ensures reclaims { Reclaims D.tells D.state shared.now result tally.old tally.new m.old m.new }
     ensures nothing { OnOk result (due_entry m.new ≡ None) }
-    ensures look { OnKept result (GoesOn (look_of_manager m.old) (look_of_manager m.new)) }
-    ensures taken { OnKept result
-        (HasTaken tally.old tally.new (look_of_manager m.old) (look_of_manager m.new)) }
     ensures no_more { OnOk result
         (left (listed_in m.new.index.entries) ≤ left (listed_in m.old.index.entries)) }
-    ensures keeps { OnKept result (KeepsOn D.tells D.state m.old m.new Always) }
-    ensures broke { OnFailed result (BreaksOff D.tells D.state m.old m.new Always) }
 {
     'steps: loop {
         match fetch(rt, m, shared, room)? {
@@ -65,18 +56,11 @@ fn give_up<R: Wait, D: Disk>(
 ) -> Result<bool, StepFault>
     requires ready { IsReady D.state m.old }
     requires at { IsHome shared.now m.old }
-    ensures ready { IsReady D.state m.new }
-    ensures at { IsHome shared.now m.new }
-    ensures down { IfErr result (λ f. m.new.down ≡ Some (faulty_part f)) }
+    ensures reclaims { Reclaims D.tells D.state shared.now result tally.old tally.new m.old m.new }
     ensures nothing { OnOk result (going_entry m.new ≡ None) }
     ensures none { result ≡ Ok false → m.new ≡ m.old }
-    ensures look { OnKept result (GoesOn (look_of_manager m.old) (look_of_manager m.new)) }
-    ensures taken { OnKept result
-        (HasTaken tally.old tally.new (look_of_manager m.old) (look_of_manager m.new)) }
     ensures fewer { result ≡ Ok true
         → left (listed_in m.new.index.entries) < left (listed_in m.old.index.entries) }
-    ensures keeps { OnKept result (KeepsOn D.tells D.state m.old m.new Always) }
-    ensures broke { OnFailed result (BreaksOff D.tells D.state m.old m.new Always) }
 {
     let mut some = false;
     'steps: loop {
@@ -99,15 +83,8 @@ fn reclaim_all<R: Wait, D: Disk>(
 ) -> Result<(), StepFault>
     requires ready { IsReady D.state m.old }
     requires at { IsHome shared.now m.old }
-    ensures ready { IsReady D.state m.new }
-    ensures at { IsHome shared.now m.new }
-    ensures down { IfErr result (λ f. m.new.down ≡ Some (faulty_part f)) }
+    ensures reclaims { Reclaims D.tells D.state shared.now result tally.old tally.new m.old m.new }
     ensures idle { OnOk result (IsIdleLook (look_of_manager m.new)) }
-    ensures look { OnKept result (GoesOn (look_of_manager m.old) (look_of_manager m.new)) }
-    ensures taken { OnKept result
-        (HasTaken tally.old tally.new (look_of_manager m.old) (look_of_manager m.new)) }
-    ensures keeps { OnKept result (KeepsOn D.tells D.state m.old m.new Always) }
-    ensures broke { OnFailed result (BreaksOff D.tells D.state m.old m.new Always) }
 {
     'steps: loop {
         put_due(rt, m, shared, room, tally)?;
@@ -133,7 +110,7 @@ fn reclaim_anew<R: Wait, D: Disk>(
 ) -> (Result<(), StepFault>, Tally)
     requires ready { IsReady D.state m.old }
     requires at { IsHome shared.now m.old }
-    ensures { HasReclaimed D.tells D.state result.0 result.1 m.old m.new }
+    ensures { HasReclaimed D.tells D.state shared.now result.0 result.1 m.old m.new }
 {
     let mut done = Tally::new();
     if is_bare(m) {
@@ -163,7 +140,7 @@ pub fn reclaim_turn<D: Disk, R: Wait>(
         pass,
         |m: &mut Manager<D>|
             requires { IsReady D.state m.now × IsHome shared.now m.now }
-            ensures { HasReclaimed D.tells D.state result.0 result.1 m.old m.new }
+            ensures { HasReclaimed D.tells D.state shared.entry.now result.0 result.1 m.old m.new }
         { reclaim_anew(rt, m, shared, room) },
     );
     let failed = has_failed(&answer);

@@ -39,7 +39,7 @@ returns g c = let e = c.enter_in_place.ensures in let v = e.value in let k = c.c
     let s = stands_still c.enter_in_place.new.pass q k.same k.seen g.D.Disk.tells g.D.Disk.state v.0 v.2 in record {
       before = pass_seen q;
       note = note_of (pass_number q) Kept (look_of_manager w.0) [] false;
-      turned = turned _ c.args.pass.now q c.leave_step_in_place.new.pass _ i.same i.begins i.mine i.owns (c.leave_step_in_place.ensures.left w.0 w.2) refl;
+      turned = turned _ c.args.pass.now q c.leave_step_in_place.new.pass _ i.same i.begins i.mine i.owns (c.leave_step_in_place.ensures w.0 w.2).left refl;
       begun = record {
         does = refl;
         keeper = i.same.1 ∙ c.requires.pass.number_is;

@@ -4,8 +4,8 @@ use Rattle.request_turns.proofs.noted.leave_named_in_place.Goals as goal
 pub leave_in_place-requires-clause-value : goal.leave_in_place-requires-clause-value
 leave_in_place-requires-clause-value g c = coded_in_place _ _ _ _ _ c.requires.note c.requires.value
 
-pub returns-clause-left : goal.returns-clause-left
-returns-clause-left g c = let l = c.leave_in_place.ensures in left_in_place _ _ _ _ _ c.requires.note c.requires.value _ l.seen l.same l.free l.mine
-
-pub returns-clause-broken : goal.returns-clause-broken
-returns-clause-broken g c = down_in_place _ _ _ _ _ c.requires.note c.requires.value _ c.leave_in_place.ensures.seen
+pub returns : goal.returns
+returns g c m at = let l = c.leave_in_place.ensures in record {
+  left = left_in_place _ _ _ _ _ c.requires.note c.requires.value _ l.seen l.same l.free l.mine m at;
+  broken = λ d down. down_in_place _ _ _ _ _ c.requires.note c.requires.value _ l.seen m d at down;
+}

@@ -1,34 +1,27 @@
-use Rattle.std.proofs.Common.{rules, ◌≡◌, ◌<◌, ℕ, Ok, refl, sym, subst, arith}
-use Rattle.wol_promise.specs.Policy.{Look, AreReclaims}
-use Rattle.manager.specs.Seen.{look_of_manager}
+use Rattle.std.proofs.Common.{rules, ◌<◌, ℕ, Ok, subst, arith}
 use Rattle.reclaimer.specs.Fetches.{FindsDue, home_count}
 use Rattle.reclaimer.specs.declared.answers.Fetched.{Fetched}
-use Rattle.request_turns.specs.Closed.{GoesOn}
-use Rattle.request_turns.specs.Counts.{HasTaken}
-use Rattle.request_turns.proofs.Counting.{taken_none, taken_both}
-use Rattle.request_turns.proofs.StepNotes.{put_goes, on_failed, on_kept, put_taken, put_lowers}
+use Rattle.request_turns.proofs.Reclaiming.{nothing_yet, read, and_done, refused}
+use Rattle.request_turns.proofs.StepNotes.{put_goes, on_failed, put_taken, put_lowers}
 use Rattle.request_turns.proofs.reclaim.put_due.Goals as goal
 
 pub steps-init : goal.steps-init
-steps-init g c = record {
-  ready = c.requires.ready;
-  at = c.requires.at;
-  keeps = λ b notes w k. k;
-  look = λ l r. r;
-  taken = taken_none c.args.tally.now (look_of_manager c.args.m.now) (look_of_manager c.args.m.now) refl;
-  no_more = omega arith;
-}
+steps-init g c = record { reclaims = nothing_yet _ _ _ c.args.tally.now c.args.m.now c.requires.ready c.requires.at; no_more = omega arith }
 
 pub steps-preserved : goal.steps-preserved
 steps-preserved g c = let f = c.in_ok-fetch.ensures in let e = c.in-Ok.ensures in let i = c.steps.invariant in
     let due : 0 < home_count c.fetch.new.m c.fetch.new.into = subst (λ (x : Fetched). FindsDue (Ok x) c.fetch.new.m c.fetch.new.into) c.in-Some.is f.due in
     let less = put_lowers c.steps.m c.fetch.new.m c.put_home.new.m c.in-Ok.blocks f.look e.lowers (let n = e.count in omega (arith, due, n)) in
     let before = i.no_more in record {
-      ready = e.ready;
-      at = e.at;
-      keeps = λ b notes w k. e.keeps b notes (f.content b notes (i.keeps b notes tt k)) (f.keeps b notes tt (i.keeps b notes tt k));
-      look = λ l r. put_goes c.steps.m c.fetch.new.m c.put_home.new.m c.in-Ok.blocks f.look e.look l (i.look l r);
-      taken = taken_both _ _ _ _ _ _ i.taken (put_taken c.steps.m c.fetch.new.m c.put_home.new.m c.in-Ok.blocks f.look e.counted _ _ c.count.ensures);
+      reclaims = and_done _ _ _ _ _ _ _ i.reclaims _ _ {T = Unit {0}} tt (record {
+        ready = e.ready;
+        at = e.at;
+        down = tt;
+        look = put_goes c.steps.m c.fetch.new.m c.put_home.new.m c.in-Ok.blocks f.look e.look;
+        taken = put_taken c.steps.m c.fetch.new.m c.put_home.new.m c.in-Ok.blocks f.look e.counted _ _ c.count.ensures;
+        keeps = λ b notes w k. e.keeps b notes (f.content b notes k) (f.keeps b notes tt k);
+        broke = tt;
+      });
       no_more = omega (arith, less, before);
     }
 
@@ -37,19 +30,17 @@ steps-smaller g c = let f = c.in_ok-fetch.ensures in let e = c.in-Ok.ensures in
     let due : 0 < home_count c.fetch.new.m c.fetch.new.into = subst (λ (x : Fetched). FindsDue (Ok x) c.fetch.new.m c.fetch.new.into) c.in-Some.is f.due in
     put_lowers c.steps.m c.fetch.new.m c.put_home.new.m c.in-Ok.blocks f.look e.lowers (let n = e.count in omega (arith, due, n))
 
-pub returns-in-Err-clause-broke : goal.returns-in-Err-clause-broke
-returns-in-Err-clause-broke g c = let f = c.in_ok-fetch.ensures in let i = c.steps.invariant in
-    on_failed ℕ (Unit {0}) c.in-Err.fault _ _ (λ then b notes n w note k. then b notes n (f.content b notes (i.keeps b notes tt k)) note (f.keeps b notes tt (i.keeps b notes tt k))) c.in-Err.ensures.broke
-
--- the look that was read is the one that steps led to
-pub returns-in_err-fetch-clause-look : goal.returns-in_err-fetch-clause-look
-returns-in_err-fetch-clause-look g c = let i = c.steps.invariant in
-    let so = on_kept Fetched (Unit {0}) c.in_err-fetch.field-0.0 (look_of_manager c.fetch.new.m ≡ look_of_manager c.steps.m) (GoesOn (look_of_manager c.args.m.now) (look_of_manager c.fetch.new.m))
-    (λ same l r. subst (AreReclaims l) (sym same) (i.look l r)) c.in_err-fetch.ensures.look in
+pub returns-in_err-fetch-clause-reclaims : goal.returns-in_err-fetch-clause-reclaims
+returns-in_err-fetch-clause-reclaims g c = let i = c.steps.invariant in let r = c.in_err-fetch.ensures in let f = c.in_err-fetch.field-0.0 in
+    let so = refused _ _ _ _ _ _ _ i.reclaims c.fetch.new.m Fetched {U = Unit {0}} f r.ready r.at r.fault (on_failed Fetched (Unit {0}) f _ _ (λ then b notes n w note k. then b notes n tt note (i.reclaims.keeps b notes tt k)) r.broke) in
     search rules
 
-pub returns-in_err-fetch-clause-taken : goal.returns-in_err-fetch-clause-taken
-returns-in_err-fetch-clause-taken g c = let i = c.steps.invariant in
-    let so = on_kept Fetched (Unit {0}) c.in_err-fetch.field-0.0 (look_of_manager c.fetch.new.m ≡ look_of_manager c.steps.m) (HasTaken c.args.tally.now c.steps.tally (look_of_manager c.args.m.now) (look_of_manager c.fetch.new.m))
-    (λ same. subst (λ (m : Look). HasTaken c.args.tally.now c.steps.tally (look_of_manager c.args.m.now) m) (sym same) i.taken) c.in_err-fetch.ensures.look in
-    search rules
+pub returns-in-Err-clause-reclaims : goal.returns-in-Err-clause-reclaims
+returns-in-Err-clause-reclaims g c = let f = c.in_ok-fetch.ensures in let i = c.steps.invariant in let e = c.in-Err.ensures in
+    let first = and_done _ _ _ _ _ _ _ i.reclaims _ _ {T = Unit {0}} tt (read _ _ _ c.steps.tally c.steps.m c.fetch.new.m f.ready f.at f.look f.keeps) in
+    refused _ _ _ _ _ _ _ first c.put_home.new.m ℕ {U = Unit {0}} c.in-Err.fault e.ready e.at e.fault
+    (on_failed ℕ (Unit {0}) c.in-Err.fault _ _ (λ then b notes n w note k. then b notes n (f.content b notes (i.reclaims.keeps b notes tt k)) note (f.keeps b notes tt (i.reclaims.keeps b notes tt k))) e.broke)
+
+pub returns-in-Nothing-clause-reclaims : goal.returns-in-Nothing-clause-reclaims
+returns-in-Nothing-clause-reclaims g c = let f = c.in_ok-fetch.ensures in let i = c.steps.invariant in
+    and_done _ _ _ _ _ _ _ i.reclaims _ _ {T = Unit {0}} tt (read _ _ _ c.steps.tally c.steps.m c.fetch.new.m f.ready f.at f.look f.keeps)

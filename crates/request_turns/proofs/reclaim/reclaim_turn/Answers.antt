@@ -6,7 +6,7 @@ use Rattle.manager.specs.declared.manager.Manager.{Manager}
 use Rattle.request_turns.specs.Closed.{HasReclaimed}
 use Rattle.request_turns.proofs.ClosedTurn.{closed_stands, has_closed, closed_counted}
 use Rattle.request_turns.proofs.Counting.{counted_turn}
-use Rattle.request_turns.proofs.InPlace.{same_value, entered_still, stands_still}
+use Rattle.request_turns.proofs.InPlace.{same_value, between, entered_still, stands_still}
 use Rattle.request_turns.proofs.Taking.{home_at}
 use Rattle.request_turns.proofs.reclaim.reclaim_turn.Goals as goal
 
@@ -16,23 +16,17 @@ change-answer-requires-clause-work g c p at = let e = c.enter_in_place.ensures i
     (v.2.keeps.ready, home_at _ _ _ _ _ _ _ e.same.0 v.2.keeps c.requires.shared)
 
 pub leave_step_in_place-requires-clause-value : goal.leave_step_in_place-requires-clause-value
-leave_step_in_place-requires-clause-value g c = let e = c.enter_in_place.ensures in let v = e.value in let k = c.change-answer.ensures in let w = k.worked v.0 v.1 in
-    let r : HasReclaimed g.D.Disk.tells g.D.Disk.state c.change-answer.result.0 c.change-answer.result.1 v.0 w.0 = subst (λ (m : Manager g.row.D.Denot). HasReclaimed g.D.Disk.tells g.D.Disk.state c.change-answer.result.0 c.change-answer.result.1 m w.0) w.1.shows
-    (subst (HasReclaimed g.D.Disk.tells g.D.Disk.state c.change-answer.result.0 c.change-answer.result.1 w.1.shown.now) w.1.leaves w.1.met) in
-    (w.0, w.2, closed_stands _ _ v.0 w.0 c.change-answer.result.0 _ _ _ _ c.has_failed-failed.ensures (k.same.1 ∙ e.same.1 ∙ c.requires.pass.number_is) r.keeps r.broke r.look (stands_still _ _ k.same k.seen _ _ v.0 v.2))
+leave_step_in_place-requires-clause-value g c = let e = c.enter_in_place.ensures in let v = e.value in let k = c.change-answer.ensures in let w = k.worked v.0 v.1 in let a = c.change-answer.result.0 in
+    let r = between (HasReclaimed g.D.Disk.tells g.D.Disk.state c.args.shared.now a c.change-answer.result.1) _ _ v.0 w.0 w.1.shows w.1.leaves w.1.met in
+    (w.0, w.2, closed_stands _ _ v.0 w.0 a _ _ _ _ c.has_failed-failed.ensures (k.same.1 ∙ e.same.1 ∙ c.requires.pass.number_is) r.steps.keeps r.steps.broke r.steps.look (stands_still _ _ k.same k.seen _ _ v.0 v.2))
 
-pub returns-clause-closed : goal.returns-clause-closed
-returns-clause-closed g c = let e = c.enter_in_place.ensures in let v = e.value in let k = c.change-answer.ensures in let w = k.worked v.0 v.1 in let l = c.leave_step_in_place.ensures in
-    let r : HasReclaimed g.D.Disk.tells g.D.Disk.state c.change-answer.result.0 c.change-answer.result.1 v.0 w.0 = subst (λ (m : Manager g.row.D.Denot). HasReclaimed g.D.Disk.tells g.D.Disk.state c.change-answer.result.0 c.change-answer.result.1 m w.0) w.1.shows
-    (subst (HasReclaimed g.D.Disk.tells g.D.Disk.state c.change-answer.result.0 c.change-answer.result.1 w.1.shown.now) w.1.leaves w.1.met) in
-    let i = entered_still c.enter_in_place.new.pass c.change-answer.new.pass k.same k.seen c.args.pass.now e.same e.seen e.mine e.own k.mine in
-    has_closed _ g.D.Disk.state v.0 w.0 c.change-answer.result.0 c.args.pass.now c.change-answer.new.pass _ _ _ c.has_failed-failed.ensures c.refusal_in.ensures r.idle r.down i.same i.begins i.mine i.owns (l.left w.0 w.2) (λ d down. l.broken w.0 d w.2 down)
-
-pub returns-clause-counted : goal.returns-clause-counted
-returns-clause-counted g c = let e = c.enter_in_place.ensures in let v = e.value in let k = c.change-answer.ensures in let w = k.worked v.0 v.1 in let l = c.leave_step_in_place.ensures in let a = c.add_unless.ensures in
-    let r : HasReclaimed g.D.Disk.tells g.D.Disk.state c.change-answer.result.0 c.change-answer.result.1 v.0 w.0 = subst (λ (m : Manager g.row.D.Denot). HasReclaimed g.D.Disk.tells g.D.Disk.state c.change-answer.result.0 c.change-answer.result.1 m w.0) w.1.shows
-    (subst (HasReclaimed g.D.Disk.tells g.D.Disk.state c.change-answer.result.0 c.change-answer.result.1 w.1.shown.now) w.1.leaves w.1.met) in
-    let i = entered_still c.enter_in_place.new.pass c.change-answer.new.pass k.same k.seen c.args.pass.now e.same e.seen e.mine e.own k.mine in
-    let s = stands_still c.enter_in_place.new.pass c.change-answer.new.pass k.same k.seen g.D.Disk.tells g.D.Disk.state v.0 v.2 in
-    counted_turn _ _ c.change-answer.new.pass _ _ (look_of_manager v.0) _ _ i.same i.begins i.mine i.owns (l.left w.0 w.2) refl s.look
-    (closed_counted g.D.Disk.tells g.D.Disk.state v.0 w.0 c.change-answer.result.0 c.change-answer.result.0 (look_of_manager v.0) (pass_number c.change-answer.new.pass) _ _ _ _ _ c.has_failed-failed.ensures r.fresh r.taken a.done a.failed)
+pub returns : goal.returns
+returns g c = let e = c.enter_in_place.ensures in let v = e.value in let p = c.enter_in_place.new.pass in let j = c.change-answer.new.pass in let k = c.change-answer.ensures in let w = k.worked v.0 v.1 in
+    let a = c.change-answer.result.0 in let failed = c.has_failed-failed.ensures in let l = c.leave_step_in_place.ensures w.0 w.2 in let add = c.add_unless.ensures in
+    let r = between (HasReclaimed g.D.Disk.tells g.D.Disk.state c.args.shared.now a c.change-answer.result.1) _ _ v.0 w.0 w.1.shows w.1.leaves w.1.met in
+    let i = entered_still p j k.same k.seen c.args.pass.now e.same e.seen e.mine e.own k.mine in
+    let s = stands_still p j k.same k.seen g.D.Disk.tells g.D.Disk.state v.0 v.2 in record {
+      closed = has_closed _ g.D.Disk.state v.0 w.0 a c.args.pass.now j _ _ _ failed c.refusal_in.ensures r.idle r.steps.down i.same i.begins i.mine i.owns l.left l.broken;
+      counted = counted_turn _ _ j _ _ (look_of_manager v.0) _ _ i.same i.begins i.mine i.owns l.left refl s.look
+          (closed_counted g.D.Disk.tells g.D.Disk.state v.0 w.0 a a (look_of_manager v.0) (pass_number j) _ _ _ _ _ failed r.fresh r.steps.taken add.done add.failed);
+    }
