@@ -14,14 +14,17 @@ use Rattle.manager.specs.declared.manager.Manager.{Manager}
 use Rattle.manager.specs.declared.part.StepFault.{StepFault}
 use Rattle.manager.specs.declared.part.StepFault.TheVariants as fault
 use Rattle.manager.proofs.Frames.{stands_kept, none_passed}
-use Rattle.reclaimer.specs.Counts.{TakesOff, CountsPut, CountsGone}
+use Rattle.reclaimer.specs.Counts.{TakesOff, CountsPut, CountsGone, CountsMoved}
 use Rattle.reclaimer.specs.Steps.{LooksPut, LooksGone}
+use Rattle.reclaimer.specs.declared.answers.Drain.{Drain}
+use Rattle.reclaimer.specs.declared.answers.Drain.TheVariants as drain
 use Rattle.reclaimer.specs.declared.answers.Gone.{Gone}
 use Rattle.reclaimer.specs.declared.answers.Gone.TheVariants as gone
 use Rattle.request_turns.specs.Closed.{GoesOn}
 use Rattle.request_turns.specs.Counts.{CountsMore, HasTaken, gone_count}
 use Rattle.request_turns.specs.Entries.{note_of, step_operation, has_failed}
 use Rattle.request_turns.specs.declared.tally.Tally.{Tally}
+use Rattle.request_turns.proofs.Counting.{taken_both, none_more}
 
 module _ {D : Type 0} (tells : Bool) (state : D → State) (old new : Manager D) (b : ManagerBase) (notes : List Noted) (pass : ℕ) where
   pub kept_stands : IsKeep [] pass (look_of_manager old) (look_of_manager new) → last_look b.volume.began.look notes ≡ look_of_manager old → Keeps tells state new b notes
@@ -93,3 +96,11 @@ gone_takes l m gone.Nothing taken = taken
 
 pub gone_taken : (l m : Look) (g : Gone) (r : ℕ) → CountsGone (Ok g) l m → (t u : Tally) → CountsMore 0 r t u → r ≡ gone_count g → HasTaken t u l m
 gone_taken l m g r taken t u more is = record { blocks = 0; records = gone_count g; taken = gone_takes l m g taken; counts = subst (λ (k : ℕ). CountsMore 0 k t u) is more }
+
+-- what a step of a drain moved is counted behind what was counted before
+module _ (a : Drain) (s t : Tally) (k l m : Look) (before : HasTaken s t k l) (moved : CountsMoved (Ok a) l m) where
+  pub bare_taken : a ≡ drain.Bare → HasTaken s t k m
+  bare_taken is = taken_both s t t k l m before (record { blocks = 0; records = 0; taken = subst (λ (x : Drain). CountsMoved (Ok x) l m) is moved; counts = none_more t })
+
+  pub moved_taken : (blocks records : ℕ) (u : Tally) → a ≡ drain.Moved blocks records → CountsMore blocks records t u → HasTaken s u k m
+  moved_taken blocks records u is more = taken_both s t u k l m before (record { blocks = blocks; records = records; taken = subst (λ (x : Drain). CountsMoved (Ok x) l m) is moved; counts = more })
