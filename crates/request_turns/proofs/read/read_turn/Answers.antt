@@ -25,21 +25,15 @@ leave_reply-requires-clause-value g c = let e = c.enter_in_place.ensures in let 
           (t.stands _ _ _ (e.same.1 ∙ c.requires.client) (read_note v.0 w.0 rq.lbn out a _ (pass_number p) v.2.look rq.count t.long t.look t.down t.unchanged) v.2.keeps),
     )
 
-pub returns-clause-answered : goal.returns-clause-answered
-returns-clause-answered g c = let e = c.enter_in_place.ensures in let v = e.value in let p = c.enter_in_place.new.pass in let i = c.change-answer.new.pass in let k = c.change-answer.ensures in let w = k.worked v.0 v.1 in
+pub returns : goal.returns
+returns g c = let e = c.enter_in_place.ensures in let v = e.value in let p = c.enter_in_place.new.pass in let i = c.change-answer.new.pass in let k = c.change-answer.ensures in let w = k.worked v.0 v.1 in
     let rq = c.args.request.now in let a = c.change-answer.result.0 in let out = c.change-answer.result.2.value.items in
     let t = between (HasReplied g.D.Disk.tells g.D.Disk.state rq.lbn rq.count a c.change-answer.result.1 out) _ _ v.0 w.0 w.1.shows w.1.leaves w.1.met in
     let l = c.leave_reply.ensures in
     let left = left_from p i k.same k.seen k.mine _ _ _ _ (note_at p i k.same k.seen w.0 w.2 (was_read rq.lbn out a) [] false) l.left in
     let h = has_read g.D.Disk.tells g.D.Disk.state v.0 w.0 rq.lbn out a p c.leave_reply.new.pass rq.count t.long v.2 t.look t.logged t.all t.down t.unchanged t.failed left (λ d down. l.broken w.0 d w.2 down) in
-    subst (λ (o : Outcome). HasAnswered g.D.Disk.tells rq o c.args.pass.now c.leave_reply.new.pass) (sym t.outcome_is)
-    (read_answered _ rq out a c.args.pass.now _ c.requires.kind t.long (read_blocks_ _ _ out a c.args.pass.now p _ e.same e.seen e.mine e.own h))
-
-pub returns-clause-counted : goal.returns-clause-counted
-returns-clause-counted g c = let e = c.enter_in_place.ensures in let v = e.value in let p = c.enter_in_place.new.pass in let i = c.change-answer.new.pass in let k = c.change-answer.ensures in let w = k.worked v.0 v.1 in
-    let rq = c.args.request.now in let a = c.change-answer.result.0 in let out = c.change-answer.result.2.value.items in
-    let t = between (HasReplied g.D.Disk.tells g.D.Disk.state rq.lbn rq.count a c.change-answer.result.1 out) _ _ v.0 w.0 w.1.shows w.1.leaves w.1.met in
-    let l = c.leave_reply.ensures in
-    let left = left_from p i k.same k.seen k.mine _ _ _ _ (note_at p i k.same k.seen w.0 w.2 (was_read rq.lbn out a) [] false) l.left in
-    let h = has_read g.D.Disk.tells g.D.Disk.state v.0 w.0 rq.lbn out a p c.leave_reply.new.pass rq.count t.long v.2 t.look t.logged t.all t.down t.unchanged t.failed left (λ d down. l.broken w.0 d w.2 down) in
-    read_counted_ _ _ out a c.args.pass.now p _ e.same e.seen e.mine e.own h
+    record {
+      answered = subst (λ (o : Outcome). HasAnswered g.D.Disk.tells rq o c.args.pass.now c.leave_reply.new.pass) (sym t.outcome_is)
+          (read_answered _ rq out a c.args.pass.now _ c.requires.kind t.long (read_blocks_ _ _ out a c.args.pass.now p _ e.same e.seen e.mine e.own h));
+      counted = read_counted_ _ _ out a c.args.pass.now p _ e.same e.seen e.mine e.own h;
+    }
