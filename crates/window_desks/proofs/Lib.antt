@@ -8,3 +8,4 @@ pub mod HelpTurn
 pub mod Moving
 pub mod Stationed
 pub mod Counted
+mod Rounds

@@ -6,6 +6,8 @@ use Rattle.manager.specs.Stands.{IsShared}
 use Rattle.manager.specs.declared.part.StepFault.{StepFault}
 use Rattle.request_turns.specs.Helped.{AreKept, ManagerLock, IsPassAt, HasHelped}
 use Rattle.request_turns.specs.Turns.{ManagerPass, notes_seen, WasDown, faulty_part}
+use Rattle.window_desks.specs.Counted.{HaveCounted}
+use Rattle.window_desks.specs.declared.helper.HelperRoom.{HelperRoom}
 
 -- the passes of the locks, in order
 abbrev pub ArePassesAt : {D : Type 0} → List (ManagerLock D) → (number : ℕ) → List (ManagerPass D)
@@ -35,3 +37,13 @@ abbrev pub AreAllKept : {D : Type 0} → Option (ℕ × StepFault) → (ps qs : 
     → Type 0
 AreAllKept {D} fault ps qs = fault ≡ None → (k : ℕ) (d : ManagerPass D) → k < length ps
     → AreKept (slice_index_or ps k d) (slice_index_or qs k d)
+
+-- The helper's rounds with each of them: what they reclaimed was counted, and the first refused step
+-- is kept.
+pub record HaveHelped {D : Type 0} (tells : Bool) (old new : HelperRoom)
+    (ps qs : List (ManagerPass D)) : Type 0 where
+  pub helped : AreHelped tells ps qs
+  pub counted : HaveCounted tells old.tally new.tally ps qs
+  pub all_kept : AreAllKept new.fault ps qs
+  pub refused : new.fault ≡ None → old.fault ≡ None
+  pub cause : IsCause qs new.fault

@@ -7,7 +7,7 @@ ghost use Rattle.reclaimer.specs.Fetches.{HasData};
 ghost use Rattle.request_turns.specs.Counts.{HasCounted};
 ghost use Rattle.request_turns.specs.Helped.{IsPassAt, HasHelped, AreKept};
 ghost use Rattle.window_desks.specs.Counted.{HaveCounted};
-ghost use Rattle.window_desks.specs.Helped.{ArePassesAt, AreSharing, AreHelped, AreAllKept, IsCause};
+ghost use Rattle.window_desks.specs.Helped.{ArePassesAt, AreSharing, AreHelped, AreAllKept, IsCause, HaveHelped};
 ghost use Rattle.request_turns.specs.Turns.{notes_seen, WasDown, faulty_part};
 
 use logger::Shared;
@@ -91,11 +91,7 @@ fn help_round<D: Disk, R: Wait>(
     requires passes { ArePassesAt locks.now helper helpers.old }
     requires shared { AreSharing shared.now helpers.old }
     requires cause { IsCause helpers.old help.old.fault }
-    ensures helped { AreHelped D.tells helpers.old helpers.new }
-    ensures counted { HaveCounted D.tells help.old.tally help.new.tally helpers.old helpers.new }
-    ensures all_kept { AreAllKept help.new.fault helpers.old helpers.new }
-    ensures refused { help.new.fault ≡ None → help.old.fault ≡ None }
-    ensures cause { IsCause helpers.new help.new.fault }
+    ensures { HaveHelped D.tells help.old help.new helpers.old helpers.new }
 {
     let mut did = false;
     for k in 0..helpers.len() {

@@ -37,3 +37,7 @@ loop-k-preserved g c =
 
 pub loop-k-init : goal.loop-k-init
 loop-k-init g c = record { helped = λ j d h. absurd (omega (arith, h)); rest = λ j d h. refl; cause = c.requires.cause; all_kept = λ none j d h. absurd (omega (arith, h)); refused = λ none. none; counted = have_none _ c.args.helpers.now c.args.help.now.tally }
+
+pub returns : goal.returns
+returns g c = let i = c.loop-k.invariant in let t = c.loop-k-test.false in let a = c.loop-k.auto.helpers in
+    record { helped = λ j d h. i.helped j d (omega (arith, h, t, a)); counted = i.counted; all_kept = λ none j d h. i.all_kept none j d (omega (arith, h, t, a)); refused = i.refused; cause = i.cause }
