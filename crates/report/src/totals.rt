@@ -2,7 +2,7 @@
 ghost use Rattle.std.specs.Prelude.{◌≡◌, ◌++◌, ◌≤◌, ◌<◌, ◌^◌, length, OnOk, OnErr};
 ghost use Rattle.std.specs.Io.{StartsWith};
 ghost use Rattle.report.specs.Names.{printed_names};
-ghost use Rattle.report.specs.Summaries.{energy_of, places_text, requests_text, sleeps_of, solo_text, summary_text, total_text, units_of, volume_text, wakes_of};
+ghost use Rattle.report.specs.Summaries.{energy_of, places_text, requests_text, sleeps_of, solo_text, summary_text, total_text, units_of, volume_text, volumes_text, wakes_of};
 
 use crate::names::name_at;
 use crate::words::Word::{Large, Number, Text};
@@ -64,6 +64,7 @@ pub fn solo_line(totals: &Totals, out: &mut Vec<u8>) -> Result<(), NoMemory>
 /// is in mJ, each rounded down once. `NoMemory` appends nothing.
 ///
 /// No volumes stand for `solo`, which has one volume of this name, and one entry in `amounts`.
+#[tactic(auto, unfolding(crate::specs::Summaries::summary_text))]
 pub fn summary(
     totals: &Totals,
     volumes: &[VolumeConf],
@@ -78,32 +79,32 @@ pub fn summary(
     ensures err { OnErr result (out.new.items ≡ out.old.items) }
 {
     let start = out.len();
-    match put_summary(totals, volumes, amounts, out) {
-        Ok(()) => Ok(()),
-        Err(NoMemory) => {
-            out.truncate(start);
-            Err(NoMemory)
-        }
+    if put_counts(totals, out).is_ok() && put_disks(volumes, amounts, out).is_ok() {
+        return Ok(());
     }
+    out.truncate(start);
+    Err(NoMemory)
 }
 
-// The same, but a front of the summary may be left behind.
-#[tactic(auto, unfolding(crate::specs::Summaries::summary_text))]
-fn put_summary(
-    totals: &Totals,
-    volumes: &[VolumeConf],
-    amounts: &[Amounts],
-    out: &mut Vec<u8>,
-) -> Result<(), NoMemory>
-    requires each { length amounts.now ≡ length (printed_names volumes.now) }
-    requires few { length volumes.now ≤ 64 }
-    requires units { units_of amounts.now < 2 ^ 128 }
-    ensures ok { OnOk result (out.new.items
-        ≡ out.old.items ++ summary_text totals.now (printed_names volumes.now) amounts.now) }
+// What a run counted. A front of that may be left behind.
+fn put_counts(totals: &Totals, out: &mut Vec<u8>) -> Result<(), NoMemory>
+    ensures ok { OnOk result
+        (out.new.items ≡ out.old.items ++ requests_text totals.now ++ places_text totals.now) }
     ensures starts { StartsWith out.new.items out.old.items }
 {
     put_requests(totals, out)?;
-    put_places(totals, out)?;
+    put_places(totals, out)
+}
+
+// What the disk of each volume used, and what all disks used. A front of that may be left behind.
+fn put_disks(volumes: &[VolumeConf], amounts: &[Amounts], out: &mut Vec<u8>) -> Result<(), NoMemory>
+    requires each { length amounts.now ≡ length (printed_names volumes.now) }
+    requires few { length amounts.now ≤ 64 }
+    requires units { units_of amounts.now < 2 ^ 128 }
+    ensures ok { OnOk result (out.new.items ≡ out.old.items
+        ++ volumes_text (printed_names volumes.now) amounts.now ++ total_text amounts.now) }
+    ensures starts { StartsWith out.new.items out.old.items }
+{
     for (number, used) in amounts.iter().enumerate() {
         append_volume(name_at(volumes, number as u32), used, out)?;
     }

@@ -1,6 +1,6 @@
 use Rattle.std.proofs.Common.{◌<◌, length, arith}
 use Rattle.report.specs.Names.{printed_names}
-use Rattle.report.proofs.totals.put_summary.Goals as goal
+use Rattle.report.proofs.totals.put_disks.Goals as goal
 use Rattle.report.proofs.VolumeLines.{put_volume}
 
 pub loop-number-preserved : goal.loop-number-preserved
