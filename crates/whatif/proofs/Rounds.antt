@@ -8,7 +8,7 @@ use Rattle.whatif.specs.declared.disk.Disk.{Disk}
 use Rattle.whatif.specs.declared.volume.Volume.{Volume}
 use Rattle.whatif.specs.Disks.{AreDisks, IsKept, moments_of}
 use Rattle.whatif.specs.Machine.{Action, Reach, all_accessed, repeated}
-use Rattle.whatif.specs.Volumes.{HasDone, IsVolume, IsWithin, look_in, reach_in}
+use Rattle.whatif.specs.Volumes.{HasDone, IsVolume, IsWithin, StaysOpen, look_in, reach_in}
 use Rattle.whatif.proofs.Doing.{Goes, goes_first, goes_last, goes_on, same_length, same_within}
 
 module _ (step : Reach → Look → Option Action) (start : Volume) (was : List Disk) where
@@ -27,15 +27,15 @@ module _ (step : Reach → Look → Option Action) (start : Volume) (was : List 
   none_done volume settled within kept = record { volume = volume; settled = settled; reach = refl; next = refl; within = within; kept = kept; moments = refl; goes = goes_first (step (reach_in start)) (look_in start) was }
 
   -- one more step was done, and used these disks
-  pub one_more : (v w : Volume) (ds es : List Disk) (uses : List ℕ) → AreDone v ds → IsVolume w → w.settled ≡ false → reach_in w ≡ reach_in v → w.next ≡ v.next → step (reach_in v) (look_in v) ≡ Some (record { look = look_in w; uses = uses })
+  pub one_more : (v w : Volume) (ds es : List Disk) (uses : List ℕ) → AreDone v ds → StaysOpen v w → step (reach_in v) (look_in v) ≡ Some (record { look = look_in w; uses = uses })
       → left (listed_in w.index.entries) < left (listed_in v.index.entries) → AllByRecursion IsKept es → moments_of es ≡ moments_of ds → ((t : ℕ) (ss : List SpindleState) → AreDisks ds ss → AreDisks es (all_accessed t uses ss)) → AreDone w es
-  one_more v w ds es uses i volume settled reach next some lowers kept moments used =
+  one_more v w ds es uses i stays some lowers kept moments used =
       let a : Action = record { look = look_in w; uses = uses } in record {
-        volume = volume;
-        settled = settled;
-        reach = reach ∙ i.reach;
-        next = next ∙ i.next;
-        within = same_within (length ds) (length es) (reach_in w) (same_length ds es moments) (subst (IsWithin (length ds)) (sym reach) i.within);
+        volume = stays.volume;
+        settled = stays.settled;
+        reach = stays.reach ∙ i.reach;
+        next = stays.next ∙ i.next;
+        within = same_within (length ds) (length es) (reach_in w) (same_length ds es moments) (subst (IsWithin (length ds)) (sym stays.reach) i.within);
         kept = kept;
         moments = moments ∙ i.moments;
         goes = goes_on (step (reach_in start)) (look_in start) (look_in v) was ds es a i.goes (subst (λ (r : Reach). step r (look_in v) ≡ Some a) i.reach some) lowers used;

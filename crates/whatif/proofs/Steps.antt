@@ -21,7 +21,7 @@ use Rattle.redirect_map.proofs.Changing.{remarked-marks_of}
 use Rattle.garbage_list.specs.Least.{first_version, can_go, can_go_home}
 use Rattle.garbage_list.proofs.Nexts.{First, Answered, Spot, answered, found_there, found_passes, first_of_all, least_of, spot_of_version, unanswered, version_in}
 use Rattle.whatif.specs.Machine.{Reach, Action, put_home, give_up, put_step, give_step, next_due, next_to_go, logger_at, step_at}
-use Rattle.whatif.specs.Volumes.{IsLogged, IsVolume, give_answer, look_in, put_answer, reach_in}
+use Rattle.whatif.specs.Volumes.{IsLogged, IsVolume, StaysOpen, give_answer, look_in, put_answer, reach_in}
 use Rattle.whatif.specs.declared.volume.Volume.{Volume}
 use Rattle.whatif.proofs.Lists.{all_filter, found_none, none_found, none_mapped, none_passes, none_unmapped, passes_none}
 
@@ -208,8 +208,13 @@ give_answered v version rec given disk after volume index there first bits entri
     ∙ (λ i. Some (record { look = record { home_up = v.home_up; ups = v.ups.items; next = v.next; listed = listed_in (sym entries i); down = None }; uses = logger_of v version rec disk volume there is i ∷ [] }))
 
 -- the volume with another index
-pub with_index : (v : Volume) (after : Contents) → IsVolume v → v.settled ≡ false → AllByRecursion (IsLogged (length v.ups.items) v.next) after.entries → IsVolume (record v { index = after })
-with_index v after volume unsettled logged = record { few = volume.few; flags = volume.flags; rooms_ = volume.rooms_; logged = logged; settled = λ is. absurd (false≢true (sym unsettled ∙ is)) }
+pub with_index : (v : Volume) (after : Contents) → IsVolume v → v.settled ≡ false → AllByRecursion (IsLogged (length v.ups.items) v.next) after.entries → StaysOpen v (record v { index = after })
+with_index v after volume unsettled logged = record {
+  volume = record { few = volume.few; flags = volume.flags; rooms_ = volume.rooms_; logged = logged; settled = λ is. absurd (false≢true (sym unsettled ∙ is)) };
+  settled = unsettled;
+  reach = refl;
+  next = refl;
+}
 
 -- ---- no step
 

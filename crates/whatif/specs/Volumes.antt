@@ -1,5 +1,5 @@
 -- What the program has of a volume, and what its actions do.
-use Rattle.std.specs.Prelude.{◌≡◌, ℕ, ◌<◌, ◌≤◌, Bool, true, List, [], ◌∷◌, length, Option, None, Some, replicate}
+use Rattle.std.specs.Prelude.{◌≡◌, ℕ, ◌<◌, ◌≤◌, Bool, true, false, List, [], ◌∷◌, length, Option, None, Some, replicate}
 use Rattle.std.specs.List.{AllByRecursion}
 use Rattle.offload_policy.specs.declared.Room.TheVariants.{Yes}
 use Rattle.wol_model.specs.Index.{Indexed, listed_in}
@@ -48,6 +48,14 @@ pub record IsVolume (v : Volume) : Type 0 where
   pub rooms_ : v.rooms.items ≡ replicate (length v.loggers.items) Yes
   pub logged : AllByRecursion (IsLogged (length v.ups.items) v.next) v.index.entries
   pub settled : v.settled ≡ true → IsSettled (look_in v)
+
+-- a step of reclaim left the volume in order and not settled, and what it may use and the version
+-- of its next write as they were
+pub record StaysOpen (old new : Volume) : Type 0 where
+  pub volume : IsVolume new
+  pub settled : new.settled ≡ false
+  pub reach : reach_in new ≡ reach_in old
+  pub next : new.next ≡ old.next
 
 -- a volume did this, and used disks for it
 pub record HasDone (action : Reach → Look → Action) (old new : Volume) (was is : List Disk) :

@@ -2,9 +2,9 @@
 ghost use Rattle.std.specs.Prelude.{◌≡◌, ◌<◌, ◌≤◌, ℕ, true, false, List, length, IfNone, IfSome, None, is_none};
 ghost use Rattle.std.specs.List.{AllByRecursion};
 ghost use Rattle.wol_model.specs.Index.{left, listed_in};
-ghost use Rattle.whatif.specs.Machine.{Reach, give_step, put_step, next_due, next_to_go, reclaiming, repeated};
+ghost use Rattle.whatif.specs.Machine.{Reach, give_step, put_step, next_due, next_to_go, reclaiming};
 ghost use Rattle.whatif.specs.Disks.{IsKept, moments_of};
-ghost use Rattle.whatif.specs.Volumes.{HasDone, IsVolume, IsWithin, give_answer, look_in, put_answer, reach_in};
+ghost use Rattle.whatif.specs.Volumes.{HasDone, IsVolume, IsWithin, StaysOpen, give_answer, look_in, put_answer, reach_in};
 
 use crate::disk::{Disk, access_at};
 use crate::volume::Volume;
@@ -15,10 +15,7 @@ impl Volume {
     fn put_home(&mut self) -> Option<u32>
         requires volume { IsVolume self.old }
         requires settled { self.old.settled ≡ false }
-        ensures volume { IsVolume self.new }
-        ensures settled { self.new.settled ≡ false }
-        ensures reach { reach_in self.new ≡ reach_in self.old }
-        ensures next { self.new.next ≡ self.old.next }
+        ensures stays { StaysOpen self.old self.new }
         ensures none { IfNone result ((next_due (look_in self.old) ≡ None) × (self.new ≡ self.old)) }
         ensures step { put_step (reach_in self.old) (look_in self.old)
             ≡ put_answer (reach_in self.old) (look_in self.new) result }
@@ -41,10 +38,7 @@ impl Volume {
     fn give_up(&mut self) -> Option<u32>
         requires volume { IsVolume self.old }
         requires settled { self.old.settled ≡ false }
-        ensures volume { IsVolume self.new }
-        ensures settled { self.new.settled ≡ false }
-        ensures reach { reach_in self.new ≡ reach_in self.old }
-        ensures next { self.new.next ≡ self.old.next }
+        ensures stays { StaysOpen self.old self.new }
         ensures none { IfNone result
             ((next_to_go (look_in self.old) ≡ None) × (self.new ≡ self.old)) }
         ensures step { give_step (reach_in self.old) (look_in self.old)
@@ -59,55 +53,6 @@ impl Volume {
         let given = may_go(&self.index, version);
         self.index.trim(version, given);
         Some(self.loggers[record.lane as usize])
-    }
-
-    // All that is due within reach goes home.
-    fn put_all_home(&mut self, disks: &mut [Disk])
-        requires volume { IsVolume self.old }
-        requires settled { self.old.settled ≡ false }
-        requires within { IsWithin (length disks.old) (reach_in self.old) }
-        requires kept { AllByRecursion IsKept disks.old }
-        ensures volume { IsVolume self.new }
-        ensures settled { self.new.settled ≡ false }
-        ensures kept { AllByRecursion IsKept disks.new }
-        ensures moments { moments_of disks.new ≡ moments_of disks.old }
-        ensures next { self.new.next ≡ self.old.next }
-        ensures none { next_due (look_in self.new) ≡ None }
-        ensures done { HasDone (λ r l. repeated (left l.listed) (put_step r) l) self.old self.new
-            disks.old disks.new }
-    {
-        'steps: loop {
-            match self.put_home() {
-                None => return,
-                Some(logger) => {
-                    access_at(disks, logger);
-                    access_at(disks, self.own);
-                }
-            }
-        }
-    }
-
-    // All that may go within reach is given up.
-    fn give_all_up(&mut self, disks: &mut [Disk])
-        requires volume { IsVolume self.old }
-        requires settled { self.old.settled ≡ false }
-        requires within { IsWithin (length disks.old) (reach_in self.old) }
-        requires kept { AllByRecursion IsKept disks.old }
-        ensures volume { IsVolume self.new }
-        ensures settled { self.new.settled ≡ false }
-        ensures kept { AllByRecursion IsKept disks.new }
-        ensures moments { moments_of disks.new ≡ moments_of disks.old }
-        ensures next { self.new.next ≡ self.old.next }
-        ensures none { next_to_go (look_in self.new) ≡ None }
-        ensures done { HasDone (λ r l. repeated (left l.listed) (give_step r) l) self.old self.new
-            disks.old disks.new }
-    {
-        'steps: loop {
-            match self.give_up() {
-                None => return,
-                Some(logger) => access_at(disks, logger),
-            }
-        }
     }
 
     // Whether nothing is due within reach.
@@ -132,8 +77,13 @@ impl Volume {
         if self.settled {
             return;
         }
-        self.put_all_home(disks);
-        self.give_all_up(disks);
+        'puts: while let Some(logger) = self.put_home() {
+            access_at(disks, logger);
+            access_at(disks, self.own);
+        }
+        'gives: while let Some(logger) = self.give_up() {
+            access_at(disks, logger);
+        }
         self.settled = self.has_nothing_due();
     }
 }

@@ -27,8 +27,8 @@ trim-requires-clause-goes c e is i set =
     let es = c.args.self.now.index.entries in
     sym (some_of (λ (d : Indexed). IsMask d.listed.first (goes (listed_in es) d.listed) c.may_go-given.result) (entry_at es c.in_ok-version.version) e c.may_go-given.ensures.value is i) ∙ set
 
-pub returns-clause-volume : goal.returns-clause-volume
-returns-clause-volume c =
+pub returns-clause-stays : goal.returns-clause-stays
+returns-clause-stays c =
     let v = c.args.self.now in
     with_index v c.trim.new.self c.requires.volume c.requires.settled (subst (λ (l : List Indexed). AllByRecursion (IsLogged (length v.ups.items) v.next) l) (sym c.trim.ensures.entries) (given_logged _ v.next c.in_ok-version.version c.may_go-given.result v.index.entries c.requires.volume.logged))
 

@@ -32,8 +32,8 @@ set_homed-requires-clause-live c e is i set =
     (λ now. (both (is_live (listed_in es) e.listed (e.listed.first + i)) _ (sym (some_of (λ (d : Indexed). IsMask d.listed.first (is_due (listed_in es) d.listed) c.due.result) (entry_at es c.in_ok-version.version) e c.due.ensures.value is i) ∙ now)).0)
     (either (has_bit c.homed.result i) (has_bit c.due.result i) (sym (has_bit-or c.homed.result c.due.result i) ∙ set))
 
-pub returns-clause-volume : goal.returns-clause-volume
-returns-clause-volume c =
+pub returns-clause-stays : goal.returns-clause-stays
+returns-clause-stays c =
     let v = c.args.self.now in
     with_index v c.set_homed.new.self c.requires.volume c.requires.settled (subst (λ (l : List Indexed). AllByRecursion (IsLogged (length v.ups.items) v.next) l) (sym c.set_homed.ensures.entries) (homed_logged _ v.next c.in_ok-version.version (bit_or c.homed.result c.due.result) v.index.entries c.requires.volume.logged))
 
