@@ -1,6 +1,6 @@
 -- A disk's sums, and the journal that they are of.
 use Rattle.std.specs.Prelude.{◌≡◌, ℕ, ◌+◌, ◌-◌, ◌*◌, ◌<◌, ◌≤◌, Bool, true, false, List, [], map}
-use Rattle.std.specs.List.{AllZip}
+use Rattle.std.specs.List.{AllByRecursion, AllZip}
 use Rattle.wol_model.specs.Journal.{SpindleState, wakes, sleeps, standby}
 use Rattle.whatif.specs.declared.disk.Disk.{Disk}
 
@@ -36,3 +36,8 @@ AreDisks ds ss = AllZip IsDisk ds ss
 -- the moments that came at disks
 abbrev pub moments_of : List Disk → List ℕ
 moments_of ds = map (λ (d : Disk). d.moment) ds
+
+-- each disk is in order, and no moment that came at one is past this one
+pub record AreKeptTo (moment : ℕ) (ds : List Disk) : Type 0 where
+  pub each : AllByRecursion IsKept ds
+  pub moments : AllByRecursion (λ t. t ≤ moment) (moments_of ds)

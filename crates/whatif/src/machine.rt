@@ -7,7 +7,7 @@ ghost use Rattle.whatif.specs.Machine.{Asked, all_sleeps, all_units, all_wakes, 
 ghost use Rattle.whatif.specs.Policies.{compared, goes_down, machine_after};
 ghost use Rattle.whatif.specs.declared.policy.Policy.{Policy};
 ghost use Rattle.wol_config.specs.declared.config.Config.{Config};
-ghost use Rattle.whatif.specs.Disks.{AreDisks, IsKept, moments_of};
+ghost use Rattle.whatif.specs.Disks.{AreDisks, AreKeptTo, IsKept, moments_of};
 ghost use Rattle.whatif.specs.Volumes.{volume_in};
 ghost use Rattle.whatif.specs.Stands.{AreNew, AreReady, HasRun, HaveTurned, IsAmong, IsAsk, IsMachine, Stands};
 
@@ -58,11 +58,9 @@ fn volumes_of(
 
 // The moment comes at each disk.
 fn begin_disks(disks: &mut [Disk], at: u64, timeout: u64)
-    requires kept { AllByRecursion IsKept disks.old }
+    requires kept { AreKeptTo at disks.old }
     requires timeout { 10000 ≤ timeout }
-    requires moments { AllByRecursion (λ t. t ≤ at) (moments_of disks.old) }
-    ensures kept { AllByRecursion IsKept disks.new }
-    ensures moments { AllByRecursion (λ t. t ≤ at) (moments_of disks.new) }
+    ensures kept { AreKeptTo at disks.new }
     ensures began { (ss : List SpindleState) → AreDisks disks.old ss
         → AreDisks disks.new (map (λ s. used timeout s 0 (Began at)) ss) }
 {
@@ -83,11 +81,9 @@ fn goes_down(policy: Policy) -> bool
 
 // The moment comes at each disk, if disks go down at all.
 fn begin_if(disks: &mut [Disk], sleeps: bool, at: u64, timeout: u64)
-    requires kept { AllByRecursion IsKept disks.old }
+    requires kept { AreKeptTo at disks.old }
     requires timeout { 10000 ≤ timeout }
-    requires moments { AllByRecursion (λ t. t ≤ at) (moments_of disks.old) }
-    ensures kept { AllByRecursion IsKept disks.new }
-    ensures moments { AllByRecursion (λ t. t ≤ at) (moments_of disks.new) }
+    ensures kept { AreKeptTo at disks.new }
     ensures began { (ss : List SpindleState) → AreDisks disks.old ss
         → AreDisks disks.new (if sleeps then map (λ s. used timeout s 0 (Began at)) ss else ss) }
 {
