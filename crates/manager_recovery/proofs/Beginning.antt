@@ -1,10 +1,10 @@
 -- What a volume begins with when it is opened, whether or not its disks tell their content.
-use Rattle.std.proofs.Common.{◌≡◌, inl, inr, ⊎_elim, ◌+◌, ◌<◌, ◌≤◌, ℕ, zero, suc, Bool, true, false, not, cond, eqb, List, [], ◌∷◌, length, map, Option, Some, option_map, refl, sym, ap, subst, ◌∙◌, arith}
+use Rattle.std.proofs.Common.{◌≡◌, inl, inr, ⊎_elim, ◌+◌, ◌<◌, ◌≤◌, ℕ, suc, Bool, true, false, not, cond, eqb, List, [], ◌∷◌, length, map, Option, Some, option_map, refl, sym, ap, subst, ◌∙◌, arith}
 use Rattle.std.specs.Prelude.{filter, replicate, IsTrue, unwrap_or}
 use Rattle.std.specs.List.{AllByRecursion, AllZip, flat_map}
 use Rattle.std.specs.declared.alloc.Global.{Global}
 use Rattle.std.specs.declared.vec.Vec.{Vec}
-use Rattle.std.proofs.lemmas.List.{length-map}
+use Rattle.std.proofs.lemmas.List.{length-map, length-replicate}
 use Rattle.std.proofs.lemmas.List.Sorted.{length_permutation}
 use Rattle.wol_disk.specs.Disk.{State, Block, Values, IsDisk, TellsContent, IsAmong, IsImageOf, IsImage, only, reads, settled}
 use Rattle.wol_disk.proofs.Images.{only_image}
@@ -23,14 +23,14 @@ use Rattle.wol_promise.specs.Manager.{versions}
 use Rattle.wol_promise.specs.Stands.{LiesInVolume, LiesInHome, next_version}
 use Rattle.spin_model.specs.Spun.{state_of}
 use Rattle.spin_model.specs.declared.spun.Spun.{Spun}
-use Rattle.turn_lock.specs.Passes.{pass_lock, pass_mine, pass_number}
+use Rattle.turn_lock.specs.Passes.{pass_lock, pass_number}
 use Rattle.log_layout.specs.declared.label.Label.{Label}
-use Rattle.logger.specs.Lanes.{IsSameLane, logger_of, pool_of, spindle_of}
+use Rattle.logger.specs.Lanes.{IsSameLane}
 use Rattle.logger.specs.declared.lane.HeldSegment.{HeldSegment}
 use Rattle.logger.specs.declared.lane.Lane.{Lane}
 use Rattle.logger.specs.declared.shared.Shared.{Shared}
 use Rattle.manager.specs.Seen.{look_of_manager}
-use Rattle.manager.specs.Stands.{nones_in, opened, takes_in}
+use Rattle.manager.specs.Stands.{opened}
 use Rattle.manager_recovery.specs.Owned.{IsListedOf, Owned, read_of, owned_of, all_owned, records_in, writes_in, recovered_of}
 use Rattle.manager_recovery.specs.Left.{HasGiven, IsUsedLane, IsHandedBack}
 use Rattle.manager_recovery.specs.Opened.{Opens, IsInLane, StandsInOwned, base_at_opening, lane_at_opening, untold_write}
@@ -44,6 +44,8 @@ use Rattle.manager_recovery.specs.declared.volume.Recovered.{Recovered}
 use Rattle.manager_recovery.proofs.ByLogger.{all_among, all_from, among_get, among_at, contains_among, among_filter, filter_among, among_map, map_among, flat_among, apart_once, rising_counts}
 use Rattle.manager_recovery.proofs.Gathered.{gs, gathered, scanned_still, entry_versions, below_all, below_entry}
 use Rattle.manager_recovery.proofs.OpenedIndex.{entry_for, entry_here, in_volume, kept_among, valid_keeps, one_of_version, versions_once, named_at}
+use Rattle.manager_recovery.proofs.ScanAll.{zip_then}
+use Rattle.manager_recovery.proofs.ScanLoop.{then_same}
 use Rattle.manager_recovery.proofs.OpenedKeeps.{IsGathered, is_home}
 use Rattle.manager_recovery.proofs.OpenedStands.{IsBeginning, IsKnown, kept_of_all, recs_of, write_of_record, opened_base, opened_stands}
 use Rattle.manager_recovery.proofs.SameNewest.{same_array}
@@ -51,10 +53,6 @@ use Rattle.manager_recovery.proofs.Segs.{Seg, IsSeg, lane_named, segs_of, record
 use Rattle.manager_recovery.proofs.ToldParts.{IsTold, AreHeads, all_told, records_at, all_records, keeps, kept_thinned, versions_found, records_before, owned_again, extents_are, next_is}
 
 -- ---- Lists
-
-long-replicate : {X : Type 0} (n : ℕ) (x : X) → length (replicate n x) ≡ n
-long-replicate zero x = refl
-long-replicate (suc n) x = ap suc (long-replicate n x)
 
 long-reads : (vs : List (Values Block)) → length (reads vs) ≡ length vs
 long-reads [] = refl
@@ -91,14 +89,6 @@ thinned_among (o ∷ os) (s ∷ ss) p has = at (has_some s) has (thinned_among o
     at true there rest = ⊎_elim (λ e. inl e) (λ more. inr (rest more)) there
     at false there rest = inr (rest there)
 
-lanes_through : {D : Type 0} (R S : Lane D → Lane D → Type 0) (T : Lane D → Lane D → Type 0) → ((x y z : Lane D) → R x y → S y z → T x z) → (xs ys zs : List (Lane D)) → AllZip R xs ys → AllZip S ys zs → AllZip T xs zs
-lanes_through R S T so [] [] [] a b = tt
-lanes_through R S T so [] [] (z ∷ zs) a b = absurd b
-lanes_through R S T so [] (y ∷ ys) zs a b = absurd a
-lanes_through R S T so (x ∷ xs) [] zs a b = absurd a
-lanes_through R S T so (x ∷ xs) (y ∷ ys) [] a b = absurd b
-lanes_through R S T so (x ∷ xs) (y ∷ ys) (z ∷ zs) a b = (so x y z a.0 b.0, lanes_through R S T so xs ys zs a.1 b.1)
-
 write_versions : (rs : List Record) → versions (map write_of_record rs) ≡ map (λ (q : Record). q.head.version) rs
 write_versions [] = refl
 write_versions (q ∷ rs) = ap (λ l. q.head.version ∷ l) (write_versions rs)
@@ -130,9 +120,9 @@ module _ {D : Type 0} (tells : Bool) (state : D → State) (shared : Shared D) (
     apart = subst AreApart (sym (untold_versions r.index.entries)) (apart_once (map (λ (e : Indexed). e.listed.version) r.index.entries) (rising_counts (map (λ (e : Indexed). e.listed.version) r.index.entries) c.rising));
     below = subst (AllByRecursion (λ v. v < r.next)) (sym (untold_versions r.index.entries)) (all_mapped (λ v. v < r.next) (λ (e : Indexed). e.listed.version) r.index.entries c.below);
     lie = all_mapped (LiesInVolume n.want.home) untold_write r.index.entries (all_from (λ (e : Indexed). LiesInVolume n.want.home (untold_write e)) r.index.entries (λ e has.
-        let v = in_volume state n.lanes.items n.want.id n.want.home n.view all_gs c.all c.order c.view_ok.distinct r.index.entries c.same c.rising e has in let lies = v.lies in let long = long-replicate {X = Block} (length e.listed.keep) [] in omega (arith, lies, long)));
-    known = λ e has. record { write = untold_write e; among = among_map untold_write r.index.entries e has; version = refl; first = refl; count = long-replicate (length e.listed.keep) [] };
-    sized = long-replicate n.want.home [];
+        let v = in_volume state n.lanes.items n.want.id n.want.home n.view all_gs c.all c.order c.view_ok.distinct r.index.entries c.same c.rising e has in let lies = v.lies in let long = length-replicate {A = Block} (length e.listed.keep) [] in omega (arith, lies, long)));
+    known = λ e has. record { write = untold_write e; among = among_map untold_write r.index.entries e has; version = refl; first = refl; count = length-replicate (length e.listed.keep) [] };
+    sized = length-replicate n.want.home [];
     told = λ t. absurd (let bad : false ≡ true = sym untold ∙ t in cc);
   }
 
@@ -345,13 +335,7 @@ module _ {D : Type 0} (tells : Bool) (state : D → State) (shared : Shared D) (
 
   module _ (sound : (p : Spun D) → IsDisk (state_of state p)) (told : IsTrue tells → (p : Spun D) → TellsContent (state_of state p)) (back : IsHandedBack tells state shared o n) where
     same_lanes : AllZip IsSameLane o.lanes.items lanes.items
-    same_lanes = lanes_through (IsUsedLane state shared o.want.id o.most) (HoldsItsOwn state shared n.want.id n.most n.owned.items held.segments) IsSameLane (λ x y z u h. let s = u.same in let t = h.same in record {
-      logger = t.logger ∙ s.logger;
-      owner = t.owner ∙ s.owner;
-      segments = t.segments ∙ s.segments;
-      pool = (t.pool.0 ∙ s.pool.0, t.pool.1 ∙ s.pool.1);
-      spindle = (t.spindle.0 ∙ s.spindle.0, t.spindle.1 ∙ s.spindle.1);
-    }) o.lanes.items n.lanes.items lanes.items back.lanes held.each
+    same_lanes = zip_then (IsUsedLane state shared o.want.id o.most) (HoldsItsOwn state shared n.want.id n.most n.owned.items held.segments) IsSameLane (λ x y z u h. then_same state x y z u.same h.same) o.lanes.items n.lanes.items lanes.items back.lanes held.each
 
     arrays : List Block
     arrays = cond tells (recovered_of o.want.id (read_of (state_of state o.home)) (all_owned state o.owned.items)) (replicate o.want.home [])
@@ -380,19 +364,11 @@ module _ {D : Type 0} (tells : Bool) (state : D → State) (shared : Shared D) (
       };
       spindle = record { marker = record {}; id = pass_lock n.spindle };
       spindle_number = pass_number n.spindle;
-      lanes = map (λ (l : Lane D). record {
-        logger = logger_of l;
-        pool = record { marker = record {}; id = pass_lock (pool_of l) };
-        pool_number = pass_number (pool_of l);
-        spindle = record { marker = record {}; id = pass_lock (spindle_of l) };
-        spindle_number = pass_number (spindle_of l);
-        nones = nones_in (pass_mine (pool_of l));
-        takes = takes_in (pass_mine (pool_of l));
-      }) lanes.items;
+      lanes = map (lane_at_opening tells state o (opened n.want.id n.home n.spindle lanes r.index r.next n.most)) lanes.items;
     }
 
     given_all : AllZip (HasGiven o.owned.items back.fates) o.lanes.items lanes.items
-    given_all = lanes_through (HasGiven o.owned.items back.fates) (HoldsItsOwn state shared n.want.id n.most n.owned.items held.segments) (HasGiven o.owned.items back.fates) (λ x y z given h. h.pool ∙ given) o.lanes.items n.lanes.items lanes.items back.pools held.each
+    given_all = zip_then (HasGiven o.owned.items back.fates) (HoldsItsOwn state shared n.want.id n.most n.owned.items held.segments) (HasGiven o.owned.items back.fates) (λ x y z given h. h.pool ∙ given) o.lanes.items n.lanes.items lanes.items back.pools held.each
 
     finish : (ws : List Write) (array : List Block) → (b : IsBeginning state n r all_gs tells ws array) → array ≡ arrays → ws ≡ records → (IsTrue tells → array ≡ recovered_of o.want.id (read_of (state_of state o.home)) (all_owned state o.owned.items)) → (IsTrue tells → ws ≡ writes_in o.want.id (all_owned state o.owned.items))
         → (IsTrue tells → r.next ≡ next_version (records_in o.want.id (all_owned state o.owned.items))) → length r.index.entries ≡ length ws

@@ -43,18 +43,6 @@ module _ {X : Type 0} where
   remove_middle (z ∷ xs) ys zero x n = absurd (omega (arith, n))
   remove_middle (z ∷ xs) ys (suc k) x n = ap (λ (l : List X). z ∷ l) (remove_middle xs ys k x (omega (arith, n)))
 
-  pub all_join : (P : X → Type 0) (xs ys : List X) → AllByRecursion P xs → AllByRecursion P ys → AllByRecursion P (xs ++ ys)
-  all_join P [] ys a b = b
-  all_join P (x ∷ xs) ys a b = (a.0, all_join P xs ys a.1 b)
-
-  pub all_front : (P : X → Type 0) (xs ys : List X) → AllByRecursion P (xs ++ ys) → AllByRecursion P xs
-  all_front P [] ys a = tt
-  all_front P (x ∷ xs) ys a = (a.0, all_front P xs ys a.1)
-
-  pub all_back : (P : X → Type 0) (xs ys : List X) → AllByRecursion P (xs ++ ys) → AllByRecursion P ys
-  all_back P [] ys a = a
-  all_back P (x ∷ xs) ys a = all_back P xs ys a.1
-
   pub all_take : (P : X → Type 0) (k : ℕ) (xs : List X) → AllByRecursion P xs → AllByRecursion P (take k xs)
   all_take P zero xs all = tt
   all_take P (suc k) [] all = tt

@@ -27,7 +27,8 @@ use Rattle.manager_recovery.specs.declared.opening.Opening.{Opening}
 use Rattle.manager_recovery.specs.declared.opening.OwnedPart.{OwnedPart}
 use Rattle.manager_recovery.proofs.Fronts.{front_at, around, zip_long, zip_at}
 use Rattle.manager_recovery.proofs.Places.{lane_is, place_is, loggers_are, read_at}
-use Rattle.manager_recovery.proofs.Thinning.{AreOther, others_front, zip_same, at_same}
+use Rattle.manager_recovery.proofs.ScanLoop.{same_at, then_same}
+use Rattle.manager_recovery.proofs.Thinning.{AreOther, others_front, zip_same}
 
 -- ---- Lists
 
@@ -261,14 +262,8 @@ module _ {D : Type 0} (state : D → State) (shared : Shared D) (o : Opening D) 
           let here : (y : Lane D) → R (take k os) inv.segments y l → R (take k os ++ x ∷ []) (inv.segments ++ h ∷ []) y m = λ y has.
           let logger : logger_of m ≡ x.logger = same.logger ∙ at.on in record {
             lane = is;
-            at = at_same shared l m same has.at;
-            same = record {
-              logger = same.logger ∙ has.same.logger;
-              owner = same.owner ∙ has.same.owner;
-              segments = same.segments ∙ has.same.segments;
-              pool = (same.pool.0 ∙ has.same.pool.0, same.pool.1 ∙ has.same.pool.1);
-              spindle = (same.spindle.0 ∙ has.same.spindle.0, same.spindle.1 ∙ has.same.spindle.1);
-            };
+            at = same_at state shared l m same has.at;
+            same = then_same state y l m has.same same;
             held = held ∙ (ap (λ (l : List (HeldSegment D)). l ++ h ∷ []) (has.held ∙ ap (λ (v : ℕ). held_on v (take k os) inv.segments) (sym same.logger))
                 ∙ (ap (λ (b : Bool). held_on (logger_of m) (take k os) inv.segments ++ cond b (h ∷ []) []) (sym (eq-eqb x.logger (logger_of m) (sym logger))) ∙ sym (held_more state (logger_of m) (take k os) (take k scans) inv.segments x h inv.adopted)));
             taken = taken ∙ has.taken;

@@ -1,10 +1,12 @@
 -- The volumes that a refusal names are those in whose images owned segments lie.
-use Rattle.std.proofs.Common.{◌≡◌, ℕ, suc, Bool, true, false, cond, List, [], ◌∷◌, ◌++◌, map, Some, sym, ap, ◌∙◌, subst, arith}
+use Rattle.std.proofs.Common.{◌≡◌, ℕ, suc, true, List, [], ◌∷◌, map, Some, sym, ap, ◌∙◌, subst, arith}
 use Rattle.std.specs.Prelude.{◌==◌, slice_get, option_map, Contains}
 use Rattle.std.specs.List.{AllByRecursion, AllZip, filter}
 use Rattle.std.proofs.lemmas.List.{map-append, length-map, get_or-map}
 use Rattle.std.proofs.lemmas.Option.{slice_get_within, get_or_from_slice_get, slice_get-map}
 use Rattle.wol_disk.specs.Disk.{State}
+use Rattle.wol_promise.proofs.Lists.{all_joined, all_map}
+use Rattle.wol_promise.proofs.Wholes.{all_filtered}
 use Rattle.log_scan.specs.declared.Found.{Found}
 use Rattle.log_scan.specs.declared.Scan.{Scan}
 use Rattle.manager_recovery.specs.Owned.{Head, AreFirstTwins}
@@ -17,18 +19,6 @@ first_in x xs = (0, omega arith, λ i. x)
 
 later_in : {X : Type 0} (x y : X) (xs : List X) → Contains xs y → Contains (x ∷ xs) y
 later_in x y xs has = (suc has.0, omega (arith, has.1), has.2)
-
-all_joined : {X : Type 0} (P : X → Type 0) (xs ys : List X) → AllByRecursion P xs → AllByRecursion P ys → AllByRecursion P (xs ++ ys)
-all_joined P [] ys one other = other
-all_joined P (x ∷ xs) ys one other = (one.0, all_joined P xs ys one.1 other)
-
-all_filtered : {X : Type 0} (P : X → Type 0) (keeps : X → Bool) (xs : List X) → AllByRecursion P xs → AllByRecursion P (filter keeps xs)
-all_filtered P keeps [] all = tt
-all_filtered P keeps (x ∷ xs) all = at (keeps x) (all_filtered P keeps xs all.1)
-  where
-    at : (b : Bool) → AllByRecursion P (filter keeps xs) → AllByRecursion P (cond b (x ∷ filter keeps xs) (filter keeps xs))
-    at true rest = (all.0, rest)
-    at false rest = rest
 
 module _ {D : Type 0} where
   -- the segment at a place lies on its log
@@ -64,5 +54,6 @@ module _ {D : Type 0} where
   twins_on_logs view os ss one other twins =
       let vs = map (λ (q : OwnedPart D). q.logger) os in
       let all = all_on view os ss vs (in_map os) in
-      let two = subst (AllByRecursion (λ (h : Head). Contains vs h.volume)) twins.first_two (all_filtered (λ (h : Head). Contains vs h.volume) (λ (h : Head). h.version == one.version) (map head_of (all_found view os ss)) all) in
+      let two = subst (AllByRecursion (λ (h : Head). Contains vs h.volume)) twins.first_two (all_map (λ (h : Head). ((h.version == one.version) ≡ true) × Contains vs h.volume) (λ (h : Head). Contains vs h.volume) (λ h both. both.1) (filter (λ (h : Head). h.version == one.version) (map head_of (all_found view os ss)))
+      (all_filtered (λ (h : Head). Contains vs h.volume) (λ (h : Head). h.version == one.version) (map head_of (all_found view os ss)) all)) in
       (two.0, two.1.0)

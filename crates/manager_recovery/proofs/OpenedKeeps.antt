@@ -1,5 +1,6 @@
 -- A manager that is made of a volume that was read back stands for its beginning and no entries.
 use Rattle.std.proofs.Common.{◌≡◌, ◌+◌, ◌<◌, ◌≤◌, ◌^◌, ℕ, zero, suc, true, eqb, List, [], ◌∷◌, length, map, None, Some, refl, sym, ap, subst, ◌∙◌, arith}
+use Rattle.std.proofs.lemmas.List.{length-map, length-replicate}
 use Rattle.std.specs.Prelude.{slice_get, replicate, IsPermutation}
 use Rattle.std.specs.List.{AllByRecursion, flat_map}
 use Rattle.std.proofs.lemmas.Bool.{eqb-true}
@@ -56,15 +57,7 @@ get_map f [] k x is = absurd (none-some x is)
 get_map f (y ∷ xs) zero x is = ap (λ q. Some (f q)) (same_Some y x is)
 get_map f (y ∷ xs) (suc k) x is = get_map f xs k x is
 
-long-map : {X Y : Type 0} (f : X → Y) (xs : List X) → length (map f xs) ≡ length xs
-long-map f [] = refl
-long-map f (x ∷ xs) = ap suc (long-map f xs)
-
-long-replicate : {X : Type 0} (n : ℕ) (x : X) → length (replicate n x) ≡ n
-long-replicate zero x = refl
-long-replicate (suc n) x = ap suc (long-replicate n x)
-
-all_replicate : {X : Type 0} (P : X → Type 0) (n : ℕ) (x : X) → P x → AllByRecursion P (replicate n x)
+pub all_replicate : {X : Type 0} (P : X → Type 0) (n : ℕ) (x : X) → P x → AllByRecursion P (replicate n x)
 all_replicate P zero x is = tt
 all_replicate P (suc n) x is = (is, all_replicate P n x is)
 
@@ -96,7 +89,7 @@ module _ {D : Type 0} (state : D → State) (shared : Shared D) (n : Opening D) 
   is_seg g has = all_among (IsSeg state n.lanes.items n.want.id n.want.home n.view) gs g c.all has
 
   few : length lanes.items ≤ 16
-  few = let a = ap length c.loggers in let b = long-map logger_of lanes.items in let f = c.view_ok.few in omega (arith, a, b, f)
+  few = let a = ap length c.loggers in let b = length-map lanes.items logger_of in let f = c.view_ok.few in omega (arith, a, b, f)
 
   pub is_ready : IsReady state made
   is_ready = let can = c.can in let size = can.home_size in let want = can.want.home in record {
@@ -108,8 +101,8 @@ module _ {D : Type 0} (state : D → State) (shared : Shared D) (n : Opening D) 
       settled = can.settled;
       accesses = can.accesses;
       each = all_lanes (IsReadyLane state n.want.id n.most) (λ k l is. let now = all_at (IsLaneNow state shared n.want.id n.most gs) lanes.items k l is c.each in record { lane = now.lane; owner = now.owner; untaken = now.untaken; long = now.long; all = now.all });
-      flags = long-replicate (length lanes.items) true;
-      rooms_ = long-replicate (length lanes.items) _;
+      flags = length-replicate (length lanes.items) true;
+      rooms_ = length-replicate (length lanes.items) _;
       few = few;
       most_ = can.most;
     };

@@ -1,8 +1,8 @@
 -- What such a manager stands for: what the volume began with, and no entries.
-use Rattle.std.proofs.Common.{◌≡◌, inl, inr, ◌+◌, ◌<◌, ◌≤◌, ℕ, zero, suc, Bool, true, false, eqb, not, ◌||◌, List, [], ◌∷◌, ◌++◌, length, map, Option, None, Some, refl, sym, ap, subst, ◌∙◌, arith}
+use Rattle.std.proofs.Common.{◌≡◌, inl, inr, ◌+◌, ◌<◌, ◌≤◌, ℕ, Bool, true, false, eqb, not, ◌||◌, List, [], ◌∷◌, ◌++◌, length, map, Option, None, Some, refl, sym, ap, subst, ◌∙◌, arith}
 use Rattle.std.specs.Prelude.{slice_get, filter, replicate, Contains, IsTrue}
 use Rattle.std.specs.List.{AllByRecursion, flat_map, list_any}
-use Rattle.std.proofs.lemmas.List.{append-nil}
+use Rattle.std.proofs.lemmas.List.{append-nil, length-map, length-replicate}
 use Rattle.std.proofs.lemmas.Option.{same_Some, slice_get_within}
 use Rattle.std.specs.declared.alloc.Global.{Global}
 use Rattle.std.specs.declared.vec.Vec.{Vec}
@@ -18,27 +18,28 @@ use Rattle.block_cells.proofs.Marks.{length-marks_of}
 use Rattle.wol_promise.specs.Manager.{Base, Held, ManagerSeen, AreInUse, WasWritten, SaysOwnerOrFree, extents_held, versions}
 use Rattle.wol_promise.specs.Stands.{IsOpening, IsOpened, LiesInVolume, HasVersions, LiesInHome, LieInHome, AreKnown, HasPlaces, IsHeldBy, IsPlaced, Upholds}
 use Rattle.wol_promise.proofs.Opens.{opens}
-use Rattle.turn_lock.specs.Passes.{pass_lock, pass_number, pass_mine}
+use Rattle.turn_lock.specs.Passes.{pass_lock, pass_number}
 use Rattle.spin_model.specs.Spun.{state_of, volume_of}
 use Rattle.spin_model.specs.declared.spun.Spun.{Spun}
 use Rattle.log_segment.specs.Segment.{Holds, part_of}
-use Rattle.logger.specs.Lanes.{logger_of, held_in, taken_in, pool_of, spindle_of, pool_blocks}
+use Rattle.logger.specs.Lanes.{logger_of, held_in, taken_in, pool_blocks}
 use Rattle.logger.specs.declared.lane.HeldSegment.{HeldSegment}
 use Rattle.logger.specs.declared.lane.Lane.{Lane}
 use Rattle.logger.specs.declared.shared.Shared.{Shared}
 use Rattle.manager.specs.Seen.{Logs, all_held, all_taken, parts_of, seen, look_of_manager}
-use Rattle.manager.specs.Stands.{Stands, StandsAt, AreNamed, nones_in, takes_in, takes_of}
+use Rattle.manager.specs.Stands.{Stands, StandsAt, AreNamed, takes_of}
 use Rattle.manager.specs.declared.base.LaneBase.{LaneBase}
 use Rattle.manager.specs.declared.base.ManagerBase.{ManagerBase}
 use Rattle.manager.proofs.Lanes.{all_at, none_taken}
 use Rattle.manager.proofs.Entries.{same_place}
+use Rattle.manager_recovery.specs.Opened.{lane_at_opening}
 use Rattle.manager_recovery.specs.Opening.{IsOpeningLane, IsHeldIn}
 use Rattle.manager_recovery.specs.Scanned.{lane_of, keeps_some}
 use Rattle.manager_recovery.specs.declared.opening.Opening.{Opening}
 use Rattle.manager_recovery.specs.declared.volume.Recovered.{Recovered}
 use Rattle.manager_recovery.proofs.ByLogger.{on, all_among, all_from, among_get, among_at, contains_among, among_filter, filter_among, among_map, map_among, among_flat, flat_among}
 use Rattle.manager_recovery.proofs.OpenedIndex.{entry_for, entry_here, inside_at, is_listed, index_is, distinct_shown, valid_keeps, keeps_valid, one_of_version, named_at}
-use Rattle.manager_recovery.proofs.OpenedKeeps.{IsLaneNow, IsGathered, made, is_ready}
+use Rattle.manager_recovery.proofs.OpenedKeeps.{all_replicate, IsLaneNow, IsGathered, made, is_ready}
 use Rattle.manager_recovery.proofs.Places.{lane_with}
 use Rattle.manager_recovery.proofs.SameNewest.{same_array}
 use Rattle.manager_recovery.proofs.Segs as segs
@@ -88,18 +89,6 @@ module _ {D : Type 0} (state : D → State) (n : Opening D) (r : Recovered) (gs 
 false_set : (ps : List ℕ) → AllByRecursion (λ m. m ≡ false) (map (has_bit 0) ps)
 false_set [] = tt
 false_set (p ∷ ps) = (has_bit-zero p, false_set ps)
-
-long-map : {X Y : Type 0} (f : X → Y) (xs : List X) → length (map f xs) ≡ length xs
-long-map f [] = refl
-long-map f (x ∷ xs) = ap suc (long-map f xs)
-
-long-replicate : {X : Type 0} (n : ℕ) (x : X) → length (replicate n x) ≡ n
-long-replicate zero x = refl
-long-replicate (suc n) x = ap suc (long-replicate n x)
-
-all_replicate : {X : Type 0} (P : X → Type 0) (n : ℕ) (x : X) → P x → AllByRecursion P (replicate n x)
-all_replicate P zero x is = tt
-all_replicate P (suc n) x is = (is, all_replicate P n x is)
 
 listed_versions : (es : List Indexed) → map (λ (e : Listed). e.version) (listed_in es) ≡ map (λ (e : Indexed). e.listed.version) es
 listed_versions [] = refl
@@ -192,7 +181,7 @@ module _ {D : Type 0} (tells : Bool) (state : D → State) (shared : Shared D) (
     home_up = refl;
     ups = all_replicate (λ up. up ≡ true) (length lanes.items) true refl;
     up = refl;
-    lanes = long-replicate (length lanes.items) true ∙ (sym (long-map logger_of lanes.items) ∙ ap length c.loggers);
+    lanes = length-replicate (length lanes.items) true ∙ (sym (length-map lanes.items logger_of) ∙ ap length c.loggers);
     next = refl;
     rising = subst AreRising (sym (listed_versions r.index.entries)) c.rising;
     listed = all_listed (IsOpened began) r.index.entries (all_from (λ (e : Indexed). IsOpened began e.listed) r.index.entries opened_one);
@@ -322,15 +311,7 @@ module _ {D : Type 0} (tells : Bool) (state : D → State) (shared : Shared D) (
       (λ t image may. recovers t image may.1)).upholds
 
   abbrev lane_base : Lane D → LaneBase
-  lane_base l = record {
-    logger = logger_of l;
-    pool = record { marker = record {}; id = pass_lock (pool_of l) };
-    pool_number = pass_number (pool_of l);
-    spindle = record { marker = record {}; id = pass_lock (spindle_of l) };
-    spindle_number = pass_number (spindle_of l);
-    nones = nones_in (pass_mine (pool_of l));
-    takes = takes_in (pass_mine (pool_of l));
-  }
+  lane_base = lane_at_opening tells state n (made state shared n r lanes gs c)
 
   abbrev pub opened_base : ManagerBase
   opened_base = record {

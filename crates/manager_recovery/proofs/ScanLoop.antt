@@ -17,7 +17,7 @@ use Rattle.spin_model.specs.Spun.{state_of, disk_of}
 use Rattle.logger.specs.Lanes.{IsLane, IsAt, IsSameLane, logger_of, held_in, taken_in, pool_of, pool_blocks}
 use Rattle.logger.specs.declared.lane.Lane.{Lane}
 use Rattle.logger.specs.declared.shared.Shared.{Shared}
-use Rattle.manager_recovery.specs.Opening.{CanOpen, IsOpeningLane, IsOwned, IsHeldIn, SaysOwner, AreInOrder, place_of}
+use Rattle.manager_recovery.specs.Opening.{CanOpen, HoldsOwned, IsOpeningLane, IsOwned, IsHeldIn, SaysOwner, AreInOrder, place_of}
 use Rattle.manager_recovery.specs.Left.{IsSameOwned, IsUsedLane}
 use Rattle.manager_recovery.specs.Refused.{first_missing}
 use Rattle.manager_recovery.specs.Scanned.{HasGivenNone, IsSeenAgain, IsSettledPart}
@@ -32,7 +32,7 @@ module _ {D : Type 0} (state : D → State) where
   same_lane : (l : Lane D) → IsSameLane l l
   same_lane l = record { logger = refl; owner = refl; segments = refl; pool = (refl, refl); spindle = (refl, refl) }
 
-  then_same : (a b c : Lane D) → IsSameLane a b → IsSameLane b c → IsSameLane a c
+  pub then_same : (a b c : Lane D) → IsSameLane a b → IsSameLane b c → IsSameLane a c
   then_same a b c ab bc = record {
     logger = bc.logger ∙ ab.logger;
     owner = bc.owner ∙ ab.owner;
@@ -92,6 +92,28 @@ settled_says id (Some vs) new e says ws is =
 
 -- ---- The whole opening
 
+-- the condition stands with other lanes and parts of which it is so
+pub open_with : {D : Type 0} (state : D → State) (shared : Shared D) (o : Opening D) → CanOpen state shared o → (lanes : Vec (Lane D) Global) (owned : Vec (OwnedPart D) Global) → AllByRecursion (IsAt shared) lanes.items
+    → AllByRecursion (IsOpeningLane state shared o.want.id o.most) lanes.items → map logger_of lanes.items ≡ map logger_of o.lanes.items → AreInOrder (map place_of owned.items) → AllByRecursion (IsOwned state lanes.items) owned.items
+    → AllByRecursion (HoldsOwned owned.items) lanes.items → AllByRecursion (SaysOwner state o.want.id) owned.items → CanOpen state shared (record o { lanes = lanes; owned = owned })
+open_with state shared o can lanes owned at opening loggers order parts all heads = record {
+  want = can.want;
+  home_volume = can.home_volume;
+  home_size = can.home_size;
+  spindle_volume = can.spindle_volume;
+  spindle_free = can.spindle_free;
+  settled = can.settled;
+  accesses = can.accesses;
+  at = record { spindle_in = can.at.spindle_in; spindle_is = can.at.spindle_is; lanes_ = at };
+  lanes = opening;
+  loggers = loggers ∙ can.loggers;
+  most = can.most;
+  in_order = order;
+  owned = parts;
+  all = all;
+  heads = heads;
+}
+
 -- the part of an owned segment was read, and is as it was
 module _ {D : Type 0} (state : D → State) (p q : OwnedPart D) (part : IsSameOwned state p q) where
   moved : OwnedPart D
@@ -129,35 +151,22 @@ module _ {D : Type 0} (state : D → State) (shared : Shared D) (o : Opening D) 
 
   -- the condition stands where the spindle of the lane at one place was used, and the part at one place was read back
   pub open_after : IsSettledPart state p q → CanOpen state shared (record o { lanes = lanes; owned = owned })
-  open_after settled_ = record {
-    want = can.want;
-    home_volume = can.home_volume;
-    home_size = can.home_size;
-    spindle_volume = can.spindle_volume;
-    spindle_free = can.spindle_free;
-    settled = can.settled;
-    accesses = can.accesses;
-    at = record {
-      spindle_in = can.at.spindle_in;
-      spindle_is = can.at.spindle_is;
-      lanes_ = subst (AllByRecursion (IsAt shared)) (sym lanes_set) (all_set (IsAt shared) o.lanes.items place new can.at.lanes_ lane_now.at);
-    };
-    lanes = subst (AllByRecursion (IsOpeningLane state shared o.want.id o.most)) (sym lanes_set) (all_set (IsOpeningLane state shared o.want.id o.most) o.lanes.items place new can.lanes lane_now);
-    loggers = ap (map logger_of) lanes_set ∙ map_set logger_of o.lanes.items place new old there same.logger ∙ can.loggers;
-    most = can.most;
-    in_order = subst AreInOrder (sym places_same) can.in_order;
-    all = subst (λ (ps : List (ℕ × ℕ)). AllByRecursion (HoldsAt ps) lanes.items) (sym places_same)
-        (subst (AllByRecursion (HoldsAt (map place_of o.owned.items))) (sym lanes_set)
-        (all_set (HoldsAt (map place_of o.owned.items)) o.lanes.items place new can.all
-        (at_still (map place_of o.owned.items) old new same (ap (λ (l : Lane D). pass_mine (pool_of l)) rest) (all_get (HoldsAt (map place_of o.owned.items)) o.lanes.items place old there can.all))));
-    owned = subst (λ (ls : List (Lane D)). AllByRecursion (IsOwned state ls) owned.items) (sym lanes_set)
-        (subst (AllByRecursion (IsOwned state (slice_set o.lanes.items place new))) (sym owned_set)
-        (all_set (IsOwned state (slice_set o.lanes.items place new)) o.owned.items k q (all_map (IsOwned state o.lanes.items) (IsOwned state (slice_set o.lanes.items place new)) owned_lanes o.owned.items can.owned)
-        (owned_moved state p q part (slice_set o.lanes.items place new) (owned_lanes p (all_get (IsOwned state o.lanes.items) o.owned.items k p here can.owned)))));
-    heads = subst (AllByRecursion (SaysOwner state o.want.id)) (sym owned_set)
-        (all_set (SaysOwner state o.want.id) o.owned.items k q can.heads
-        (settled_says o.want.id (state_of state p.part).values (state_of state q.part).values settled_.settled_ (all_get (SaysOwner state o.want.id) o.owned.items k p here can.heads)));
-  }
+  open_after settled_ = open_with state shared o can lanes owned
+      (subst (AllByRecursion (IsAt shared)) (sym lanes_set) (all_set (IsAt shared) o.lanes.items place new can.at.lanes_ lane_now.at))
+      (subst (AllByRecursion (IsOpeningLane state shared o.want.id o.most)) (sym lanes_set) (all_set (IsOpeningLane state shared o.want.id o.most) o.lanes.items place new can.lanes lane_now))
+      (ap (map logger_of) lanes_set ∙ map_set logger_of o.lanes.items place new old there same.logger)
+      (subst AreInOrder (sym places_same) can.in_order)
+      (subst (λ (ls : List (Lane D)). AllByRecursion (IsOwned state ls) owned.items) (sym lanes_set)
+      (subst (AllByRecursion (IsOwned state (slice_set o.lanes.items place new))) (sym owned_set)
+      (all_set (IsOwned state (slice_set o.lanes.items place new)) o.owned.items k q (all_map (IsOwned state o.lanes.items) (IsOwned state (slice_set o.lanes.items place new)) owned_lanes o.owned.items can.owned)
+      (owned_moved state p q part (slice_set o.lanes.items place new) (owned_lanes p (all_get (IsOwned state o.lanes.items) o.owned.items k p here can.owned))))))
+      (subst (λ (ps : List (ℕ × ℕ)). AllByRecursion (HoldsAt ps) lanes.items) (sym places_same)
+      (subst (AllByRecursion (HoldsAt (map place_of o.owned.items))) (sym lanes_set)
+      (all_set (HoldsAt (map place_of o.owned.items)) o.lanes.items place new can.all
+      (at_still (map place_of o.owned.items) old new same (ap (λ (l : Lane D). pass_mine (pool_of l)) rest) (all_get (HoldsAt (map place_of o.owned.items)) o.lanes.items place old there can.all)))))
+      (subst (AllByRecursion (SaysOwner state o.want.id)) (sym owned_set)
+      (all_set (SaysOwner state o.want.id) o.owned.items k q can.heads
+      (settled_says o.want.id (state_of state p.part).values (state_of state q.part).values settled_.settled_ (all_get (SaysOwner state o.want.id) o.owned.items k p here can.heads))))
 
   pub lanes_used : AllZip (IsUsedLane state shared o.want.id o.most) o.lanes.items lanes.items
   lanes_used = subst (AllZip (IsUsedLane state shared o.want.id o.most) o.lanes.items) (sym lanes_set)

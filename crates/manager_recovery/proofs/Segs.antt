@@ -26,7 +26,7 @@ use Rattle.manager_recovery.specs.Scanned.{IsScanned, IsAdopted, AreAdopted, hel
 use Rattle.manager_recovery.specs.declared.listing.FoundRecord.{FoundRecord}
 use Rattle.manager_recovery.specs.declared.opening.OwnedPart.{OwnedPart}
 use Rattle.manager_recovery.proofs.ByLogger.{on, total, count-append, among_left, among_right, among_map, filter_among}
-use Rattle.manager_recovery.proofs.Fronts.{all_join}
+use Rattle.wol_promise.proofs.Lists.{all_joined}
 use Rattle.manager_recovery.proofs.Places.{logger_at}
 use Rattle.manager_recovery.proofs.ToldParts.{records_at, all_records}
 
@@ -184,7 +184,7 @@ module _ {D : Type 0} (recs : Seg D → List Record) where
 
     pub each_shown : (j : ℕ) (view : List ℕ) (gs : List (Seg D)) → AllByRecursion Q gs → ((k : ℕ) (g : Seg D) → slice_get view k ≡ Some g.part.logger → Q g → P (shown_at (j + k) g)) → AllByRecursion P (shown j view gs)
     each_shown j [] gs all so = tt
-    each_shown j (v ∷ view) gs all so = all_join P (map (shown_at j) (on logger_of_seg v gs)) (shown (j + 1) view gs)
+    each_shown j (v ∷ view) gs all so = all_joined P (map (shown_at j) (on logger_of_seg v gs)) (shown (j + 1) view gs)
         (each_on j v gs all (λ g same q. let e : j + 0 ≡ j = omega arith in subst (λ (i : ℕ). P (shown_at i g)) e (so 0 g (ap Some (sym same)) q)))
         (each_shown (j + 1) view gs all (λ k g is q. let e : j + suc k ≡ j + 1 + k = omega arith in subst (λ (i : ℕ). P (shown_at i g)) e (so (suc k) g is q)))
 
@@ -251,7 +251,7 @@ module _ {D : Type 0} (recs : Seg D → List Record) where
   places_from : (j : ℕ) (view : List ℕ) (gs : List (Seg D)) (i : ℕ) → i ≤ j → AllByRecursion (λ (q : ℕ × ℕ). i ≤ q.0) (map place_in (shown j view gs))
   places_from j [] gs i le = tt
   places_from j (v ∷ view) gs i le = subst (AllByRecursion (λ (q : ℕ × ℕ). i ≤ q.0)) (sym (map-append place_in (map (shown_at j) (on logger_of_seg v gs)) (shown (j + 1) view gs)))
-      (all_join (λ (q : ℕ × ℕ). i ≤ q.0) (map place_in (map (shown_at j) (on logger_of_seg v gs))) (map place_in (shown (j + 1) view gs)) (here (on logger_of_seg v gs)) (places_from (j + 1) view gs i (omega (arith, le))))
+      (all_joined (λ (q : ℕ × ℕ). i ≤ q.0) (map place_in (map (shown_at j) (on logger_of_seg v gs))) (map place_in (shown (j + 1) view gs)) (here (on logger_of_seg v gs)) (places_from (j + 1) view gs i (omega (arith, le))))
     where
       here : (xs : List (Seg D)) → AllByRecursion (λ (q : ℕ × ℕ). i ≤ q.0) (map place_in (map (shown_at j) xs))
       here [] = tt
@@ -259,7 +259,7 @@ module _ {D : Type 0} (recs : Seg D → List Record) where
 
   apart_join : (ps qs : List (ℕ × ℕ)) (j : ℕ) → AreApartPlaces ps → AreApartPlaces qs → AllByRecursion (λ (p : ℕ × ℕ). p.0 ≡ j) ps → AllByRecursion (λ (q : ℕ × ℕ). j + 1 ≤ q.0) qs → AreApartPlaces (ps ++ qs)
   apart_join [] qs j a b here there = b
-  apart_join (p ∷ ps) qs j a b here there = (all_join (λ (q : ℕ × ℕ). p ≢ q) ps qs a.0 (far qs there), apart_join ps qs j a.1 b here.1 there)
+  apart_join (p ∷ ps) qs j a b here there = (all_joined (λ (q : ℕ × ℕ). p ≢ q) ps qs a.0 (far qs there), apart_join ps qs j a.1 b here.1 there)
     where
       far : (qs : List (ℕ × ℕ)) → AllByRecursion (λ (q : ℕ × ℕ). j + 1 ≤ q.0) qs → AllByRecursion (λ (q : ℕ × ℕ). p ≢ q) qs
       far [] all = tt

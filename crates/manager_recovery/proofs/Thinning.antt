@@ -1,6 +1,6 @@
 -- A volume that is opened while segments that hold nothing go to their pools.
 use Rattle.std.proofs.Common.{◌≡◌, ◌≢◌, inl, ⊎_elim, ◌+◌, ◌-◌, ◌<◌, ◌≤◌, ℕ, suc, Bool, true, false, cond, eqb, List, [], ◌∷◌, ◌++◌, length, take, drop, map, remove, Option, None, Some, refl, sym, ap, subst, ◌∙◌, arith}
-use Rattle.std.specs.Prelude.{slice_get, slice_set, filter, position, IfSome, slice_index_or, vec_len, vec_capacity}
+use Rattle.std.specs.Prelude.{slice_get, slice_set, filter, position, IfSome, slice_index_or, vec_capacity}
 use Rattle.std.specs.List.{AllByRecursion, AllZip}
 use Rattle.std.proofs.lemmas.List.{append_assoc, append-nil, length-take-le}
 use Rattle.std.proofs.Math.Seq.{take-length}
@@ -10,7 +10,7 @@ use Rattle.wol_disk.proofs.Moments.{started}
 use Rattle.wol_model.specs.Blocks.{AreApart}
 use Rattle.wol_model.specs.Heads.{IsViewList}
 use Rattle.turn_lock.specs.LockIds.{LockId}
-use Rattle.turn_lock.specs.Passes.{lock_id, pass_lock, pass_number, pass_mine, IsFree}
+use Rattle.turn_lock.specs.Passes.{pass_lock, pass_number, pass_mine, IsFree}
 use Rattle.spin_model.specs.Operations.{has_token}
 use Rattle.spin_model.specs.Spun.{state_of}
 use Rattle.spin_model.specs.declared.spindle.SpindleBase.{SpindleBase}
@@ -33,18 +33,10 @@ use Rattle.manager_recovery.proofs.Gifts.{gift, none_given, given_more, lanes_sa
 use Rattle.manager_recovery.proofs.Lists.{zip_self}
 use Rattle.manager_recovery.proofs.OwnedHeld.{all_less as all_held_less}
 use Rattle.manager_recovery.proofs.Places.{loggers_are, place_is, lane_is, read_at}
+use Rattle.manager_recovery.proofs.ScanLoop.{open_with, same_at, used_then}
 use Rattle.manager_recovery.proofs.Fronts.{front_at, back_at, around, none_behind, get_middle, set_middle, remove_middle, zip_join, zip_long, zip_at, zip_other}
 
 -- ---- A lane whose passes were used
-
--- its locks are those that they were
-pub at_same : {D : Type 0} (shared : Shared D) (old new : Lane D) → IsSameLane old new → IsAt shared old → IsAt shared new
-at_same shared old new same a = record {
-  pool_in = subst (λ (n : ℕ). n < vec_len shared.pools) (sym same.logger) a.pool_in;
-  spindle_in = subst (λ (n : ℕ). n < vec_len shared.spindles) (sym same.logger) a.spindle_in;
-  pool = λ d. same.pool.0 ∙ a.pool d ∙ ap (λ (n : ℕ). lock_id (slice_index_or shared.pools.items n d)) (sym same.logger);
-  spindle = λ d. same.spindle.0 ∙ a.spindle d ∙ ap (λ (n : ℕ). lock_id (slice_index_or shared.spindles.items n d)) (sym same.logger);
-}
 
 module _ {D : Type 0} (state : D → State) (shared : Shared D) (id most : ℕ) (old new : Lane D) (was : IsOpeningLane state shared id most old) (same : IsSameLane old new)
     (rest : new ≡ record old { pool = new.pool; spindle = new.spindle }) where
@@ -68,7 +60,7 @@ module _ {D : Type 0} (state : D → State) (shared : Shared D) (id most : ℕ) 
       }
 
   used_at : IsAt shared new
-  used_at = at_same shared old new same was.at
+  used_at = same_at state shared old new same was.at
 
   pub used_lane : IsFree (pool_of new) → IsFree new.spindle → has_token (pass_mine new.spindle) ≡ false → AreAccesses (pass_mine new.spindle) → IsUsedLane state shared id most old new
   used_lane pool_free spindle_free settled accesses = record {
@@ -82,18 +74,6 @@ module _ {D : Type 0} (state : D → State) (shared : Shared D) (id most : ℕ) 
     };
     same = same;
   }
-
-pub used_twice : {D : Type 0} (state : D → State) (shared : Shared D) (id most : ℕ) (a b c : Lane D) → IsUsedLane state shared id most a b → IsUsedLane state shared id most b c → IsUsedLane state shared id most a c
-used_twice state shared id most a b c u v = let s = u.same in let t = v.same in record {
-  lane = v.lane;
-  same = record {
-    logger = t.logger ∙ s.logger;
-    owner = t.owner ∙ s.owner;
-    segments = t.segments ∙ s.segments;
-    pool = (t.pool.0 ∙ s.pool.0, t.pool.1 ∙ s.pool.1);
-    spindle = (t.spindle.0 ∙ s.spindle.0, t.spindle.1 ∙ s.spindle.1);
-  };
-}
 
 -- ---- A segment less
 
@@ -159,26 +139,16 @@ module _ {D : Type 0} (state : D → State) (shared : Shared D) (o : Opening D) 
       let order : AreInOrder (map place_of (front ++ r ∷ back)) = subst (λ (l : List (OwnedPart D)). AreInOrder (map place_of l)) was can.in_order in
       let each : AllByRecursion (IsOwned state (slice_set o.lanes.items k new)) (front ++ back) = all_both (IsOwned state o.lanes.items) (λ (x : OwnedPart D). AreOther (place_of x) (place_of r)) (IsOwned state (slice_set o.lanes.items k new)) owned_set (front ++ back)
       (all_less (IsOwned state o.lanes.items) front r back (subst (AllByRecursion (IsOwned state o.lanes.items)) was can.owned)) (others front r back order) in
-      let again : CanOpen state shared (record o { lanes = n.lanes; owned = n.owned }) = record {
-        want = can.want;
-        home_volume = can.home_volume;
-        home_size = can.home_size;
-        spindle_volume = can.spindle_volume;
-        spindle_free = can.spindle_free;
-        settled = can.settled;
-        accesses = can.accesses;
-        at = record { spindle_in = can.at.spindle_in; spindle_is = can.at.spindle_is; lanes_ = subst (AllByRecursion (IsAt shared)) (sym lanes) (all_set (IsAt shared) o.lanes.items k new can.at.lanes_ used.lane.at) };
-        lanes = subst (AllByRecursion (IsOpeningLane state shared o.want.id o.most)) (sym lanes) (all_set (IsOpeningLane state shared o.want.id o.most) o.lanes.items k new can.lanes used.lane);
-        loggers = ap (map logger_of) lanes ∙ map_set logger_of o.lanes.items k old new lane used.same.logger ∙ can.loggers;
-        most = can.most;
-        in_order = subst (λ (l : List (OwnedPart D)). AreInOrder (map place_of l)) (sym is) (order_without front r back order);
-        owned = subst (λ (ls : List (Lane D)). AllByRecursion (IsOwned state ls) n.owned.items) (sym lanes) (subst (AllByRecursion (IsOwned state (slice_set o.lanes.items k new))) (sym is) each);
-        all = subst (λ (ls : List (Lane D)). AllByRecursion (HoldsOwned n.owned.items) ls) (sym lanes)
-            (subst (λ (l : List (OwnedPart D)). AllByRecursion (HoldsOwned l) (slice_set o.lanes.items k new)) (sym is)
-            (all_held_less front r back old new on used.same gave o.lanes.items k lane apart (subst (λ (l : List (OwnedPart D)). AllByRecursion (HoldsOwned l) o.lanes.items) was can.all)));
-        heads = subst (AllByRecursion (SaysOwner state o.want.id)) (sym is) (all_less (SaysOwner state o.want.id) front r back (subst (AllByRecursion (SaysOwner state o.want.id)) was can.heads));
-      } in
-      subst (CanOpen state shared) (sym same) again
+      subst (CanOpen state shared) (sym same) (open_with state shared o can n.lanes n.owned
+      (subst (AllByRecursion (IsAt shared)) (sym lanes) (all_set (IsAt shared) o.lanes.items k new can.at.lanes_ used.lane.at))
+      (subst (AllByRecursion (IsOpeningLane state shared o.want.id o.most)) (sym lanes) (all_set (IsOpeningLane state shared o.want.id o.most) o.lanes.items k new can.lanes used.lane))
+      (ap (map logger_of) lanes ∙ map_set logger_of o.lanes.items k old new lane used.same.logger)
+      (subst (λ (l : List (OwnedPart D)). AreInOrder (map place_of l)) (sym is) (order_without front r back order))
+      (subst (λ (ls : List (Lane D)). AllByRecursion (IsOwned state ls) n.owned.items) (sym lanes) (subst (AllByRecursion (IsOwned state (slice_set o.lanes.items k new))) (sym is) each))
+      (subst (λ (ls : List (Lane D)). AllByRecursion (HoldsOwned n.owned.items) ls) (sym lanes)
+      (subst (λ (l : List (OwnedPart D)). AllByRecursion (HoldsOwned l) (slice_set o.lanes.items k new)) (sym is)
+      (all_held_less front r back old new on used.same gave o.lanes.items k lane apart (subst (λ (l : List (OwnedPart D)). AllByRecursion (HoldsOwned l) o.lanes.items) was can.all))))
+      (subst (AllByRecursion (SaysOwner state o.want.id)) (sym is) (all_less (SaysOwner state o.want.id) front r back (subst (AllByRecursion (SaysOwner state o.want.id)) was can.heads))))
 
 -- ---- The loop over the segments, from the last one on
 
@@ -366,7 +336,7 @@ module _ {D : Type 0} (state : D → State) (shared : Shared D) (sound : (p : Sp
 
         then_lanes : AllZip (IsUsedLane state shared o.want.id o.most) o.lanes.items t.lanes.items
         then_lanes = subst (AllZip (IsUsedLane state shared o.want.id o.most) o.lanes.items) (sym t_lanes)
-            (zip_other (IsUsedLane state shared o.want.id o.most) o.lanes.items n.lanes.items place l m lane (λ x u. used_twice state shared o.want.id o.most x l m u used_first) inv.lanes)
+            (zip_other (IsUsedLane state shared o.want.id o.most) o.lanes.items n.lanes.items place l m lane (λ x u. used_then state shared o.want.id o.most x l m u used_first) inv.lanes)
 
         pub freed : has_some at.scan ≡ false → logger_of l ≡ at.part.logger
             → ((i : ℕ) → i ≢ at.part.index → holds (pass_lock (pool_of l)).base (pass_number (pool_of l)) (pass_mine (pool_of l)) i ≡ true → holds (pass_lock (pool_of m)).base (pass_number (pool_of m)) (pass_mine (pool_of m)) i ≡ true)
