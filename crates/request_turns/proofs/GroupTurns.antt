@@ -20,7 +20,7 @@ use Rattle.log_segment.specs.Records.{count_of}
 use Rattle.std.proofs.lemmas.List.Sums.{sum_by-cons}
 use Rattle.manager.specs.Groups.{IsItemOf, AreItemsOf, first_lbn, first_blocks, writes_to_home, run_writes, run_written, ruled_run, HasRun}
 use Rattle.manager.specs.Seen.{look_of_manager}
-use Rattle.manager.specs.Stands.{Keeps, Stands, notes_of, passed_in}
+use Rattle.manager.specs.Stands.{Keeps, Stands, passed_in}
 use Rattle.manager.specs.Writing as writing
 use Rattle.manager.specs.Writing.{IsAsBefore, was_tried}
 use Rattle.manager.specs.declared.base.ManagerBase.{ManagerBase}
@@ -32,7 +32,7 @@ use Rattle.manager.specs.declared.part.WriteRefusal.TheVariants.{Down, VersionsS
 use Rattle.trace_windows.specs.Requests.{asked}
 use Rattle.trace_windows.specs.declared.request.Request.{Request}
 use Rattle.request_turns.specs.Answered.{HasAnsweredMany}
-use Rattle.request_turns.specs.Entries.{note_of, full_note, written_outcome, is_full, AreWrittenTogether, IsEntryOf, IsEntryOfFirst, IsWrittenAs, IsRefusedWrite, WasSpent, before_others, front_writes}
+use Rattle.request_turns.specs.Entries.{note_of, full_note, written_outcome, is_full, AreWrittenTogether, IsEntryOf, IsEntryOfFirst, IsWrittenAs, IsRefusedWrite, before_others, front_writes}
 use Rattle.request_turns.specs.Entries as entries
 use Rattle.request_turns.specs.Groups.{AreWrittenAs, one, several, HasWrittenMany, item_of, answered_of}
 use Rattle.request_turns.specs.Requests.{IsWithin}
@@ -43,27 +43,10 @@ use Rattle.request_turns.specs.declared.outcome.Outcome.TheVariants as outcome
 use Rattle.request_turns.specs.declared.tally.Tally.{Tally}
 use Rattle.request_turns.proofs.GroupNotes.{group_note, is_group_note, group_entry, group_stays, group_counted, kept_look}
 use Rattle.request_turns.proofs.MadeLaws.{refused_more}
-use Rattle.request_turns.proofs.Noting.{notes_at}
 use Rattle.request_turns.proofs.Turning.{turned}
-use Rattle.request_turns.proofs.WriteNotes.{full_is, write_fault, write_cause}
+use Rattle.request_turns.proofs.WriteNotes.{full_is, spent_behind, write_fault, write_cause}
 
 -- ---- A group whose turn ends with its entry
-
--- where writes are refused since no version is left, none is left behind their entry
-spent_behind : {D : Type 0} (tells : Bool) (state : D → State) (old new : Manager D) (n : Noted) (p q : ManagerPass D) → n.look ≡ look_of_manager new → HasLeft tells n p q → (a : Result Place WriteRefusal)
-    → (a ≡ Err VersionsSpent → look_of_manager new ≡ look_of_manager old) → writing.TellsFault state a old new → ((a ≡ Err VersionsSpent) ↔ ((old.down ≡ None) × (old.next ≡ 2 ^ 63))) → (new.down ≡ None → IsBroken (notes_seen q) → ⊥)
-    → a ≡ Err VersionsSpent → WasSpent (notes_seen q)
-spent_behind {D} tells state old new n p q is_look left a same told spent unbroken is =
-    let seen : notes_seen q ≡ notes_seen p ++ n ∷ [] = ap notes_of left.seen ∙ notes_at (pass_seen p) n.entry.pass n refl in
-    let up : new.down ≡ None = subst (λ (r : Result Place WriteRefusal). writing.TellsFault state r old new) is told ∙ (spent.0 is).0 in
-    record {
-      front = notes_seen p;
-      note = n;
-      later = [];
-      seen_is = seen;
-      unbroken = λ broken. unbroken up (subst (λ (ns : List Noted). IsBroken ns) (sym seen) broken);
-      spent = ap (λ (k : Look). k.next) (is_look ∙ same is) ∙ (spent.0 is).1;
-    }
 
 module _ {D : Type 0} (tells : Bool) (state : D → State) (old new : Manager D) (items : List Item) (from : List Block) (n : ℕ) (a : Result Place WriteRefusal) (next : ℕ) (is_next : next ≡ old.next)
     (run : HasRun tells state items from n a (ruled_run old new items from) old new) (was : IsAsBefore a old new) where

@@ -119,13 +119,12 @@ module _ {D : Type 0} (old new : Manager D) (first : ℕ) (blocks : List Block) 
   write_counted (Err VersionsSpent) look k is t = entry_same k (write_note (Err VersionsSpent)) t (λ _. ap (λ (j : Look). j.listed) (look ∙ sym is))
   write_counted (Err NoMemory) look k is t = entry_same k (write_note (Err NoMemory)) t (λ _. ap (λ (j : Look). j.listed) (look ∙ sym is))
 
--- where a write is refused since no version is left, none is left behind its entry
-pub was_spent : {D : Type 0} (tells : Bool) (state : D → State) (old new : Manager D) (P : placing.Place) (w : Write) (n : Noted) (p q : ManagerPass D) → n.look ≡ look_of_manager new → HasLeft tells n p q → (a : Result Place WriteRefusal)
-    → HasLook P w a (look_of_manager old) (look_of_manager new) → writing.TellsFault state a old new → ((a ≡ Err VersionsSpent) ↔ ((old.down ≡ None) × (old.next ≡ 2 ^ 63))) → (new.down ≡ None → IsBroken (notes_seen q) → ⊥)
+-- where writes are refused since no version is left, none is left behind their entry
+pub spent_behind : {D : Type 0} (tells : Bool) (state : D → State) (old new : Manager D) (n : Noted) (p q : ManagerPass D) → n.look ≡ look_of_manager new → HasLeft tells n p q → (a : Result Place WriteRefusal)
+    → (a ≡ Err VersionsSpent → look_of_manager new ≡ look_of_manager old) → writing.TellsFault state a old new → ((a ≡ Err VersionsSpent) ↔ ((old.down ≡ None) × (old.next ≡ 2 ^ 63))) → (new.down ≡ None → IsBroken (notes_seen q) → ⊥)
     → a ≡ Err VersionsSpent → WasSpent (notes_seen q)
-was_spent {D} tells state old new P w n p q is_look left a look told spent unbroken is =
+spent_behind {D} tells state old new n p q is_look left a same told spent unbroken is =
     let seen : notes_seen q ≡ notes_seen p ++ n ∷ [] = ap notes_of left.seen ∙ notes_at (pass_seen p) n.entry.pass n refl in
-    let same : look_of_manager new ≡ look_of_manager old = subst (λ (r : Result Place WriteRefusal). HasLook P w r (look_of_manager old) (look_of_manager new)) is look in
     let up : new.down ≡ None = subst (λ (r : Result Place WriteRefusal). writing.TellsFault state r old new) is told ∙ (spent.0 is).0 in
     record {
       front = notes_seen p;
@@ -133,8 +132,15 @@ was_spent {D} tells state old new P w n p q is_look left a look told spent unbro
       later = [];
       seen_is = seen;
       unbroken = λ broken. unbroken up (subst (λ (ns : List Noted). IsBroken ns) (sym seen) broken);
-      spent = ap (λ (k : Look). k.next) (is_look ∙ same) ∙ (spent.0 is).1;
+      spent = ap (λ (k : Look). k.next) (is_look ∙ same is) ∙ (spent.0 is).1;
     }
+
+-- .. so it is for one write
+pub was_spent : {D : Type 0} (tells : Bool) (state : D → State) (old new : Manager D) (P : placing.Place) (w : Write) (n : Noted) (p q : ManagerPass D) → n.look ≡ look_of_manager new → HasLeft tells n p q → (a : Result Place WriteRefusal)
+    → HasLook P w a (look_of_manager old) (look_of_manager new) → writing.TellsFault state a old new → ((a ≡ Err VersionsSpent) ↔ ((old.down ≡ None) × (old.next ≡ 2 ^ 63))) → (new.down ≡ None → IsBroken (notes_seen q) → ⊥)
+    → a ≡ Err VersionsSpent → WasSpent (notes_seen q)
+was_spent tells state old new P w n p q is_look left a look =
+    spent_behind tells state old new n p q is_look left a (λ is. subst (λ (r : Result Place WriteRefusal). HasLook P w r (look_of_manager old) (look_of_manager new)) is look)
 
 -- a refusal that tells of a part comes where the manager keeps it as down after the call
 pub write_fault : {D : Type 0} (state : D → State) (old new : Manager D) (drained : Bool) (seen : List Noted) (a : Result Place WriteRefusal) → writing.TellsFault state a old new
