@@ -20,7 +20,7 @@ use Rattle.request_turns.proofs.Noting.{notes_at}
 use Rattle.log_dump.specs.Faults.{was_told}
 use Rattle.log_dump.specs.declared.fault.DumpFault.{DumpFault}
 use Rattle.log_dump.specs.declared.fault.DumpFault.TheVariants.{DiskFault, Down, NoMemory}
-use Rattle.inspection.specs.Looks.{AppendsAsked, BreaksIn, LooksAt, note_told}
+use Rattle.inspection.specs.Looks.{AppendsAsked, BreaksIn, HasAdded, LooksAt, note_told}
 use Rattle.inspection.specs.declared.asked.Asked.{Asked}
 
 pub is_note : (l : Look) (operation : Operation) (look : Look) (pass : ℕ) → IsNote l operation [] look (note_told pass operation look)
@@ -31,6 +31,19 @@ breaks (Ok done) notes failed down = tt
 breaks (Err (DiskFault p)) notes failed down = failed p refl
 breaks (Err (Down p)) notes failed down = down p refl
 breaks (Err NoMemory) notes failed down = tt
+
+-- one turn that was entered behind these entries, and left with this one
+pub has_added : {D : Type 0} (tells : Bool) (p i q : ManagerPass D) (n : Noted) → IsSamePass p i → Begins (pass_seen p) (pass_seen i) → pass_mine i ≡ pass_mine p → own (pass_number i) (pass_seen i) ≡ pass_mine i
+    → HasLeft tells n i q → HasAdded p q (pass_seen i) n
+has_added tells p i q n same begins mine owns left = record {
+  same = (left.same.0 ∙ same.0, left.same.1 ∙ same.1);
+  free = left.free;
+  begins = begins;
+  others = ap (λ (k : ℕ). own k (pass_seen i)) (sym same.1) ∙ owns ∙ mine;
+  number = left.number ∙ same.1;
+  seen = left.seen;
+  mine = left.mine ∙ ap (λ (es : List Entry). es ++ coded n ∷ []) mine;
+}
 
 -- from entering, looking and leaving
 pub has_looked : {D : Type 0} (tells : Bool) (state : D → State) (config : Config) (asked : Asked) (number : ℕ) (old new : Manager D) (p i q : ManagerPass D) (answer : Result (Unit {0}) DumpFault) (before after : List ℕ)
@@ -43,15 +56,7 @@ pub has_looked : {D : Type 0} (tells : Bool) (state : D → State) (config : Con
 has_looked {D} tells state config asked number old new p i q answer before after same begins mine owns stands content left broken failed down = record {
   before = pass_seen i;
   note = note_told (pass_number i) (was_told answer) (look_of_manager new);
-  added = record {
-    same = (left.same.0 ∙ same.0, left.same.1 ∙ same.1);
-    free = left.free;
-    begins = begins;
-    others = ap (λ (k : ℕ). own k (pass_seen i)) (sym same.1) ∙ owns ∙ mine;
-    number = left.number ∙ same.1;
-    seen = left.seen;
-    mine = left.mine ∙ ap (λ (es : List Entry). es ++ coded (note_told (pass_number i) (was_told answer) (look_of_manager new)) ∷ []) mine;
-  };
+  added = has_added tells p i q (note_told (pass_number i) (was_told answer) (look_of_manager new)) same begins mine owns left;
   operation = refl;
   manager = old;
   stands = subst (λ (l : LockId ManagerBase). Stands tells state old l.base (notes_seen i)) same.0 stands;
