@@ -6,7 +6,7 @@ use Rattle.std.proofs.lemmas.Option.{slice_get-get_or, slice_get_within, get_or_
 use Rattle.wol_disk.specs.Disk.{State}
 use Rattle.wol_disk.specs.declared.disk.NoMemory.{NoMemory}
 use Rattle.wol_io.specs.Streams.{AppendsFront}
-use Rattle.wol_io.proofs.Appending.{appends_both, appends_none, front_last, keeps_same}
+use Rattle.wol_io.proofs.Appending.{appends_none, front_last, keeps_same}
 use Rattle.wol_config.specs.declared.config.Config.{Config}
 use Rattle.manager.specs.declared.station.Station.{Station}
 use Rattle.log_dump.specs.declared.fault.DumpFault.TheVariants as dump
@@ -16,7 +16,7 @@ use Rattle.rack_parts.specs.declared.rack.Rack.{Rack}
 use Rattle.rack_parts.specs.declared.volume_fault.VolumeFault.{VolumeFault}
 use Rattle.inspection.specs.Looks.{LooksAt}
 use Rattle.inspection.specs.Racks.{IsStationAt}
-use Rattle.inspection.specs.Lines.{PrintsVolumes, Telling, IsTelling, AreTellings, LooksAtVolume, text_of, first_of, first_trouble, trouble_line, trouble_told}
+use Rattle.inspection.specs.Lines.{PrintsVolumes, Telling, IsTelling, AreTellings, LooksAtVolume, text_of, first_of, trouble_line, trouble_told}
 use Rattle.inspection.specs.Findings.{AreEmpty, AreFoundTo, HasFound, IsToldBy, KeepsFound, TellsFound, lines_of}
 use Rattle.inspection.specs.declared.asked.Asked.{Asked}
 use Rattle.inspection.specs.declared.asked.Asked.TheVariants.{Check}
@@ -25,7 +25,7 @@ use Rattle.inspection.specs.declared.calls.Stop.{Stop}
 use Rattle.inspection.specs.declared.calls.Stop.TheVariants.{Memory}
 use Rattle.inspection.proofs.Ahead.{none_found}
 use Rattle.inspection.proofs.Judging.{telling_failed, telling_order}
-use Rattle.inspection.proofs.Printing.{text_last, first_last, last_or_before}
+use Rattle.inspection.proofs.Printing.{HaveTold, last_or_before, none_told, one_told, text_last}
 use Rattle.inspection.proofs.SameRacks.{rack_self}
 
 -- ---- One volume
@@ -137,29 +137,19 @@ module _ {D : Type 0} (tells : Bool) (state : D → State) (config : Config) (r 
   pub record ArePrinted (q : Rack D) (fs : List Finding) (n i : ℕ) (first : Option Trouble) (printed now : Option (List ℕ)) : Type 0 where
     pub rest : q ≡ record r { stations = q.stations }
     pub going : AreFoundTo tells state config r.stations.items q.stations.items fs n
-    pub told : List Telling
-    pub count : length told ≡ i
-    pub few : i ≤ length config.volumes.items
-    pub each : (k : ℕ) (t : Telling) → slice_get told k ≡ Some t → IsToldBy config q fs n k t
-    pub first_is : first ≡ first_trouble told
-    pub prints : Appends printed now (text_of told)
+    pub so_far : HaveTold config (IsToldBy config q fs n) i first printed now
 
   pub none_printed : (fs : List Finding) (printed now : Option (List ℕ)) → length fs ≡ length r.stations.items → AreEmpty fs → Appends printed now [] → ArePrinted r fs 0 0 None printed now
   none_printed fs printed now count empty nothing = record {
     rest = refl;
     going = none_found tells state config r.stations.items fs count empty;
-    told = [];
-    count = refl;
-    few = omega arith;
-    each = λ k t is. absurd (let no : None ≡ Some t = is in cc);
-    first_is = refl;
-    prints = nothing;
+    so_far = none_told config (IsToldBy config r fs 0) printed now nothing;
   }
 
   module _ (q : Rack D) (fs : List Finding) (n i : ℕ) (first : Option Trouble) (printed now : Option (List ℕ)) (u : ArePrinted q fs n i first printed now) where
     -- they were told of the rack as it was at first
-    pub tellings_so : AreTellings tells state config Check r q u.told
-    tellings_so = record { few = rw u.count u.few; each = λ k t is. told_so tells state config r q fs n u.rest u.going k t (u.each k t is) }
+    pub tellings_so : AreTellings tells state config Check r q u.so_far.told
+    tellings_so = record { few = rw u.so_far.count u.so_far.few; each = λ k t is. told_so tells state config r q fs n u.rest u.going k t (u.so_far.each k t is) }
 
     -- more was found meanwhile
     module _ (p : Rack D) (hs : List Finding) (m : ℕ) (rest : p ≡ record q { stations = p.stations }) (more : n ≤ m) (keeps : KeepsFound n q.stations.items p.stations.items fs hs)
@@ -168,37 +158,34 @@ module _ {D : Type 0} (tells : Bool) (state : D → State) (config : Config) (r 
       still_printed = record {
         rest = rest ∙ ap (λ (w : Rack D). record w { stations = p.stations }) u.rest;
         going = going;
-        told = u.told;
-        count = u.count;
-        few = u.few;
-        each = λ k t is. told_still config q p fs hs n m k t rest more keeps (u.each k t is);
-        first_is = u.first_is;
-        prints = u.prints;
+        so_far = record {
+          told = u.so_far.told;
+          count = u.so_far.count;
+          few = u.so_far.few;
+          each = λ k t is. told_still config q p fs hs n m k t rest more keeps (u.so_far.each k t is);
+          first_is = u.so_far.first_is;
+          prints = u.so_far.prints;
+        };
       }
 
     module _ (within : i < length config.volumes.items) (t : Telling) (telling : IsToldBy config q fs n i t) where
-      each_next : (k : ℕ) (v : Telling) → slice_get (u.told ++ t ∷ []) k ≡ Some v → IsToldBy config q fs n k v
-      each_next k v is = elim (last_or_before u.told t k v is) [
-        | inl before ↦ u.each k v before
-        | inr (at, is_t) ↦ subst (λ (w : Telling). IsToldBy config q fs n k w) (sym is_t) (subst (λ (j : ℕ). IsToldBy config q fs n j t) (sym (at ∙ u.count)) telling)
+      each_next : (k : ℕ) (v : Telling) → slice_get (u.so_far.told ++ t ∷ []) k ≡ Some v → IsToldBy config q fs n k v
+      each_next k v is = elim (last_or_before u.so_far.told t k v is) [
+        | inl before ↦ u.so_far.each k v before
+        | inr (at, is_t) ↦ subst (λ (w : Telling). IsToldBy config q fs n k w) (sym is_t) (subst (λ (j : ℕ). IsToldBy config q fs n j t) (sym (at ∙ u.so_far.count)) telling)
       ]
 
-      pub tellings_next : AreTellings tells state config Check r q (u.told ++ t ∷ [])
-      tellings_next = record { few = omega (arith, length-append u.told (t ∷ []), u.count, within); each = λ k v is. told_so tells state config r q fs n u.rest u.going k v (each_next k v is) }
+      pub tellings_next : AreTellings tells state config Check r q (u.so_far.told ++ t ∷ [])
+      tellings_next = record { few = omega (arith, length-append u.so_far.told (t ∷ []), u.so_far.count, within); each = λ k v is. told_so tells state config r q fs n u.rest u.going k v (each_next k v is) }
 
-      pub front_next : (later : Option (List ℕ)) → AppendsFront now later t.text → AppendsFront printed later (text_of (u.told ++ t ∷ []))
-      front_next later front = rw (text_last u.told t) (front_last printed now later (text_of u.told) t.text u.prints front)
+      pub front_next : (later : Option (List ℕ)) → AppendsFront now later t.text → AppendsFront printed later (text_of (u.so_far.told ++ t ∷ []))
+      front_next later front = rw (text_last u.so_far.told t) (front_last printed now later (text_of u.so_far.told) t.text u.so_far.prints front)
 
       pub next_printed : (later : Option (List ℕ)) → Appends now later t.text → ArePrinted q fs n (i + 1) (first_of first t.trouble) printed later
       next_printed later more = record {
         rest = u.rest;
         going = u.going;
-        told = u.told ++ t ∷ [];
-        count = length-append u.told (t ∷ []) ∙ ap (λ (j : ℕ). j + 1) u.count;
-        few = omega (arith, within);
-        each = each_next;
-        first_is = ap (λ (o : Option Trouble). first_of o t.trouble) u.first_is ∙ sym (first_last u.told t);
-        prints = rw (text_last u.told t) (appends_both printed now later (text_of u.told) t.text u.prints more);
+        so_far = one_told config (IsToldBy config q fs n) (IsToldBy config q fs n) i first printed now u.so_far t within each_next later more;
       }
 
 -- there was no memory for any

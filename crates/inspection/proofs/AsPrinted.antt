@@ -38,14 +38,14 @@ module _ {D : Type 0} (tells : Bool) (state : D → State) (config : Config) whe
     ahead_so Dump u = tt
 
     pub few_so : (asked : Asked) → ArePrintedSo asked r q fs n i first printed now → i ≤ length config.volumes.items
-    few_so Check u = u.few
-    few_so Dump u = u.few
+    few_so Check u = u.so_far.few
+    few_so Dump u = u.so_far.few
 
     -- all were printed
     pub printed_all : (asked : Asked) → ArePrintedSo asked r q fs n i first printed now → i ≡ length config.volumes.items → (faults faults' : ℕ) → faults' ≡ faults → PrintsVolumes tells state config asked r q (Ok first) faults faults' printed now
-    printed_all Check u all faults faults' calm = record { same = same_so Check u; later = omega (arith, calm); told = u.told; are = tellings_so tells state config r q fs n i first printed now u; prints = (u.count ∙ all, u.first_is, calm, u.prints) }
+    printed_all Check u all faults faults' calm = record { same = same_so Check u; later = omega (arith, calm); told = u.so_far.told; are = tellings_so tells state config r q fs n i first printed now u; prints = (u.so_far.count ∙ all, u.so_far.first_is, calm, u.so_far.prints) }
     printed_all Dump u all faults faults' calm =
-        record { same = u.same; later = omega (arith, calm); told = u.told; are = record { few = rw u.count u.few; each = u.each }; prints = (u.count ∙ all, u.first_is, calm, u.prints) }
+        record { same = u.same; later = omega (arith, calm); told = u.so_far.told; are = record { few = rw u.so_far.count u.so_far.few; each = u.so_far.each }; prints = (u.so_far.count ∙ all, u.so_far.first_is, calm, u.so_far.prints) }
 
     module _ (p : Rack D) (hs : List Finding) (m : ℕ) where
       -- what was told, after the text of the next volume was appended or not
@@ -60,7 +60,7 @@ module _ {D : Type 0} (tells : Bool) (state : D → State) (config : Config) whe
           let s = still_printed tells state config r q fs n i first printed now u p hs m a.rest a.more a.found.keeps (a.found.going r.stations.items u.going) in
           record { same = rack_found tells state config r p hs m s.rest s.going; told = s.told; are = tellings_so tells state config r p hs m i first printed now s; prints = s.prints }
       still_told Dump u result text a =
-          record { same = rack_then r q p u.same a.same; told = u.told; are = tellings_still tells state config Dump r q p i first printed now u a.same a.others; prints = u.prints }
+          record { same = rack_then r q p u.same a.same; told = u.so_far.told; are = tellings_still tells state config Dump r q p i first printed now u a.same a.others; prints = u.so_far.prints }
 
       module _ (trouble : Option Trouble) (text : List ℕ) where
         -- with the text of the next volume, of which a front or the whole is printed
@@ -86,7 +86,7 @@ module _ {D : Type 0} (tells : Bool) (state : D → State) (config : Config) whe
             }
         goes_so within Dump u a = record {
           same = rack_then r q p u.same a.same;
-          told = u.told ++ t ∷ [];
+          told = u.so_far.told ++ t ∷ [];
           are = tellings_more tells state config Dump r q p i first printed now u a.same a.others within t a.ok;
           front = front_more tells state config Dump r q p i first printed now u a.same a.others within t a.ok;
           next = goes_on tells state config Dump r q p i first printed now u a.same a.others within t a.ok;

@@ -45,6 +45,38 @@ last_or_before (z ∷ xs) x (suc k) y is = elim (last_or_before xs x k y is) [
   | inr (at, same) ↦ inr (ap suc at, same)
 ]
 
+-- ---- What was told of some first volumes
+
+-- each of the first i was told as this says, and printed
+pub record HaveTold (config : Config) (Tells : ℕ → Telling → Type 0) (i : ℕ) (first : Option Trouble) (printed now : Option (List ℕ)) : Type 0 where
+  pub told : List Telling
+  pub count : length told ≡ i
+  pub few : i ≤ length config.volumes.items
+  pub each : (k : ℕ) (t : Telling) → slice_get told k ≡ Some t → Tells k t
+  pub first_is : first ≡ first_trouble told
+  pub prints : Appends printed now (text_of told)
+
+pub none_told : (config : Config) (Tells : ℕ → Telling → Type 0) (printed now : Option (List ℕ)) → Appends printed now [] → HaveTold config Tells 0 None printed now
+none_told config Tells printed now nothing = record {
+  told = [];
+  count = refl;
+  few = omega arith;
+  each = λ k t is. absurd (let no : None ≡ Some t = is in cc);
+  first_is = refl;
+  prints = nothing;
+}
+
+pub one_told : (config : Config) (Tells Later : ℕ → Telling → Type 0) (i : ℕ) (first : Option Trouble) (printed now : Option (List ℕ)) (u : HaveTold config Tells i first printed now) (t : Telling) → i < length config.volumes.items
+    → ((k : ℕ) (v : Telling) → slice_get (u.told ++ t ∷ []) k ≡ Some v → Later k v) → (later : Option (List ℕ)) → Appends now later t.text → HaveTold config Later (i + 1) (first_of first t.trouble) printed later
+one_told config Tells Later i first printed now u t within each later more = record {
+  told = u.told ++ t ∷ [];
+  count = length-append u.told (t ∷ []) ∙ ap (λ (j : ℕ). j + 1) u.count;
+  few = omega (arith, within);
+  each = each;
+  first_is = ap (λ (o : Option Trouble). first_of o t.trouble) u.first_is ∙ sym (first_last u.told t);
+  prints = rw (text_last u.told t) (appends_both printed now later (text_of u.told) t.text u.prints more);
+}
+
 -- ---- What was told stays so
 
 module _ {D : Type 0} (tells : Bool) (state : D → State) (config : Config) (asked : Asked) where
@@ -115,62 +147,47 @@ module _ {D : Type 0} (tells : Bool) (state : D → State) (config : Config) (as
   pub record Underway (r q : Rack D) (n : ℕ) (first : Option Trouble) (printed now : Option (List ℕ)) : Type 0 where
     pub same : IsSameRack r q
     pub untouched : HasUntouched r q n
-    pub told : List Telling
-    pub count : length told ≡ n
-    pub few : n ≤ length config.volumes.items
-    pub each : (k : ℕ) (t : Telling) → slice_get told k ≡ Some t → IsTelling tells state config asked r q k t
-    pub first_is : first ≡ first_trouble told
-    pub prints : Appends printed now (text_of told)
+    pub so_far : HaveTold config (IsTelling tells state config asked r q) n first printed now
 
   pub begins : (r : Rack D) (printed now : Option (List ℕ)) → Appends printed now [] → Underway r r 0 None printed now
   begins r printed now nothing = record {
     same = rack_self r;
     untouched = λ place s is least. is;
-    told = [];
-    count = refl;
-    few = omega arith;
-    each = λ k t is. absurd (let no : None ≡ Some t = is in cc);
-    first_is = refl;
-    prints = nothing;
+    so_far = none_told config (IsTelling tells state config asked r r) printed now nothing;
   }
 
   module _ (r q p : Rack D) (n : ℕ) (first : Option Trouble) (printed now : Option (List ℕ)) (u : Underway r q n first printed now) (same : IsSameRack q p) (others : LeavesOthers q p n) where
     -- those that were told, after a further look
-    pub tellings_still : AreTellings tells state config asked r p u.told
+    pub tellings_still : AreTellings tells state config asked r p u.so_far.told
     tellings_still = record {
-      few = rw u.count u.few;
-      each = λ k t is. telling_still r q p n k t others (λ at. let within = slice_get_within u.told k t is in omega (arith, within, at, u.count)) (u.each k t is);
+      few = rw u.so_far.count u.so_far.few;
+      each = λ k t is. telling_still r q p n k t others (λ at. let within = slice_get_within u.so_far.told k t is in omega (arith, within, at, u.so_far.count)) (u.so_far.each k t is);
     }
 
     -- there was no memory for the next
-    pub stopped : IsSameRack r p × AreTellings tells state config asked r p u.told
+    pub stopped : IsSameRack r p × AreTellings tells state config asked r p u.so_far.told
     stopped = (rack_then r q p u.same same, tellings_still)
 
     module _ (within : n < length config.volumes.items) (t : Telling) (telling : IsTelling tells state config asked q p n t) where
-      each_more : (k : ℕ) (v : Telling) → slice_get (u.told ++ t ∷ []) k ≡ Some v → IsTelling tells state config asked r p k v
-      each_more k v is = elim (last_or_before u.told t k v is) [
+      each_more : (k : ℕ) (v : Telling) → slice_get (u.so_far.told ++ t ∷ []) k ≡ Some v → IsTelling tells state config asked r p k v
+      each_more k v is = elim (last_or_before u.so_far.told t k v is) [
         | inl before ↦ tellings_still.each k v before
         | inr (at, is_t) ↦ subst (λ (w : Telling). IsTelling tells state config asked r p k w) (sym is_t)
-            (subst (λ (m : ℕ). IsTelling tells state config asked r p m t) (sym (at ∙ u.count)) (telling_first r q p n t u.same u.untouched telling))
+            (subst (λ (m : ℕ). IsTelling tells state config asked r p m t) (sym (at ∙ u.so_far.count)) (telling_first r q p n t u.same u.untouched telling))
       ]
 
       -- with the next
-      pub tellings_more : AreTellings tells state config asked r p (u.told ++ t ∷ [])
-      tellings_more = record { few = omega (arith, length-append u.told (t ∷ []), u.count, within); each = each_more }
+      pub tellings_more : AreTellings tells state config asked r p (u.so_far.told ++ t ∷ [])
+      tellings_more = record { few = omega (arith, length-append u.so_far.told (t ∷ []), u.so_far.count, within); each = each_more }
 
       -- a front of it was printed
-      pub front_more : (later : Option (List ℕ)) → AppendsFront now later t.text → AppendsFront printed later (text_of (u.told ++ t ∷ []))
-      front_more later front = rw (text_last u.told t) (front_last printed now later (text_of u.told) t.text u.prints front)
+      pub front_more : (later : Option (List ℕ)) → AppendsFront now later t.text → AppendsFront printed later (text_of (u.so_far.told ++ t ∷ []))
+      front_more later front = rw (text_last u.so_far.told t) (front_last printed now later (text_of u.so_far.told) t.text u.so_far.prints front)
 
       -- it was printed
       pub goes_on : (later : Option (List ℕ)) → Appends now later t.text → Underway r p (n + 1) (first_of first t.trouble) printed later
       goes_on later more = record {
         same = rack_then r q p u.same same;
         untouched = λ place s is least. others place s (u.untouched place s is (omega (arith, least))) (λ at. omega (arith, at, least));
-        told = u.told ++ t ∷ [];
-        count = length-append u.told (t ∷ []) ∙ ap (λ (m : ℕ). m + 1) u.count;
-        few = omega (arith, within);
-        each = each_more;
-        first_is = ap (λ (o : Option Trouble). first_of o t.trouble) u.first_is ∙ sym (first_last u.told t);
-        prints = rw (text_last u.told t) (appends_both printed now later (text_of u.told) t.text u.prints more);
+        so_far = one_told config (IsTelling tells state config asked r q) (IsTelling tells state config asked r p) n first printed now u.so_far t within each_more later more;
       }
