@@ -1,7 +1,7 @@
 -- One turn in which a volume is cleaned.
-use Rattle.std.proofs.Common.{◌≡◌, ℕ, Bool, List, [], ◌∷◌, ◌++◌, length, Result, Ok, Err, refl, sym, ap, subst, ◌∙◌}
+use Rattle.std.proofs.Common.{◌≡◌, ℕ, Bool, List, [], ◌∷◌, ◌++◌, length, Result, Ok, Err, refl, sym, subst, ◌∙◌}
 use Rattle.wol_disk.specs.Disk.{State}
-use Rattle.turn_lock.specs.Histories.{Entry, own, Begins}
+use Rattle.turn_lock.specs.Histories.{own, Begins}
 use Rattle.turn_lock.specs.LockIds.{LockId}
 use Rattle.turn_lock.specs.Passes.{pass_lock, pass_number, pass_seen, pass_mine, IsSamePass}
 use Rattle.wol_model.specs.Blocks.{Write}
@@ -12,14 +12,14 @@ use Rattle.manager.specs.Stands.{Stands, nones_at}
 use Rattle.manager.specs.declared.base.ManagerBase.{ManagerBase}
 use Rattle.manager.specs.declared.manager.Manager.{Manager}
 use Rattle.manager.proofs.Frames.{none_passed, stands_kept}
-use Rattle.request_turns.specs.Turns.{ManagerPass, coded, notes_seen, HasLeft}
+use Rattle.request_turns.specs.Turns.{ManagerPass, notes_seen, HasLeft}
 use Rattle.log_cleaner.specs.Cleans.{CanClean, HasCleaned}
 use Rattle.log_cleaner.specs.Copies.{LeavesEntry}
 use Rattle.log_cleaner.specs.declared.answer.Cleaned.{Cleaned}
 use Rattle.log_cleaner.specs.declared.answer.CleanFault.{CleanFault}
 use Rattle.log_cleaner.specs.declared.answer.CleanFault.TheVariants.{DiskFault, VersionsSpent, NoMemory}
 use Rattle.inspection.specs.Looks.{note_told}
-use Rattle.inspection.proofs.Looking.{is_note}
+use Rattle.inspection.proofs.Looking.{has_added, is_note}
 use Rattle.cleaning.specs.Turns.{CleansIn, DoesClean, cleaned, left, none_copied, operation_of}
 
 leaves_of : {D : Type 0} (tells : Bool) (state : D → State) (most : ℕ) (old new : Manager D) (result : Result Cleaned CleanFault) → (has : HasCleaned tells state most old new result) → LeavesEntry tells state old new (operation_of has.copies result)
@@ -55,15 +55,7 @@ module _ {D : Type 0} (tells : Bool) (state : D → State) (most : ℕ) (old new
     before = pass_seen i;
     copies = copies;
     note = note;
-    added = record {
-      same = (gone.same.0 ∙ same.0, gone.same.1 ∙ same.1);
-      free = gone.free;
-      begins = begins;
-      others = ap (λ (k : ℕ). own k (pass_seen i)) (sym same.1) ∙ owns ∙ mine;
-      number = gone.number ∙ same.1;
-      seen = gone.seen;
-      mine = gone.mine ∙ ap (λ (es : List Entry). es ++ coded note ∷ []) mine;
-    };
+    added = has_added tells p i q note same begins mine owns gone;
     operation = refl;
     opened = old;
     after = new;
