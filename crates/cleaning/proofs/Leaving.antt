@@ -1,5 +1,5 @@
 -- What a cleaning leaves in the bay, and the whole of it.
-use Rattle.std.proofs.Common.{◌≡◌, ◌<◌, ◌≤◌, ◌^◌, ℕ, Bool, true, false, cond, not, List, length, Option, None, Some, is_some, option_map, Result, Err, sym, ap, subst, ◌∙◌, arith}
+use Rattle.std.proofs.Common.{◌≡◌, ◌<◌, ℕ, Bool, true, false, cond, not, List, length, Option, None, Some, is_some, option_map, Result, Err, sym, ap, subst, ◌∙◌, arith}
 use Rattle.std.specs.Prelude.{All, IfSome, IsTrue, slice_get, unwrap_or}
 use Rattle.std.proofs.lemmas.List.{length-map}
 use Rattle.std.proofs.lemmas.Option.{slice_get_within, slice_get-map, get_or_from_slice_get}
@@ -134,6 +134,3 @@ pub again_cleaned : {D : Type 0} (tells : Bool) (state : D → State) (config : 
     → Rattle.open_rack.specs.Again.IsRackAgain old new
 again_cleaned tells state config old new sink sink' printed printed' answer (racks.closed f is same calm kept) = subst (Rattle.open_rack.specs.Again.IsRackAgain old) (sym same) (Rattle.cleaning.proofs.Stations.again_worked old old (Rattle.cleaning.proofs.Stations.worked_self old))
 again_cleaned tells state config old new sink sink' printed printed' answer (racks.ran r open_ worked all) = Rattle.cleaning.proofs.Stations.again_worked old new worked
-
-pub few_faults : {D : Type 0} (state : D → State) (config : Config) (b : BayState) (r : Rack D) → IsRack state config b r → Rattle.wol_config.specs.Configs.IsValid config → length r.faults.items ≤ 2 ^ 32
-few_faults state config b r is valid = let n = is.fault_count in let m = length-map config.volumes.items (shape_in config) in let few = valid.count.1 in omega (arith, n, m, few)

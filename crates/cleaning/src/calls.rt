@@ -1,14 +1,14 @@
 // All volumes of a bay are cleaned.
-ghost use Rattle.std.specs.Prelude.{◌≡◌, ◌≤◌, ◌^◌, length, None};
+ghost use Rattle.std.specs.Prelude.{◌≡◌, ◌≤◌};
 ghost use Rattle.wol_bay.specs.Bay.{outs};
 ghost use Rattle.wol_config.specs.Configs.{IsValid};
 ghost use Rattle.volume_images.specs.Left.{IsTold};
 ghost use Rattle.volume_images.specs.Volumes.{NoneOut};
 ghost use Rattle.rack.specs.Opens.{KeepsOthers};
-ghost use Rattle.open_rack.specs.NotOpened.{LeavesBay, first_closed};
+ghost use Rattle.open_rack.specs.NotOpened.{LeavesBay};
 ghost use Rattle.replay.specs.declared.stop.Stop.TheVariants.{Fault as fault};
 ghost use Rattle.cleaning.specs.Lines.{fault_of};
-ghost use Rattle.cleaning.specs.Racks.{CanCleanAll, CleansAll, CleansRack, IsWorked};
+ghost use Rattle.cleaning.specs.Racks.{CanCleanAll, CleansAll, IsWorked};
 ghost use Rattle.cleaning.specs.Runs.{CleansBay, Completes, MayComplete};
 
 use crate::lines::append_cleaned;
@@ -69,27 +69,6 @@ fn clean_open<D: Disk, R: Wait, K: Sink>(
 }
 
 // Cleans the volumes of a rack, if all of them are open.
-fn clean_rack<D: Disk, R: Wait, K: Sink>(
-    rt: &R,
-    alloc: Global,
-    rack: &mut Rack<D>,
-    config: &Config,
-    out: &mut K,
-) -> Result<(), Stop>
-    requires valid { IsValid config.now }
-    requires few { length rack.old.faults.items ≤ 2 ^ 32 }
-    requires can { first_closed 0 rack.old.faults.items ≡ None → CanCleanAll config.now rack.old }
-    ensures cleans { CleansRack D.tells D.state config.now rack.old rack.new
-        (K.faults out.old) (K.faults out.new) (K.taken out.old) (K.taken out.new) result }
-    ensures later { K.faults out.old ≤ K.faults out.new }
-{
-    if let Some(fault) = first_closed(rack.faults.as_slice()) {
-        return Err(Stop::Fault(fault));
-    }
-    clean_open(rt, alloc, rack, config, out)
-}
-
-// Cleans the volumes of a rack.
 #[derive(Drop)]
 struct Cleaning;
 
@@ -114,7 +93,10 @@ impl<R: Wait, D: Disk, K: Sink> Work<R, D, (), K> for Cleaning {
         _given: &mut (),
         out: &mut K,
     ) -> Result<(), Stop> {
-        clean_rack(rt, alloc, rack, config, out)
+        if let Some(fault) = first_closed(rack.faults.as_slice()) {
+            return Err(Stop::Fault(fault));
+        }
+        clean_open(rt, alloc, rack, config, out)
     }
 }
 
