@@ -1,5 +1,5 @@
 -- The view in one image was changed, behind the closing of all: what is left of arrays and views, told of the bay at entry.
-use Rattle.std.proofs.Common.{◌≡◌, ◌≢◌, ◌⊎◌, inl, inr, ◌<◌, ◌≤◌, ◌^◌, ◌++◌, ℕ, Bool, true, false, cond, List, [], ◌∷◌, length, not, ◌==◌, Option, None, Some, option_map, Result, Ok, Err, sym, ap, ◌∙◌, subst, arith}
+use Rattle.std.proofs.Common.{◌≡◌, ◌≢◌, ◌⊎◌, inl, inr, ◌<◌, ◌≤◌, ◌^◌, ◌++◌, ℕ, Bool, true, List, [], ◌∷◌, length, not, ◌==◌, Option, None, Some, option_map, Result, Ok, Err, sym, ap, ◌∙◌, subst, arith}
 use Rattle.std.specs.Prelude.{slice_get, slice_set, slice_range, slice_index_or, filter, Contains}
 use Rattle.std.specs.List.{AllByRecursion}
 use Rattle.std.proofs.lemmas.Bool.{cases_eq}
@@ -16,6 +16,8 @@ use Rattle.wol_model.specs.Images.{Images, image_of, image_size, recovered_from,
 use Rattle.wol_model.specs.Log.{Record, IsLog}
 use Rattle.logger_view.specs.Stored.{HasView, with_view}
 use Rattle.logger_view.proofs.Callers.{same_view}
+use Rattle.wol_promise.proofs.Lists.{all_map}
+use Rattle.wol_promise.proofs.Wholes.{all_filtered}
 use Rattle.manager.proofs.Lanes.{get_set, get_other}
 use Rattle.volume_images.specs.Volumes.{AreLeft, MayLeave, images_read, shape_in, shapes_of}
 use Rattle.rack.specs.Opens.{IsThere, KeepsAllSound}
@@ -57,18 +59,12 @@ all_then : {X : Type 0} (P : X → Type 0) (xs : List X) (x : X) → AllByRecurs
 all_then P [] y all h = (h, tt)
 all_then P (x ∷ xs) y all h = (all.0, all_then P xs y all.1 h)
 
-all_some : {X : Type 0} (P : X → Type 0) (p : X → Bool) (xs : List X) → AllByRecursion P xs → AllByRecursion P (filter p xs)
-all_some P p [] all = tt
-all_some P p (x ∷ xs) all = go (p x) (all_some P p xs all.1)
-  where
-    go : (b : Bool) → AllByRecursion P (filter p xs) → AllByRecursion P (cond b (x ∷ filter p xs) (filter p xs))
-    go true rest = (all.0, rest)
-    go false rest = rest
-
 -- and names configured volumes other than its own
 changed_names : (n volume : ℕ) (change : Change) (ids : List ℕ) → NamesOthers n volume ids → id_of change < n → id_of change ≢ volume → NamesOthers n volume (changed change ids)
 changed_names n volume (Add id) ids all less other = all_then (λ i. (i < n) × (i ≢ volume)) ids id all (less, other)
-changed_names n volume (Remove id) ids all less other = all_some (λ i. (i < n) × (i ≢ volume)) (λ other. not (other == id)) ids all
+changed_names n volume (Remove id) ids all less other =
+    let Names : ℕ → Type 0 = λ i. (i < n) × (i ≢ volume) in let stays : ℕ → Bool = λ i. not (i == id) in
+    all_map (λ i. (stays i ≡ true) × Names i) Names (λ i is. is.1) (filter stays ids) (all_filtered Names stays ids all)
 
 -- a logger that comes leaves the others
 still_has : (change : Change) → IsAddition change → (ids : List ℕ) (k : ℕ) → Contains ids k → Contains (changed change ids) k
