@@ -4,7 +4,8 @@ ghost use Rattle.wol_bay.specs.Bay.{outs};
 ghost use Rattle.wol_config.specs.Configs.{IsValid};
 ghost use Rattle.volume_images.specs.Left.{IsTold};
 ghost use Rattle.volume_images.specs.Volumes.{NoneOut};
-ghost use Rattle.rack.specs.Opens.{KeepsAllSound, KeepsOthers, LeavesAll};
+ghost use Rattle.rack.specs.Opens.{KeepsOthers};
+ghost use Rattle.open_rack.specs.NotOpened.{LeavesBay};
 ghost use Rattle.inspection.specs.Runs.{MayComplete};
 ghost use Rattle.view_change.specs.Changes.{id_of};
 ghost use Rattle.view_commands.specs.declared.order.Stop.TheVariants as stop;
@@ -42,14 +43,11 @@ fn change_volume<R: Wait, B: Bay>(
     ensures counts { (B.state bay.old).faults ≤ (B.state bay.new).faults }
     ensures content { ChangesVolume B.Part.tells B.Part.state config.now volume change
         (B.state bay.old) (B.state bay.new) result }
-    ensures left { IsTrue B.Part.tells
-        → IsTold (LeavesAll B.Part.tells B.Part.state config.now (B.state bay.old)
-        (B.state bay.new)) (B.state bay.old).told (B.state bay.new).told }
+    ensures leaves { LeavesBay B.Part.tells B.Part.state config.now (B.state bay.old)
+        (B.state bay.new) }
     // images of names that aren't configured are as they were
     ensures others { IsTrue B.Part.tells
         → IsTold (KeepsOthers config.now) (B.state bay.old).told (B.state bay.new).told }
-    ensures sound { IsTrue B.Part.tells
-        → IsTold (KeepsAllSound config.now) (B.state bay.old).told (B.state bay.new).told }
     ensures complete { MayComplete B.Part.tells config.now (B.state bay.old) (B.state bay.new) 0 0
         → Completes result }
     ensures no_sink { result ≡ Err stop.Sink → ⊥ }
@@ -91,14 +89,11 @@ pub fn change_view<R: Wait, K: Sink, B: Bay>(
     ensures content { ChangesView B.Part.tells B.Part.state config.now order.now (B.state bay.old)
         (B.state bay.new)
         (K.faults out.old) (K.faults out.new) (K.taken out.old) (K.taken out.new) result }
-    ensures left { IsTrue B.Part.tells
-        → IsTold (LeavesAll B.Part.tells B.Part.state config.now (B.state bay.old)
-        (B.state bay.new)) (B.state bay.old).told (B.state bay.new).told }
+    ensures leaves { LeavesBay B.Part.tells B.Part.state config.now (B.state bay.old)
+        (B.state bay.new) }
     // images of names that aren't configured are as they were
     ensures others { IsTrue B.Part.tells
         → IsTold (KeepsOthers config.now) (B.state bay.old).told (B.state bay.new).told }
-    ensures sound { IsTrue B.Part.tells
-        → IsTold (KeepsAllSound config.now) (B.state bay.old).told (B.state bay.new).told }
     ensures complete { MayComplete B.Part.tells config.now (B.state bay.old) (B.state bay.new)
         (K.faults out.old) (K.faults out.new)
         → Completes result }

@@ -12,11 +12,11 @@ returns-in_default-clause-content g c =
     let found : c.number_named.result ≡ number_in c.args.config.now c.args.order.now.volume.now = rw (c.deref.ensures.value, c.as_bytes.ensures.value) at c.number_named.ensures.found in
     runs.unknown UnknownVolume (ap (λ (o : Option ℕ). unknown_of o (number_in c.args.config.now c.args.order.now.logger.now)) (sym found ∙ c.in_default.is)) (refl, refl) refl
 
-pub returns-in_default-clause-left : goal.returns-in_default-clause-left
-returns-in_default-clause-left g c = λ telling. leaves_same _ _ _ _ _ (g.B.Bay.state c.args.bay.now).told
-
-pub returns-in_default-clause-sound : goal.returns-in_default-clause-sound
-returns-in_default-clause-sound g c = λ telling. sound_same c.args.config.now (g.B.Bay.state c.args.bay.now).told
+pub returns-in_default-clause-leaves : goal.returns-in_default-clause-leaves
+returns-in_default-clause-leaves g c = record {
+  left = λ telling. leaves_same _ _ _ _ _ (g.B.Bay.state c.args.bay.now).told;
+  sound = λ telling. sound_same c.args.config.now (g.B.Bay.state c.args.bay.now).told;
+}
 
 pub returns-in_default-number_named-clause-content : goal.returns-in_default-number_named-clause-content
 returns-in_default-number_named-clause-content g c =
@@ -25,11 +25,11 @@ returns-in_default-number_named-clause-content g c =
     runs.unknown UnknownLogger
     (ap (λ (o : Option ℕ). unknown_of o (number_in c.args.config.now c.args.order.now.logger.now)) (sym found ∙ c.in-Some.is) ∙ ap (unknown_of (Some c.in-Some.volume)) (sym other ∙ c.in_default-number_named.is)) (refl, refl) refl
 
-pub returns-in_default-number_named-clause-left : goal.returns-in_default-number_named-clause-left
-returns-in_default-number_named-clause-left g c = λ telling. leaves_same _ _ _ _ _ (g.B.Bay.state c.args.bay.now).told
-
-pub returns-in_default-number_named-clause-sound : goal.returns-in_default-number_named-clause-sound
-returns-in_default-number_named-clause-sound g c = λ telling. sound_same c.args.config.now (g.B.Bay.state c.args.bay.now).told
+pub returns-in_default-number_named-clause-leaves : goal.returns-in_default-number_named-clause-leaves
+returns-in_default-number_named-clause-leaves g c = record {
+  left = λ telling. leaves_same _ _ _ _ _ (g.B.Bay.state c.args.bay.now).told;
+  sound = λ telling. sound_same c.args.config.now (g.B.Bay.state c.args.bay.now).told;
+}
 
 pub returns-in_err-view-clause-content : goal.returns-in_err-view-clause-content
 returns-in_err-view-clause-content g c =

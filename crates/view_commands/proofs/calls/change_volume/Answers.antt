@@ -26,17 +26,18 @@ returns-in-Ok-clause-content g c =
     done_content c.args.config.now c.requires.config c.args.volume c.requires.volume c.args.change c.requires.logger g.B.Part.Disk.tells g.B.Part.Disk.state (g.B.Bay.state c.args.bay.now) (g.B.Bay.state c.with_open.new.bay) _
     c.in_ok-answer.field-0.answer c.in_ok-answer.ensures.did is (g.B.Bay.state c.change_image.new.bay) c.change_image.result c.change_image.ensures.changes c.change_image.ensures.known
 
-pub returns-in-Ok-clause-left : goal.returns-in-Ok-clause-left
-returns-in-Ok-clause-left g c =
-    let is : c.in_ok-answer.field-0.answer ≡ Ok c.in-Ok.field-0 = cc in
-    done_left c.args.config.now c.requires.config c.args.volume c.requires.volume c.args.change c.requires.logger g.B.Part.Disk.tells g.B.Part.Disk.state (g.B.Bay.state c.args.bay.now) (g.B.Bay.state c.with_open.new.bay) _
-    c.in_ok-answer.field-0.answer c.in_ok-answer.ensures.did is (g.B.Bay.state c.change_image.new.bay) c.change_image.result c.change_image.ensures.changes
+pub returns-in_err-answer-clause-leaves : goal.returns-in_err-answer-clause-leaves
+returns-in_err-answer-clause-leaves g c = record { left = c.in_err-answer.ensures.left; sound = c.with_open.ensures.sound }
 
-pub returns-in-Ok-clause-sound : goal.returns-in-Ok-clause-sound
-returns-in-Ok-clause-sound g c =
+pub returns-in-Ok-clause-leaves : goal.returns-in-Ok-clause-leaves
+returns-in-Ok-clause-leaves g c =
     let is : c.in_ok-answer.field-0.answer ≡ Ok c.in-Ok.field-0 = cc in
-    done_sound c.args.config.now c.requires.config c.args.volume c.requires.volume c.args.change c.requires.logger g.B.Part.Disk.tells g.B.Part.Disk.state (g.B.Bay.state c.args.bay.now) (g.B.Bay.state c.with_open.new.bay) _
-    c.in_ok-answer.field-0.answer c.in_ok-answer.ensures.did is (g.B.Bay.state c.change_image.new.bay) c.change_image.result c.change_image.ensures.changes c.with_open.ensures.sound
+    record {
+      left = done_left c.args.config.now c.requires.config c.args.volume c.requires.volume c.args.change c.requires.logger g.B.Part.Disk.tells g.B.Part.Disk.state (g.B.Bay.state c.args.bay.now) (g.B.Bay.state c.with_open.new.bay) _
+          c.in_ok-answer.field-0.answer c.in_ok-answer.ensures.did is (g.B.Bay.state c.change_image.new.bay) c.change_image.result c.change_image.ensures.changes;
+      sound = done_sound c.args.config.now c.requires.config c.args.volume c.requires.volume c.args.change c.requires.logger g.B.Part.Disk.tells g.B.Part.Disk.state (g.B.Bay.state c.args.bay.now) (g.B.Bay.state c.with_open.new.bay) _
+          c.in_ok-answer.field-0.answer c.in_ok-answer.ensures.did is (g.B.Bay.state c.change_image.new.bay) c.change_image.result c.change_image.ensures.changes c.with_open.ensures.sound;
+    }
 
 pub returns-in_err-answer-clause-others : goal.returns-in_err-answer-clause-others
 returns-in_err-answer-clause-others g c = λ telling. c.with_open.ensures.others
@@ -62,11 +63,14 @@ returns-clause-content g c =
     refused_content c.args.config.now c.requires.config c.args.volume c.requires.volume c.args.change c.requires.logger g.B.Part.Disk.tells g.B.Part.Disk.state (g.B.Bay.state c.args.bay.now) (g.B.Bay.state c.with_open.new.bay) _
     c.in_ok-answer.field-0.answer c.in_ok-answer.ensures.did c.in-Err.fault is c.with_open.ensures.sound
 
-pub returns-clause-left : goal.returns-clause-left
-returns-clause-left g c =
+pub returns-clause-leaves : goal.returns-clause-leaves
+returns-clause-leaves g c =
     let is : c.in_ok-answer.field-0.answer ≡ Err c.in-Err.fault = cc in
-    refused_left c.args.config.now c.requires.config c.args.volume c.requires.volume c.args.change c.requires.logger g.B.Part.Disk.tells g.B.Part.Disk.state (g.B.Bay.state c.args.bay.now) (g.B.Bay.state c.with_open.new.bay) _
-    c.in_ok-answer.field-0.answer c.in_ok-answer.ensures.did c.in-Err.fault is
+    record {
+      left = refused_left c.args.config.now c.requires.config c.args.volume c.requires.volume c.args.change c.requires.logger g.B.Part.Disk.tells g.B.Part.Disk.state (g.B.Bay.state c.args.bay.now) (g.B.Bay.state c.with_open.new.bay) _
+          c.in_ok-answer.field-0.answer c.in_ok-answer.ensures.did c.in-Err.fault is;
+      sound = c.with_open.ensures.sound;
+    }
 
 pub returns-clause-complete : goal.returns-clause-complete
 returns-clause-complete g c =
