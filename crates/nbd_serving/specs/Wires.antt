@@ -36,12 +36,7 @@ answer_of (Err fault.NoMemory) = Err (stop.Fault Memory)
 abbrev pub unagreed_status : Unagreed → ℕ
 unagreed_status unagreed.Aborted = 0
 unagreed_status unagreed.End = 0
-unagreed_status unagreed.Cut = 14
-unagreed_status unagreed.BadFlags = 14
-unagreed_status unagreed.BadMagic = 14
-unagreed_status unagreed.TooLong = 14
-unagreed_status unagreed.TooMany = 14
-unagreed_status unagreed.Unoffered = 14
+unagreed_status _ = 14
 
 -- its exit status
 abbrev pub status_of : Result Ended Stop → ℕ
