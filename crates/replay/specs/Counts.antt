@@ -3,7 +3,7 @@ use Rattle.std.specs.Prelude.{◌≡◌, ◌≤◌, ◌<◌, ◌+◌, ◌-◌, �
 use Rattle.manager.specs.declared.part.Place.TheVariants.{Home, Log}
 use Rattle.report.specs.declared.totals.Totals.{Totals}
 use Rattle.request_turns.specs.declared.outcome.Outcome.{Outcome}
-use Rattle.request_turns.specs.declared.outcome.Outcome.TheVariants.{Read, Wrote, NoRead, NoWrite, NotRun}
+use Rattle.request_turns.specs.declared.outcome.Outcome.TheVariants.{Read, Wrote}
 use Rattle.window_desks.specs.declared.request.Window.{Window}
 
 -- nothing was counted
@@ -25,44 +25,27 @@ no_totals = record {
 -- an answered read
 abbrev pub was_read : Outcome → Bool
 was_read (Read mark sources) = true
-was_read (Wrote place drained) = false
-was_read (NoRead refusal) = false
-was_read (NoWrite refusal) = false
-was_read NotRun = false
+was_read _ = false
 
 -- an answered write
 abbrev pub was_written : Outcome → Bool
-was_written (Read mark sources) = false
 was_written (Wrote place drained) = true
-was_written (NoRead refusal) = false
-was_written (NoWrite refusal) = false
-was_written NotRun = false
+was_written _ = false
 
 -- an answered write that went to a log
 abbrev pub was_logged : Outcome → Bool
-was_logged (Read mark sources) = false
-was_logged (Wrote Home drained) = false
 was_logged (Wrote (Log logger) drained) = true
-was_logged (NoRead refusal) = false
-was_logged (NoWrite refusal) = false
-was_logged NotRun = false
+was_logged _ = false
 
 -- an answered write that went home
 abbrev pub went_home : Outcome → Bool
-went_home (Read mark sources) = false
 went_home (Wrote Home drained) = true
-went_home (Wrote (Log logger) drained) = false
-went_home (NoRead refusal) = false
-went_home (NoWrite refusal) = false
-went_home NotRun = false
+went_home _ = false
 
 -- an answered write that went home after a drain
 abbrev pub was_drained : Outcome → Bool
-was_drained (Read mark sources) = false
 was_drained (Wrote place drained) = drained
-was_drained (NoRead refusal) = false
-was_drained (NoWrite refusal) = false
-was_drained NotRun = false
+was_drained _ = false
 
 -- the most that a count of what was reclaimed is
 abbrev pub most_count : ℕ
