@@ -130,6 +130,14 @@ refused_missing tells state config bay old new r is refused k v conf none_out = 
     at None none = absurd (let no : true ≡ false = sym (out_of state config bay r is k ((is.faults k within).0 none)) ∙ ap is_some none_out in cc no)
     at (Some f) some = (f, refused k v f conf (slice_get-get_or r.faults.items k None (let count = is.fault_count in omega (arith, within, count)) ∙ ap (λ (o : Option VolumeFault). Some o) some))
 
+-- where no image of the volume is out, none is here
+pub not_out : {D : Type 0} (images : List (Option (ImageRest D))) (k : ℕ) → is_kept_home images k ≡ true → image_here images k ≡ None
+not_out {D} images k home = at (image_here images k) home
+  where
+    at : (o : Option (ImageRest D)) → not (is_some o) ≡ true → o ≡ None
+    at None so = refl
+    at (Some x) so = absurd (cc so)
+
 -- ---- The whole
 
 module _ {D : Type 0} (tells : Bool) (state : D → State) (config : Config) (old bay new : BayState) (r q : Rack D) (again : IsRackAgain r q) (opened : IsOpened tells state config old bay r)
@@ -167,15 +175,8 @@ module _ {D : Type 0} (tells : Bool) (state : D → State) (config : Config) (ol
     missing : (k : ℕ) (v : VolumeConf) → slice_get config.volumes.items k ≡ Some v → image_here r.rest.images.items k ≡ None → (f : VolumeFault) × RefusesVolume tells state config r.rest.images.items old new k v f
     missing k v conf none_out = refused_missing tells state config bay old new r opened.rack refused_since k v conf none_out
 
-    not_out : (k : ℕ) → is_kept_home r.rest.images.items k ≡ true → image_here r.rest.images.items k ≡ None
-    not_out k home = at (image_here r.rest.images.items k) home
-      where
-        at : (o : Option (ImageRest D)) → not (is_some o) ≡ true → o ≡ None
-        at None so = refl
-        at (Some x) so = absurd (cc so)
-
     cause : (k : ℕ) (v : VolumeConf) → slice_get config.volumes.items k ≡ Some v → is_kept_home r.rest.images.items k ≡ true → (f : VolumeFault) × RefusesVolume {D = D} tells state config [] old new k v f
-    cause k v conf home = let none = not_out k home in let (f, why) = missing k v conf none in (f, refused_alone tells state config r.rest.images.items old new k v f none why)
+    cause k v conf home = let none = not_out r.rest.images.items k home in let (f, why) = missing k v conf none in (f, refused_alone tells state config r.rest.images.items old new k v f none why)
 
     leaves : (t y : Told) → HadRefused config q.rest.images.items t y → LeavesVolumes config q t y × AreLeftOfParts state config q y → LeavesAll tells state config old new t y
     leaves t y stays both =
@@ -184,7 +185,7 @@ module _ {D : Type 0} (tells : Bool) (state : D → State) (config : Config) (ol
         record {
           refused = is_kept_home r.rest.images.items;
           cause = cause;
-          kept = λ k v conf home c may. stayed k v conf (not_out k home) c may;
+          kept = λ k v conf home c may. stayed k v conf (not_out r.rest.images.items k home) c may;
           opened = has_station q;
           are_opened = all.are_opened;
           left = λ images left v there. all.each images left v;

@@ -1,10 +1,10 @@
 -- A run over a bay whose volumes couldn't all be opened.
-use Rattle.replay.proofs.Basics.{◌≡◌, ◌≤◌, ℕ, Bool, true, List, [], refl, sym, ap, subst, Option, None, Some, is_some, not, Err, inl, inr}
+use Rattle.replay.proofs.Basics.{◌≡◌, ◌≤◌, ℕ, Bool, true, List, [], sym, ap, subst, Option, None, Some, Err, inl, inr}
 use Rattle.replay.proofs.Basics.{All, IfSome, IsTrue, slice_get}
 use Rattle.replay.proofs.Terms.{Rose, State, BayState, Told, writes, entries_of, Config, VolumeConf, Entry, notes_of, Part, Station, Fault}
 use Rattle.replay.proofs.Terms.{IsTold, AreLeftOfParts, flight_in, HasFaultAt, HasFaultIn, IsQuiet, LeavesVolumes, ListsFaulty, has_station}
 use Rattle.replay.proofs.Terms.{is_kept_home, AreRefused, BeganWith, HasFaulty, KeepsAllSound, LeavesAll, RefusesVolume, WereThere}
-use Rattle.replay.proofs.Terms.{HadRefused, AreUnused, IsRack, IsImageOut, image_here, ImageRest, Rack, VolumeFault, LeavesBay, Replayed}
+use Rattle.replay.proofs.Terms.{HadRefused, AreUnused, IsRack, IsImageOut, Rack, VolumeFault, LeavesBay, Replayed}
 use Rattle.replay.proofs.Terms.{first_closed, RunsNone, Given, Options}
 use Rattle.replay.specs.Replays.{closed}
 use Rattle.rack.proofs.Asking.{refuses_later, rose_on}
@@ -12,7 +12,7 @@ use Rattle.rack.proofs.FailedParts.{gained_parts, part_came_back, part_failed}
 use Rattle.rack_closing.proofs.NewFaults.{told_each, told_with}
 use Rattle.rack.proofs.StillThere.{there_left}
 use Rattle.open_rack.proofs.FirstClosed.{first_refused}
-use Rattle.open_rack.proofs.Since.{refused_alone, refused_missing}
+use Rattle.open_rack.proofs.Since.{not_out, refused_alone, refused_missing}
 use Rattle.replay.proofs.CauseServed.{rose_from}
 use Rattle.replay.proofs.RunFlown.{run_sound}
 use Rattle.manager_recovery.specs.declared.refusal.OpenRefusal.TheVariants as refusal
@@ -36,19 +36,12 @@ quiet_all {D} ss unused k d lt =
 
 module _ {D : Type 0} (tells : Bool) (state : D → State) (config : Config) (entry opened last : BayState) (r : Rack D) (is : IsRack state config opened r) (refused : AreRefused tells state config entry opened r)
     (closing : opened.faults ≤ last.faults) (gained : IsTold HasFaulty opened.told last.told) where
-  not_out : (k : ℕ) → is_kept_home r.rest.images.items k ≡ true → image_here r.rest.images.items k ≡ None
-  not_out k kept = at (image_here r.rest.images.items k) kept
-    where
-      at : (o : Option (ImageRest D)) → not (is_some o) ≡ true → o ≡ None
-      at None so = refl
-      at (Some x) so = absurd (cc so)
-
   refused_last : AreRefused tells state config entry last r
   refused_last k v f conf at = refuses_later tells state config r.rest.images.items entry opened last k v f closing gained (refused k v f conf at)
 
   cause : (k : ℕ) (v : VolumeConf) → slice_get config.volumes.items k ≡ Some v → is_kept_home r.rest.images.items k ≡ true → (f : VolumeFault) × RefusesVolume {D = D} tells state config [] entry last k v f
   cause k v conf kept =
-      let none = not_out k kept in
+      let none = not_out r.rest.images.items k kept in
       let why = refused_missing tells state config opened entry last r is refused_last k v conf none in
       (why.0, refused_alone tells state config r.rest.images.items entry last k v why.0 none why.1)
 
@@ -66,7 +59,7 @@ module _ {D : Type 0} (tells : Bool) (state : D → State) (config : Config) (en
       record {
         refused = is_kept_home r.rest.images.items;
         cause = cause;
-        kept = λ k v conf out c may. kept k v conf (not_out k out) c (stays k v conf (not_out k out) c may);
+        kept = λ k v conf out c may. kept k v conf (not_out r.rest.images.items k out) c (stays k v conf (not_out r.rest.images.items k out) c may);
         opened = has_station r;
         are_opened = all.0.are_opened;
         left = λ images left v is_there. all.0.each images left v;
