@@ -5,7 +5,7 @@ use Rattle.replay.proofs.Terms.{Started, Use, needs_after, new_spindle, answers_
 use Rattle.replay.proofs.Terms.{keeper_uses, Entry, own, IsPartOf, lock_id, pass_lock, pass_mine, pass_number, has_token, operation_of}
 use Rattle.replay.proofs.Terms.{use_of, uses_of, SpindleView, StandsFor, SpindleBase, targets_of, printed_names, summary_text, SpindlePass}
 use Rattle.replay.proofs.Terms.{Floor, State, BayState, Config, shapes_of, IsClosedSpindle, IsClosable, IsRack, IsUnused, KeepToViews, Rack}
-use Rattle.replay.proofs.Terms.{all_amounts, ServedFromStart, ServedWindow, AreWindowsOf, ServesWhole, IsAccount, IsSummary, column}
+use Rattle.replay.proofs.Terms.{all_amounts, ServedFromStart, ServedWindow, AreWindowsOf, ServesWhole, IsAccount, IsAccountBy, IsSummary, column}
 use Rattle.replay.proofs.Terms.{Counted, Given, Options, most_of}
 use Rattle.wol_model.specs.Trace.{Window, windows}
 use Rattle.replay.proofs.Accounts.{AreOthers, first_start, moments_of, named_users, others_access, own_uses, served_used, used_back}
@@ -22,35 +22,27 @@ module _ (config : Config) (views : ℕ → List ℕ) (k : ℕ) (s : SpindleView
   all_done : (m : ℕ) → m ≢ n → needs_after false (uses_by m (uses_of entries)) ≡ false
   all_done m other = ap (needs_after false) (own_uses m entries) ∙ ended m other
 
-  pub account_kept : (w : ℕ) (moments : List ℕ) → own n entries ≡ map (λ (u : Use). (n, operation_of u)) (keeper_uses start (w ∷ moments)) → IsAccount config views k start (w ∷ moments) awake s
-  account_kept w moments mine = record {
+  -- its journal is an account by what its keeper did
+  account : (by : List Use) → uses_by n (uses_of entries) ≡ by → IsAccountBy config views k by (column k awake) s
+  account by kept = record {
     volume = volume;
     timeout_is = timeout_is;
     uses = uses_of entries;
     legal = rw stands.timeout stands.legal;
     journal = rw stands.timeout stands.shows.journal;
     keeper = n;
-    kept = own_uses n entries ∙ ap (λ (es : List Entry). map (λ (e : Entry). use_of e.1) es) mine ∙ ap (λ (l : List Use). Started start ∷ l) (used_back n (w ∷ moments));
+    kept = kept;
     others = others_access n entries others;
     done = all_done;
     users = named_users n k views entries users;
     answers = rw stands.timeout answers;
   }
 
+  pub account_kept : (w : ℕ) (moments : List ℕ) → own n entries ≡ map (λ (u : Use). (n, operation_of u)) (keeper_uses start (w ∷ moments)) → IsAccount config views k start (w ∷ moments) awake s
+  account_kept w moments mine = account (keeper_uses start (w ∷ moments)) (own_uses n entries ∙ ap (λ (es : List Entry). map (λ (e : Entry). use_of e.1) es) mine ∙ ap (λ (l : List Use). Started start ∷ l) (used_back n (w ∷ moments)))
+
   pub account_empty : own n entries ≡ [] → IsAccount config views k start [] awake s
-  account_empty mine = record {
-    volume = volume;
-    timeout_is = timeout_is;
-    uses = uses_of entries;
-    legal = rw stands.timeout stands.legal;
-    journal = rw stands.timeout stands.shows.journal;
-    keeper = n;
-    kept = own_uses n entries ∙ ap (λ (es : List Entry). map (λ (e : Entry). use_of e.1) es) mine;
-    others = others_access n entries others;
-    done = all_done;
-    users = named_users n k views entries users;
-    answers = rw stands.timeout answers;
-  }
+  account_empty mine = account [] (own_uses n entries ∙ ap (λ (es : List Entry). map (λ (e : Entry). use_of e.1) es) mine)
 
 -- ---- All of them
 
