@@ -1,5 +1,5 @@
 -- The lines that came so far, and what a comparison prints of them.
-use Rattle.std.proofs.Common.{◌≡◌, ◌≢◌, ◌⊎◌, inl, inr, ℕ, List, [], Option, Result, Ok, Err, refl, sym, ap, ⊎_elim}
+use Rattle.std.proofs.Common.{◌≡◌, ◌⊎◌, inl, inr, ℕ, List, [], Option, Result, Ok, Err, refl, ap, ⊎_elim}
 use Rattle.std.specs.Prelude.{MatchResult, IsOk}
 use Rattle.std.specs.Io.KnownBytes.{Appends, Keeps}
 use Rattle.wol_disk.specs.Disk.{Rose}
@@ -18,6 +18,7 @@ use Rattle.replay.specs.Stops.{fault_of_trace}
 use Rattle.replay.specs.declared.given.Given.{Given}
 use Rattle.replay.specs.declared.stop.Stop.{Stop}
 use Rattle.replay.specs.declared.stop.Stop.TheVariants as stop
+use Rattle.replay.proofs.Refused.{no_refusal}
 use Rattle.comparison.specs.Asked.{comparison_of}
 use Rattle.comparison.specs.Compares.{Compares, EndsBehind, MakesWhole, MayCompare, StopsBefore, memory, no_line, sink_failed, whole}
 use Rattle.comparison.specs.Side.{HasTaken}
@@ -62,14 +63,8 @@ module _ {S T : Type 0} (left : S → Option (List ℕ)) (config : Config) (star
   pub completes : (result ≡ Err (stop.Fault TraceSource) → Rose source source') → Completes result
   completes source_is = by result compares.ends refl
     where
-      line : (refusal : TraceFault) → refusal ≢ trace.NoMemory → Refuses left refusal start now compares.run → Err (stop.Fault (fault_of_trace refusal)) ≡ result → ⊥
-      line trace.Source other refuses is = may.source_calm (source_is (sym is))
-      line (trace.Bad number why) other refuses is = may.spelled number why compares.run refuses
-      line trace.Spent other refuses is = may.few compares.run refuses
-      line trace.NoMemory other refuses is = other refl
-
       by : (x : Result T Stop) → EndsBehind left config start now sink sink' printed printed' compares.run x → x ≡ result → Completes x
       by (Ok x) ends is = inl refl
-      by (Err (stop.Fault _)) (no_line refusal other refuses calm keeps) is = absurd (line refusal other refuses is)
+      by (Err (stop.Fault _)) (no_line refusal other refuses calm keeps) is = absurd (no_refusal left start now compares.run result (λ e. may.source_calm (source_is e)) (λ number why. may.spelled number why compares.run) (may.few compares.run) refusal other refuses is)
       by (Err (stop.Fault _)) (memory calm keeps) is = inr refl
       by (Err stop.Sink) (sink_failed all rose front) is = absurd (may.sink_calm rose)

@@ -1,20 +1,20 @@
 -- A run over open volumes in whose way nothing stands comes to its end.
-use Rattle.replay.proofs.Basics.{◌≡◌, ◌≢◌, ◌≤◌, ◌⊎◌, ◌+◌, ◌++◌, ◌^◌, ℕ, Bool, true, false, List, [], ◌∷◌, length, refl, sym, ap, subst, ◌∙◌}
+use Rattle.replay.proofs.Basics.{◌≡◌, ◌≤◌, ◌⊎◌, ◌+◌, ◌++◌, ◌^◌, ℕ, Bool, true, false, List, [], ◌∷◌, length, refl, sym, ap, subst, ◌∙◌}
 use Rattle.replay.proofs.Basics.{Option, None, Some, Result, Ok, Err, inl, inr, arith, IsTrue, if◌then◌else◌, slice_get, count_by, list_any}
 use Rattle.replay.proofs.Basics.{option_map_or, option_or, cases_lt}
 use Rattle.replay.proofs.Terms.{Rose, BayState, Told, requests, Answered, answered_in, of_volume, entries_of, answers_of, requests_in}
-use Rattle.replay.proofs.Terms.{length_mapped, volume_requests, Config, StepFault, TraceFault, Fault, Memory, TraceSource, Versions}
+use Rattle.replay.proofs.Terms.{length_mapped, volume_requests, Config, StepFault, Fault, Memory, TraceSource, Versions}
 use Rattle.replay.proofs.Terms.{trouble_of_part, targets_of, IsTold, Outcome, Window, Completes, MayComplete, is_write, writes_to, EndsFor}
 use Rattle.replay.proofs.Terms.{HasRefusedWrite, IsPartFault, memory, no_line, refused, sink_failed, fault_of_outcome, fault_of_reclaim}
-use Rattle.replay.proofs.Terms.{fault_of_window, first_refused, lacked_memory, Refuses, History, answers_in, is_broken_at, next_after}
-use Rattle.replay.proofs.Terms.{next_at, Replays, status_in, ServedWindow, fault_of_trace, Given, Options, Stop, most_of}
+use Rattle.replay.proofs.Terms.{fault_of_window, first_refused, lacked_memory, History, answers_in, is_broken_at, next_after}
+use Rattle.replay.proofs.Terms.{next_at, Replays, status_in, ServedWindow, Given, Options, Stop, most_of}
 use Rattle.wol_model.specs.Trace.{Request}
-use Rattle.replay.proofs.CountsLeft.{answers_joined}
-use Rattle.replay.proofs.WritesAnswered.{Among, among_left, among_of, among_right, among_volume, asked_writes, asks_write, logged_answered, one_less, writes_in}
+use Rattle.replay.proofs.LastRefused.{one_refused}
+use Rattle.replay.proofs.Refused.{no_refusal}
+use Rattle.replay.proofs.WritesAnswered.{asked_writes, logged_answered, writes_in}
 use Rattle.manager.specs.declared.part.ReadRefusal.TheVariants as read
 use Rattle.manager.specs.declared.part.StepFault.TheVariants as step
 use Rattle.manager.specs.declared.part.WriteRefusal.TheVariants as write
-use Rattle.msr_trace.specs.declared.format.TraceFault.TheVariants as trace
 use Rattle.trace_windows.specs.declared.request.Request as program
 use Rattle.request_turns.specs.declared.outcome.Outcome.TheVariants as outcome
 use Rattle.replay.specs.declared.stop.Stop.TheVariants as stop
@@ -77,12 +77,7 @@ module _ {S T : Type 0} (tells : Bool) (left : S → Option (List ℕ)) (config 
   -- no volume's versions end
   versions_left : (v : ℕ) (s : ServedWindow) → r.last ≡ s ∷ [] → HasRefusedWrite v s → status_in result ≡ 11 → ⊥
   versions_left v s only write_ status =
-      let a : Answered = write_.answer in
-      let here : Among (answers_in (s ∷ [])) a = among_left _ [] a (among_of _ a write_.among) in
-      let last : Among (answers_in r.last) a = subst (λ (l : List ServedWindow). Among (answers_in l) a) (sym only) here in
-      let all : Among answers a = subst (λ (l : List Answered). Among l a) (sym (answers_joined r.earlier r.last)) (among_right (answers_in r.earlier) (answers_in r.last) a last) in
-      let asks : asks_write a ≡ true = ap is_write write_.kind_is in
-      let (short, few) = one_less (answers_of v answers) a write_.refused asks (among_volume v answers a write_.volume all) in
+      let (short, few) = one_refused r.earlier r.last v s only write_ in
       let sized : length (of_volume v (requests_in answers)) ≡ length (answers_of v answers) = ap length (sym (volume_requests v answers)) ∙ length_mapped (λ (x : Answered). x.request) (answers_of v answers) in
       let intact : IsTrue (is_broken_at r.histories v) → ⊥ = λ broken. m.bay_calm (r.cause v broken) in
       elim (cases_lt (next_at r.histories v) (2 ^ 63)) [
@@ -106,15 +101,9 @@ module _ {S T : Type 0} (tells : Bool) (left : S → Option (List ℕ)) (config 
   pub completes_ran : (result ≡ Err (stop.Fault TraceSource) → Rose source source') → Completes result
   completes_ran source_is = by result r.ends refl
     where
-      line : (refusal : TraceFault) → refusal ≢ trace.NoMemory → Refuses left refusal start now r.run → Err (stop.Fault (fault_of_trace refusal)) ≡ result → ⊥
-      line trace.Source other refuses is = m.source_calm (source_is (sym is))
-      line (trace.Bad number why) other refuses is = m.spelled number why r.run refuses
-      line trace.Spent other refuses is = m.few r.run refuses
-      line trace.NoMemory other refuses is = other refl
-
       by : (x : Result T Stop) → EndsFor left config start now r.run r.last old.faults new.faults sink sink' x → x ≡ result → Completes x
       by (Ok x) ends is = inl refl
-      by (Err (stop.Fault _)) (no_line refusal other only refuses) is = absurd (line refusal other refuses is)
+      by (Err (stop.Fault _)) (no_line refusal other only refuses) is = absurd (no_refusal left start now r.run result (λ e. m.source_calm (source_is e)) (λ number why. m.spelled number why r.run) (m.few r.run) refusal other refuses is)
       by (Err (stop.Fault _)) (refused f s only told rose spent) is = elim (window_kind s.batch.requests s.answer f told) [
         | inl part ↦ absurd (m.bay_calm (rose part))
         | inr (inl lacks) ↦ inr (ap (λ (g : Fault). Err (stop.Fault g)) lacks)

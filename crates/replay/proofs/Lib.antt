@@ -46,6 +46,7 @@ pub mod RunFlown
 pub mod RunClosed
 pub mod SpentServed
 pub mod WritesAnswered
+pub mod LastRefused
 pub mod RunCauses
 pub mod Completed
 pub mod RunAnswered

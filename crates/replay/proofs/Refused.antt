@@ -1,13 +1,16 @@
 -- The requests that were looked at.
-use Rattle.replay.proofs.Basics.{◌≡◌, ◌<◌, ◌+◌, ℕ, Bool, true, false, cond, List, [], ◌∷◌, length, drop, get_or, Option, None, Some, refl}
-use Rattle.replay.proofs.Basics.{sym, ap, ◌∙◌, list_any, option_or, drop_more}
+use Rattle.replay.proofs.Basics.{◌≡◌, ◌≢◌, ◌<◌, ◌+◌, ℕ, Bool, true, false, cond, List, [], ◌∷◌, length, drop, get_or, Option, None, Some, refl}
+use Rattle.replay.proofs.Basics.{sym, ap, ◌∙◌, Result, Err, list_any, option_or, drop_more}
 use Rattle.replay.proofs.Terms.{StepFault, Fault, Memory, TraceSource, Request, Outcome, Window, fault_of_outcome, fault_of_read}
 use Rattle.replay.proofs.Terms.{fault_of_reclaim, fault_of_window, fault_of_write, first_refused, lacked_memory}
+use Rattle.replay.proofs.Terms.{TraceFault, TraceLine, Refuses, fault_of_trace, Given, Stop}
 use Rattle.manager.specs.declared.part.ReadRefusal.{ReadRefusal}
 use Rattle.manager.specs.declared.part.WriteRefusal.{WriteRefusal}
 use Rattle.manager.specs.declared.part.ReadRefusal.TheVariants as read
 use Rattle.manager.specs.declared.part.StepFault.TheVariants as step
 use Rattle.manager.specs.declared.part.WriteRefusal.TheVariants as write
+use Rattle.msr_trace.specs.declared.format.BadLine.{BadLine}
+use Rattle.msr_trace.specs.declared.format.TraceFault.TheVariants as trace
 use Rattle.request_turns.specs.declared.outcome.Outcome.TheVariants as outcome
 use Rattle.replay.specs.declared.stop.Stop.TheVariants as stop
 
@@ -18,6 +21,16 @@ refused_next rs os k r o here there is are =
     let next : drop k rs ≡ r ∷ drop (k + 1) rs = drop_more rs k r here ∙ ap (λ (x : Request). x ∷ drop (k + 1) rs) (sym is) in
     let then : drop k os ≡ o ∷ drop (k + 1) os = drop_more os k o there ∙ ap (λ (x : Outcome). x ∷ drop (k + 1) os) (sym are) in
     rw (next, then) refl
+
+-- ---- No line was refused where nothing stands in the way
+
+pub no_refusal : {S T : Type 0} (left : S → Option (List ℕ)) (start now : Given S) (run : List (Option TraceLine)) (result : Result T Stop) → (result ≡ Err (stop.Fault TraceSource) → ⊥)
+    → ((number : ℕ) (why : BadLine) → Refuses left (trace.Bad number why) start now run → ⊥) → (Refuses left trace.Spent start now run → ⊥)
+    → (refusal : TraceFault) → refusal ≢ trace.NoMemory → Refuses left refusal start now run → Err (stop.Fault (fault_of_trace refusal)) ≡ result → ⊥
+no_refusal left start now run result source spelled few trace.Source other refuses is = source (sym is)
+no_refusal left start now run result source spelled few (trace.Bad number why) other refuses is = spelled number why refuses
+no_refusal left start now run result source spelled few trace.Spent other refuses is = few refuses
+no_refusal left start now run result source spelled few trace.NoMemory other refuses is = other refl
 
 -- ---- No window ends a run as a failed source does
 

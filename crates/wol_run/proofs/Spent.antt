@@ -1,5 +1,5 @@
 -- Where versions ended a run, a volume had none left for a write.
-use Rattle.std.proofs.Common.{◌≡◌, ◌≤◌, ◌<◌, ◌+◌, ◌++◌, ◌^◌, ℕ, Bool, true, List, [], ◌∷◌, Option, None, Some, Result, Err, refl, sym, ap, subst, ◌∙◌, arith}
+use Rattle.std.proofs.Common.{◌≡◌, ◌≤◌, ◌<◌, ◌+◌, ◌++◌, ◌^◌, ℕ, Bool, List, [], ◌∷◌, Option, None, Some, Result, Err, refl, sym, ap, ◌∙◌, arith}
 use Rattle.std.specs.Prelude.{IsTrue, slice_get}
 use Rattle.std.specs.List.{count_by}
 use Rattle.std.specs.Option.{option_map_or}
@@ -26,8 +26,8 @@ use Rattle.replay.specs.declared.given.Given.{Given}
 use Rattle.replay.specs.declared.session.Options.{Options}
 use Rattle.replay.specs.declared.stop.Stop.{Stop}
 use Rattle.replay.specs.declared.stop.Stop.TheVariants as stop
-use Rattle.replay.proofs.CountsLeft.{answers_joined}
-use Rattle.replay.proofs.WritesAnswered.{Among, among_left, among_of, among_right, among_volume, asked_writes, asks_write, logged_answered, one_less, writes_in}
+use Rattle.replay.proofs.LastRefused.{one_refused}
+use Rattle.replay.proofs.WritesAnswered.{asked_writes, logged_answered, writes_in}
 use Rattle.wol_config.specs.Configs.{most_of}
 use Rattle.wol_run.proofs.HeadlineTold.{on_told}
 
@@ -46,13 +46,7 @@ module _ {S T : Type 0} (tells : Bool) (left : S → Option (List ℕ)) (config 
 
   pub spent_of : (v : ℕ) (s : ServedWindow) → r.last ≡ s ∷ [] → HasRefusedWrite v s → result ≡ Err (stop.Fault (Versions v)) → HasSpent tells config r.run old new
   spent_of v s only write_ is =
-      let a : Answered = write_.answer in
-      let here : Among (answers_in (s ∷ [])) a = among_left _ [] a (among_of _ a write_.among) in
-      let last : Among (answers_in r.last) a = subst (λ (l : List ServedWindow). Among (answers_in l) a) (sym only) here in
-      let all : Among answers a = subst (λ (l : List Answered). Among l a) (sym (answers_joined r.earlier r.last)) (among_right (answers_in r.earlier) (answers_in r.last) a last) in
-      let asks : asks_write a ≡ true = ap is_write write_.kind_is in
-      let (short, few) = one_less (answers_of v answers) a write_.refused asks (among_volume v answers a write_.volume all) in
-      at (slice_get r.histories v) refl few
+      at (slice_get r.histories v) refl (one_refused r.earlier r.last v s only write_).1
     where
       at : (o : Option History) → slice_get r.histories v ≡ o
           → writes_in (answered_in (answers_of v answers)) + 1 ≤ writes_in (answers_of v answers) → HasSpent tells config r.run old new
