@@ -24,6 +24,7 @@ mod session;
 mod stop;
 
 pub use given::Given;
+pub use printing::{CHUNK_BYTES, hand_on};
 pub use run::replay;
 pub use session::Options;
 pub use stop::{Stop, fault_of_trace};

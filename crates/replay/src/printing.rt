@@ -21,11 +21,11 @@ use wol_config::Config;
 use wol_disk::{Failed, NoMemory};
 use wol_io::Sink;
 
-// How many bytes of lines are gathered for a call of the sink.
-const CHUNK_BYTES: usize = 8_192;
+/// How many bytes of lines are gathered for a call of the sink.
+pub const CHUNK_BYTES: usize = 8_192;
 
-// Writes a text that has so many bytes to the sink, and empties it. A shorter one stays as it is.
-fn hand_on<K: Sink>(out: &mut K, text: &mut Vec<u8>, least: usize) -> Result<(), Failed>
+/// Writes a text that has so many bytes to the sink, and empties it. A shorter one stays as it is. `Failed`: the sink failed.
+pub fn hand_on<K: Sink>(out: &mut K, text: &mut Vec<u8>, least: usize) -> Result<(), Failed>
     ensures ok { OnOk result
         (HandsOn (K.taken out.old) (K.taken out.new) text.old.items text.new.items) }
     ensures left { OnOk result ((length text.new.items < least) ⊎ (text.new.items ≡ [])) }

@@ -8,7 +8,8 @@ use Rattle.msr_trace.specs.Spelling.{line_text}
 use Rattle.wol_config.specs.declared.config.Config.{Config}
 use Rattle.trace_gen.specs.Generated.{line, lines, targets_of, text_of}
 use Rattle.trace_gen.proofs.Growing.{lines_more, text_more, written_more}
-use Rattle.wol_run.specs.Generating.{HandsOn, first_lines}
+use Rattle.replay.specs.Prints.{HandsOn}
+use Rattle.wol_run.specs.Generating.{first_lines}
 
 -- of the first so many lines a sink took some, and the text has the others
 pub record IsPending (config : Config) (seed so_far : ℕ) (printed now : Option (List ℕ)) (text : List ℕ) : Type 0 where

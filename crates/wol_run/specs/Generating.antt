@@ -1,6 +1,6 @@
 -- What a run of `gen` prints, and its exit status.
-use Rattle.std.specs.Prelude.{◌≡◌, ℕ, ◌≤◌, ◌⊎◌, List, [], ◌++◌, codes, Option, Result, Ok, Err}
-use Rattle.std.specs.Io.KnownBytes.{Appends, Keeps}
+use Rattle.std.specs.Prelude.{◌≡◌, ℕ, ◌≤◌, ◌⊎◌, List, ◌++◌, codes, Option, Result, Ok, Err}
+use Rattle.std.specs.Io.KnownBytes.{Appends}
 use Rattle.wol_disk.specs.Disk.{Rose}
 use Rattle.wol_io.specs.Streams.{AppendsFront}
 use Rattle.wol_config.specs.declared.config.Config.{Config}
@@ -26,11 +26,6 @@ Prints (Err Sink) config seed count faults faults' printed new =
 Prints (Err Memory) config seed count faults faults' printed new =
     (faults' ≡ faults) × ((some : ℕ) × (some ≤ count)
     × Appends printed new (first_lines config seed some))
-
--- a text was handed on to a sink, or it stays as it was
-abbrev pub HandsOn : (printed new : Option (List ℕ)) → (text left : List ℕ) → Type 0
-HandsOn printed new text left =
-    ((left ≡ text) × Keeps printed new) ⊎ ((left ≡ []) × Appends printed new text)
 
 -- Status 0: the configuration was had, and the text is all lines that were asked for.
 pub record IsListing (asked : Generated) (left : Option (List ℕ)) (text : List ℕ)

@@ -1,10 +1,7 @@
 // The lines of a generated trace, printed.
-ghost use Rattle.std.specs.Prelude.{◌≡◌, ◌⊎◌, ◌<◌, ◌≤◌, ◌^◌, ℕ, [], length, OnOk, OnErr};
-ghost use Rattle.std.specs.Io.KnownBytes.{Appends};
-ghost use Rattle.wol_disk.specs.Disk.{Rose};
-ghost use Rattle.wol_io.specs.Streams.{AppendsFront};
+ghost use Rattle.std.specs.Prelude.{◌<◌, ◌≤◌, ◌^◌};
 ghost use Rattle.wol_config.specs.Configs.{IsValid};
-ghost use Rattle.wol_run.specs.Generating.{HandsOn, Prints, RunsGen};
+ghost use Rattle.wol_run.specs.Generating.{Prints, RunsGen};
 ghost use Rattle.wol_run.specs.Tops.{TellsSink};
 
 use crate::settings::config_of;
@@ -12,14 +9,11 @@ use crate::telling::{NO_MEMORY, end_with, tell_fault};
 use command_words::Generated;
 use inspection::Stop;
 use msr_trace::write_line;
+use replay::{CHUNK_BYTES, hand_on};
 use std::alloc::Global;
 use trace_gen::Gen;
 use wol_config::Config;
-use wol_disk::Failed;
 use wol_io::{Sink, Source};
-
-// How many bytes of lines are gathered for a call of the sink.
-const CHUNK_BYTES: usize = 8_192;
 
 /// Prints the lines of a generated trace on the volumes of the configuration that a source has, and answers the status.
 ///
@@ -68,23 +62,5 @@ fn print_lines<K: Sink>(
         hand_on(out, &mut text, CHUNK_BYTES)?;
     }
     hand_on(out, &mut text, 1)?;
-    Ok(())
-}
-
-// Writes a text that has so many bytes to the sink, and empties it. A shorter one stays as it is.
-fn hand_on<K: Sink>(out: &mut K, text: &mut Vec<u8>, least: usize) -> Result<(), Failed>
-    ensures ok { OnOk result (HandsOn (K.taken out.old) (K.taken out.new) text.old.items
-        text.new.items) }
-    ensures left { OnOk result ((length text.new.items < least) ⊎ (text.new.items ≡ [])) }
-    ensures err { OnErr result (AppendsFront (K.taken out.old) (K.taken out.new) text.old.items) }
-    ensures later { K.faults out.old ≤ K.faults out.new }
-    ensures cause { OnErr result (Rose (K.faults out.old) (K.faults out.new)) }
-    ensures calm { OnOk result (K.faults out.new ≡ K.faults out.old) }
-{
-    if text.len() < least {
-        return Ok(());
-    }
-    out.write(text)?;
-    text.clear();
     Ok(())
 }
