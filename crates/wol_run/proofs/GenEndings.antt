@@ -32,23 +32,21 @@ module _ (asked : Generated) (left : Option (List ℕ)) (faults faults' : ℕ) w
   }
 
   module _ (config : Config) (has : HasConfig left config) where
-    -- all lines were printed
-    pub told_listed : (printed new : Option (List ℕ)) → Appends printed new (first_lines config asked.seed asked.lines) → RunsGen asked left faults faults' 0 printed new
-    told_listed printed new appends = record {
+    told : (status : ℕ) (printed new : Option (List ℕ)) → EndsWith (first_lines config asked.seed asked.lines) 0 status printed new → RunsGen asked left faults faults' status printed new
+    told status printed new ends = record {
       text = first_lines config asked.seed asked.lines;
       wanted = 0;
       allowed = inl (record { config = config; has = has; lines_ = refl; done = refl });
-      ends = inl (refl, appends);
+      ends = ends;
     }
+
+    -- all lines were printed
+    pub told_listed : (printed new : Option (List ℕ)) → Appends printed new (first_lines config asked.seed asked.lines) → RunsGen asked left faults faults' 0 printed new
+    told_listed printed new appends = told 0 printed new (inl (refl, appends))
 
     -- the sink failed
     pub told_front : (printed new : Option (List ℕ)) → AppendsFront printed new (first_lines config asked.seed asked.lines) → RunsGen asked left faults faults' 7 printed new
-    told_front printed new front = record {
-      text = first_lines config asked.seed asked.lines;
-      wanted = 0;
-      allowed = inl (record { config = config; has = has; lines_ = refl; done = refl });
-      ends = inr (refl, front);
-    }
+    told_front printed new front = told 7 printed new (inr (refl, front))
 
     -- there was no memory behind some first lines
     pub told_cut : (status : ℕ) (printed mid new : Option (List ℕ)) (some : ℕ) → some ≤ asked.lines → Appends printed mid (first_lines config asked.seed some)
