@@ -292,14 +292,14 @@ module _ {D : Type 0} (tells : Bool) (state : D → State) (words : List (List �
 
       pub look_cause : runs_trace command ≡ false → (what : Asked) → IsLookFor tells state before after status what → Cause status
       look_cause none what run = ended_cause run.text run.wanted _ run.ends (λ same. elim run.allowed [
-        | inl look ↦ by look (first_trouble look.told) refl (same ∙ look.done)
+        | inl look ↦ by look (first_trouble look.looked.told) refl (same ∙ look.done)
         | inr (inl cut) ↦ memory_cause (same ∙ cut.memory)
         | inr (inr untouched) ↦ unread_cause for_config run.text run.wanted untouched.line_ same
       ])
         where
-          by : (look : IsLook tells state what before.config.bytes before.bay after.bay run.text run.wanted) (first : Option Trouble) → first_trouble look.told ≡ first → status ≡ status_of_first (first_trouble look.told) → Cause status
+          by : (look : IsLook tells state what before.config.bytes before.bay after.bay run.text run.wanted) (first : Option Trouble) → first_trouble look.looked.told ≡ first → status ≡ status_of_first (first_trouble look.looked.told) → Cause status
           by look None is_first at = at_status 0 status (at ∙ ap status_of_first is_first) (done_without command is none)
-          by look (Some o) is_first at = at_status (trouble_status o) status (at ∙ ap status_of_first is_first) (look_trouble look.config look.has what look.told look.are o (first_at look.told o is_first))
+          by look (Some o) is_first at = at_status (trouble_status o) status (at ∙ ap status_of_first is_first) (look_trouble look.looked.config look.looked.has what look.looked.told look.looked.are o (first_at look.looked.told o is_first))
 
       -- ---- A view that was to be changed
 

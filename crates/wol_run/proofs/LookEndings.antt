@@ -18,7 +18,7 @@ use Rattle.inspection.specs.declared.calls.Stop.{Stop}
 use Rattle.inspection.specs.declared.calls.Stop.TheVariants.{Sink, Memory}
 use Rattle.volume_images.specs.Left.{IsTold}
 use Rattle.rack.specs.Opens.{KeepsOthers}
-use Rattle.wol_run.specs.Inspecting.{AreTold, IsCutLook, RunsLook, status_of_first}
+use Rattle.wol_run.specs.Inspecting.{AreTold, HasLooked, IsCutLook, RunsLook, status_of_first}
 use Rattle.wol_run.specs.Settings.{HasConfig, IsUnread, line_of_fault}
 use Rattle.wol_run.specs.Tops.{EndsWith}
 use Rattle.wol_run.proofs.Unread.{line_of_memory, line_unread}
@@ -44,17 +44,20 @@ module _ {D : Type 0} (tells : Bool) (state : D → State) (asked : Asked) (left
 
   module _ (config : Config) (has : HasConfig left config) (leaves : LeavesBay tells state config old new) (others : IsTold (KeepsOthers config) old.told new.told) where
     module _ (told : List Telling) (are : AreTold tells state asked config old new told) where
+      abbrev looked : HasLooked tells state asked left old new
+      looked = record { config = config; has = has; told = told; are = are }
+
       look_told : (first : Option Trouble) → length told ≡ length config.volumes.items → first ≡ first_trouble told → Appends printed now (text_of told) → status ≡ status_of_first first
           → RunsLook tells state asked left faults faults' old new status printed now
       look_told first all is more same = record {
         text = text_of told;
         wanted = status_of_first (first_trouble told);
-        allowed = inl (record { config = config; has = has; told = told; are = are; all = all; lines_ = refl; done = refl });
+        allowed = inl (record { looked = looked; all = all; lines_ = refl; done = refl });
         ends = inl (same ∙ ap status_of_first is, more);
       }
 
       cut_look : IsCutLook tells state asked left old new (text_of told ++ codes "fault 9 memory\n") 9
-      cut_look = record { config = config; has = has; told = told; are = are; lines_ = refl; memory = refl }
+      cut_look = record { looked = looked; lines_ = refl; memory = refl }
 
       look_stopped : AppendsFront printed now (text_of told) → status ≡ 7 → RunsLook tells state asked left faults faults' old new status printed now
       look_stopped front seven = record {

@@ -120,7 +120,7 @@ module _ {D : Type 0} (tells : Bool) (state : D → State) (words : List (List �
   look_unconfigured what run bytes told none = elim (wanted_or_sink run.text run.wanted status _ _ run.ends) [
     | inr seven ↦ inr (inl seven)
     | inl same ↦ elim run.allowed [
-      | inl look ↦ absurd (never_had _ bytes told none look.config look.has)
+      | inl look ↦ absurd (never_had _ bytes told none look.looked.config look.looked.has)
       | inr (inl cut) ↦ inr (inr (inr (same ∙ cut.memory)))
       | inr (inr untouched) ↦ of_unread _ bytes told none _ _ run.text run.wanted status untouched.line_ same
     ]

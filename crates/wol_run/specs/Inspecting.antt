@@ -43,26 +43,28 @@ pub record AreTold {D : Type 0} (tells : Bool) (state : D → State) (asked : As
   -- images of names that aren't configured are as they were
   pub others : IsTold (KeepsOthers config) old.told new.told
 
--- Status 0, 4, 5, 6 or 12: the configuration was had, and the text is the lines of all volumes.
-pub record IsLook {D : Type 0} (tells : Bool) (state : D → State) (asked : Asked)
-    (left : Option (List ℕ)) (old new : BayState) (text : List ℕ) (status : ℕ) : Type 0 where
+-- the configuration was had, and this was told of some first volumes
+pub record HasLooked {D : Type 0} (tells : Bool) (state : D → State) (asked : Asked)
+    (left : Option (List ℕ)) (old new : BayState) : Type 0 where
   pub config : Config
   pub has : HasConfig left config
   pub told : List Telling
   pub are : AreTold tells state asked config old new told
-  pub all : length told ≡ length config.volumes.items
-  pub lines_ : text ≡ text_of told
-  pub done : status ≡ status_of_first (first_trouble told)
+
+-- Status 0, 4, 5, 6 or 12: the configuration was had, and the text is the lines of all volumes.
+pub record IsLook {D : Type 0} (tells : Bool) (state : D → State) (asked : Asked)
+    (left : Option (List ℕ)) (old new : BayState) (text : List ℕ) (status : ℕ) : Type 0 where
+  pub looked : HasLooked tells state asked left old new
+  pub all : length looked.told ≡ length looked.config.volumes.items
+  pub lines_ : text ≡ text_of looked.told
+  pub done : status ≡ status_of_first (first_trouble looked.told)
 
 -- Status 9: the configuration was had, and behind the lines of some first volumes there was no
 -- memory.
 pub record IsCutLook {D : Type 0} (tells : Bool) (state : D → State) (asked : Asked)
     (left : Option (List ℕ)) (old new : BayState) (text : List ℕ) (status : ℕ) : Type 0 where
-  pub config : Config
-  pub has : HasConfig left config
-  pub told : List Telling
-  pub are : AreTold tells state asked config old new told
-  pub lines_ : text ≡ text_of told ++ codes "fault 9 memory\n"
+  pub looked : HasLooked tells state asked left old new
+  pub lines_ : text ≡ text_of looked.told ++ codes "fault 9 memory\n"
   pub memory : status ≡ 9
 
 -- a run of `check` or `dump`: one of these texts was printed whole, or a front of it to a sink that
