@@ -222,6 +222,27 @@ module _ {D : Type 0} (tells : Bool) (d e : Desk D) (at end count : ℕ) (o : Ou
   few : count ≤ end - at
   few = subst (λ n. count ≤ n) (part_length d.requests.items at end (omega arith) within) a.within
 
+  -- these requests were served, of which this was told
+  served_by : (rs : List Request) (told : List Outcome) (next : Bool) → e.outcomes.items ≡ d.outcomes.items ++ told → AreMade (began d.worker).view rs told (a.note ∷ []) → StopsAtRefusal true told → next ≡ going_after true told
+      → AllByRecursion (TellsFault (notes_seen e.worker)) told → HasServedNext tells rs true d e next
+  served_by rs told next outcomes made stops next_is faults = record {
+    told = told;
+    outcomes = outcomes;
+    id = id;
+    requests = requests;
+    room = room;
+    more = _;
+    notes = a.note ∷ [];
+    gains = gains_turn tells d.worker e.worker a.before a.note a.turned;
+    made = made;
+    stops = stops;
+    next_is = next_is;
+    stays = stays_turn tells d.worker e.worker a.before a.note a.turned number a.stays;
+    faults = faults;
+    reclaim = fault;
+    counted = counted;
+  }
+
   -- the first ones were answered
   pub turn_answered : was_answered o ≡ true → e.outcomes.items ≡ d.outcomes.items ++ replicate count o → HasServedUpTo tells at (at + count) d e
   unfolding batch
@@ -229,23 +250,9 @@ module _ {D : Type 0} (tells : Bool) (d e : Desk D) (at end count : ℕ) (o : Ou
     order = omega arith;
     within = (let f = few in omega (arith, f, less, within));
     next = true;
-    served = subst (λ (l : List Request). HasServedNext tells l true d e true) (front_of_part d.requests.items at end count few) (record {
-      told = replicate count o;
-      outcomes = outcomes;
-      id = id;
-      requests = requests;
-      room = room;
-      more = _;
-      notes = a.note ∷ [];
-      gains = gains_turn tells d.worker e.worker a.before a.note a.turned;
-      made = first_made (began d.worker).view batch count o a.note answered a.entry;
-      stops = stops_never count o (first_run (began d.worker).view batch count o a.note a.entry) answered;
-      next_is = sym (going_on count o answered);
-      stays = stays_turn tells d.worker e.worker a.before a.note a.turned number a.stays;
-      faults = all_same (TellsFault (notes_seen e.worker)) count o a.fault;
-      reclaim = fault;
-      counted = counted;
-    });
+    served = subst (λ (l : List Request). HasServedNext tells l true d e true) (front_of_part d.requests.items at end count few)
+        (served_by _ (replicate count o) true outcomes (first_made (began d.worker).view batch count o a.note answered a.entry) (stops_never count o (first_run (began d.worker).view batch count o a.note a.entry) answered) (sym (going_on count o answered))
+        (all_same (TellsFault (notes_seen e.worker)) count o a.fault));
     goes_on = λ _. refl;
   }
 
@@ -263,23 +270,10 @@ module _ {D : Type 0} (tells : Bool) (d e : Desk D) (at end count : ℕ) (o : Ou
         order = omega (arith, less, within);
         within = omega arith;
         next = false;
-        served = subst (λ (l : List Request). HasServedNext tells l true d e false) whole (record {
-          told = replicate count o ++ replicate left outcome.NotRun;
-          outcomes = outcomes ∙ append_assoc d.outcomes.items (replicate count o) (replicate left outcome.NotRun);
-          id = id;
-          requests = requests;
-          room = room;
-          more = _;
-          notes = a.note ∷ [];
-          gains = gains_turn tells d.worker e.worker a.before a.note a.turned;
-          made = first_refused (began d.worker).view batch count o a.note refused a.entry later left sum;
-          stops = stops_refused count o left single run refused;
-          next_is = sym (going_refused count o left single refused);
-          stays = stays_turn tells d.worker e.worker a.before a.note a.turned number a.stays;
-          faults = all_joined (TellsFault (notes_seen e.worker)) (replicate count o) (replicate left outcome.NotRun) (all_same (TellsFault (notes_seen e.worker)) count o a.fault) (all_same (TellsFault (notes_seen e.worker)) left outcome.NotRun tt);
-          reclaim = fault;
-          counted = counted;
-        });
+        served = subst (λ (l : List Request). HasServedNext tells l true d e false) whole
+            (served_by _ (replicate count o ++ replicate left outcome.NotRun) false (outcomes ∙ append_assoc d.outcomes.items (replicate count o) (replicate left outcome.NotRun))
+            (first_refused (began d.worker).view batch count o a.note refused a.entry later left sum) (stops_refused count o left single run refused) (sym (going_refused count o left single refused))
+            (all_joined (TellsFault (notes_seen e.worker)) (replicate count o) (replicate left outcome.NotRun) (all_same (TellsFault (notes_seen e.worker)) count o a.fault) (all_same (TellsFault (notes_seen e.worker)) left outcome.NotRun tt)));
         goes_on = λ more. absurd (omega (arith, more));
       }
 
