@@ -24,7 +24,8 @@ use Rattle.manager.specs.Stands.{IsInVolume, IsReady}
 use Rattle.manager.specs.declared.manager.Manager.{Manager}
 use Rattle.manager.proofs.RunSources.{same_version}
 use Rattle.log_cleaner.specs.Chunks.{AreNext, AreTidyBelow, IsChunk, IsNext, IsTidy, IsUppermost, KeepsJust, KeepsNone, NoneHomed, end_of, is_within}
-use Rattle.log_cleaner.specs.Cleans.{CanClean, HasCleaned, IsChunkOf, IsLeftUntidy, IsOfUntidy, copied_blocks, covered_in}
+use Rattle.log_cleaner.specs.Cleans.{CanClean, HasCleaned, IsChunkOf, IsLeftUntidy, IsOfUntidy, TellsCleaned, copied_blocks, covered_in}
+use Rattle.log_cleaner.specs.Copies.{AreCopies}
 use Rattle.log_cleaner.specs.Steps.{AreCopiesAt, AreCoveredIn, HasBroken, HasCopied, HasRewritten, IsCopyAt, IsRefused, KeepsTidy, Rewrites, Settles, TidiesAll, ended, is_broken, rewritten, written_of}
 use Rattle.log_cleaner.specs.Underway.{AreChunks, CleansBy, EndsBy, HasCleanedSome}
 use Rattle.log_cleaner.specs.declared.answer.Cleaned.{Cleaned}
@@ -546,17 +547,18 @@ ends_clean tells state most old now copied from copies b ready index bare = (
 -- ---- The whole
 
 module _ {D : Type 0} (tells : Bool) (state : D → State) (most : ℕ) (old new : Manager D) (can : CanClean old) (copies : List Write) where
+  -- the whole, by its chunks and by what it tells
+  whole : (result : Result Cleaned CleanFault) → AreChunks (covered_in old) (listed_in old.index.entries) most old.next copies → AreCopies tells state old new copies → TellsCleaned tells state most old new copies result
+      → (has : HasCleaned tells state most old new result) × (copies ≡ has.copies)
+  whole result made copied told = (
+    record { copies = copies; chunks = made.chunks; untidy = made.untidy; in_order = made.in_order; numbered = made.numbered; copied = copied; tells_ = told },
+    refl,
+  )
+
   pub cleaned_ok : (copied : ℕ) (full : Bool) (c : Cleaned) → c.before ≡ length old.index.entries → c.after ≡ length new.index.entries → c.copied ≡ copied → c.full ≡ full → CleansBy tells state most old new copies (Ok (copied, full))
       → (has : HasCleaned tells state most old new (Ok c)) × (copies ≡ has.copies)
-  cleaned_ok copied full c before after same_copied same_full all = let d = all.0 in (
-    record {
-      copies = copies;
-      chunks = d.chunks.chunks;
-      untidy = d.chunks.untidy;
-      in_order = d.chunks.in_order;
-      numbered = d.chunks.numbered;
-      copied = d.copied.copied;
-      tells_ = (
+  cleaned_ok copied full c before after same_copied same_full all = let d = all.0 in
+      whole (Ok c) d.chunks d.copied.copied (
         d.copied.goes_on,
         leaves_copies tells state old new copies can.up d.copied.keeps,
         before,
@@ -565,48 +567,13 @@ module _ {D : Type 0} (tells : Bool) (state : D → State) (most : ℕ) (old new
         λ is. all.2 (sym same_full ∙ is),
         λ is. all.3 (sym same_full ∙ is),
         d.untouched,
-      );
-    },
-    refl,
-  )
+      )
 
   pub cleaned_err : (fault : CleanFault) → CleansBy tells state most old new copies (Err fault) → (has : HasCleaned tells state most old new (Err fault)) × (copies ≡ has.copies)
-  cleaned_err (DiskFault p) all = let d = all.1 in (
-    record {
-      copies = copies;
-      chunks = all.0.chunks;
-      untidy = all.0.untidy;
-      in_order = all.0.in_order;
-      numbered = all.0.numbered;
-      copied = d.copied;
-      tells_ = (d.down, d.rose, d.leaves);
-    },
-    refl,
-  )
-  cleaned_err VersionsSpent all = let d = all.0 in (
-    record {
-      copies = copies;
-      chunks = d.chunks.chunks;
-      untidy = d.chunks.untidy;
-      in_order = d.chunks.in_order;
-      numbered = d.chunks.numbered;
-      copied = d.copied.copied;
-      tells_ = (d.copied.goes_on, leaves_copies tells state old new copies can.up d.copied.keeps, all.1, sym d.copied.next ∙ all.1, all.2, d.untouched);
-    },
-    refl,
-  )
-  cleaned_err NoMemory all = let d = all.0 in (
-    record {
-      copies = copies;
-      chunks = d.chunks.chunks;
-      untidy = d.chunks.untidy;
-      in_order = d.chunks.in_order;
-      numbered = d.chunks.numbered;
-      copied = d.copied.copied;
-      tells_ = (d.copied.goes_on, leaves_copies tells state old new copies can.up d.copied.keeps, d.untouched, all.1);
-    },
-    refl,
-  )
+  cleaned_err (DiskFault p) all = let d = all.1 in whole (Err (DiskFault p)) all.0 d.copied (d.down, d.rose, d.leaves)
+  cleaned_err VersionsSpent all = let d = all.0 in
+      whole (Err VersionsSpent) d.chunks d.copied.copied (d.copied.goes_on, leaves_copies tells state old new copies can.up d.copied.keeps, all.1, sym d.copied.next ∙ all.1, all.2, d.untouched)
+  cleaned_err NoMemory all = let d = all.0 in whole (Err NoMemory) d.chunks d.copied.copied (d.copied.goes_on, leaves_copies tells state old new copies can.up d.copied.keeps, d.untouched, all.1)
 
 pub cleaned_none : {D : Type 0} (tells : Bool) (state : D → State) (most : ℕ) (m : Manager D) → CanClean m → (has : HasCleaned tells state most m m (Err NoMemory)) × ([] ≡ has.copies)
 cleaned_none tells state most m can = cleaned_err tells state most m m can [] NoMemory

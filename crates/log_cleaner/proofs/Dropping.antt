@@ -15,7 +15,7 @@ use Rattle.wol_model.proofs.Counts.{marked_within}
 use Rattle.wol_promise.proofs.Covers.{any_found, any_member}
 use Rattle.wol_promise.proofs.GiveUps.{newer_in}
 use Rattle.wol_promise.proofs.Lists.{all_map, all_mapped, all_member, member_map}
-use Rattle.wol_promise.proofs.Wholes.{above_of, member_unfilter, one_newer}
+use Rattle.wol_promise.proofs.Wholes.{above_of, member_filter, member_unfilter, one_newer}
 use Rattle.block_cells.specs.Masks.{IsMask}
 use Rattle.block_cells.specs.declared.record.Rec.{Rec}
 use Rattle.block_cells.proofs.Bits.{has_bit-zero}
@@ -34,7 +34,7 @@ use Rattle.log_cleaner.specs.Chunks.{IsTidy, IsUppermost, KeepsNone, NoneHomed}
 use Rattle.log_cleaner.specs.Cleans.{CanClean}
 use Rattle.log_cleaner.specs.Steps.{GivesSome, HasCopied, HasNoneLiveIn, KeepsTidy}
 use Rattle.log_cleaner.proofs.Copying.{copies_plain}
-use Rattle.log_cleaner.proofs.Lists.{each_is_member, member_filter}
+use Rattle.log_cleaner.proofs.Lists.{each_is_member}
 use Rattle.log_cleaner.proofs.Stepping.{goes_none, lane_fewer, lane_pools, rose_of, set_awake}
 use Rattle.log_cleaner.proofs.Telling.{not_found}
 use Rattle.log_cleaner.proofs.Tidying.{both_true, range_has, not_so, both_ways, clash, covers, member_unmap, upper_of_tidy, within_first, any_map}

@@ -1,29 +1,14 @@
 -- Lists: members behind a filter, and flags.
-use Rattle.std.proofs.Common.{◌≡◌, ⊎_elim, ◌<◌, ◌≤◌, ◌+◌, ℕ, zero, suc, Bool, true, false, cond, ◌||◌, List, [], ◌∷◌, ◌++◌, map, length, take, refl, sym, ap, subst, ◌∙◌, arith}
+use Rattle.std.proofs.Common.{◌≡◌, ⊎_elim, ◌<◌, ◌≤◌, ◌+◌, ℕ, zero, suc, Bool, true, false, ◌||◌, List, [], ◌∷◌, ◌++◌, map, length, take, refl, ap, subst, ◌∙◌, arith}
 use Rattle.std.specs.Prelude.{Contains, filter}
 use Rattle.std.specs.List.{list_any, range_with_len, AllByRecursion}
 use Rattle.std.proofs.lemmas.Bool.{cases_lt}
-use Rattle.wol_promise.proofs.Lists.{member_front, member_behind}
-
-pub member_filter : {X : Type 0} (p : X → Bool) (xs : List X) (x : X) → Contains xs x → p x ≡ true → Contains (filter p xs) x
-member_filter p [] x has passes = has
-member_filter p (y ∷ ys) x has passes = ⊎_elim
-    (λ (same : y ≡ x). let t : p y ≡ true = ap p same ∙ passes in subst (λ (b : Bool). Contains (cond b (y ∷ filter p ys) (filter p ys)) x) (sym t) (0, omega arith, same))
-    (λ there. at (p y) (member_filter p ys x there passes))
-    (member_front y ys x has)
-  where
-    at : (b : Bool) → Contains (filter p ys) x → Contains (cond b (y ∷ filter p ys) (filter p ys)) x
-    at true rest = member_behind y (filter p ys) x rest
-    at false rest = rest
+use Rattle.wol_promise.proofs.Lists.{all_map, member_behind}
+use Rattle.wol_promise.proofs.Wholes.{all_filtered}
 
 -- what holds of each holds of each that passes
 pub all_filter : {X : Type 0} (P : X → Type 0) (p : X → Bool) (xs : List X) → AllByRecursion P xs → AllByRecursion P (filter p xs)
-all_filter P p [] all = tt
-all_filter P p (x ∷ xs) all = at (p x) (all_filter P p xs all.1)
-  where
-    at : (b : Bool) → AllByRecursion P (filter p xs) → AllByRecursion P (cond b (x ∷ filter p xs) (filter p xs))
-    at true rest = (all.0, rest)
-    at false rest = rest
+all_filter P p xs all = all_map (λ x. (p x ≡ true) × P x) P (λ x both. both.1) (filter p xs) (all_filtered P p xs all)
 
 -- each is a member
 pub each_is_member : {X : Type 0} (P : X → Type 0) (xs : List X) → ((x : X) → Contains xs x → P x) → AllByRecursion P xs

@@ -1,5 +1,5 @@
 -- The blocks of chunks are read one behind the other.
-use Rattle.std.proofs.Common.{◌≡◌, ◌<◌, ◌≤◌, ◌+◌, ◌-◌, ℕ, zero, suc, Bool, List, [], ◌∷◌, ◌++◌, length, take, get_or, refl, sym, ap, subst, ◌∙◌, arith}
+use Rattle.std.proofs.Common.{◌≡◌, ◌<◌, ◌≤◌, ◌+◌, ◌-◌, ℕ, zero, suc, Bool, List, [], ◌∷◌, ◌++◌, length, take, drop, get_or, refl, sym, ap, subst, ◌∙◌, arith}
 use Rattle.std.specs.Prelude.{IsTrue, slice_range}
 use Rattle.std.specs.List.{AllByRecursion}
 use Rattle.std.proofs.lemmas.List.{append-nil, length-take-le, take_more, take_all}
@@ -11,10 +11,12 @@ use Rattle.spin_model.specs.Spun.{state_of}
 use Rattle.wol_promise.specs.Ruled.{Noted}
 use Rattle.log_segment.specs.Records.{count_of}
 use Rattle.log_segment.specs.declared.item.Item.{Item}
+use Rattle.manager.specs.Groups.{IsItemOf, AreItemsOf}
 use Rattle.manager.specs.Seen.{look_of_manager}
 use Rattle.manager.specs.Stands.{Keeps}
 use Rattle.manager.specs.declared.base.ManagerBase.{ManagerBase}
 use Rattle.manager.specs.declared.manager.Manager.{Manager}
+use Rattle.manager.proofs.ReadRuns.{part_length}
 use Rattle.log_cleaner.specs.Cleans.{CanClean}
 use Rattle.log_cleaner.specs.Copies.{array_of}
 use Rattle.log_cleaner.specs.Steps.{AreRead, HasCopied, HasReadAll}
@@ -33,6 +35,19 @@ count_next items k d lt = ap count_of (take_more items k d lt) ∙ sum_by_push (
 -- there is room for the blocks of one more
 pub count_within : (items : List Item) (k : ℕ) (d : Item) → k < length items → count_of (take k items) + (get_or items k d).count ≤ count_of items
 count_within items k d lt = let e = count_next items k d lt in let s = sum_by-take-le (λ (i : Item). i.count) items (k + 1) in omega (arith, e, s)
+
+-- a chunk of a volume of such a size, for whose blocks there is room behind those that were read
+pub record FitsBehind (most size : ℕ) (chunk : Item) (room : List Block) (blocks : ℕ) : Type 0 where
+  pub is_item : IsItemOf most size chunk
+  pub fits : blocks + chunk.count ≤ length room
+  pub long : length (take (blocks + chunk.count - blocks) (drop blocks room)) ≡ chunk.count
+
+pub fits_behind : (most size : ℕ) (items : List Item) (place : ℕ) (d : Item) (room : List Block) (blocks : ℕ) → AreItemsOf most size items → place < length items → blocks ≡ count_of (take place items) → count_of items ≤ length room
+    → FitsBehind most size (get_or items place d) room blocks
+fits_behind most size items place d room blocks are lt behind enough =
+    let inside = count_within items place d lt in
+    let fits : blocks + (get_or items place d).count ≤ length room = omega (arith, behind, inside, enough) in
+    record { is_item = item_at (IsItemOf most size) items place d are lt; fits = fits; long = part_length blocks (get_or items place d).count room fits }
 
 module _ {D : Type 0} (tells : Bool) (state : D → State) (old : Manager D) (can : CanClean old) where
   -- none was read

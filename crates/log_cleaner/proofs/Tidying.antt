@@ -12,10 +12,11 @@ use Rattle.wol_model.proofs.Marks.{remarked_is, none_marked}
 use Rattle.wol_promise.specs.Policy.{Look, listing, is_in}
 use Rattle.wol_promise.proofs.Covers.{any_found, any_member}
 use Rattle.wol_promise.proofs.Lists.{all_map, all_mapped, all_member, all_push, member_map, member_front, member_behind}
+use Rattle.wol_promise.proofs.Wholes.{member_filter}
 use Rattle.redirect_map.specs.Index.{changed, has_version}
 use Rattle.manager.specs.Reclaim.{with_kept, given_of}
 use Rattle.log_cleaner.specs.Chunks.{KeepsNone, IsTidy, IsUppermost, NoneHomed, is_within}
-use Rattle.log_cleaner.proofs.Lists.{member_filter, all_filter, each_is_member}
+use Rattle.log_cleaner.proofs.Lists.{all_filter, each_is_member}
 
 abbrev pub covers : Listed → ℕ → Bool
 covers e b = (cover_of e).covers b

@@ -2,8 +2,6 @@ use Rattle.std.proofs.Common.{◌≡◌, ◌≤◌, ◌<◌, ◌+◌, ◌-◌, �
 use borrow.Rule.Slice.PartMut.{put_mid}
 use Rattle.spin_model.specs.Spun.{state_of}
 use Rattle.log_segment.specs.declared.item.Item.{Item}
-use Rattle.manager.specs.Groups.{IsItemOf}
-use Rattle.manager.proofs.ReadRuns.{part_length}
 use Rattle.wol_promise.specs.Policy.{woken}
 use Rattle.manager.specs.Reading.{NeedsSources}
 use Rattle.manager.specs.Seen.{look_of_manager}
@@ -12,7 +10,7 @@ use Rattle.log_cleaner.specs.Cleans.{covered_in}
 use Rattle.log_cleaner.specs.Steps.{ReadsAll}
 use Rattle.log_cleaner.specs.declared.answer.CleanFault.{CleanFault}
 use Rattle.log_cleaner.proofs.Copying.{read_content}
-use Rattle.log_cleaner.proofs.Reading.{count_within, item_at, read_more, read_none, read_whole}
+use Rattle.log_cleaner.proofs.Reading.{fits_behind, item_at, read_more, read_none, read_whole}
 use Rattle.log_cleaner.proofs.Rewriting.{read_copied, read_ends}
 use Rattle.log_cleaner.proofs.copy.read_all.Goals as goal
 
@@ -23,42 +21,27 @@ loop-chunk-init g c = record {
   read = read_none g.D.Disk.tells g.D.Disk.state c.args.m.now c.requires.can c.args.chunks.now c.args.room.now;
 }
 
-pub read-requires-clause-count : goal.read-requires-clause-count
-read-requires-clause-count g c =
-    let tells = g.D.Disk.tells in let state = g.D.Disk.state in let old = c.args.m.now in let mid = c.loop-chunk.m in let chunks = c.args.chunks.now in let place = c.loop-chunk.chunk-index in let other : Item = record { lbn = 0; count = 0 } in
-    let chunk : Item = get_or chunks place other in let read = c.loop-chunk.invariant.read in let lt : place < length chunks = c.loop-chunk-test.true in
-    let of : IsItemOf old.most (state_of state old.home).size chunk = item_at (IsItemOf old.most (state_of state old.home).size) chunks place other c.requires.chunks lt in
-    let inside = count_within chunks place other lt in
-    let fits : c.loop-chunk.blocks + chunk.count ≤ length c.loop-chunk.room = (let e = read.count in let l = c.loop-chunk.auto.room in omega (arith, e, l, inside, c.requires.room)) in
-    let long = part_length c.loop-chunk.blocks chunk.count c.loop-chunk.room fits in
-    let most = read.copied.goes_on.same.most in (omega (arith, long, of.some), omega (arith, long, of.few, most))
-
-pub read-requires-clause-fits : goal.read-requires-clause-fits
-read-requires-clause-fits g c =
-    let tells = g.D.Disk.tells in let state = g.D.Disk.state in let old = c.args.m.now in let mid = c.loop-chunk.m in let chunks = c.args.chunks.now in let place = c.loop-chunk.chunk-index in let other : Item = record { lbn = 0; count = 0 } in
-    let chunk : Item = get_or chunks place other in let read = c.loop-chunk.invariant.read in let lt : place < length chunks = c.loop-chunk-test.true in
-    let of : IsItemOf old.most (state_of state old.home).size chunk = item_at (IsItemOf old.most (state_of state old.home).size) chunks place other c.requires.chunks lt in
-    let inside = count_within chunks place other lt in
-    let fits : c.loop-chunk.blocks + chunk.count ≤ length c.loop-chunk.room = (let e = read.count in let l = c.loop-chunk.auto.room in omega (arith, e, l, inside, c.requires.room)) in
-    let long = part_length c.loop-chunk.blocks chunk.count c.loop-chunk.room fits in
-    let size = read.size in omega (arith, long, of.within, size)
+pub read-requires : goal.read-requires
+read-requires g c =
+    let state = g.D.Disk.state in let old = c.args.m.now in let i = c.loop-chunk.invariant in let read = i.read in
+    let f = fits_behind old.most (state_of state old.home).size c.args.chunks.now c.loop-chunk.chunk-index (record { lbn = 0; count = 0 }) c.loop-chunk.room c.loop-chunk.blocks c.requires.chunks c.loop-chunk-test.true read.count
+    (let l = c.loop-chunk.auto.room in omega (arith, l, c.requires.room)) in
+    let size = read.size in let most = read.copied.goes_on.same.most in
+    record { ready = i.ready; at = i.at; count = (omega (arith, f.long, f.is_item.some), omega (arith, f.long, f.is_item.few, most)); fits = omega (arith, f.long, f.is_item.within, size) }
 
 pub loop-chunk-preserved : goal.loop-chunk-preserved
 loop-chunk-preserved g c =
     let tells = g.D.Disk.tells in let state = g.D.Disk.state in let old = c.args.m.now in let mid = c.loop-chunk.m in let chunks = c.args.chunks.now in let place = c.loop-chunk.chunk-index in let other : Item = record { lbn = 0; count = 0 } in
     let chunk : Item = get_or chunks place other in let read = c.loop-chunk.invariant.read in let lt : place < length chunks = c.loop-chunk-test.true in
-    let of : IsItemOf old.most (state_of state old.home).size chunk = item_at (IsItemOf old.most (state_of state old.home).size) chunks place other c.requires.chunks lt in
-    let inside = count_within chunks place other lt in
-    let fits : c.loop-chunk.blocks + chunk.count ≤ length c.loop-chunk.room = (let e = read.count in let l = c.loop-chunk.auto.room in omega (arith, e, l, inside, c.requires.room)) in
-    let long = part_length c.loop-chunk.blocks chunk.count c.loop-chunk.room fits in
+    let f = fits_behind old.most (state_of state old.home).size chunks place other c.loop-chunk.room c.loop-chunk.blocks c.requires.chunks lt read.count (let l = c.loop-chunk.auto.room in omega (arith, l, c.requires.room)) in
     let new = c.read.new.self in let out = c.read.new.out in let e = c.in-Ok.ensures in
-    let out_long : length out ≡ chunk.count = c.read.auto.out ∙ long in
+    let out_long : length out ≡ chunk.count = c.read.auto.out ∙ f.long in
     let covered : (b : ℕ) → is_within chunk.lbn chunk.count b ≡ true → covered_in mid b ≡ true = λ b is. read.copied.goes_on.covered b ∙ item_at (λ (i : Item). (b : ℕ) → is_within i.lbn i.count b ≡ true → covered_in old b ≡ true) chunks place other c.requires.covered lt b is in
     record {
       ready = e.ready;
       at = e.at;
-      read = read_more tells state old c.requires.can mid new chunks place other c.loop-chunk.room out c.loop-chunk.blocks (c.loop-chunk.blocks + chunk.count) lt read refl fits out_long
-          (read_copied tells state mid new read.copied.goes_on.can e.read chunk.lbn chunk.count out e.up (subst (λ (n : ℕ). look_of_manager new ≡ woken (look_of_manager mid) chunk.lbn n) long e.look) covered (subst (NeedsSources mid new chunk.lbn) long e.needs_all) e.stands e.any_moment)
+      read = read_more tells state old c.requires.can mid new chunks place other c.loop-chunk.room out c.loop-chunk.blocks (c.loop-chunk.blocks + chunk.count) lt read refl f.fits out_long
+          (read_copied tells state mid new read.copied.goes_on.can e.read chunk.lbn chunk.count out e.up (subst (λ (n : ℕ). look_of_manager new ≡ woken (look_of_manager mid) chunk.lbn n) f.long e.look) covered (subst (NeedsSources mid new chunk.lbn) f.long e.needs_all) e.stands e.any_moment)
           (ap (λ i. i.entries) e.read.index) e.read.home.size (read_content tells state mid new chunk.lbn out e.stands);
     }
 
