@@ -1,9 +1,8 @@
-use Rattle.std.proofs.Common.{Ok, refl, subst, ◌∙◌}
+use Rattle.std.proofs.Common.{refl, ◌∙◌}
 use Rattle.std.proofs.lemmas.Result.{err_from_is_err_and}
 use Rattle.manager.specs.Seen.{look_of_manager}
-use Rattle.reclaimer.specs.Counts.{CountsMoved}
-use Rattle.reclaimer.specs.declared.answers.Drain.{Drain}
-use Rattle.request_turns.proofs.Counting.{taken_none, taken_both, none_more}
+use Rattle.request_turns.proofs.Counting.{taken_none}
+use Rattle.request_turns.proofs.StepNotes.{bare_taken, moved_taken}
 use Rattle.view_change.proofs.Steps.{underway, one_further, drains_ok, drains_err}
 use Rattle.view_change.proofs.draining.drain.Goals as goal
 
@@ -17,21 +16,18 @@ steps-init g c = record {
 }
 
 pub returns-in-Bare-clause-taken : goal.returns-in-Bare-clause-taken
-returns-in-Bare-clause-taken g c = let l = look_of_manager c.steps.m in let m = look_of_manager c.drain_step.new.m in
-    taken_both _ _ _ _ l m c.steps.invariant.taken
-    (record { blocks = 0; records = 0; taken = subst (λ (x : Drain). CountsMoved (Ok x) l m) c.in-Bare.is c.in_ok-drain_step.ensures.counted; counts = none_more c.steps.tally })
+returns-in-Bare-clause-taken g c = bare_taken _ _ _ _ _ _ c.steps.invariant.taken c.in_ok-drain_step.ensures.counted c.in-Bare.is
 
 pub returns-in-Bare-clause-drains : goal.returns-in-Bare-clause-drains
 returns-in-Bare-clause-drains g c = let e = c.in_ok-drain_step.ensures in drains_ok _ _ _ _ _ _ c.in-Bare.is c.steps.invariant.so e.fault e.drained e.calm e.any_moment
 
 pub steps-preserved : goal.steps-preserved
-steps-preserved g c = let e = c.in_ok-drain_step.ensures in let i = c.steps.invariant in let l = look_of_manager c.steps.m in let m = look_of_manager c.drain_step.new.m in record {
+steps-preserved g c = let e = c.in_ok-drain_step.ensures in let i = c.steps.invariant in record {
   ready = e.ready;
   at = e.at;
   so = one_further _ _ _ _ _ c.in-Moved.blocks c.in-Moved.records _ c.in-Moved.is i.so e.keeps e.fault e.drained e.calm e.any_moment;
   look = e.look ∙ i.look;
-  taken = taken_both _ _ _ _ l m i.taken
-      (record { blocks = c.in-Moved.blocks; records = c.in-Moved.records; taken = subst (λ (x : Drain). CountsMoved (Ok x) l m) c.in-Moved.is e.counted; counts = c.count.ensures });
+  taken = moved_taken _ _ _ _ _ _ i.taken e.counted c.in-Moved.blocks c.in-Moved.records _ c.in-Moved.is c.count.ensures;
 }
 
 pub returns-in_err-drain_step-clause-drains : goal.returns-in_err-drain_step-clause-drains
