@@ -1,7 +1,7 @@
 // Texts that were worked out by hand from the formats.
 use super::same::same;
 use energy::Amounts;
-use fixtures::THREE;
+use fixtures::{NOTHING_REPLAYED, OFFLOADS_RECLAIMED, THREE};
 use msr_trace::BadLine;
 use report::{
     Fault, Totals, Trouble, fault_text, format_line, read_line_text, solo_line, summary,
@@ -32,78 +32,55 @@ const UNUSED: Amounts = Amounts {
     units: 0,
 };
 
+// Those of `OFFLOADS`, and what each volume's disk did then.
+const RECLAIMED: Totals = Totals {
+    lines: 12,
+    blank: 0,
+    skipped: 0,
+    reads: 6,
+    writes: 6,
+    home: 4,
+    log: 2,
+    drains: 0,
+    blocks: 3,
+    records: 2,
+    span: 4_000_000_000,
+};
+
+const TURNED: [Amounts; 3] = [
+    Amounts {
+        wakes: 1,
+        sleeps: 2,
+        awake: 1_500_000_000,
+        standby: 2_500_000_000,
+        units: 15_000_000_000_000,
+    },
+    Amounts {
+        wakes: 2,
+        sleeps: 2,
+        awake: 3_400_000_000,
+        standby: 600_000_000,
+        units: 28_800_000_000_000,
+    },
+    Amounts {
+        wakes: 1,
+        sleeps: 1,
+        awake: 600_000_000,
+        standby: 3_400_000_000,
+        units: 8_700_000_000_000,
+    },
+];
+
 #[test]
 fn sums_up_runs(rt: HostRuntime) -> Result<(), Fail> {
     let config = read_config(rt.alloc(), THREE.as_bytes())?;
     assert!(rt; config.volumes.len() == 3);
     let mut out = Vec::new(rt.alloc());
-    summary(
-        &NOTHING,
-        &config.volumes,
-        &[UNUSED, UNUSED, UNUSED],
-        &mut out,
-    )?;
-    let totals = Totals {
-        lines: 12,
-        blank: 0,
-        skipped: 0,
-        reads: 6,
-        writes: 6,
-        home: 4,
-        log: 2,
-        drains: 0,
-        blocks: 3,
-        records: 2,
-        span: 4_000_000_000,
-    };
-    let amounts = [
-        Amounts {
-            wakes: 1,
-            sleeps: 2,
-            awake: 1_500_000_000,
-            standby: 2_500_000_000,
-            units: 15_000_000_000_000,
-        },
-        Amounts {
-            wakes: 2,
-            sleeps: 2,
-            awake: 3_400_000_000,
-            standby: 600_000_000,
-            units: 28_800_000_000_000,
-        },
-        Amounts {
-            wakes: 1,
-            sleeps: 1,
-            awake: 600_000_000,
-            standby: 3_400_000_000,
-            units: 8_700_000_000_000,
-        },
-    ];
-    summary(&totals, &config.volumes, &amounts, &mut out)?;
-    same(
-        &rt,
-        &out.as_slice(),
-        &b"lines 0 blank 0 skipped 0
-reads 0 writes 0
-placed home 0 log 0 drains 0
-reclaimed blocks 0 records 0
-span 0
-volume usr0 wakes 0 sleeps 0 awake 0 standby 0 energy 0
-volume web0 wakes 0 sleeps 0 awake 0 standby 0 energy 0
-volume src0 wakes 0 sleeps 0 awake 0 standby 0 energy 0
-total wakes 0 sleeps 0 energy 0
-lines 12 blank 0 skipped 0
-reads 6 writes 6
-placed home 4 log 2 drains 0
-reclaimed blocks 3 records 2
-span 4000000000
-volume usr0 wakes 1 sleeps 2 awake 1500000000 standby 2500000000 energy 1500000
-volume web0 wakes 2 sleeps 2 awake 3400000000 standby 600000000 energy 2880000
-volume src0 wakes 1 sleeps 1 awake 600000000 standby 3400000000 energy 870000
-total wakes 4 sleeps 5 energy 5250000
-"
-            .as_slice(),
-    );
+    summary(&NOTHING, &config.volumes, &[UNUSED; 3], &mut out)?;
+    same(&rt, &out.as_slice(), &NOTHING_REPLAYED);
+    let mut out = Vec::new(rt.alloc());
+    summary(&RECLAIMED, &config.volumes, &TURNED, &mut out)?;
+    same(&rt, &out.as_slice(), &OFFLOADS_RECLAIMED);
     Ok(())
 }
 

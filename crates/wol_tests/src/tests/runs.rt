@@ -5,8 +5,8 @@ ghost use Rattle.wol_bay.specs.MemBay.{mem_bay_state};
 use super::calls::{Faults, NONE, make_call};
 use super::same::{holds_at, same_at};
 use fixtures::{
-    Call, DRAINING, DRAINS, LAST_VERSION, OFFLOADS, OFFLOADS_KEPT, OFFLOADS_READ, ONE_BLOCK_EACH,
-    SRC0, THREE, USR0, WEB0, config_text, put,
+    Call, DRAINING, DRAINS, LAST_VERSION, NOTHING_REPLAYED, OFFLOADS, OFFLOADS_KEPT, OFFLOADS_READ,
+    OFFLOADS_RECLAIMED, ONE_BLOCK_EACH, SRC0, THREE, USR0, WEB0, config_text, put,
 };
 use std::alloc::Global;
 use std::process::Abort;
@@ -357,30 +357,7 @@ const THREE_MADE: Row<'_> = (
     &[b"format usr0 blocks 1066\nformat web0 blocks 1066\nformat src0 blocks 1066\n"],
 );
 
-const NOTHING: &[&[u8]] = &[
-    b"lines 0 blank 0 skipped 0
-reads 0 writes 0
-placed home 0 log 0 drains 0
-reclaimed blocks 0 records 0
-span 0
-volume usr0 wakes 0 sleeps 0 awake 0 standby 0 energy 0
-volume web0 wakes 0 sleeps 0 awake 0 standby 0 energy 0
-volume src0 wakes 0 sleeps 0 awake 0 standby 0 energy 0
-total wakes 0 sleeps 0 energy 0
-",
-];
-
-// What is summed up of `OFFLOADS` where records are reclaimed.
-const OFFLOADS_RECLAIMED: &[u8] = b"lines 12 blank 0 skipped 0
-reads 6 writes 6
-placed home 4 log 2 drains 0
-reclaimed blocks 3 records 2
-span 4000000000
-volume usr0 wakes 1 sleeps 2 awake 1500000000 standby 2500000000 energy 1500000
-volume web0 wakes 2 sleeps 2 awake 3400000000 standby 600000000 energy 2880000
-volume src0 wakes 1 sleeps 1 awake 600000000 standby 3400000000 energy 870000
-total wakes 4 sleeps 5 energy 5250000
-";
+const NOTHING: &[&[u8]] = &[NOTHING_REPLAYED];
 
 const EACH: &[&[u8]] = &[OFFLOADS_READ, OFFLOADS_RECLAIMED];
 
