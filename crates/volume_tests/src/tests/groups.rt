@@ -17,9 +17,9 @@ fn a_run_of_writes_goes_to_a_log_as_one(rt: HostRuntime) -> Result<(), Fail> {
     let mut out = [[0; 512]; 2];
     let read = rig.read(&rt, 0, &mut out);
     let _remains = apart(&rt, rt.alloc(), rig);
-    assert_eq!(rt; wrote, Ok((3, Place::Log { logger: 1 })));
-    assert_eq!(rt; read, Ok(Sources { home: 0, logged: 2 }));
-    assert_eq!(rt; out, [[9; 512], [8; 512]]);
+    assert!(rt; wrote == Ok((3, Place::Log { logger: 1 })));
+    assert!(rt; read == Ok(Sources { home: 0, logged: 2 }));
+    assert!(rt; out == [[9; 512], [8; 512]]);
     Ok(())
 }
 
@@ -33,9 +33,9 @@ fn what_would_go_home_joins_no_group(rt: HostRuntime) -> Result<(), Fail> {
     let logged = rig.write_run(&rt, &items, &[[8; 512], [9; 512]]);
     let gone = rig.write_run(&rt, &items[1..], &[[9; 512]]);
     let _remains = apart(&rt, rt.alloc(), rig);
-    assert_eq!(rt; first, Ok(Place::Log { logger: 1 }));
-    assert_eq!(rt; logged, Ok((1, Place::Log { logger: 1 })));
-    assert_eq!(rt; gone, Ok((1, Place::Home)));
+    assert!(rt; first == Ok(Place::Log { logger: 1 }));
+    assert!(rt; logged == Ok((1, Place::Log { logger: 1 })));
+    assert!(rt; gone == Ok((1, Place::Home)));
     Ok(())
 }
 
@@ -47,8 +47,8 @@ fn a_group_ends_where_the_segment_has_no_room(rt: HostRuntime) -> Result<(), Fai
     let wrote = rig.write_run(&rt, &items, &[[7; 512]; 16]);
     let full = rig.write_run(&rt, &items[15..], &[[8; 512]]);
     let _remains = apart(&rt, rt.alloc(), rig);
-    assert_eq!(rt; wrote, Ok((15, Place::Log { logger: 1 })));
-    assert_eq!(rt; full, Err(WriteRefusal::Full));
+    assert!(rt; wrote == Ok((15, Place::Log { logger: 1 })));
+    assert!(rt; full == Err(WriteRefusal::Full));
     Ok(())
 }
 
@@ -62,8 +62,8 @@ fn eight_writes_to_a_log_take_two_syncs(rt: HostRuntime) -> Result<(), Fail> {
     let Some((index, part)) = apart(&rt, rt.alloc(), rig).held.pop() else {
         return Err(Fail::from("no segment"));
     };
-    assert_eq!(rt; wrote, Ok((8, Place::Log { logger: 1 })));
-    assert_eq!(rt; index, 0);
-    assert_eq!(rt; part.into_inner().syncs(), 5);
+    assert!(rt; wrote == Ok((8, Place::Log { logger: 1 })));
+    assert!(rt; index == 0);
+    assert!(rt; part.into_inner().syncs() == 5);
     Ok(())
 }

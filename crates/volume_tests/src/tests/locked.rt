@@ -120,7 +120,7 @@ fn free_segment<R: Abort>(rt: &R, alloc: Global, volume: u32) -> FreeSegment<Cou
     spindle.done(token);
     match opened {
         Ok(Adopted::Free(free)) => {
-            assert_eq!(rt; free.blocks(), SEGMENT);
+            assert!(rt; free.blocks() == SEGMENT);
             free
         }
         Ok(Adopted::Held(_held)) => panic!(rt; "a segment with an owner"),

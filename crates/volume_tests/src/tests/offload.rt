@@ -14,14 +14,11 @@ fn a_write_goes_to_the_log_of_an_awake_logger_and_home_stays_asleep(
     let mut out = [[0; 512]; 2];
     let read = rig.read(&rt, 0, &mut out);
     let remains = apart(&rt, rt.alloc(), rig);
-    assert_eq!(rt; wrote, Ok(Place::Log { logger: 1 }));
-    assert_eq!(rt; read, Ok(Sources { home: 0, logged: 2 }));
-    assert_eq!(rt; out, [[7; 512], [8; 512]]);
-    assert_eq!(rt;
-        remains.home.as_slice(),
-        [Turned::Down(600_000_000)].as_slice()
-    );
-    assert_eq!(rt; remains.logger.as_slice(), [].as_slice());
-    assert_eq!(rt; remains.free, 0);
+    assert!(rt; wrote == Ok(Place::Log { logger: 1 }));
+    assert!(rt; read == Ok(Sources { home: 0, logged: 2 }));
+    assert!(rt; out == [[7; 512], [8; 512]]);
+    assert!(rt; remains.home.as_slice() == [Turned::Down(600_000_000)].as_slice());
+    assert!(rt; remains.logger.as_slice() == [].as_slice());
+    assert!(rt; remains.free == 0);
     Ok(())
 }

@@ -43,8 +43,8 @@ fn overlapping<R: Abort + Wait>(rt: &R, alloc: Global) -> Rig
     rig.begin(false, true);
     let first = rig.write(rt, 1, &[[11; 512], [12; 512], [13; 512], [14; 512]]);
     let second = rig.write(rt, 2, &[[22; 512], [23; 512]]);
-    assert_eq!(rt; first, Ok(Place::Log { logger: 1 }));
-    assert_eq!(rt; second, Ok(Place::Log { logger: 1 }));
+    assert!(rt; first == Ok(Place::Log { logger: 1 }));
+    assert!(rt; second == Ok(Place::Log { logger: 1 }));
     rig
 }
 
@@ -65,14 +65,14 @@ fn what_a_newer_record_covers_is_given_up_while_home_sleeps(rt: HostRuntime) -> 
         may_go: 6,
         older: 0,
     };
-    assert_eq!(rt; first, Some(marks));
-    assert_eq!(rt;
-        first_after,
-        Some(Marks {
-            keep: 9,
-            may_go: 0,
-            ..marks
-        })
+    assert!(rt; first == Some(marks));
+    assert!(rt;
+        first_after
+            == Some(Marks {
+                keep: 9,
+                may_go: 0,
+                ..marks
+            })
     );
     let marks = Marks {
         pos: 6,
@@ -81,15 +81,12 @@ fn what_a_newer_record_covers_is_given_up_while_home_sleeps(rt: HostRuntime) -> 
         may_go: 0,
         older: 3,
     };
-    assert_eq!(rt; second, Some(marks));
-    assert_eq!(rt; second_after, Some(Marks { older: 0, ..marks }));
-    assert_eq!(rt; gone, [Ok(Gone::Trimmed(1)), Ok(Gone::Nothing)]);
+    assert!(rt; second == Some(marks));
+    assert!(rt; second_after == Some(Marks { older: 0, ..marks }));
+    assert!(rt; gone == [Ok(Gone::Trimmed(1)), Ok(Gone::Nothing)]);
     assert!(rt; covered);
-    assert_eq!(rt; remains.free, 0);
-    assert_eq!(rt;
-        remains.home.as_slice(),
-        [Turned::Down(600_000_000)].as_slice()
-    );
+    assert!(rt; remains.free == 0);
+    assert!(rt; remains.home.as_slice() == [Turned::Down(600_000_000)].as_slice());
     Ok(())
 }
 
@@ -109,39 +106,38 @@ fn two_versions_go_home_and_are_gone_in_order(rt: HostRuntime) -> Result<(), Fai
     let mut out = [[0; 512]; 4];
     let read = rig.read(&rt, 1, &mut out);
     let remains = apart(&rt, rt.alloc(), rig);
-    assert_eq!(rt;
-        first,
-        (
-            Ok(Fetched::Some {
-                version: 1,
-                count: 4
-            }),
-            Ok(2)
-        )
+    assert!(rt;
+        first
+            == (
+                Ok(Fetched::Some {
+                    version: 1,
+                    count: 4
+                }),
+                Ok(2)
+            )
     );
-    assert_eq!(rt;
-        second,
-        (
-            Ok(Fetched::Some {
-                version: 2,
-                count: 2
-            }),
-            Ok(2)
-        )
+    assert!(rt;
+        second
+            == (
+                Ok(Fetched::Some {
+                    version: 2,
+                    count: 2
+                }),
+                Ok(2)
+            )
     );
-    assert_eq!(rt; third, Ok(Fetched::Nothing));
-    assert_eq!(rt; marks.map(|marks| marks.may_go), Some(0));
-    assert_eq!(rt;
-        gone,
-        [
+    assert!(rt; third == Ok(Fetched::Nothing));
+    assert!(rt; marks.map(|marks| marks.may_go) == Some(0));
+    assert!(rt;
+        gone == [
             Ok(Gone::Version(1)),
             Ok(Gone::Version(2)),
             Ok(Gone::Nothing)
         ]
     );
-    assert_eq!(rt; read, Ok(Sources { home: 4, logged: 0 }));
-    assert_eq!(rt; out, [[11; 512], [22; 512], [23; 512], [14; 512]]);
-    assert_eq!(rt; remains.free, 1);
+    assert!(rt; read == Ok(Sources { home: 4, logged: 0 }));
+    assert!(rt; out == [[11; 512], [22; 512], [23; 512], [14; 512]]);
+    assert!(rt; remains.free == 1);
     Ok(())
 }
 
@@ -159,20 +155,17 @@ fn a_block_that_was_overwritten_since_it_was_fetched_is_not_put_home(
     let mut out = [[0; 512]];
     let read = rig.read(&rt, 5, &mut out);
     let _remains = apart(&rt, rt.alloc(), rig);
-    assert_eq!(rt;
-        [first, second],
-        [Ok(Place::Log { logger: 1 }), Ok(Place::Log { logger: 1 })]
+    assert!(rt; [first, second] == [Ok(Place::Log { logger: 1 }), Ok(Place::Log { logger: 1 })]);
+    assert!(rt;
+        fetched
+            == Ok(Fetched::Some {
+                version: 1,
+                count: 1
+            })
     );
-    assert_eq!(rt;
-        fetched,
-        Ok(Fetched::Some {
-            version: 1,
-            count: 1
-        })
-    );
-    assert_eq!(rt; put, Ok(0));
-    assert_eq!(rt; read, Ok(Sources { home: 0, logged: 1 }));
-    assert_eq!(rt; out, [[2; 512]]);
+    assert!(rt; put == Ok(0));
+    assert!(rt; read == Ok(Sources { home: 0, logged: 1 }));
+    assert!(rt; out == [[2; 512]]);
     Ok(())
 }
 
@@ -180,15 +173,14 @@ fn a_block_that_was_overwritten_since_it_was_fetched_is_not_put_home(
 fn a_drain_wakes_home_and_leaves_no_record(rt: HostRuntime) -> Result<(), Fail> {
     let mut rig = overlapping(&rt, rt.alloc());
     for (blocks, records) in [(0, 0), (2, 0), (0, 1), (2, 0), (0, 1)] {
-        assert_eq!(rt; rig.drain_step(&rt), Ok(Drain::Moved { blocks, records }));
+        assert!(rt; rig.drain_step(&rt) == Ok(Drain::Moved { blocks, records }));
     }
     let last = rig.drain_step(&rt);
     let remains = apart(&rt, rt.alloc(), rig);
-    assert_eq!(rt; last, Ok(Drain::Bare));
-    assert_eq!(rt; remains.free, 1);
-    assert_eq!(rt;
-        remains.home.as_slice(),
-        [Turned::Down(600_000_000), Turned::Up(700_000_000)].as_slice()
+    assert!(rt; last == Ok(Drain::Bare));
+    assert!(rt; remains.free == 1);
+    assert!(rt;
+        remains.home.as_slice() == [Turned::Down(600_000_000), Turned::Up(700_000_000)].as_slice()
     );
     Ok(())
 }

@@ -104,12 +104,12 @@ fn records_left(alloc: Global, calls: u64, records: usize, choice: &[u32]) -> Re
 #[test]
 fn a_record_is_there_once_its_head_is(rt: HostRuntime) -> Result<(), Fail> {
     let alloc = rt.alloc();
-    assert_eq!(rt; records_left(alloc, 9, 1, &[])?, 0);
-    assert_eq!(rt; records_left(alloc, 9, 1, &[1, 1, 1, 1])?, 0);
-    assert_eq!(rt; records_left(alloc, 10, 1, &[])?, 1);
-    assert_eq!(rt; records_left(alloc, 10, 1, &[0, 1])?, 1);
-    assert_eq!(rt; records_left(alloc, 10, 1, &[0, 0])?, 0);
-    assert_eq!(rt; records_left(alloc, 11, 1, &[0, 0])?, 1);
+    assert!(rt; records_left(alloc, 9, 1, &[])? == 0);
+    assert!(rt; records_left(alloc, 9, 1, &[1, 1, 1, 1])? == 0);
+    assert!(rt; records_left(alloc, 10, 1, &[])? == 1);
+    assert!(rt; records_left(alloc, 10, 1, &[0, 1])? == 1);
+    assert!(rt; records_left(alloc, 10, 1, &[0, 0])? == 0);
+    assert!(rt; records_left(alloc, 11, 1, &[0, 0])? == 1);
     Ok(())
 }
 
@@ -125,9 +125,9 @@ fn a_stop_leaves_the_first_ones_of_a_group(rt: HostRuntime) -> Result<(), Fail> 
         ([0, 1, 0, 0, 0, 1, 0, 1], 1),
         ([0, 1, 0, 1, 0, 1, 0, 1], 4),
     ] {
-        assert_eq!(rt; records_left(alloc, 19, 4, &choice)?, want);
+        assert!(rt; records_left(alloc, 19, 4, &choice)? == want);
     }
-    assert_eq!(rt; records_left(alloc, 20, 4, &[0, 0])?, 4);
+    assert!(rt; records_left(alloc, 20, 4, &[0, 0])? == 4);
     Ok(())
 }
 
@@ -179,6 +179,6 @@ fn a_stale_head_behind_the_gate_is_no_record(rt: HostRuntime) -> Result<(), Fail
     let token = spindle.need();
     let found = used_again(rt.alloc(), &token);
     spindle.done(token);
-    assert_eq!(rt; found?, (1, 3));
+    assert!(rt; found? == (1, 3));
     Ok(())
 }
