@@ -7,4 +7,3 @@ mod inspected;
 mod memory_bays;
 mod racks;
 mod record_lines;
-mod same;

@@ -5,7 +5,6 @@ mod config_refusals;
 mod disks;
 mod file_sources;
 mod generated_lines;
-mod same;
 mod streams;
 mod texts;
 mod trace_lines;

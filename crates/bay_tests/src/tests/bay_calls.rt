@@ -3,8 +3,8 @@ ghost use Rattle.std.specs.Prelude.{◌≡◌, ◌≤◌, OnOk, IsTrue};
 ghost use Rattle.wol_bay.specs.Bay.{Holds};
 ghost use Rattle.bay_tests.specs.Home.{AreAllHome};
 
-use super::same::same_at;
-use std::process::Abort;
+use fixtures::same_at;
+use std::test::Fail;
 use wol_bay::{Bay, BayFault};
 use wol_disk::{Block, Disk, Failed};
 
@@ -71,36 +71,33 @@ pub(crate) fn read_image<B: Bay>(
 }
 
 /// An image is to be made so.
-pub(crate) fn writes<B: Bay, R: Abort>(
-    rt: &R,
+pub(crate) fn writes<B: Bay>(
     bay: &mut B,
     name: &str,
     byte: u8,
     want: Result<Result<(), Failed>, BayFault>,
-)
+) -> Result<(), Fail>
     requires { AreAllHome (B.state bay.old) }
     ensures { AreAllHome (B.state bay.new) }
 {
     let found = write_image(bay, name, byte);
-    same_at(rt, &found, &want, &format_args!("{name} with {byte}"));
+    same_at(&found, &want, &format_args!("{name} with {byte}"))
 }
 
 /// An image is to go out in parts of these sizes, or not to, and to have these bytes.
-pub(crate) fn reads<B: Bay, R: Abort>(
-    rt: &R,
+pub(crate) fn reads<B: Bay>(
     bay: &mut B,
     name: &str,
     sizes: &[u64],
     want: Result<Result<(u8, u8, u8), Failed>, BayFault>,
-)
+) -> Result<(), Fail>
     requires { AreAllHome (B.state bay.old) }
     ensures { AreAllHome (B.state bay.new) }
 {
     let found = read_image(bay, name, sizes);
     same_at(
-        rt,
         &found,
         &want,
         &format_args!("{name} in {} parts", sizes.len()),
-    );
+    )
 }

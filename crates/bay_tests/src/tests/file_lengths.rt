@@ -1,20 +1,17 @@
 // Files of other lengths than an image's, and a file that can't be synced.
 use super::bay_calls::reads;
-use super::same::same;
+use fixtures::{own_path, same};
+use std::fs;
 use std::os::unix::fs::symlink;
 use std::process::id;
 use std::test::Fail;
-use std::{env, fs};
 use wol_bay::{Bay, BayFault, FileBay};
 use wol_disk::{Disk, Failed};
 
 #[test]
 fn a_file_of_another_length_is_no_image(rt: HostRuntime) -> Result<(), Fail> {
     let alloc = rt.alloc();
-    let own = id(rt.process());
-    let temporary = env::temp_dir(&rt)?;
-    let temporary = temporary.as_str();
-    let folder = format!(in alloc; "{temporary}/wol_lengths_{own}")?;
+    let folder = own_path(&rt, "wol_lengths", id(rt.process()))?;
     let file = format!(in alloc; "{folder}/usr0.vol")?;
     fs::create_dir(&rt, folder.as_str())?;
     let mut bay = FileBay::new(rt, alloc, folder.as_str());
@@ -24,12 +21,12 @@ fn a_file_of_another_length_is_no_image(rt: HostRuntime) -> Result<(), Fail> {
         let wrong = BayFault::WrongLength {
             bytes: bytes as u64,
         };
-        reads(&rt, &mut bay, "usr0", &[4], Err(wrong));
-        reads(&rt, &mut bay, "usr0", &[1, 3], Err(wrong));
+        reads(&mut bay, "usr0", &[4], Err(wrong))?;
+        reads(&mut bay, "usr0", &[1, 3], Err(wrong))?;
     }
     let content = vec![in alloc; 7u8; 2048]?;
     fs::write(&rt, file.as_str(), content.as_slice())?;
-    reads(&rt, &mut bay, "usr0", &[1, 3], Ok(Ok((7, 7, 7))));
+    reads(&mut bay, "usr0", &[1, 3], Ok(Ok((7, 7, 7))))?;
     fs::remove_dir_all(&rt, folder.as_str())?;
     Ok(())
 }
@@ -38,10 +35,7 @@ fn a_file_of_another_length_is_no_image(rt: HostRuntime) -> Result<(), Fail> {
 #[test]
 fn a_sync_that_fails_is_told(rt: HostRuntime) -> Result<(), Fail> {
     let alloc = rt.alloc();
-    let own = id(rt.process());
-    let temporary = env::temp_dir(&rt)?;
-    let temporary = temporary.as_str();
-    let folder = format!(in alloc; "{temporary}/wol_syncs_{own}")?;
+    let folder = own_path(&rt, "wol_syncs", id(rt.process()))?;
     let file = format!(in alloc; "{folder}/usr0.vol")?;
     fs::create_dir(&rt, folder.as_str())?;
     symlink(&rt, "/proc/self/comm", file.as_str())?;
@@ -50,7 +44,7 @@ fn a_sync_that_fails_is_told(rt: HostRuntime) -> Result<(), Fail> {
     let Some(mut part) = parts.pop() else {
         panic!(rt; "an image of one part");
     };
-    same(&rt, &part.sync(), &Err(Failed));
+    same(&part.sync(), &Err(Failed))?;
     fs::remove_dir_all(&rt, folder.as_str())?;
     Ok(())
 }

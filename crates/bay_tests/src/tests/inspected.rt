@@ -5,7 +5,7 @@ ghost use Rattle.wol_bay.specs.MemBay.{mem_bay_state};
 
 use fixtures::{
     Change, Formatted, LONG, MANY, ONE_BLOCK_EACH, OTHER_LONG, OTHER_MANY, OTHER_PAST, OWNED, PAST,
-    SRC0, THREE, USR0, WEB0, put,
+    SRC0, THREE, USR0, WEB0, config_text, put,
 };
 use inspection::{Asked, inspect};
 use rack::format;
@@ -342,24 +342,19 @@ fn forged_images_are_told(rt: HostRuntime) -> Result<(), Fail> {
 }
 
 // Eleven volumes, each with one block more than the last; the second logs on the fourth.
-const ELEVEN: &str = r#"segment_blocks = 4
-awake_mw = 1
-standby_mw = 1
-wake_mj = 1
-volume = [
-  { name = "v0", host = "h", disk = 0, home_blocks = 1, segments = 1, view = [] },
-  { name = "v1", host = "h", disk = 1, home_blocks = 2, segments = 1, view = ["v3"] },
-  { name = "v2", host = "h", disk = 2, home_blocks = 3, segments = 1, view = [] },
-  { name = "v3", host = "h", disk = 3, home_blocks = 4, segments = 1, view = [] },
-  { name = "v4", host = "h", disk = 4, home_blocks = 5, segments = 1, view = [] },
-  { name = "v5", host = "h", disk = 5, home_blocks = 6, segments = 1, view = [] },
-  { name = "v6", host = "h", disk = 6, home_blocks = 7, segments = 1, view = [] },
-  { name = "v7", host = "h", disk = 7, home_blocks = 8, segments = 1, view = [] },
-  { name = "v8", host = "h", disk = 8, home_blocks = 9, segments = 1, view = [] },
-  { name = "v9", host = "h", disk = 9, home_blocks = 10, segments = 1, view = [] },
-  { name = "v10", host = "h", disk = 10, home_blocks = 11, segments = 1, view = [] },
-]
-"#;
+const ELEVEN: &str = config_text!(4:
+    "v0" of "h0" 1 1 "",
+    "v1" of "h1" 2 1 "\"v3\"",
+    "v2" of "h2" 3 1 "",
+    "v3" of "h3" 4 1 "",
+    "v4" of "h4" 5 1 "",
+    "v5" of "h5" 6 1 "",
+    "v6" of "h6" 7 1 "",
+    "v7" of "h7" 8 1 "",
+    "v8" of "h8" 9 1 "",
+    "v9" of "h9" 10 1 "",
+    "v10" of "h10" 11 1 ""
+);
 
 // The image of the fourth has another length. Each digest is that of so many blocks of zeros.
 const ELEVEN_LINES: &[u8] =

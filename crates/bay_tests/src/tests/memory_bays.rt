@@ -5,9 +5,8 @@ ghost use Rattle.wol_bay.specs.MemBay.{mem_bay_state};
 ghost use Rattle.bay_tests.specs.Home.{AreAllHome};
 
 use super::bay_calls::{read_image, reads, write_image, writes};
-use super::same::same;
+use fixtures::same;
 use std::alloc::Global;
-use std::process::Abort;
 use std::sync::Arc;
 use std::test::Fail;
 use wol_bay::{BayFault, MemBay};
@@ -56,14 +55,14 @@ fn restart_image(bay: &mut MemBay, name: &str, choice: &[u32])
 }
 
 #[test]
-fn an_image_goes_out_in_parts(rt: HostRuntime) {
+fn an_image_goes_out_in_parts(rt: HostRuntime) -> Result<(), Fail> {
     let mut bay = MemBay::new(rt.alloc());
-    writes(&rt, &mut bay, "usr0", 1, Ok(Ok(())));
-    writes(&rt, &mut bay, "usr0", 2, Ok(Ok(())));
-    reads(&rt, &mut bay, "usr0", &[1, 3], Ok(Ok((2, 2, 0))));
-    reads(&rt, &mut bay, "web0", &[4], Err(BayFault::Absent));
+    writes(&mut bay, "usr0", 1, Ok(Ok(())))?;
+    writes(&mut bay, "usr0", 2, Ok(Ok(())))?;
+    reads(&mut bay, "usr0", &[1, 3], Ok(Ok((2, 2, 0))))?;
+    reads(&mut bay, "web0", &[4], Err(BayFault::Absent))?;
     let wrong = BayFault::WrongLength { bytes: 2048 };
-    reads(&rt, &mut bay, "usr0", &[4, 1], Err(wrong));
+    reads(&mut bay, "usr0", &[4, 1], Err(wrong))
 }
 
 #[test]
@@ -71,9 +70,8 @@ fn planned_calls_of_parts_fail_once(rt: HostRuntime) -> Result<(), Fail> {
     let mut bay = MemBay::new(rt.alloc());
     plan_call(&mut bay, "usr0", 1)?;
     plan_call(&mut bay, "web0", 0)?;
-    writes(&rt, &mut bay, "usr0", 1, Ok(Err(Failed)));
-    writes(&rt, &mut bay, "usr0", 2, Ok(Ok(())));
-    Ok(())
+    writes(&mut bay, "usr0", 1, Ok(Err(Failed)))?;
+    writes(&mut bay, "usr0", 2, Ok(Ok(())))
 }
 
 #[test]
@@ -82,24 +80,22 @@ fn a_fuse_stops_what_goes_out(rt: HostRuntime) -> Result<(), Fail> {
     let fuse = Arc::new(alloc, Fuse::new(3))?;
     let mut bay = MemBay::new(alloc);
     give_fuse(&mut bay, Some(Arc::try_clone(&fuse)?));
-    writes(&rt, &mut bay, "usr0", 1, Ok(Ok(())));
-    writes(&rt, &mut bay, "web0", 1, Ok(Err(Failed)));
-    same(&rt, &fuse.passed(), &3);
+    writes(&mut bay, "usr0", 1, Ok(Ok(())))?;
+    writes(&mut bay, "web0", 1, Ok(Err(Failed)))?;
+    same(&fuse.passed(), &3)?;
     give_fuse(&mut bay, None);
-    writes(&rt, &mut bay, "web0", 1, Ok(Ok(())));
-    Ok(())
+    writes(&mut bay, "web0", 1, Ok(Ok(())))
 }
 
 // A write that stops before its sync and a restart are to leave these bytes.
-fn stops<R: Abort>(rt: &R, alloc: Global, choice: &[u32], want: (u8, u8, u8)) -> Result<(), Fail> {
+fn stops(alloc: Global, choice: &[u32], want: (u8, u8, u8)) -> Result<(), Fail> {
     let mut bay = MemBay::new(alloc);
     give_fuse(&mut bay, Some(Arc::new(alloc, Fuse::new(1))?));
     let written = write_image(&mut bay, "usr0", 7)?;
     restart_image(&mut bay, "usr0", choice);
     give_fuse(&mut bay, None);
-    reads(rt, &mut bay, "usr0", &[4], Ok(Ok(want)));
-    same(rt, &written, &Err(Failed));
-    Ok(())
+    reads(&mut bay, "usr0", &[4], Ok(Ok(want)))?;
+    same(&written, &Err(Failed))
 }
 
 #[test]
@@ -114,7 +110,7 @@ fn a_write_stopped_before_its_sync_leaves_eight_images(rt: HostRuntime) -> Resul
         ([0, 1, 1], (0, 7, 7)),
         ([1, 1, 1], (7, 7, 7)),
     ] {
-        stops(&rt, rt.alloc(), &choice, want)?;
+        stops(rt.alloc(), &choice, want)?;
     }
     Ok(())
 }
@@ -126,10 +122,9 @@ fn bytes_are_put_as_an_image_and_taken_away(rt: HostRuntime) -> Result<(), Fail>
     put_image(&mut bay, "usr0", blocks.as_flattened())?;
     let read = read_image(&mut bay, "usr0", &[4])?;
     remove_image(&mut bay, "usr0");
-    same(&rt, &read, &Ok((1, 2, 3)));
-    reads(&rt, &mut bay, "usr0", &[4], Err(BayFault::Absent));
+    same(&read, &Ok((1, 2, 3)))?;
+    reads(&mut bay, "usr0", &[4], Err(BayFault::Absent))?;
     put_image(&mut bay, "usr0", &[0; 700])?;
     let wrong = BayFault::WrongLength { bytes: 700 };
-    reads(&rt, &mut bay, "usr0", &[1], Err(wrong));
-    Ok(())
+    reads(&mut bay, "usr0", &[1], Err(wrong))
 }

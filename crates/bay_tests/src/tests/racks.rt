@@ -4,7 +4,7 @@ ghost use Rattle.wol_bay.specs.Bay.{outs};
 ghost use Rattle.wol_config.specs.Configs.{IsValid};
 ghost use Rattle.volume_images.specs.Volumes.{NoneOut};
 
-use fixtures::TWO;
+use fixtures::{TWO, config_text};
 use manager_recovery::OpenRefusal;
 use rack::{VolumeFault, close_all, format, open_all};
 use std::alloc::Global;
@@ -15,16 +15,11 @@ use wol_config::{Config, read_config};
 use wol_disk::NoMemory;
 
 // The volume c is new, so there is no image of it, and b has another home.
-const OTHER: &str = r#"segment_blocks = 4
-awake_mw = 1
-standby_mw = 1
-wake_mj = 1
-volume = [
-  { name = "a", host = "a", disk = 0, home_blocks = 1, segments = 2, view = ["b"] },
-  { name = "b", host = "b", disk = 0, home_blocks = 2, segments = 3, view = [] },
-  { name = "c", host = "c", disk = 0, home_blocks = 1, segments = 0, view = [] },
-]
-"#;
+const OTHER: &str = config_text!(4:
+    "a" of "a" 1 2 "\"b\"",
+    "b" of "b" 2 3 "",
+    "c" of "c" 1 0 ""
+);
 
 // Opens all volumes and closes them: whether they have these faults, and how many stations and spindles there are. None stands for
 // want of memory.

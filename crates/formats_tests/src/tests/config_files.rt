@@ -1,6 +1,5 @@
 // Files that are configurations.
-use super::same::{same, same_at};
-use fixtures::{ONE_BLOCK_EACH, THREE};
+use fixtures::{ONE_BLOCK_EACH, THREE, same, same_at};
 use std::test::Fail;
 use wol_config::read_config;
 
@@ -28,20 +27,20 @@ view = []
 #[test]
 fn three_volumes_that_off_load(rt: HostRuntime) -> Result<(), Fail> {
     let config = read_config(rt.alloc(), THREE.as_bytes())?;
-    same(&rt, &config.segment_blocks, &16);
-    same(&rt, &config.timeout, &600_000_000);
-    same(&rt, &config.powers.awake_mw, &8_000);
-    same(&rt, &config.powers.standby_mw, &1_000);
-    same(&rt, &config.powers.wake_mj, &50_000);
-    same(&rt, &config.most(), &14);
+    same(&config.segment_blocks, &16)?;
+    same(&config.timeout, &600_000_000)?;
+    same(&config.powers.awake_mw, &8_000)?;
+    same(&config.powers.standby_mw, &1_000)?;
+    same(&config.powers.wake_mj, &50_000)?;
+    same(&config.most(), &14)?;
     assert!(rt; config.volumes.len() == 3);
     let last = &config.volumes[2];
-    same(&rt, &last.name.as_str(), &"src0");
-    same(&rt, &last.host.as_bytes(), &b"src".as_slice());
-    same(&rt, &last.disk, &0);
-    same(&rt, &last.home, &1_000);
-    same(&rt, &last.segments, &4);
-    same(&rt, &last.view.ids(), &[1, 0].as_slice());
+    same(&last.name.as_str(), &"src0")?;
+    same(&last.host.as_bytes(), &b"src".as_slice())?;
+    same(&last.disk, &0)?;
+    same(&last.home, &1_000)?;
+    same(&last.segments, &4)?;
+    same(&last.view.ids(), &[1, 0].as_slice())?;
     Ok(())
 }
 
@@ -49,16 +48,15 @@ fn three_volumes_that_off_load(rt: HostRuntime) -> Result<(), Fail> {
 fn a_log_of_one_segment(rt: HostRuntime) -> Result<(), Fail> {
     let config = read_config(rt.alloc(), A_LOG_OF_ONE_SEGMENT.as_bytes())?;
     same_at(
-        &rt,
         &config.timeout,
         &600_000_000,
         &"the timeout where the key is missing",
-    );
-    same(&rt, &config.most(), &2);
+    )?;
+    same(&config.most(), &2)?;
     assert!(rt; config.volumes.len() == 2);
-    same(&rt, &config.volumes[0].view.ids(), &[1].as_slice());
-    same(&rt, &config.volumes[1].name.as_bytes(), &b"b".as_slice());
-    same(&rt, &config.volumes[1].segments, &1);
+    same(&config.volumes[0].view.ids(), &[1].as_slice())?;
+    same(&config.volumes[1].name.as_bytes(), &b"b".as_slice())?;
+    same(&config.volumes[1].segments, &1)?;
     Ok(())
 }
 
@@ -67,10 +65,10 @@ fn three_volumes_of_one_block(rt: HostRuntime) -> Result<(), Fail> {
     let config = read_config(rt.alloc(), ONE_BLOCK_EACH.as_bytes())?;
     assert!(rt; config.volumes.len() == 3);
     for volume in &config.volumes {
-        same(&rt, &volume.home, &1);
-        same(&rt, &volume.segments, &1);
+        same(&volume.home, &1)?;
+        same(&volume.segments, &1)?;
     }
-    same(&rt, &config.volumes[0].view.ids(), &[1].as_slice());
+    same(&config.volumes[0].view.ids(), &[1].as_slice())?;
     assert!(rt; config.volumes[2].view.is_empty());
     Ok(())
 }

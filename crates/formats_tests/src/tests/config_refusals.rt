@@ -1,5 +1,5 @@
 // Files that are refused, each with what it is refused for.
-use super::same::{same, same_at};
+use fixtures::{same, same_at};
 use std::alloc::{AllocError, Global};
 use std::test::Fail;
 use wol_config::{ConfigFault, read_config};
@@ -138,7 +138,7 @@ fn refuses_each_key(rt: HostRuntime) -> Result<(), Fail> {
     for (place, line, want) in &CASES {
         let text = changed(rt.alloc(), *place, line)?;
         let got = answer(rt.alloc(), text.as_bytes())?;
-        same_at(&rt, &got.as_str(), want, &format_args!("at {line}"));
+        same_at(&got.as_str(), want, &format_args!("at {line}"))?;
     }
     Ok(())
 }
@@ -150,7 +150,7 @@ fn refuses_volumes_that_stand_twice_and_bad_views(rt: HostRuntime) -> Result<(),
         text.push_str("[[volume]]\n")?;
         text.push_str(volume)?;
         let got = answer(rt.alloc(), text.as_bytes())?;
-        same_at(&rt, &got.as_str(), want, &format_args!("at {volume}"));
+        same_at(&got.as_str(), want, &format_args!("at {volume}"))?;
     }
     Ok(())
 }
@@ -162,7 +162,7 @@ fn refuses_bytes_that_are_no_toml(rt: HostRuntime) -> Result<(), Fail> {
     nested.push_str(std::str::from_utf8(deep.as_slice()).expect(&rt, "ASCII"))?;
     for bytes in [b"\xff".as_slice(), b"= 1".as_slice(), nested.as_bytes()] {
         let got = answer(rt.alloc(), bytes)?;
-        same(&rt, &got.as_str(), &"not toml");
+        same(&got.as_str(), &"not toml")?;
     }
     Ok(())
 }
@@ -171,9 +171,9 @@ fn refuses_bytes_that_are_no_toml(rt: HostRuntime) -> Result<(), Fail> {
 fn refuses_over_a_million_bytes(rt: HostRuntime) -> Result<(), Fail> {
     let mut comment = vec![in rt.alloc(); b'#'; 1_048_576]?;
     let got = answer(rt.alloc(), comment.as_slice())?;
-    same(&rt, &got.as_str(), &"missing segment_blocks");
+    same(&got.as_str(), &"missing segment_blocks")?;
     comment.push(b'#')?;
     let got = answer(rt.alloc(), comment.as_slice())?;
-    same(&rt, &got.as_str(), &"too long");
+    same(&got.as_str(), &"too long")?;
     Ok(())
 }

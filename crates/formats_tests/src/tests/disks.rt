@@ -1,7 +1,7 @@
 // Disks in memory and disks that stop, with ample memory.
 ghost use Rattle.std.specs.Prelude.{◌≡◌, ◌≤◌};
 
-use super::same::same;
+use fixtures::same;
 use std::alloc::Global;
 use std::sync::Arc;
 use std::test::Fail;
@@ -47,7 +47,7 @@ fn left(alloc: Global, choice: &[u32], synced: bool) -> Result<(u8, u8, u8), Fai
 }
 
 #[test]
-fn a_write_that_was_not_synced_leaves_eight_images(rt: HostRuntime) {
+fn a_write_that_was_not_synced_leaves_eight_images(rt: HostRuntime) -> Result<(), Fail> {
     for (choice, want) in [
         ([0, 0, 0], (0, 0, 0)),
         ([1, 0, 0], (1, 0, 0)),
@@ -58,10 +58,11 @@ fn a_write_that_was_not_synced_leaves_eight_images(rt: HostRuntime) {
         ([0, 1, 1], (0, 2, 3)),
         ([3, 1, 5], (1, 2, 3)),
     ] {
-        same(&rt, &left(rt.alloc(), &choice, false), &Ok(want));
+        same(&left(rt.alloc(), &choice, false), &Ok(want))?;
     }
-    same(&rt, &left(rt.alloc(), &[], false), &Ok((1, 2, 3)));
-    same(&rt, &left(rt.alloc(), &[0, 0, 0], true), &Ok((1, 2, 3)));
+    same(&left(rt.alloc(), &[], false), &Ok((1, 2, 3)))?;
+    same(&left(rt.alloc(), &[0, 0, 0], true), &Ok((1, 2, 3)))?;
+    Ok(())
 }
 
 #[test]
@@ -69,10 +70,10 @@ fn the_planned_calls_fail_and_no_other(rt: HostRuntime) -> Result<(), Fail> {
     let mut disk = MemDisk::new(rt.alloc(), 4)?;
     disk.fail(1)?;
     disk.fail(3)?;
-    same(&rt, &disk.blocks(), &4);
+    same(&disk.blocks(), &4)?;
     write_one(&mut disk, 1)?;
     assert!(rt; write_one(&mut disk, 2).is_err());
-    same(&rt, &first_bytes(&mut disk)?, &(1, 0, 0));
+    same(&first_bytes(&mut disk)?, &(1, 0, 0))?;
     assert!(rt; disk.sync().is_err());
     disk.sync()?;
     Ok(())
@@ -89,11 +90,11 @@ fn a_fuse_stops_its_disks_in_the_middle_of_a_write(rt: HostRuntime) -> Result<()
     assert!(rt; write_three(&mut one, 2, 3, 4).is_err());
     assert!(rt; one.sync().is_err());
     assert!(rt; write_three(&mut two, 5, 6, 7).is_err());
-    same(&rt, &one.faults(), &2);
-    same(&rt, &two.faults(), &1);
-    same(&rt, &fuse.passed(), &2);
-    same(&rt, &first_bytes(&mut one.into_inner())?, &(2, 0, 0));
-    same(&rt, &first_bytes(&mut two.into_inner())?, &(0, 0, 0));
+    same(&one.faults(), &2)?;
+    same(&two.faults(), &1)?;
+    same(&fuse.passed(), &2)?;
+    same(&first_bytes(&mut one.into_inner())?, &(2, 0, 0))?;
+    same(&first_bytes(&mut two.into_inner())?, &(0, 0, 0))?;
     Ok(())
 }
 
@@ -104,8 +105,8 @@ fn without_a_fuse_a_disk_fails_as_its_inner_disk_does(rt: HostRuntime) -> Result
     let mut disk = StopDisk::new(inner, None);
     write_one(&mut disk, 1)?;
     assert!(rt; disk.sync().is_err());
-    same(&rt, &disk.faults(), &1);
-    same(&rt, &first_bytes(&mut disk)?, &(1, 0, 0));
-    same(&rt, &disk.faults(), &1);
+    same(&disk.faults(), &1)?;
+    same(&first_bytes(&mut disk)?, &(1, 0, 0))?;
+    same(&disk.faults(), &1)?;
     Ok(())
 }

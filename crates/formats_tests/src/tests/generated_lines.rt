@@ -1,6 +1,5 @@
 // The first lines of a seed, as they are written.
-use super::same::same;
-use fixtures::{THREE, generated_text};
+use fixtures::{THREE, generated_text, same};
 use std::test::Fail;
 use trace_gen::Gen;
 use wol_config::read_config;
@@ -10,10 +9,9 @@ fn first_line_of_seed_0(rt: HostRuntime) -> Result<(), Fail> {
     let config = read_config(rt.alloc(), THREE.as_bytes())?;
     let text = generated_text(rt.alloc(), &config, 0, 1)?;
     same(
-        &rt,
         &text.as_slice(),
         &b"128166372000147231,web,0,Write,227328,6144,1000\n".as_slice(),
-    );
+    )?;
     Ok(())
 }
 
@@ -29,7 +27,7 @@ fn six_lines_of_seed_0(rt: HostRuntime) -> Result<(), Fail> {
 128166372001316401,usr,0,Read,337920,5120,1000
 128166372811316401,src,0,Write,39936,1536,1000
 ";
-    same(&rt, &text.as_slice(), &expected.as_slice());
+    same(&text.as_slice(), &expected.as_slice())?;
     Ok(())
 }
 
@@ -38,7 +36,7 @@ fn another_seed(rt: HostRuntime) -> Result<(), Fail> {
     let config = read_config(rt.alloc(), THREE.as_bytes())?;
     let mut generator = Gen::new(7);
     let line = generator.next(rt.alloc(), &config)?;
-    same(&rt, &line.time, &128_166_372_000_184_737);
-    same(&rt, &(generator.seed(), generator.given()), &(7, 1));
+    same(&line.time, &128_166_372_000_184_737)?;
+    same(&(generator.seed(), generator.given()), &(7, 1))?;
     Ok(())
 }

@@ -1,5 +1,5 @@
 // The streams, each called once: the adapters' edges are only tested.
-use super::same::same;
+use fixtures::same;
 use std::test::Fail;
 use wol_disk::Failed;
 use wol_io::{
@@ -14,15 +14,15 @@ fn memory_streams_cut_and_fail_as_planned(rt: HostRuntime) -> Result<(), Fail> {
     let mut source = MemSource::new(bytes, cuts, Some(1));
     let mut out = [0u8; 4];
     for want in [Ok(2), Err(Failed), Ok(1), Ok(4), Ok(1), Ok(0)] {
-        same(&rt, &source.read(&mut out), &want);
+        same(&source.read(&mut out), &want)?;
     }
-    same(&rt, &out, b"hefg");
+    same(&out, b"hefg")?;
 
     let mut sink = MemSink::new(rt.alloc(), Some(1));
     for (piece, want) in [("ab", Ok(())), ("cd", Err(Failed)), ("ef", Ok(()))] {
-        same(&rt, &sink.write(piece.as_bytes()), &want);
+        same(&sink.write(piece.as_bytes()), &want)?;
     }
-    same(&rt, &sink.bytes(), &b"abef".as_slice());
+    same(&sink.bytes(), &b"abef".as_slice())?;
     NoGate.pass(0);
     Ok(())
 }
@@ -31,19 +31,19 @@ fn memory_streams_cut_and_fail_as_planned(rt: HostRuntime) -> Result<(), Fail> {
 fn adapters_pass_bytes_and_faults_on(rt: HostRuntime) -> Result<(), Fail> {
     let mut out = [1u8; 4];
     let mut source = StdSource::new(b"abc".as_slice());
-    same(&rt, &source.read(&mut out), &Ok(3));
-    same(&rt, &out, b"abc\x01");
-    same(&rt, &source.read(&mut out), &Ok(0));
+    same(&source.read(&mut out), &Ok(3))?;
+    same(&out, b"abc\x01")?;
+    same(&source.read(&mut out), &Ok(0))?;
 
     let mut held = Vec::new(rt.alloc());
     let mut sink = StdSink::new(&mut held);
-    same(&rt, &sink.write(b"xyz"), &Ok(()));
-    same(&rt, &held.as_slice(), &b"xyz".as_slice());
+    same(&sink.write(b"xyz"), &Ok(()))?;
+    same(&held.as_slice(), &b"xyz".as_slice())?;
     let mut narrow = StdSink::with_room(&mut held, 3);
     for (piece, want) in [("ab", Ok(())), ("cd", Err(Failed)), ("e", Ok(()))] {
-        same(&rt, &narrow.write(piece.as_bytes()), &want);
+        same(&narrow.write(piece.as_bytes()), &want)?;
     }
-    same(&rt, &held.as_slice(), &b"xyzabe".as_slice());
+    same(&held.as_slice(), &b"xyzabe".as_slice())?;
     Ok(())
 }
 
@@ -62,9 +62,9 @@ fn a_watch_sees_what_is_taken(rt: HostRuntime) -> Result<(), Fail> {
     let mut out = [0u8; 2];
     let mut source = WatchedSource::new(StdSource::new(b"abc".as_slice()), Counter(0));
     for want in [Ok(2), Ok(1), Ok(0)] {
-        same(&rt, &source.read(&mut out), &want);
+        same(&source.read(&mut out), &want)?;
     }
-    same(&rt, &source.watch().0, &3);
+    same(&source.watch().0, &3)?;
     Ok(())
 }
 
@@ -72,11 +72,11 @@ fn a_watch_sees_what_is_taken(rt: HostRuntime) -> Result<(), Fail> {
 fn regular_files_alone_are_sources(rt: HostRuntime) -> Result<(), Fail> {
     let mut out = [0u8; 4];
     let mut status = FileSource::new(&rt, "/proc/self/status");
-    same(&rt, &status.read(&mut out), &Ok(4));
-    same(&rt, &out, b"Name");
+    same(&status.read(&mut out), &Ok(4))?;
+    same(&out, b"Name")?;
     for path in ["/dev/zero", "/", "/dev/null/missing"] {
         let mut other = FileSource::new(&rt, path);
-        same(&rt, &other.read(&mut out), &Err(Failed));
+        same(&other.read(&mut out), &Err(Failed))?;
     }
     Ok(())
 }

@@ -1,7 +1,6 @@
 // Texts that were worked out by hand from the formats.
-use super::same::same;
 use energy::Amounts;
-use fixtures::{NOTHING_REPLAYED, OFFLOADS_RECLAIMED, THREE};
+use fixtures::{NOTHING_REPLAYED, OFFLOADS_RECLAIMED, THREE, same};
 use msr_trace::BadLine;
 use report::{
     Fault, Totals, Trouble, fault_text, format_line, read_line_text, solo_line, summary,
@@ -77,10 +76,10 @@ fn sums_up_runs(rt: HostRuntime) -> Result<(), Fail> {
     assert!(rt; config.volumes.len() == 3);
     let mut out = Vec::new(rt.alloc());
     summary(&NOTHING, &config.volumes, &[UNUSED; 3], &mut out)?;
-    same(&rt, &out.as_slice(), &NOTHING_REPLAYED);
+    same(&out.as_slice(), &NOTHING_REPLAYED)?;
     let mut out = Vec::new(rt.alloc());
     summary(&RECLAIMED, &config.volumes, &TURNED, &mut out)?;
-    same(&rt, &out.as_slice(), &OFFLOADS_RECLAIMED);
+    same(&out.as_slice(), &OFFLOADS_RECLAIMED)?;
     Ok(())
 }
 
@@ -100,7 +99,6 @@ fn tells_reads_and_requests(rt: HostRuntime) -> Result<(), Fail> {
     format_line(&config.volumes[0].name, 1066, &mut out)?;
     solo_line(&totals, &mut out)?;
     same(
-        &rt,
         &out.as_slice(),
         &b"read 2 0 1 1
 read 3 web0 16 2 4
@@ -108,7 +106,7 @@ format usr0 blocks 1066
 solo lines 2 blank 0 skipped 0 reads 1 writes 1
 "
             .as_slice(),
-    );
+    )?;
     Ok(())
 }
 
@@ -128,10 +126,9 @@ fn tells_what_is_wrong_with_volumes(rt: HostRuntime) -> Result<(), Fail> {
     trouble_text(volumes, &Trouble::LoggerMissing { id: 1 }, &mut out)?;
     trouble_text(volumes, &Trouble::Absent, &mut out)?;
     same(
-        &rt,
         &out.as_slice(),
         &b"twins 1003 of web0 and 1005 of web0logger 1 missingabsent".as_slice(),
-    );
+    )?;
     Ok(())
 }
 
@@ -193,7 +190,6 @@ fn tells_faults(rt: HostRuntime) -> Result<(), Fail> {
     )?;
     fault_text(volumes, &Fault::Versions { volume: 0 }, &mut out)?;
     same(
-        &rt,
         &out.as_slice(),
         &b"fault 5 web0 damaged 0 of web0
 fault 3 line 1 kind
@@ -205,6 +201,6 @@ fault 4 solo disk home
 fault 11 versions usr0
 "
             .as_slice(),
-    );
+    )?;
     Ok(())
 }

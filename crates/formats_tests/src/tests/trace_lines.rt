@@ -1,11 +1,10 @@
 // The format's own examples: what is refused and in which order, where lines are cut, pieces, texts and payloads.
-use super::same::{same, same_at};
+use fixtures::{same, same_at};
 use msr_trace::{
     BadLine, HostName, Kind, Line, LineFault, Lines, Piece, TraceFault, fill, mark, read_line,
     write_line,
 };
 use std::alloc::Global;
-use std::process::Abort;
 use std::test::Fail;
 use wol_io::{MemSource, Source};
 
@@ -30,14 +29,10 @@ fn first_fault(alloc: Global, text: &[u8], cut: usize) -> Result<Option<TraceFau
 fn a_line_alone_is_read(rt: HostRuntime) -> Result<(), Fail> {
     let alloc = rt.alloc();
     let line = read_line(alloc, b"1,usr,0,Read,0,512,7")?;
-    same(&rt, &line.map(|line| line.response), &Some(7));
+    same(&line.map(|line| line.response), &Some(7))?;
     assert!(rt; read_line(alloc, b"\r")?.is_none());
     let short = read_line(alloc, b"1,usr,0,Read,0,512");
-    same(
-        &rt,
-        &short.err(),
-        &Some(LineFault::Bad(BadLine::FieldCount)),
-    );
+    same(&short.err(), &Some(LineFault::Bad(BadLine::FieldCount)))?;
     Ok(())
 }
 
@@ -83,17 +78,15 @@ fn refusals_come_in_order(rt: HostRuntime) -> Result<(), Fail> {
     for (text, why) in cases {
         let want = why.map(|why| TraceFault::Bad { line: 1, why });
         same_at(
-            &rt,
             &first_fault(rt.alloc(), text, 8192)?,
             &want,
             &format_args!("{text:?}"),
-        );
+        )?;
         same_at(
-            &rt,
             &first_fault(rt.alloc(), text, 1)?,
             &want,
             &format_args!("{text:?} byte by byte"),
-        );
+        )?;
     }
     Ok(())
 }
@@ -114,17 +107,15 @@ fn a_line_has_at_most_4096_bytes(rt: HostRuntime) -> Result<(), Fail> {
         text.extend_from_slice(end)?;
         let want = Some(TraceFault::Bad { line: 3, why });
         same_at(
-            &rt,
             &first_fault(rt.alloc(), &text, 8192)?,
             &want,
             &format_args!("{bytes} bytes"),
-        );
+        )?;
         same_at(
-            &rt,
             &first_fault(rt.alloc(), &text, 7)?,
             &want,
             &format_args!("{bytes} bytes in cuts"),
-        );
+        )?;
     }
     Ok(())
 }
@@ -147,21 +138,21 @@ fn copy_next<S: Source>(
 }
 
 // A blank line and two others are to have these numbers, and to be written as this text.
-fn copies<S: Source + Drop, R: Abort>(rt: &R, alloc: Global, lines: Lines<S>, text: &[u8]) {
+fn copies<S: Source + Drop>(alloc: Global, lines: Lines<S>, text: &[u8]) -> Result<(), Fail> {
     let mut lines = lines;
     let mut out = Vec::new(alloc);
     let blank = copy_next(&mut lines, &mut out);
-    assert!(rt; out.is_empty());
+    same(&out.len(), &0)?;
     let first = copy_next(&mut lines, &mut out);
     let second = copy_next(&mut lines, &mut out);
     let end = copy_next(&mut lines, &mut out);
     same(
-        rt,
         &[blank, first, second, end],
         &[Ok(Some(1)), Ok(Some(2)), Ok(Some(3)), Ok(None)],
-    );
-    same(rt, &out.as_slice(), &text);
+    )?;
+    same(&out.as_slice(), &text)?;
     let _source = lines.into_source();
+    Ok(())
 }
 
 #[test]
@@ -171,7 +162,7 @@ fn lines_are_numbered_and_written_again(rt: HostRuntime) -> Result<(), Fail> {
     for cut in [1, 48, 49, 50, 8192] {
         let cuts = vec![in rt.alloc(); cut; 100]?;
         let source = MemSource::new(text.to_vec(rt.alloc())?, cuts, None);
-        copies(&rt, rt.alloc(), Lines::new(rt.alloc(), source), written);
+        copies(rt.alloc(), Lines::new(rt.alloc(), source), written)?;
     }
     Ok(())
 }
@@ -207,29 +198,27 @@ fn pieces_are_cut_at_the_end_and_at_the_most(rt: HostRuntime) -> Result<(), Fail
         let mut pieces = line.pieces(home, most);
         for (lbn, count) in want {
             same(
-                &rt,
                 &pieces.next(),
                 &Some(Piece {
                     lbn: *lbn,
                     count: *count,
                 }),
-            );
+            )?;
         }
-        same(&rt, &pieces.next(), &None);
+        same(&pieces.next(), &None)?;
     }
     let largest = line_at(rt.alloc(), 0, 67_108_864)?;
     let mut pieces = largest.pieces(200_000, 128);
     for i in 0..1024 {
         same(
-            &rt,
             &pieces.next(),
             &Some(Piece {
                 lbn: 128 * i,
                 count: 128,
             }),
-        );
+        )?;
     }
-    same(&rt, &pieces.next(), &None);
+    same(&pieces.next(), &None)?;
     Ok(())
 }
 
@@ -247,18 +236,17 @@ fn line_at(alloc: Global, offset: u64, size: u64) -> Result<Line, Fail> {
 }
 
 #[test]
-fn payloads_hold_the_line_and_the_block(rt: HostRuntime) {
+fn payloads_hold_the_line_and_the_block() -> Result<(), Fail> {
     let mut blocks = [[1u8; 512]; 3];
     fill(2, 5, &mut blocks);
     same(
-        &rt,
         &&blocks[0][..16],
         &[2, 0, 0, 0, 0, 0, 0, 0, 5, 0, 0, 0, 0, 0, 0, 0].as_slice(),
-    );
+    )?;
     same(
-        &rt,
         &&blocks[2][496..],
         &[2, 0, 0, 0, 0, 0, 0, 0, 7, 0, 0, 0, 0, 0, 0, 0].as_slice(),
-    );
-    same(&rt, &mark(&blocks), &6);
+    )?;
+    same(&mark(&blocks), &6)?;
+    Ok(())
 }

@@ -2,8 +2,7 @@
 ghost use Rattle.std.specs.Prelude.{◌≤◌, IfOk};
 ghost use Rattle.wol_config.specs.Configs.{IsValid};
 
-use super::same::same;
-use fixtures::THREE;
+use fixtures::{THREE, same};
 use msr_trace::Lines;
 use std::alloc::Global;
 use std::test::Fail;
@@ -88,9 +87,9 @@ fn windows_last_a_second(rt: HostRuntime) -> Result<(), Fail> {
         noted(10_000_100, 2, 0),
         noted(30_000_000, 1, 2),
     ];
-    same(&rt, &cuts.as_slice(), &expected.as_slice());
-    same(&rt, &(tally.lines, tally.blank, tally.skipped), &(6, 1, 2));
-    same(&rt, &(tally.requests, tally.span()), &(5, 29_999_900));
+    same(&cuts.as_slice(), &expected.as_slice())?;
+    same(&(tally.lines, tally.blank, tally.skipped), &(6, 1, 2))?;
+    same(&(tally.requests, tally.span()), &(5, 29_999_900))?;
     Ok(())
 }
 
@@ -103,8 +102,8 @@ fn times_never_fall(rt: HostRuntime) -> Result<(), Fail> {
 ";
     let (cuts, tally) = cut_text(rt.alloc(), text)?;
     let expected = [noted(50_000_000, 2, 2), noted(60_000_000, 1, 1)];
-    same(&rt, &cuts.as_slice(), &expected.as_slice());
-    same(&rt, &tally.span(), &10_000_000);
+    same(&cuts.as_slice(), &expected.as_slice())?;
+    same(&tally.span(), &10_000_000)?;
     Ok(())
 }
 
@@ -112,7 +111,7 @@ fn times_never_fall(rt: HostRuntime) -> Result<(), Fail> {
 #[test]
 fn blank_lines_are_no_window(rt: HostRuntime) -> Result<(), Fail> {
     let (cuts, tally) = cut_text(rt.alloc(), b"\n\r\n\n")?;
-    same(&rt, &cuts.len(), &0);
-    same(&rt, &(tally.lines, tally.blank, tally.span()), &(3, 3, 0));
+    same(&cuts.len(), &0)?;
+    same(&(tally.lines, tally.blank, tally.span()), &(3, 3, 0))?;
     Ok(())
 }
