@@ -7,7 +7,7 @@ ghost use Rattle.wol_config.specs.Configs.{IsValid};
 use super::clean_rows::cleaned;
 use super::view_rows::{add, ask, remove};
 use super::volumes::{checked, crash, off_loaded, parts, stop_after};
-use fixtures::{CHOICES, Left, OVERLAPPING, TWO, Volume, config_text};
+use fixtures::{CHOICES, Left, ONE_LOGGED, OVERLAPPING, TWO, Volume, config_text};
 use std::alloc::Global;
 use std::process::Abort;
 use std::sync::Wait;
@@ -61,18 +61,12 @@ clean b records 0 to 0 copied 0
     behind: b" records 1 segments 1\n",
 };
 
-// The write of the first volume goes to the second, since its own disk sleeps.
-const OFF_LOADS: &[u8] = b"128166372000000000,b,0,Read,0,512,100
-128166372500000000,b,0,Read,0,512,100
-128166373000000000,a,0,Write,0,512,100
-";
-
 // The change of a view.
 fn changing<'a>(order: Order<'a>, printed: &'a [u8], behind: &'a [u8]) -> Row<'a> {
     Row {
         config: TWO,
         volumes: [("a", 11), ("b", 15)],
-        trace: OFF_LOADS,
+        trace: ONE_LOGGED,
         command: Command::Change(order),
         printed,
         again: &[0, 15],

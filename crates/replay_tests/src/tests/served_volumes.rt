@@ -7,8 +7,8 @@ ghost use Rattle.wol_config.specs.Configs.{IsValid};
 use super::several::stands_in;
 use super::volumes::{checked, formatted, off_loaded};
 use fixtures::{
-    DISC, DRAINING, DRAINS, Data, Exchange, FLUSH, NO_DATA, READ, THREE, WRITE, ask_all, asked_of,
-    replies_of, reply_all,
+    DISC, DRAINING, Data, Exchange, FLUSH, NO_DATA, ONE_LOGGED, READ, THREE, WRITE, ask_all,
+    asked_of, replies_of, reply_all,
 };
 use nbd_serving::{Beginning, serve_volume, status_of};
 use std::alloc::Global;
@@ -307,9 +307,8 @@ const MET_BY_A_DRAIN: [Exchange<'_>; 2] = [
 fn a_write_that_finds_no_room_is_met_by_a_drain(rt: HostRuntime) -> Result<(), Fail> {
     let alloc = rt.alloc();
     let config = read_config(alloc, DRAINING.as_bytes())?;
-    // The first three lines: the first volume's block lies in the one segment there is, which is full.
-    assert!(rt; DRAINS.len() > 115);
-    let mut bay = off_loaded(&rt, alloc, &config, &DRAINS[..115])?;
+    // the first volume's block lies in the one segment there is, which is full
+    let mut bay = off_loaded(&rt, alloc, &config, ONE_LOGGED)?;
     let before = checked(&rt, alloc, &config, &mut bay)?;
     assert!(rt; before.starts_with(b"a ok sha256 "));
     assert!(rt; stands_in(&before, b" records 1 segments 1\nb ok"));

@@ -7,7 +7,7 @@ use super::gates::Holding;
 use super::volumes::{formatted, run, status_of};
 use fixtures::{
     AT_ONCE, Change, DRAINING, DRAINS, Formatted, LAST_VERSION, OFFLOADS, OFFLOADS_KEPT,
-    OFFLOADS_READ, READ_AND_WRITE, THREE, WEB0, generated_text, put,
+    OFFLOADS_READ, ONE_LOGGED, READ_AND_WRITE, THREE, WEB0, generated_text, put,
 };
 use msr_trace::Lines;
 use replay::{Given, Options, replay};
@@ -125,11 +125,6 @@ const OWNED: Formatted<'_> = Formatted {
 
 const OWNER: Change<'_> = ("b", 102, b"WOLSEGO1");
 
-const WRITES: &[u8] = b"128166372000000000,b,0,Read,0,512,100
-128166372500000000,b,0,Read,0,512,100
-128166373000000000,a,0,Write,0,512,100
-";
-
 const LOGGED: &[u8] = b"read 1 b 0 1 0
 read 2 b 0 1 0
 lines 3 blank 0 skipped 0
@@ -148,7 +143,15 @@ fn a_segment_that_holds_nothing_goes_to_its_pool(rt: HostRuntime) -> Result<(), 
     let config = read_config(alloc, DRAINING.as_bytes())?;
     let mut bay = formatted(&rt, alloc, &config);
     put(alloc, &mut bay, &OWNED, &[OWNER])?;
-    let (status, out) = run(&rt, alloc, &config, &mut bay, WRITES, between(1), &NoGate)?;
+    let (status, out) = run(
+        &rt,
+        alloc,
+        &config,
+        &mut bay,
+        ONE_LOGGED,
+        between(1),
+        &NoGate,
+    )?;
     assert_eq!(&rt; out.bytes(), LOGGED);
     assert_eq!(&rt; status, 0);
     Ok(())
