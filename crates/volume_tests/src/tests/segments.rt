@@ -104,12 +104,18 @@ fn records_left(alloc: Global, calls: u64, records: usize, choice: &[u32]) -> Re
 #[test]
 fn a_record_is_there_once_its_head_is(rt: HostRuntime) -> Result<(), Fail> {
     let alloc = rt.alloc();
-    assert!(rt; records_left(alloc, 9, 1, &[])? == 0);
-    assert!(rt; records_left(alloc, 9, 1, &[1, 1, 1, 1])? == 0);
-    assert!(rt; records_left(alloc, 10, 1, &[])? == 1);
-    assert!(rt; records_left(alloc, 10, 1, &[0, 1])? == 1);
-    assert!(rt; records_left(alloc, 10, 1, &[0, 0])? == 0);
-    assert!(rt; records_left(alloc, 11, 1, &[0, 0])? == 1);
+    let rows: [(u64, &[u32], usize); 6] = [
+        (9, &[], 0),
+        (9, &[1, 1, 1, 1], 0),
+        (10, &[], 1),
+        (10, &[0, 1], 1),
+        (10, &[0, 0], 0),
+        (11, &[0, 0], 1),
+    ];
+    for (calls, choice, want) in rows {
+        let left = records_left(alloc, calls, 1, choice)?;
+        assert!(rt; left == want, "{calls} {choice:?}: {left}");
+    }
     Ok(())
 }
 
@@ -125,7 +131,8 @@ fn a_stop_leaves_the_first_ones_of_a_group(rt: HostRuntime) -> Result<(), Fail> 
         ([0, 1, 0, 0, 0, 1, 0, 1], 1),
         ([0, 1, 0, 1, 0, 1, 0, 1], 4),
     ] {
-        assert!(rt; records_left(alloc, 19, 4, &choice)? == want);
+        let left = records_left(alloc, 19, 4, &choice)?;
+        assert!(rt; left == want, "{choice:?}: {left}");
     }
     assert!(rt; records_left(alloc, 20, 4, &[0, 0])? == 4);
     Ok(())
