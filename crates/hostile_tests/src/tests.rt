@@ -2,7 +2,6 @@ mod calls;
 mod faults;
 mod reopening;
 mod rows;
-mod same;
 mod served;
 mod solo_stops;
 mod stops;

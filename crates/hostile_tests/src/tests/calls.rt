@@ -4,7 +4,6 @@ ghost use Rattle.wol_bay.specs.MemBay.{mem_bay_state};
 
 use fixtures::{Call, words_of};
 use std::alloc::{AllocError, Global};
-use std::process::Abort;
 use std::sync::Wait;
 use std::test::Fail;
 use std::thread::Threads;
@@ -74,7 +73,7 @@ pub fn plan(bay: &mut MemBay, failing: Failing<'_>) -> Result<(), NoMemory>
 }
 
 /// The status of a call, and what it prints, where this call of a stream fails.
-pub fn make_call<R: Abort + Threads + Wait + Sync>(
+pub fn make_call<R: Threads + Wait + Sync>(
     rt: &R,
     alloc: Global,
     bay: &mut MemBay,

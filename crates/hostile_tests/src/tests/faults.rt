@@ -1,11 +1,9 @@
 // Each call of a disk, of a source and of the sink fails alone.
 use super::calls::{Failing, Stream};
 use super::rows::{CLEANED, FORMATTED, RECLAIMED, Row, SMALL_DRAINED, keeping};
-use super::same::{holds_at, same, same_at};
 use super::stops::{Remains, found, left_by, prepared, stopped, without_last_line};
-use fixtures::{Call, Left, RECLAIMS};
+use fixtures::{Call, Left, RECLAIMS, holds_at, same, same_at};
 use std::alloc::Global;
-use std::process::Abort;
 use std::sync::Wait;
 use std::test::Fail;
 use std::thread::Threads;
@@ -35,7 +33,7 @@ const SEGMENT_2: u32 = 4;
 const MOST_CALLS: u64 = 1000;
 
 // A call in which one call of a part fails, and which volumes may then be found: the status, and what is printed.
-fn failed<R: Abort + Threads + Wait + Sync>(
+fn failed<R: Threads + Wait + Sync>(
     rt: &R,
     alloc: Global,
     row: &Row<'_>,
@@ -61,7 +59,7 @@ fn fault_at<'a>(faults: &[Faults<'a>], number: u64) -> Option<(u8, &'a str, bool
 }
 
 // Each call of a part fails in turn.
-fn try_part<R: Abort + Threads + Wait + Sync>(
+fn try_part<R: Threads + Wait + Sync>(
     rt: &R,
     alloc: Global,
     row: &Row<'_>,
@@ -73,19 +71,19 @@ fn try_part<R: Abort + Threads + Wait + Sync>(
         let failing = Failing::Part(image, place, number);
         let (status, text) = failed(rt, alloc, row, images, failing, Left::AllOld)?;
         let (newer, _text) = failed(rt, alloc, row, images, failing, Left::AllNew)?;
-        same(rt, &newer, &status);
+        same(&newer, &status)?;
         let (wanted, line, may_end) = fault_at(faults, number).unwrap_or((0, "", true));
         if may_end && status == 0 {
             return Ok(());
         }
         let at = format!(in alloc; "{words}: {image} {place} {number}: {text}")?;
-        same_at(rt, &status, &wanted, &at);
-        holds_at(rt, text.lines().any(|it| it == line), &at);
+        same_at(&status, &wanted, &at)?;
+        holds_at(text.lines().any(|it| it == line), &at)?;
     }
-    panic!(rt; "it made a thousand calls")
+    Err(Fail::from("it made a thousand calls"))
 }
 
-fn try_parts<R: Abort + Threads + Wait + Sync>(
+fn try_parts<R: Threads + Wait + Sync>(
     rt: &R,
     alloc: Global,
     row: &Row<'_>,
@@ -115,7 +113,7 @@ fn is_told(stream: Stream, left: &Remains, whole: &Remains, images: &[Vec<Block>
 }
 
 // Each call of a stream fails in turn, and there are so many at least.
-fn try_stream<R: Abort + Threads + Wait + Sync>(
+fn try_stream<R: Threads + Wait + Sync>(
     rt: &R,
     alloc: Global,
     row: &Row<'_>,
@@ -132,15 +130,15 @@ fn try_stream<R: Abort + Threads + Wait + Sync>(
             let _places = found(rt, alloc, row, &left.images)?;
         }
         if left.status == 0 {
-            holds_at(rt, number >= least, &words);
-            same_at(rt, &left.text.as_slice(), &whole.text.as_slice(), &words);
+            holds_at(number >= least, &words)?;
+            same_at(&left.text.as_slice(), &whole.text.as_slice(), &words)?;
             return Ok(());
         }
         let at = format!(in alloc; "{words} {number}")?;
-        same_at(rt, &left.status, &stream.status(), &at);
-        holds_at(rt, is_told(stream, &left, &whole, &images), &at);
+        same_at(&left.status, &stream.status(), &at)?;
+        holds_at(is_told(stream, &left, &whole, &images), &at)?;
     }
-    panic!(rt; "it made a thousand calls")
+    Err(Fail::from("it made a thousand calls"))
 }
 
 // Commands that keep each volume's content.

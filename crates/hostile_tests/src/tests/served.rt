@@ -1,51 +1,46 @@
 // A volume that is served to a client, at once or behind a handshake, while a disk, the client or its replies stop. Each session clears
 // a buffer of 32 MiB, so there is one of each kind.
 use super::calls::{Failing, Stream};
-use super::reopening;
 use super::rows::{Row, keeping};
-use super::same::{holds_at, same, same_at};
-use super::stops::{Remains, found, left_by, prepared, stopped};
-use fixtures::{CHOICES, Call, Left};
+use super::stops::{Look, Remains, found, left_by, prepared, stopped, try_row};
+use fixtures::{
+    CHOICES, Call, DISC, Data, Exchange, FLUSH, Left, NO_DATA, READ, WRITE, ask_all, holds_at,
+    reply_all, same, same_at,
+};
 use std::alloc::Global;
-use std::process::Abort;
 use std::sync::Wait;
 use std::test::Fail;
 use std::thread::Threads;
 use wol_disk::Block;
 
-// A request: its kind, its cookie, the first of its bytes, how many they are, and what each of its blocks is written with.
-type Request = (u8, u8, u64, u32, u8);
-
-const READ: u8 = 0;
-
-const WRITE: u8 = 1;
-
-const DISC: u8 = 2;
-
-const FLUSH: u8 = 3;
-
 // The first write joins what is in a log, the second goes home, the third finds the log full.
-const REQUESTS: [Request; 6] = [
-    (WRITE, 1, 512, 512, 0xa1),
-    (WRITE, 2, 2048, 1024, 0xa2),
-    (WRITE, 3, 0, 512, 0xa3),
-    (FLUSH, 4, 0, 0, 0),
-    (READ, 5, 0, 3072, 0),
-    (DISC, 6, 0, 0, 0),
-];
-
-// What comes in all replies: the head of that of this cookie, or none, and a block of this byte behind it, or none.
-const REPLIES: [(Option<u8>, Option<u8>); 10] = [
-    (Some(1), None),
-    (Some(2), None),
-    (Some(3), None),
-    (Some(4), None),
-    (Some(5), Some(0xa3)),
-    (None, Some(0xa1)),
-    (None, Some(0)),
-    (None, Some(0)),
-    (None, Some(0xa2)),
-    (None, Some(0xa2)),
+const EXCHANGES: [Exchange<'_>; 6] = [
+    (
+        (0, WRITE, 1, 512, 512),
+        Data::Filled(0xa1, 512),
+        Some(0),
+        &[],
+    ),
+    (
+        (0, WRITE, 2, 2048, 1024),
+        Data::Filled(0xa2, 1024),
+        Some(0),
+        &[],
+    ),
+    ((0, WRITE, 3, 0, 512), Data::Filled(0xa3, 512), Some(0), &[]),
+    ((0, FLUSH, 4, 0, 0), NO_DATA, Some(0), &[]),
+    (
+        (0, READ, 5, 0, 3072),
+        NO_DATA,
+        Some(0),
+        &[
+            Data::Filled(0xa3, 512),
+            Data::Filled(0xa1, 512),
+            Data::Zeros(1024),
+            Data::Filled(0xa2, 1024),
+        ],
+    ),
+    ((0, DISC, 6, 0, 0), NO_DATA, None, &[]),
 ];
 
 // The lines of the volumes as the pieces of the writes come to stand.
@@ -102,6 +97,13 @@ const SHAKEN: Opening<'_> = Opening {
     told: b"NBDMAGICIHAVEOPT\0\x03\0\0\0\0\0\0\x10\0\0\x0d",
 };
 
+// What the client sends in a session, and what it gets where nothing fails.
+#[derive(Drop)]
+struct Texts {
+    asked: Vec<u8>,
+    told: Vec<u8>,
+}
+
 // A session on volumes: what the client gets where nothing fails, and how much of that comes before the replies.
 #[derive(Clone, Copy)]
 struct Session<'a> {
@@ -115,36 +117,29 @@ const BROKE: &[u8] = &[0, 0, 0, 5];
 
 const MOST_CALLS: u64 = 1000;
 
-// All requests, behind these bytes.
-fn asked_of(alloc: Global, first: &[u8]) -> Result<Vec<u8>, Fail> {
-    let mut bytes = Vec::from_slice(alloc, first)?;
-    for (kind, cookie, place, length, byte) in REQUESTS {
-        bytes.extend_from_slice(b"\x25\x60\x95\x13\0\0\0")?;
-        bytes.extend_from_slice(&[kind, 0, 0, 0, 0, 0, 0, 0, cookie])?;
-        bytes.extend_from_slice(&place.to_be_bytes())?;
-        bytes.extend_from_slice(&length.to_be_bytes())?;
-        if kind == WRITE {
-            for _ in 0..length {
-                bytes.push(byte)?;
-            }
-        }
-    }
-    Ok(bytes)
+// The texts of a session that begins so.
+fn texts_of(alloc: Global, opening: &Opening<'_>) -> Result<Texts, Fail> {
+    let mut asked = Vec::from_slice(alloc, opening.asked)?;
+    ask_all(&mut asked, &EXCHANGES)?;
+    let mut told = Vec::from_slice(alloc, opening.told)?;
+    reply_all(&mut told, &EXCHANGES)?;
+    Ok(Texts { asked, told })
 }
 
-// All replies, behind these bytes.
-fn told_of(alloc: Global, first: &[u8]) -> Result<Vec<u8>, Fail> {
-    let mut bytes = Vec::from_slice(alloc, first)?;
-    for (head, block) in REPLIES {
-        if let Some(cookie) = head {
-            bytes.extend_from_slice(b"\x67\x44\x66\x98\0\0\0\0\0\0\0\0\0\0\0")?;
-            bytes.push(cookie)?;
-        }
-        if let Some(byte) = block {
-            bytes.extend_from_slice(&[byte; 512])?;
-        }
+// The session of these words, which gets so many bytes before the replies.
+fn session_of<'a>(words: &'a str, told: usize, texts: &'a Texts) -> Session<'a> {
+    Session {
+        row: Row {
+            call: Call {
+                words,
+                trace: &texts.asked,
+            },
+            lines: LINES,
+            ..keeping(words, &[])
+        },
+        wanted: &texts.told,
+        told,
     }
-    Ok(bytes)
 }
 
 // How many of the writes are answered without an error. Their replies are the first.
@@ -181,7 +176,7 @@ impl Session<'_> {
 
 // Which of its lines the volume has: that behind the writes that were answered, or one that the next leaves in flight. The other
 // volumes have what they had.
-fn place_of<R: Abort + Threads + Wait + Sync>(
+fn place_of<R: Threads + Wait + Sync>(
     rt: &R,
     alloc: Global,
     session: &Session<'_>,
@@ -190,15 +185,15 @@ fn place_of<R: Abort + Threads + Wait + Sync>(
     let places = found(rt, alloc, &session.row, &left.images)?;
     let (_, replies) = session.parts(&left.text);
     let (Some(place), Some((least, most))) = (places.first(), BEHIND.get(answered(replies))) else {
-        panic!(rt; "no volume");
+        return Err(Fail::from("no volume"));
     };
     let at = format!(in alloc; "{least} {place} {most}")?;
-    holds_at(rt, *least <= *place && *place <= *most, &at);
+    holds_at(*least <= *place && *place <= *most, &at)?;
     Ok(*place)
 }
 
 // Disks stop at each of their calls.
-fn try_choice<R: Abort + Threads + Wait + Sync>(
+fn try_choice<R: Threads + Wait + Sync>(
     rt: &R,
     alloc: Global,
     session: &Session<'_>,
@@ -207,61 +202,24 @@ fn try_choice<R: Abort + Threads + Wait + Sync>(
 ) -> Result<(), Fail> {
     let row = &session.row;
     let whole = stopped(rt, alloc, row, row.call, images, u64::MAX, left)?;
-    same(rt, &whole.status, &0);
-    same(rt, &whole.text.as_slice(), &session.wanted);
-    same(rt, &place_of(rt, alloc, session, &whole)?, &5);
+    same(&whole.status, &0)?;
+    same(&whole.text.as_slice(), &session.wanted)?;
+    same(&place_of(rt, alloc, session, &whole)?, &5)?;
     let mut before = 0;
     for calls in 0..whole.passed {
         let stop = stopped(rt, alloc, row, row.call, images, calls, left)?;
         let at = format!(in alloc; "{calls} {left:?}: {}", stop.status)?;
-        same_at(rt, &stop.passed, &calls, &at);
-        holds_at(rt, session.is_told(&stop), &at);
+        same_at(&stop.passed, &calls, &at)?;
+        holds_at(session.is_told(&stop), &at)?;
         let place = place_of(rt, alloc, session, &stop)?;
-        holds_at(rt, place >= before, &at);
+        holds_at(place >= before, &at)?;
         before = place;
     }
     Ok(())
 }
 
-// The session that begins so, with what the client sends and what it gets.
-fn session_of<'a>(opening: &Opening<'a>, trace: &'a [u8], wanted: &'a [u8]) -> Session<'a> {
-    Session {
-        row: Row {
-            call: Call {
-                words: opening.words,
-                trace,
-            },
-            lines: LINES,
-            ..keeping(opening.words, &[])
-        },
-        wanted,
-        told: opening.told.len(),
-    }
-}
-
-#[test]
-fn a_session_whose_disks_stop_keeps_what_was_answered(rt: HostRuntime) -> Result<(), Fail> {
-    let alloc = rt.alloc();
-    for opening in [AT_ONCE, SHAKEN] {
-        let trace = asked_of(alloc, opening.asked)?;
-        let wanted = told_of(alloc, opening.told)?;
-        let session = session_of(&opening, &trace, &wanted);
-        let images = prepared(&rt, alloc, &session.row)?;
-        for left in CHOICES {
-            try_choice(&rt, alloc, &session, &images, left)?;
-        }
-    }
-    Ok(())
-}
-
-#[test]
-fn a_check_that_stops_changes_nothing_after_a_session(rt: HostRuntime) -> Result<(), Fail> {
-    let trace = asked_of(rt.alloc(), AT_ONCE.asked)?;
-    reopening::try_row(&rt, rt.alloc(), &session_of(&AT_ONCE, &trace, &[]).row)
-}
-
 // Each call of a stream fails in turn: the replies before are out, and a write that isn't there whole isn't begun.
-fn try_stream<R: Abort + Threads + Wait + Sync>(
+fn try_stream<R: Threads + Wait + Sync>(
     rt: &R,
     alloc: Global,
     session: &Session<'_>,
@@ -275,32 +233,17 @@ fn try_stream<R: Abort + Threads + Wait + Sync>(
         let place = place_of(rt, alloc, session, &left)?;
         let at = format!(in alloc; "{stream:?} {number}")?;
         if left.status == 0 {
-            holds_at(rt, number > 5, &at);
-            same_at(rt, &left.text.as_slice(), &session.wanted, &at);
+            holds_at(number > 5, &at)?;
+            same_at(&left.text.as_slice(), &session.wanted, &at)?;
             return Ok(());
         }
-        same_at(rt, &left.status, &stream.status(), &at);
-        holds_at(rt, session.wanted.starts_with(&left.text), &at);
+        same_at(&left.status, &stream.status(), &at)?;
+        holds_at(session.wanted.starts_with(&left.text), &at)?;
         let (_, replies) = session.parts(&left.text);
         let least = BEHIND.get(answered(replies)).map(|it| it.0);
-        holds_at(rt, stream == Stream::Sink || least == Some(place), &at);
+        holds_at(stream == Stream::Sink || least == Some(place), &at)?;
     }
-    panic!(rt; "it made a thousand calls")
-}
-
-#[test]
-fn a_client_that_fails_has_what_was_answered(rt: HostRuntime) -> Result<(), Fail> {
-    let alloc = rt.alloc();
-    for opening in [AT_ONCE, SHAKEN] {
-        let trace = asked_of(alloc, opening.asked)?;
-        let wanted = told_of(alloc, opening.told)?;
-        let session = session_of(&opening, &trace, &wanted);
-        let images = prepared(&rt, alloc, &session.row)?;
-        for stream in [Stream::Config, Stream::Trace, Stream::Sink] {
-            try_stream(&rt, alloc, &session, &images, stream)?;
-        }
-    }
-    Ok(())
+    Err(Fail::from("it made a thousand calls"))
 }
 
 // The status where the call of this number fails: within the session it is an error of a reply.
@@ -316,7 +259,7 @@ fn status_at(part: Part<'_>, number: u64) -> u8 {
 }
 
 // Each call of a part fails in turn.
-fn try_part<R: Abort + Threads + Wait + Sync>(
+fn try_part<R: Threads + Wait + Sync>(
     rt: &R,
     alloc: Global,
     session: &Session<'_>,
@@ -331,26 +274,75 @@ fn try_part<R: Abort + Threads + Wait + Sync>(
         let stop = left_by(rt, alloc, row, row.call, images, failing, left)?;
         let status = status_at(part, number);
         let at = format!(in alloc; "{image} {place} {number}")?;
-        same_at(rt, &stop.status, &status, &at);
-        holds_at(rt, session.is_told(&stop), &at);
+        same_at(&stop.status, &status, &at)?;
+        holds_at(session.is_told(&stop), &at)?;
         let _place = place_of(rt, alloc, session, &stop)?;
         if status == 0 && stop.text.as_slice() == session.wanted {
             return Ok(());
         }
     }
-    panic!(rt; "it made a thousand calls")
+    Err(Fail::from("it made a thousand calls"))
+}
+
+// What fails in a session: disks from one of their calls on, a call of a stream alone, or a call of a part.
+#[derive(Clone, Copy)]
+enum Fault {
+    Disks,
+    Stream,
+    Part,
+}
+
+// Each such fault in a session that begins so.
+fn try_session<R: Threads + Wait + Sync>(
+    rt: &R,
+    alloc: Global,
+    opening: &Opening<'_>,
+    fault: Fault,
+) -> Result<(), Fail> {
+    let texts = texts_of(alloc, opening)?;
+    let session = session_of(opening.words, opening.told.len(), &texts);
+    let images = prepared(rt, alloc, &session.row)?;
+    match fault {
+        Fault::Disks => {
+            for left in CHOICES {
+                try_choice(rt, alloc, &session, &images, left)?;
+            }
+        }
+        Fault::Stream => {
+            for stream in [Stream::Config, Stream::Trace, Stream::Sink] {
+                try_stream(rt, alloc, &session, &images, stream)?;
+            }
+        }
+        Fault::Part => {
+            for part in PARTS {
+                try_part(rt, alloc, &session, &images, part, Left::AllOld)?;
+                try_part(rt, alloc, &session, &images, part, Left::AllNew)?;
+            }
+        }
+    }
+    Ok(())
+}
+
+#[test]
+fn a_session_whose_disks_stop_keeps_what_was_answered(rt: HostRuntime) -> Result<(), Fail> {
+    try_session(&rt, rt.alloc(), &AT_ONCE, Fault::Disks)?;
+    try_session(&rt, rt.alloc(), &SHAKEN, Fault::Disks)
+}
+
+#[test]
+fn a_client_that_fails_has_what_was_answered(rt: HostRuntime) -> Result<(), Fail> {
+    try_session(&rt, rt.alloc(), &AT_ONCE, Fault::Stream)?;
+    try_session(&rt, rt.alloc(), &SHAKEN, Fault::Stream)
 }
 
 #[test]
 fn each_call_of_a_disk_that_fails_in_a_session_is_told(rt: HostRuntime) -> Result<(), Fail> {
-    let alloc = rt.alloc();
-    let trace = asked_of(alloc, AT_ONCE.asked)?;
-    let wanted = told_of(alloc, AT_ONCE.told)?;
-    let session = session_of(&AT_ONCE, &trace, &wanted);
-    let images = prepared(&rt, alloc, &session.row)?;
-    for part in PARTS {
-        try_part(&rt, alloc, &session, &images, part, Left::AllOld)?;
-        try_part(&rt, alloc, &session, &images, part, Left::AllNew)?;
-    }
-    Ok(())
+    try_session(&rt, rt.alloc(), &AT_ONCE, Fault::Part)
+}
+
+#[test]
+fn a_check_that_stops_changes_nothing_after_a_session(rt: HostRuntime) -> Result<(), Fail> {
+    let texts = texts_of(rt.alloc(), &AT_ONCE)?;
+    let session = session_of(AT_ONCE.words, AT_ONCE.told.len(), &texts);
+    try_row(&rt, rt.alloc(), &session.row, Look::StoppedChecks)
 }

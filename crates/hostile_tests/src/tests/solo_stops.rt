@@ -1,11 +1,9 @@
 // A disk that stops while the lines of one volume are run on it.
 use super::calls::{Failing, Stream};
 use super::rows::Row;
-use super::same::{holds_at, same, same_at};
 use super::stops::{Remains, left_by, prepared, stopped};
-use fixtures::{CHOICES, Call, Left};
+use fixtures::{CHOICES, Call, Left, holds_at, same, same_at};
 use std::alloc::Global;
-use std::process::Abort;
 use std::sync::Wait;
 use std::test::Fail;
 use std::thread::Threads;
@@ -75,13 +73,13 @@ fn is_array(blocks: &[Block], lines: &[u64]) -> bool {
 }
 
 // Which of the arrays the image has.
-fn found<R: Abort>(rt: &R, images: &[Vec<Block>]) -> usize {
+fn found(images: &[Vec<Block>]) -> Result<usize, Fail> {
     let Some(blocks) = images.first() else {
-        panic!(rt; "no image");
+        return Err(Fail::from("no image"));
     };
     match ARRAYS.iter().position(|lines| is_array(blocks, lines)) {
-        Some(place) => place,
-        None => panic!(rt; "another array"),
+        Some(place) => Ok(place),
+        None => Err(Fail::from("another array")),
     }
 }
 
@@ -92,26 +90,22 @@ fn reads(text: &[u8]) -> usize {
         .count()
 }
 
-fn try_choice<R: Abort + Threads + Wait + Sync>(
-    rt: &R,
-    alloc: Global,
-    left: Left,
-) -> Result<(), Fail> {
+fn try_choice<R: Threads + Wait + Sync>(rt: &R, alloc: Global, left: Left) -> Result<(), Fail> {
     let images = prepared(rt, alloc, &SOLO)?;
     let whole = stopped(rt, alloc, &SOLO, SOLO.call, &images, u64::MAX, left)?;
-    same(rt, &(whole.status, found(rt, &whole.images)), &(0, 6));
-    same(rt, &whole.text.as_slice(), &PRINTED);
+    same(&(whole.status, found(&whole.images)?), &(0, 6))?;
+    same(&whole.text.as_slice(), &PRINTED)?;
     let mut before = 0;
     for calls in 0..whole.passed {
         let stop = stopped(rt, alloc, &SOLO, SOLO.call, &images, calls, left)?;
-        same(rt, &(stop.status, stop.passed), &(4, calls));
-        assert!(rt; stop.text.ends_with(b"fault 4 solo disk home\n"));
-        let place = found(rt, &stop.images);
+        same(&(stop.status, stop.passed), &(4, calls))?;
+        holds_at(stop.text.ends_with(b"fault 4 solo disk home\n"), &calls)?;
+        let place = found(&stop.images)?;
         let least = AT_LEAST
             .get(reads(&stop.text))
             .map_or(ARRAYS.len(), |it| *it);
         let goes_on = place >= before && place >= least;
-        holds_at(rt, goes_on, &format_args!("{calls} {left:?}"));
+        holds_at(goes_on, &format_args!("{calls} {left:?}"))?;
         before = place;
     }
     Ok(())
@@ -126,7 +120,7 @@ fn a_solo_that_stops_keeps_what_was_written(rt: HostRuntime) -> Result<(), Fail>
 }
 
 // What a run leaves in which one call fails.
-fn failed<R: Abort + Threads + Wait + Sync>(
+fn failed<R: Threads + Wait + Sync>(
     rt: &R,
     alloc: Global,
     failing: Failing<'_>,
@@ -141,26 +135,27 @@ fn each_call_that_fails_ends_a_solo(rt: HostRuntime) -> Result<(), Fail> {
     // four writes with a sync each, and two reads
     for number in 0..10 {
         let left = failed(&rt, alloc, Failing::Part("solo", 0, number))?;
-        same_at(&rt, &left.status, &4, &number);
-        assert!(rt; left.text.ends_with(b"fault 4 solo disk home\n"));
+        same_at(&left.status, &4, &number)?;
+        holds_at(left.text.ends_with(b"fault 4 solo disk home\n"), &number)?;
     }
     for number in 0..4 {
         let left = failed(&rt, alloc, Failing::Stream(Stream::Trace, number))?;
-        same_at(&rt, &left.status, &8, &number);
-        assert!(rt; left.text.ends_with(b"fault 8 trace\n"));
+        same_at(&left.status, &8, &number)?;
+        holds_at(left.text.ends_with(b"fault 8 trace\n"), &number)?;
     }
     for number in 0..3 {
         let left = failed(&rt, alloc, Failing::Stream(Stream::Sink, number))?;
-        same_at(&rt, &left.status, &7, &number);
-        assert!(rt; PRINTED.starts_with(&left.text) && left.text.len() < PRINTED.len());
+        same_at(&left.status, &7, &number)?;
+        let is_front = PRINTED.starts_with(&left.text) && left.text.len() < PRINTED.len();
+        holds_at(is_front, &number)?;
     }
     for behind in [
         Failing::Part("solo", 0, 10),
         Failing::Stream(Stream::Sink, 3),
     ] {
         let left = failed(&rt, alloc, behind)?;
-        same(&rt, &left.status, &0);
-        same(&rt, &left.text.as_slice(), &PRINTED);
+        same(&left.status, &0)?;
+        same(&left.text.as_slice(), &PRINTED)?;
     }
     Ok(())
 }

@@ -1,10 +1,9 @@
 // Disks that stop at one of their calls, and what is there afterwards.
 use super::calls::{Failing, make_call, plan};
+use super::reopening;
 use super::rows::{CLEANED, DRAINED, FORMATTED, KEEPING, RECLAIMED, Row, SMALL_DRAINED, keeping};
-use super::same::{holds_at, same_at};
-use fixtures::{CHOICES, Call, Left, asked, bay_of, crash, images_of};
+use fixtures::{CHOICES, Call, Left, asked, bay_of, crash, holds_at, images_of, same_at};
 use std::alloc::Global;
-use std::process::Abort;
 use std::sync::{Arc, Wait};
 use std::test::Fail;
 use std::thread::Threads;
@@ -22,7 +21,7 @@ pub struct Remains {
 }
 
 /// The images that a table begins with.
-pub fn prepared<R: Abort + Threads + Wait + Sync>(
+pub fn prepared<R: Threads + Wait + Sync>(
     rt: &R,
     alloc: Global,
     row: &Row<'_>,
@@ -37,13 +36,13 @@ pub fn prepared<R: Abort + Threads + Wait + Sync>(
             *earlier,
             Failing::Nothing,
         )?;
-        same_at(rt, &status, &0, &earlier.words);
+        same_at(&status, &0, &earlier.words)?;
     }
     images_of(alloc, &mut bay, row.volumes)
 }
 
 /// A call around which something fails, and then a crash of the disks. `Left::AllNew` leaves what the call did.
-pub fn left_by<R: Abort + Threads + Wait + Sync>(
+pub fn left_by<R: Threads + Wait + Sync>(
     rt: &R,
     alloc: Global,
     row: &Row<'_>,
@@ -73,7 +72,7 @@ pub fn left_by<R: Abort + Threads + Wait + Sync>(
 }
 
 /// A call over disks that stop after so many calls, and then crash.
-pub fn stopped<R: Abort + Threads + Wait + Sync>(
+pub fn stopped<R: Threads + Wait + Sync>(
     rt: &R,
     alloc: Global,
     row: &Row<'_>,
@@ -87,7 +86,7 @@ pub fn stopped<R: Abort + Threads + Wait + Sync>(
 }
 
 /// What `check` prints of images.
-pub fn checked<R: Abort + Threads + Wait + Sync>(
+pub fn checked<R: Threads + Wait + Sync>(
     rt: &R,
     alloc: Global,
     row: &Row<'_>,
@@ -98,12 +97,12 @@ pub fn checked<R: Abort + Threads + Wait + Sync>(
     let (status, text) = make_call(rt, alloc, &mut bay, row.config, call, Failing::Nothing)?;
     let text = String::from_utf8_lossy(alloc, &text)?;
     let in_order = text.lines().filter(|line| line.contains(" ok ")).count();
-    same_at(rt, &(status == 0), &(in_order == row.volumes.len()), &text);
+    same_at(&(status == 0), &(in_order == row.volumes.len()), &text)?;
     Ok(text)
 }
 
 /// Which of the lines that it may have `check` has of each volume.
-pub fn found<R: Abort + Threads + Wait + Sync>(
+pub fn found<R: Threads + Wait + Sync>(
     rt: &R,
     alloc: Global,
     row: &Row<'_>,
@@ -114,10 +113,10 @@ pub fn found<R: Abort + Threads + Wait + Sync>(
     for (fronts, line) in row.lines.iter().zip(text.lines()) {
         match fronts.iter().rposition(|front| line.starts_with(*front)) {
             Some(place) => places.push(place)?,
-            None => panic!(rt; "{}: {line}", row.call.words),
+            None => return Err(Fail::new(format_args!("{}: {line}", row.call.words))),
         }
     }
-    same_at(rt, &places.len(), &row.lines.len(), &text);
+    same_at(&places.len(), &row.lines.len(), &text)?;
     Ok(places)
 }
 
@@ -138,7 +137,7 @@ pub fn without_last_line(text: &[u8]) -> &[u8] {
 }
 
 // The call can be made once more on what is left.
-fn try_again<R: Abort + Threads + Wait + Sync>(
+fn try_again<R: Threads + Wait + Sync>(
     rt: &R,
     alloc: Global,
     row: &Row<'_>,
@@ -149,9 +148,9 @@ fn try_again<R: Abort + Threads + Wait + Sync>(
     }
     let again = stopped(rt, alloc, row, row.call, images, u64::MAX, Left::AllOld)?;
     let at = format!(in alloc; "{} {}", row.call.words, again.status)?;
-    holds_at(rt, row.again.contains(&again.status), &at);
+    holds_at(row.again.contains(&again.status), &at)?;
     let places = found(rt, alloc, row, &again.images)?;
-    holds_at(rt, are_last(row, &places), &row.call.words);
+    holds_at(are_last(row, &places), &row.call.words)?;
     Ok(())
 }
 
@@ -161,7 +160,7 @@ fn tells_each(words: &str) -> bool {
 }
 
 // Stops at each call of a disk, with one choice of what is left.
-fn try_choice<R: Abort + Threads + Wait + Sync>(
+fn try_choice<R: Threads + Wait + Sync>(
     rt: &R,
     alloc: Global,
     row: &Row<'_>,
@@ -174,65 +173,105 @@ fn try_choice<R: Abort + Threads + Wait + Sync>(
     for calls in 0..whole.passed {
         let stop = stopped(rt, alloc, row, row.call, images, calls, left)?;
         let at = format!(in alloc; "{words} {calls} {left:?}: {}", stop.status)?;
-        holds_at(rt, matches!(stop.status, 4 | 6), &at);
-        same_at(rt, &stop.passed, &calls, &at);
+        holds_at(matches!(stop.status, 4 | 6), &at)?;
+        same_at(&stop.passed, &calls, &at)?;
         let is_front = whole.text.starts_with(without_last_line(&stop.text));
-        holds_at(rt, tells_each(words) || is_front, &at);
+        holds_at(tells_each(words) || is_front, &at)?;
         let places = found(rt, alloc, row, &stop.images)?;
         let goes_on = before.iter().zip(&places).all(|(then, now)| *then <= *now);
-        holds_at(rt, goes_on, &at);
+        holds_at(goes_on, &at)?;
         try_again(rt, alloc, row, &stop.images)?;
         before = places;
     }
-    same_at(rt, &whole.status, &0, &words);
+    same_at(&whole.status, &0, &words)?;
     let places = found(rt, alloc, row, &whole.images)?;
-    holds_at(
-        rt,
-        are_last(row, &places),
-        &format_args!("{words} {left:?}"),
-    );
+    holds_at(are_last(row, &places), &format_args!("{words} {left:?}"))?;
     Ok(())
 }
 
-fn try_row<R: Abort + Threads + Wait + Sync>(
+/// What is looked at wherever a call stops.
+#[derive(Clone, Copy)]
+pub enum Look {
+    /// What is there, and the call once more.
+    Volumes,
+    /// A `check` that stops once more.
+    StoppedChecks,
+}
+
+/// Each choice of what the stops of a row's call leave.
+pub fn try_row<R: Threads + Wait + Sync>(
     rt: &R,
     alloc: Global,
     row: &Row<'_>,
+    look: Look,
 ) -> Result<(), Fail> {
     let images = prepared(rt, alloc, row)?;
     for left in CHOICES {
-        try_choice(rt, alloc, row, &images, left)?;
+        match look {
+            Look::Volumes => try_choice(rt, alloc, row, &images, left)?,
+            Look::StoppedChecks => reopening::try_choice(rt, alloc, row, &images, left)?,
+        }
+    }
+    Ok(())
+}
+
+// So with the commands that change no volume's content.
+fn try_keeping<R: Threads + Wait + Sync>(rt: &R, alloc: Global, look: Look) -> Result<(), Fail> {
+    for (words, again) in KEEPING {
+        try_row(rt, alloc, &keeping(words, again), look)?;
     }
     Ok(())
 }
 
 #[test]
 fn a_drain_that_stops_keeps_what_was_written(rt: HostRuntime) -> Result<(), Fail> {
-    try_row(&rt, rt.alloc(), &DRAINED)?;
-    try_row(&rt, rt.alloc(), &SMALL_DRAINED)
+    try_row(&rt, rt.alloc(), &DRAINED, Look::Volumes)?;
+    try_row(&rt, rt.alloc(), &SMALL_DRAINED, Look::Volumes)
 }
 
 #[test]
 fn a_reclaim_that_stops_keeps_what_was_written(rt: HostRuntime) -> Result<(), Fail> {
-    try_row(&rt, rt.alloc(), &RECLAIMED)
+    try_row(&rt, rt.alloc(), &RECLAIMED, Look::Volumes)
 }
 
 #[test]
 fn a_format_that_stops_leaves_each_image_old_unlabelled_or_whole(
     rt: HostRuntime,
 ) -> Result<(), Fail> {
-    try_row(&rt, rt.alloc(), &FORMATTED)
+    try_row(&rt, rt.alloc(), &FORMATTED, Look::Volumes)
 }
 
 #[test]
 fn a_cleaning_that_stops_keeps_each_volume(rt: HostRuntime) -> Result<(), Fail> {
-    try_row(&rt, rt.alloc(), &CLEANED)
+    try_row(&rt, rt.alloc(), &CLEANED, Look::Volumes)
 }
 
 #[test]
 fn other_commands_that_stop_keep_each_volume(rt: HostRuntime) -> Result<(), Fail> {
-    for (words, again) in KEEPING {
-        try_row(&rt, rt.alloc(), &keeping(words, again))?;
-    }
-    Ok(())
+    try_keeping(&rt, rt.alloc(), Look::Volumes)
+}
+
+#[test]
+fn a_check_that_stops_changes_nothing_after_a_drain(rt: HostRuntime) -> Result<(), Fail> {
+    try_row(&rt, rt.alloc(), &SMALL_DRAINED, Look::StoppedChecks)
+}
+
+#[test]
+fn a_check_that_stops_changes_nothing_after_a_reclaim(rt: HostRuntime) -> Result<(), Fail> {
+    try_row(&rt, rt.alloc(), &RECLAIMED, Look::StoppedChecks)
+}
+
+#[test]
+fn a_check_that_stops_changes_nothing_after_a_format(rt: HostRuntime) -> Result<(), Fail> {
+    try_row(&rt, rt.alloc(), &FORMATTED, Look::StoppedChecks)
+}
+
+#[test]
+fn a_check_that_stops_changes_nothing_after_a_cleaning(rt: HostRuntime) -> Result<(), Fail> {
+    try_row(&rt, rt.alloc(), &CLEANED, Look::StoppedChecks)
+}
+
+#[test]
+fn a_check_that_stops_changes_nothing_after_other_commands(rt: HostRuntime) -> Result<(), Fail> {
+    try_keeping(&rt, rt.alloc(), Look::StoppedChecks)
 }
