@@ -1,5 +1,4 @@
 mod calls;
 mod forged;
 mod runs;
-mod same;
 mod spoiled;

@@ -4,7 +4,6 @@ ghost use Rattle.wol_bay.specs.MemBay.{mem_bay_state};
 
 use fixtures::{Call, words_of};
 use std::alloc::{AllocError, Global};
-use std::process::Abort;
 use std::sync::Wait;
 use std::test::Fail;
 use std::thread::Threads;
@@ -38,7 +37,7 @@ fn source_of(alloc: Global, bytes: &[u8], fail_at: Option<u64>) -> Result<MemSou
 }
 
 /// The status of a call, and what it prints.
-pub fn make_call<R: Abort + Threads + Wait + Sync>(
+pub fn make_call<R: Threads + Wait + Sync>(
     rt: &R,
     alloc: Global,
     bay: &mut MemBay,

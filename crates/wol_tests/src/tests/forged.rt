@@ -1,12 +1,10 @@
 // Images that no run wrote, through the words of each command. The lines were worked out by hand from the formats.
 use super::calls::{NONE, make_call};
-use super::same::same_at;
 use fixtures::{
     Call, Change, LONG, MANY, OTHER_LONG, OTHER_MANY, OTHER_PAST, OWNED, PAST, SRC0, THREE, USR0,
-    WEB0, put,
+    WEB0, put, same_at,
 };
 use std::alloc::Global;
-use std::process::Abort;
 use std::sync::Wait;
 use std::test::Fail;
 use std::thread::Threads;
@@ -141,7 +139,7 @@ fn first_told(alloc: Global, image: &Forged<'_>) -> Result<String, Fail> {
 }
 
 // A command on the images ends with this status and this text.
-fn expect<R: Abort + Threads + Wait + Sync>(
+fn expect<R: Threads + Wait + Sync>(
     rt: &R,
     alloc: Global,
     image: &Forged<'_>,
@@ -156,12 +154,12 @@ fn expect<R: Abort + Threads + Wait + Sync>(
     let asked = Call { words, trace: LINE };
     let (found, said) = make_call(rt, alloc, &mut bay, THREE.as_bytes(), asked, NONE)?;
     let said = String::from_utf8_lossy(alloc, &said)?;
-    same_at(rt, &said.as_str(), &text, &words);
-    same_at(rt, &found, &status, &format_args!("{words}: {text}"));
+    same_at(&said.as_str(), &text, &words)?;
+    same_at(&found, &status, &format_args!("{words}: {text}"))?;
     Ok(())
 }
 
-fn try_image<R: Abort + Threads + Wait + Sync>(
+fn try_image<R: Threads + Wait + Sync>(
     rt: &R,
     alloc: Global,
     image: &Forged<'_>,

@@ -3,13 +3,12 @@ ghost use Rattle.solo.specs.Images.{NoneOut};
 ghost use Rattle.wol_bay.specs.MemBay.{mem_bay_state};
 
 use super::calls::{Faults, NONE, make_call};
-use super::same::{holds_at, same_at};
 use fixtures::{
     Call, DRAINING, DRAINS, LAST_VERSION, NOTHING_REPLAYED, OFFLOADS, OFFLOADS_KEPT, OFFLOADS_READ,
-    OFFLOADS_RECLAIMED, ONE_BLOCK_EACH, SRC0, THREE, USR0, WEB0, config_text, put,
+    OFFLOADS_RECLAIMED, ONE_BLOCK_EACH, SRC0, THREE, USR0, WEB0, config_text, holds_at, put,
+    same_at,
 };
 use std::alloc::Global;
-use std::process::Abort;
 use std::sync::Wait;
 use std::test::Fail;
 use std::thread::Threads;
@@ -35,7 +34,7 @@ fn is_text(text: &[u8], parts: &[&[u8]]) -> bool {
     rest.is_empty()
 }
 
-fn try_call<R: Abort + Threads + Wait + Sync>(
+fn try_call<R: Threads + Wait + Sync>(
     rt: &R,
     alloc: Global,
     bay: &mut MemBay,
@@ -48,40 +47,20 @@ fn try_call<R: Abort + Threads + Wait + Sync>(
     let (faults, (words, trace, wanted, parts)) = *row;
     let call = Call { words, trace };
     let (status, text) = make_call(rt, alloc, bay, config.as_bytes(), call, faults)?;
-    same_at(rt, &status, &wanted, &words);
+    same_at(&status, &wanted, &words)?;
     let printed = String::from_utf8_lossy(alloc, &text)?;
-    holds_at(
-        rt,
-        is_text(&text, parts),
-        &format_args!("{words}: {printed}"),
-    );
+    holds_at(is_text(&text, parts), &format_args!("{words}: {printed}"))?;
     Ok(())
 }
 
-// Calls one after another in one bay.
-fn try_faults<R: Abort + Threads + Wait + Sync>(
-    rt: &R,
-    alloc: Global,
-    bay: &mut MemBay,
-    config: &str,
-    rows: &[Faulty<'_>],
-) -> Result<(), Fail>
-    requires { NoneOut (mem_bay_state bay.old) }
-    ensures { NoneOut (mem_bay_state bay.new) }
-{
-    for row in rows {
-        try_call(rt, alloc, bay, config, row)?;
-    }
-    Ok(())
-}
-
-// The same, where nothing fails.
-fn try_all<R: Abort + Threads + Wait + Sync>(
+// Calls one after another in one bay: those in which nothing fails, and then the others.
+fn try_all<R: Threads + Wait + Sync>(
     rt: &R,
     alloc: Global,
     bay: &mut MemBay,
     config: &str,
     rows: &[Row<'_>],
+    faults: &[Faulty<'_>],
 ) -> Result<(), Fail>
     requires { NoneOut (mem_bay_state bay.old) }
     ensures { NoneOut (mem_bay_state bay.new) }
@@ -89,11 +68,14 @@ fn try_all<R: Abort + Threads + Wait + Sync>(
     for row in rows {
         try_call(rt, alloc, bay, config, &(NONE, *row))?;
     }
+    for faulty in faults {
+        try_call(rt, alloc, bay, config, faulty)?;
+    }
     Ok(())
 }
 
 // Each call in a bay of its own.
-fn try_apart<R: Abort + Threads + Wait + Sync>(
+fn try_apart<R: Threads + Wait + Sync>(
     rt: &R,
     alloc: Global,
     config: &str,
@@ -112,7 +94,7 @@ fn try_apart<R: Abort + Threads + Wait + Sync>(
 }
 
 // The same, where a call of a part fails.
-fn try_broken<R: Abort + Threads + Wait + Sync>(
+fn try_broken<R: Threads + Wait + Sync>(
     rt: &R,
     alloc: Global,
     config: &str,
@@ -227,14 +209,7 @@ fn tells_a_source_a_sink_and_a_disk_that_fail(rt: HostRuntime) -> Result<(), Fai
     try_broken(&rt, rt.alloc(), "", &SOLO_BROKEN)
 }
 
-const NO_HOME: &str = r#"segment_blocks = 16
-awake_mw = 8000
-standby_mw = 1000
-wake_mj = 50000
-volume = [
-  { name = "usr0", host = "usr", disk = 0, home_blocks = 0, segments = 4, view = [] },
-]
-"#;
+const NO_HOME: &str = config_text!(16: "usr0" of "usr" 0 4 "");
 
 const NOT_TOML: &[&[u8]] = &[b"fault 2 config not toml\n"];
 
@@ -302,15 +277,10 @@ fn prints_generated_lines(rt: HostRuntime) -> Result<(), Fail> {
     try_apart(&rt, rt.alloc(), THREE, &GEN, &GEN_FAULTS)
 }
 
-const TWO_VOLUMES: &str = r#"segment_blocks = 4
-awake_mw = 1
-standby_mw = 1
-wake_mj = 1
-volume = [
-  { name = "a", host = "a", disk = 0, home_blocks = 1, segments = 2, view = ["b"] },
-  { name = "b", host = "b", disk = 0, home_blocks = 1, segments = 0, view = [] },
-]
-"#;
+const TWO_VOLUMES: &str = config_text!(4:
+    "a" of "a" 1 2 "\"b\"",
+    "b" of "b" 1 0 ""
+);
 
 const FORMAT_FAULTS: [Faulty<'_>; 3] = [
     (NONE, ("format a", b"", 1, NO_COMMAND)),
@@ -345,6 +315,7 @@ fn formats_volumes(rt: HostRuntime) -> Result<(), Fail> {
         &mut bay,
         TWO_VOLUMES,
         &[TWO_MADE, TWO_MADE],
+        &[],
     )?;
     bay.attach("a", &[2, 1, 4, 4])?;
     Ok(())
@@ -398,10 +369,9 @@ const NONE_REPLAYED: [Row<'_>; 2] = [
 #[test]
 fn replays_traces(rt: HostRuntime) -> Result<(), Fail> {
     let mut bay = MemBay::new(rt.alloc());
-    try_all(&rt, rt.alloc(), &mut bay, THREE, &REPLAYED)?;
-    try_faults(&rt, rt.alloc(), &mut bay, THREE, &REPLAY_FAULTS)?;
+    try_all(&rt, rt.alloc(), &mut bay, THREE, &REPLAYED, &REPLAY_FAULTS)?;
     bay.put("usr0", &[0; 1000])?;
-    try_all(&rt, rt.alloc(), &mut bay, THREE, &NONE_REPLAYED)
+    try_all(&rt, rt.alloc(), &mut bay, THREE, &NONE_REPLAYED, &[])
 }
 
 const COMPARED: &[&[u8]] = &[
@@ -532,7 +502,7 @@ const IN_A_ROW: [(&str, &[Row<'_>]); 4] = [
 fn calls_go_on_with_what_earlier_ones_left(rt: HostRuntime) -> Result<(), Fail> {
     for (config, rows) in IN_A_ROW {
         let mut bay = MemBay::new(rt.alloc());
-        try_all(&rt, rt.alloc(), &mut bay, config, rows)?;
+        try_all(&rt, rt.alloc(), &mut bay, config, rows, &[])?;
     }
     Ok(())
 }
@@ -550,7 +520,7 @@ fn no_version_comes_after_the_last(rt: HostRuntime) -> Result<(), Fail> {
     put(rt.alloc(), &mut bay, &USR0, LAST_VERSION)?;
     put(rt.alloc(), &mut bay, &WEB0, LAST_VERSION)?;
     put(rt.alloc(), &mut bay, &SRC0, LAST_VERSION)?;
-    try_all(&rt, rt.alloc(), &mut bay, THREE, &SPENT)
+    try_all(&rt, rt.alloc(), &mut bay, THREE, &SPENT, &[])
 }
 
 const VIEWS: [Row<'_>; 13] = [
@@ -590,6 +560,12 @@ const VIEW_FAULTS: [Faulty<'_>; 3] = [
 #[test]
 fn changes_views(rt: HostRuntime) -> Result<(), Fail> {
     let mut bay = MemBay::new(rt.alloc());
-    try_all(&rt, rt.alloc(), &mut bay, ONE_BLOCK_EACH, &VIEWS)?;
-    try_faults(&rt, rt.alloc(), &mut bay, ONE_BLOCK_EACH, &VIEW_FAULTS)
+    try_all(
+        &rt,
+        rt.alloc(),
+        &mut bay,
+        ONE_BLOCK_EACH,
+        &VIEWS,
+        &VIEW_FAULTS,
+    )
 }

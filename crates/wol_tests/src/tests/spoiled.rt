@@ -4,14 +4,13 @@ ghost use Rattle.solo.specs.Images.{NoneOut};
 ghost use Rattle.wol_bay.specs.MemBay.{mem_bay_state};
 
 use super::calls::{NONE, make_call};
-use super::same::{holds_at, same, same_at};
 use fixtures::{
-    AFTER_STAYS, Call, RECLAIMS, ROOMY_THREE, SMALL_THREE, THREE_ROOMY, asked, bay_of, images_of,
+    AFTER_STAYS, Call, RECLAIMS, ROOMY_THREE, SMALL_THREE, THREE_ROOMY, asked, bay_of, holds_at,
+    images_of, same, same_at,
 };
 use rand_xoshiro::SplitMix64;
 use rand_xoshiro::rand_core::{Rng, SeedableRng};
 use std::alloc::Global;
-use std::process::Abort;
 use std::sync::Wait;
 use std::test::Fail;
 use std::thread::Threads;
@@ -142,7 +141,7 @@ fn spoil(generator: &mut SplitMix64, images: &mut [Vec<Block>], heads: &[Place])
 }
 
 // The status of a command on these volumes, and what it prints.
-fn called<R: Abort + Threads + Wait + Sync>(
+fn called<R: Threads + Wait + Sync>(
     rt: &R,
     alloc: Global,
     bay: &mut MemBay,
@@ -157,38 +156,35 @@ fn called<R: Abort + Threads + Wait + Sync>(
 }
 
 // Images of which the log of the second has what the others wrote.
-fn sound_images<R: Abort + Threads + Wait + Sync>(
-    rt: &R,
-    alloc: Global,
-) -> Result<Vec<Vec<Block>>, Fail> {
+fn sound_images<R: Threads + Wait + Sync>(rt: &R, alloc: Global) -> Result<Vec<Vec<Block>>, Fail> {
     let mut bay = MemBay::new(alloc);
     for earlier in AFTER_STAYS {
         let (status, _text) = called(rt, alloc, &mut bay, earlier.words, earlier.trace)?;
-        same_at(rt, &status, &0, &earlier.words);
+        same_at(&status, &0, &earlier.words)?;
     }
     images_of(alloc, &mut bay, &THREE_ROOMY)
 }
 
 // What `check` tells of images, `dump` tells too, and `check` again behind it. A replay is refused for it and changes nothing, or
 // is run as far as versions go and leaves what is in order. The status of `check`.
-fn try_images<R: Abort + Threads + Wait + Sync>(
+fn try_images<R: Threads + Wait + Sync>(
     rt: &R,
     alloc: Global,
     images: &[Vec<Block>],
 ) -> Result<u8, Fail> {
     let mut bay = bay_of(alloc, &THREE_ROOMY, images)?;
     let (status, text) = called(rt, alloc, &mut bay, "check", b"")?;
-    holds_at(rt, matches!(status, 0 | 5 | 6), &status);
+    holds_at(matches!(status, 0 | 5 | 6), &status)?;
     let (dumped, _records) = called(rt, alloc, &mut bay, "dump", b"")?;
-    same(rt, &dumped, &status);
+    same(&dumped, &status)?;
     let (again, retold) = called(rt, alloc, &mut bay, "check", b"")?;
-    same(rt, &again, &status);
-    assert!(rt; retold == text);
+    same(&again, &status)?;
+    holds_at(retold == text, &"the second check")?;
     let (played, _answers) = called(rt, alloc, &mut bay, "replay --each", RECLAIMS)?;
-    holds_at(rt, played == status || status == 0 && played == 11, &played);
+    holds_at(played == status || status == 0 && played == 11, &played)?;
     let (left, kept) = called(rt, alloc, &mut bay, "check", b"")?;
-    same(rt, &left, &status);
-    assert!(rt; status == 0 || kept == text);
+    same(&left, &status)?;
+    holds_at(status == 0 || kept == text, &"the check behind a replay")?;
     Ok(status)
 }
 
@@ -209,7 +205,7 @@ fn spoiled_images_are_told_or_are_what_they_say(rt: HostRuntime) -> Result<(), F
         }
     }
     // both kinds came
-    holds_at(&rt, 20 < in_order && in_order < IMAGES - 20, &in_order);
+    holds_at(20 < in_order && in_order < IMAGES - 20, &in_order)?;
     Ok(())
 }
 
@@ -236,8 +232,8 @@ fn spoiled_configurations_are_told_or_read(rt: HostRuntime) -> Result<(), Fail> 
         let config = spoiled_text(alloc, &mut generator, SMALL_THREE.as_bytes())?;
         let mut bay = MemBay::new(alloc);
         let (status, text) = make_call(&rt, alloc, &mut bay, &config, asked("gen 7 3"), NONE)?;
-        holds_at(&rt, matches!(status, 0 | 2), &status);
-        assert!(rt; status == 0 || text.starts_with(b"fault 2 config "));
+        holds_at(matches!(status, 0 | 2), &status)?;
+        holds_at(status == 0 || text.starts_with(b"fault 2 config "), &status)?;
     }
     Ok(())
 }
@@ -253,10 +249,10 @@ fn spoiled_lines_are_told_or_run(rt: HostRuntime) -> Result<(), Fail> {
         let (status, text) = called(&rt, alloc, &mut bay, "replay --each", &trace)?;
         let text = String::from_utf8_lossy(alloc, &text)?;
         let told = text.lines().any(|line| line.starts_with("fault 3 line "));
-        holds_at(&rt, matches!(status, 0 | 3), &status);
-        same_at(&rt, &told, &(status == 3), &text);
+        holds_at(matches!(status, 0 | 3), &status)?;
+        same_at(&told, &(status == 3), &text)?;
         let (left, _lines) = called(&rt, alloc, &mut bay, "check", b"")?;
-        same(&rt, &left, &0);
+        same(&left, &0)?;
     }
     Ok(())
 }
@@ -285,7 +281,7 @@ fn a_line_too_long_or_without_its_end_is_told_or_run(rt: HostRuntime) -> Result<
         let mut bay = bay_of(alloc, &THREE_ROOMY, &sound)?;
         let (status, text) = called(&rt, alloc, &mut bay, "replay --each", trace)?;
         let text = String::from_utf8_lossy(alloc, &text)?;
-        same_at(&rt, &status, &wanted, &text);
+        same_at(&status, &wanted, &text)?;
     }
     Ok(())
 }

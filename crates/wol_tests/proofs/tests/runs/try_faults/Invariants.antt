@@ -1,6 +1,0 @@
-use Rattle.solo.specs.Images.{NoneOut}
-use Rattle.wol_bay.specs.MemBay.{mem_bay_state}
-use Rattle.wol_tests.proofs.tests.runs.try_faults.Given as goal
-
-abbrev pub invariant-loop-row : goal.invariant-loop-row
-invariant-loop-row g l = NoneOut (mem_bay_state l.bay)
