@@ -1,12 +1,7 @@
--- Uses as entries are added.
-use Rattle.std.proofs.Common.{◌≡◌, ℕ, ◌+◌, List, [], ◌∷◌, ◌++◌, ap, ◌∙◌, sym, append_assoc, refl, arith}
+-- What a desk has of its counter as entries are added.
+use Rattle.std.proofs.Common.{◌≡◌, ℕ, List, [], ◌∷◌, ◌++◌, ap, ◌∙◌, sym, append_assoc, refl}
 use Rattle.turn_lock.specs.Histories.{Entry}
-use Rattle.turn_lock_tests.specs.Gauges.{begun, uses_of}
 use Rattle.turn_lock_tests.specs.Desks.{uses}
-
-pub uses_of-push : (es : List Entry) (n : ℕ) (op : List ℕ) → uses_of (es ++ (n, op) ∷ []) ≡ uses_of es + begun op
-uses_of-push [] n op = omega arith
-uses_of-push (e ∷ es) n op = let h = uses_of-push es n op in omega arith
 
 pub uses-push : (m : ℕ) (es : List Entry) (e : Entry) → uses m (es ++ e ∷ []) ≡ uses m es ++ (m, 1 ∷ []) ∷ (m, 2 ∷ []) ∷ []
 uses-push m [] e = refl

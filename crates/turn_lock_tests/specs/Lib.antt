@@ -1,3 +1,2 @@
 pub mod Desks
-pub mod Gauges
 pub mod Made

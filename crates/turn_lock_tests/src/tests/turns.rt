@@ -85,14 +85,14 @@ fn passes_are_numbered_from_zero(rt: HostRuntime) -> Result<(), Fail> {
     Ok(())
 }
 
-// Two threads of ten turns each at a desk, whose gauge has one pass.
+// Two threads of ten turns each at a desk, whose counter has one pass.
 fn desk_turns<R: Threads + Wait + Sync>(
     rt: &R,
-    gauge: &TurnLock<Gauge>,
+    counter: &TurnLock<Counter>,
     lock: &TurnLock<Desk>,
     passes: &mut Vec<Pass<Desk>>,
 )
-    requires gauge { (lock_id lock.now).base.gauge.id ≡ lock_id gauge.now }
+    requires counter { (lock_id lock.now).base.counter.id ≡ lock_id counter.now }
     requires passes { All (λ p. IsPassOf lock.now p × IsFree p) passes.old.items }
     ensures passes { All (λ p. IsPassOf lock.entry.now p × IsFree p) passes.new.items }
     ensures count { vec_len passes.new ≡ vec_len passes.old }
@@ -103,58 +103,63 @@ fn desk_turns<R: Threads + Wait + Sync>(
         2,
         &|_, pass: &mut Pass<Desk>|
             requires { IsPassOf lock.now pass.now × IsFree pass.now
-                × ((lock_id lock.now).base.gauge.id ≡ lock_id gauge.now) }
+                × ((lock_id lock.now).base.counter.id ≡ lock_id counter.now) }
             ensures { IsPassOf lock.entry.now pass.exit.now × IsFree pass.exit.now }
-        { ten_turns(rt, gauge, lock, pass) },
+        { ten_turns(rt, counter, lock, pass) },
     );
 }
 
-fn ten_turns<R: Wait>(rt: &R, gauge: &TurnLock<Gauge>, lock: &TurnLock<Desk>, pass: &mut Pass<Desk>)
+fn ten_turns<R: Wait>(
+    rt: &R,
+    counter: &TurnLock<Counter>,
+    lock: &TurnLock<Desk>,
+    pass: &mut Pass<Desk>,
+)
     requires own { IsPassOf lock.now pass.old }
     requires free { IsFree pass.old }
-    requires gauge { (lock_id lock.now).base.gauge.id ≡ lock_id gauge.now }
+    requires counter { (lock_id lock.now).base.counter.id ≡ lock_id counter.now }
     ensures own { IsPassOf lock.entry.now pass.new }
     ensures free { IsFree pass.new }
 {
     for _ in 0..10 {
-        work_once(rt, gauge, lock, pass);
+        work_once(rt, counter, lock, pass);
     }
 }
 
-// A lock over a desk that owns this pass of a gauge's lock, and twenty turns of it. The pass comes back.
-fn twenty_uses<R: Threads + Wait + Sync>(
+// A lock over a desk that owns this pass of a counter's lock, and twenty turns of it. The pass comes back.
+fn twenty_turns<R: Threads + Wait + Sync>(
     rt: &R,
     alloc: Global,
-    gauge: &TurnLock<Gauge>,
-    pass: Pass<Gauge>,
-) -> Pass<Gauge>
-    requires own { IsPassOf gauge.now pass }
+    counter: &TurnLock<Counter>,
+    pass: Pass<Counter>,
+) -> Pass<Counter>
+    requires own { IsPassOf counter.now pass }
     requires free { IsFree pass }
-    ensures own { IsPassOf gauge.now result }
+    ensures own { IsPassOf counter.now result }
     ensures free { IsFree result }
 {
-    match TurnLock::new(alloc, Desk { gauge: pass }, 1, 1) {
+    match TurnLock::new(alloc, Desk { counter: pass }, 1, 1) {
         Ok((lock, mut passes)) => {
-            desk_turns(rt, gauge, &lock, &mut passes);
-            let Desk { gauge: pass } = lock.close(passes);
+            desk_turns(rt, counter, &lock, &mut passes);
+            let Desk { counter: pass } = lock.close(passes);
             pass
         }
         Err((desk, _)) => {
-            let Desk { gauge: pass } = desk;
+            let Desk { counter: pass } = desk;
             pass
         }
     }
 }
 
-fn uses<R: Threads + Wait + Sync>(rt: &R, alloc: Global) -> Option<u64> {
-    match TurnLock::new(alloc, Gauge { uses: 0 }, 1, 0) {
+fn counted_within<R: Threads + Wait + Sync>(rt: &R, alloc: Global) -> Option<u64> {
+    match TurnLock::new(alloc, Counter { count: 0 }, 1, 0) {
         Ok((lock, mut passes)) => {
             let Some(pass) = passes.pop() else {
                 unreachable!()
             };
-            passes.push_reserved(twenty_uses(rt, alloc, &lock, pass));
-            let gauge = lock.close(passes);
-            Some(gauge.uses)
+            passes.push_reserved(twenty_turns(rt, alloc, &lock, pass));
+            let counter = lock.close(passes);
+            Some(counter.count)
         }
         Err((_, _)) => None,
     }
@@ -162,6 +167,6 @@ fn uses<R: Threads + Wait + Sync>(rt: &R, alloc: Global) -> Option<u64> {
 
 #[test]
 fn turns_within_turns_are_each_made_once(rt: HostRuntime) -> Result<(), Fail> {
-    assert_eq!(rt; uses(&rt, rt.alloc()), Some(20));
+    assert_eq!(rt; counted_within(&rt, rt.alloc()), Some(40));
     Ok(())
 }
