@@ -29,6 +29,7 @@ pub fn hand_on<K: Sink>(out: &mut K, text: &mut Vec<u8>, least: usize) -> Result
     ensures ok { OnOk result
         (HandsOn (K.taken out.old) (K.taken out.new) text.old.items text.new.items) }
     ensures left { OnOk result ((length text.new.items < least) ⊎ (text.new.items ≡ [])) }
+    ensures short { length text.old.items < least → (out.new ≡ out.old) × (text.new ≡ text.old) }
     ensures err { OnErr result (AppendsFront (K.taken out.old) (K.taken out.new) text.old.items) }
     ensures later { K.faults out.old ≤ K.faults out.new }
     ensures cause { OnErr result (Rose (K.faults out.old) (K.faults out.new)) }
