@@ -58,7 +58,7 @@ module _ {D : Type 0} (tells : Bool) (state : D → State) (config : Config) whe
       pub still_told : (asked : Asked) → ArePrintedSo asked r q fs n i first printed now → (result : Result (Option Trouble) NoMemory) (text : List ℕ) → AppendsNext tells state config asked q p fs hs n m i result text → AreTold asked
       still_told Check u result text a =
           let s = still_printed tells state config r q fs n i first printed now u p hs m a.rest a.more a.found.keeps (a.found.going r.stations.items u.going) in
-          record { same = rack_found tells state config r p hs m s.rest s.going; told = s.told; are = tellings_so tells state config r p hs m i first printed now s; prints = s.prints }
+          record { same = rack_found tells state config r p hs m s.rest s.going; told = s.so_far.told; are = tellings_so tells state config r p hs m i first printed now s; prints = s.so_far.prints }
       still_told Dump u result text a =
           record { same = rack_then r q p u.same a.same; told = u.so_far.told; are = tellings_still tells state config Dump r q p i first printed now u a.same a.others; prints = u.so_far.prints }
 
@@ -79,7 +79,7 @@ module _ {D : Type 0} (tells : Bool) (state : D → State) (config : Config) whe
             let s = still_printed tells state config r q fs n i first printed now u p hs m a.rest a.more a.found.keeps (a.found.going r.stations.items u.going) in
             record {
               same = rack_found tells state config r p hs m s.rest s.going;
-              told = s.told ++ t ∷ [];
+              told = s.so_far.told ++ t ∷ [];
               are = tellings_next tells state config r p hs m i first printed now s within t a.told;
               front = front_next tells state config r p hs m i first printed now s within t a.told;
               next = next_printed tells state config r p hs m i first printed now s within t a.told;
