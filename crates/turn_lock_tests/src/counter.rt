@@ -22,9 +22,9 @@ impl Object for Counter {
 impl Counter {
     /// Counts one turn, whichever its operation is.
     pub fn count_turn(&mut self)
-        ensures { (b : ℕ) (es : List (ℕ × List ℕ)) (n : ℕ)
+        ensures { (b : ℕ) (es : List (ℕ × List ℕ)) (e : ℕ × List ℕ)
             → self.old.count ≡ (b + length es) % 2 ^ 64
-            → self.new.count ≡ (b + length (es ++ (n, 1 ∷ []) ∷ [])) % 2 ^ 64 }
+            → self.new.count ≡ (b + length (es ++ e ∷ [])) % 2 ^ 64 }
     {
         self.count = self.count.wrapping_add(1);
     }
