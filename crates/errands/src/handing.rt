@@ -8,10 +8,10 @@ use crate::errand::Errand;
 use crate::rule::{Asks, Ends, Gives, Hires, Leaves, Looks, Opens};
 use atomic_table::{Refused, Table};
 use std::alloc::Global;
+use std::hint;
 use std::sync::Wait;
 use std::sync::atomic::AtomicBool;
 use std::sync::atomic::Ordering::SeqCst;
-use std::thread::yield_now;
 
 // The one word says how far the one thing in the one slot is. It is 0 before the first.
 const PHASE: usize = 0;
@@ -27,10 +27,8 @@ const DONE: u64 = 2;
 // Nothing more comes.
 const OVER: u64 = 3;
 
-// How often a thread looks before it sleeps, and lets others run in between: some 250 microseconds where nobody else wants to.
-// To be woken costs as much as serving a window of 64 requests where processors are virtual: 1,000 looks made four workers a
-// third faster than 100 did without letting others run, and eight on four processors more than twice as fast.
-const LOOKS: u32 = 1_000;
+// How often a thread looks before it sleeps. On a busy machine 1 was as fast with four workers, and slower by half with two.
+const LOOKS: u32 = 100;
 
 // The seat takes the empty slot, and makes the worker.
 fn open<T: Errand>(
@@ -92,7 +90,7 @@ impl<T: Errand> Errands<T> {
             if self.table.shared.peek(PHASE) != u64::from(seen) {
                 return;
             }
-            yield_now();
+            hint::spin_loop();
         }
         self.table.shared.park(rt, PHASE, seen);
     }
