@@ -1,11 +1,11 @@
 // Which record has each block: for every block that a record keeps, the version of the newest one that keeps
 // it, and how many keep it.
-ghost use Rattle.std.specs.Prelude.{◌≡◌, ◌<◌, ◌≤◌, ◌^◌, ◌+◌, ◌==◌, ◌&&◌, ◌||◌, nat_eq, nat_lt, ℕ, is_some, true, false, if◌then◌else◌};
-ghost use Rattle.std.specs.List.{list_any, range_with_len};
-ghost use Rattle.std.specs.HashMap.{get, spare};
-ghost use Rattle.wol_model.specs.Log.{has_bit};
-ghost use Rattle.block_cells.specs.Masks.{in_mask};
 ghost use Rattle.block_cells.specs.Cells.{is_held, keepers_of, version_in, one_covers, covering, take_one};
+ghost use Rattle.block_cells.specs.Masks.{in_mask};
+ghost use Rattle.std.specs.HashMap.{get, spare};
+ghost use Rattle.std.specs.List.{list_any, range_with_len};
+ghost use Rattle.std.specs.Prelude.{◌≡◌, ◌<◌, ◌≤◌, ◌^◌, ◌+◌, ◌==◌, ◌&&◌, ◌||◌, nat_eq, nat_lt, ℕ, is_some, true, false, if◌then◌else◌};
+ghost use Rattle.wol_model.specs.Log.{has_bit};
 
 use crate::mask::has;
 use crate::record::Rec;

@@ -1,6 +1,6 @@
 // Masks of 128 blocks: bit i of a mask that begins at block `first` is block `first + i`.
-ghost use Rattle.std.specs.Prelude.{◌≡◌, ◌<◌, ◌+◌, ℕ, nat_lt, ◌&&◌};
 ghost use Rattle.block_cells.specs.Masks.{in_mask};
+ghost use Rattle.std.specs.Prelude.{◌≡◌, ◌<◌, ◌+◌, ℕ, nat_lt, ◌&&◌};
 ghost use Rattle.wol_model.specs.Log.{has_bit};
 
 /// Whether the mask has bit i.

@@ -1,9 +1,9 @@
 // A record of a log as an index names it.
-ghost use Rattle.std.specs.Prelude.{◌≡◌, ◌≤◌, ◌&&◌, not, if◌then◌else◌};
-ghost use Rattle.std.specs.List.{list_any, range_with_len};
-ghost use Rattle.wol_model.specs.Log.{marks_of};
 ghost use Rattle.block_cells.specs.Masks.{in_mask};
 ghost use Rattle.block_cells.specs.Runs.{runs_of};
+ghost use Rattle.std.specs.List.{list_any, range_with_len};
+ghost use Rattle.std.specs.Prelude.{◌≡◌, ◌≤◌, ◌&&◌, not, if◌then◌else◌};
+ghost use Rattle.wol_model.specs.Log.{marks_of};
 
 use crate::mask::moved;
 

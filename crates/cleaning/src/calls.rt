@@ -1,15 +1,15 @@
 // All volumes of a bay are cleaned.
-ghost use Rattle.std.specs.Prelude.{◌≡◌, ◌≤◌};
-ghost use Rattle.wol_bay.specs.Bay.{outs};
-ghost use Rattle.wol_config.specs.Configs.{IsValid};
-ghost use Rattle.volume_images.specs.Left.{IsTold};
-ghost use Rattle.volume_images.specs.Volumes.{NoneOut};
-ghost use Rattle.rack.specs.Opens.{KeepsOthers};
-ghost use Rattle.open_rack.specs.NotOpened.{LeavesBay};
-ghost use Rattle.replay.specs.declared.stop.Stop.TheVariants.{Fault as fault};
 ghost use Rattle.cleaning.specs.Lines.{fault_of};
 ghost use Rattle.cleaning.specs.Racks.{CanCleanAll, CleansAll, IsWorked};
 ghost use Rattle.cleaning.specs.Runs.{CleansBay, Completes, MayComplete};
+ghost use Rattle.open_rack.specs.NotOpened.{LeavesBay};
+ghost use Rattle.rack.specs.Opens.{KeepsOthers};
+ghost use Rattle.replay.specs.declared.stop.Stop.TheVariants.{Fault as fault};
+ghost use Rattle.std.specs.Prelude.{◌≡◌, ◌≤◌};
+ghost use Rattle.volume_images.specs.Left.{IsTold};
+ghost use Rattle.volume_images.specs.Volumes.{NoneOut};
+ghost use Rattle.wol_bay.specs.Bay.{outs};
+ghost use Rattle.wol_config.specs.Configs.{IsValid};
 
 use crate::lines::append_cleaned;
 use crate::station::clean_volume;
@@ -73,8 +73,8 @@ fn clean_open<D: Disk, R: Wait, K: Sink>(
 struct Cleaning;
 
 impl<R: Wait, D: Disk, K: Sink> Work<R, D, (), K> for Cleaning {
-    ghost use Rattle.std.specs.Prelude.{◌≤◌};
     ghost use Rattle.cleaning.specs.Racks.{CleansRack};
+    ghost use Rattle.std.specs.Prelude.{◌≤◌};
 
     type Answer = Result<(), Stop>;
 

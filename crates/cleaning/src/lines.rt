@@ -1,6 +1,6 @@
 // The line of a volume that was cleaned.
-ghost use Rattle.std.specs.Prelude.{◌≡◌, ◌++◌, OnOk, OnErr};
 ghost use Rattle.cleaning.specs.Lines.{clean_line};
+ghost use Rattle.std.specs.Prelude.{◌≡◌, ◌++◌, OnOk, OnErr};
 
 use log_cleaner::Cleaned;
 use report::Word::{Number, Text};

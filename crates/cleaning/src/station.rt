@@ -1,10 +1,10 @@
 // The volume of one station of a rack is cleaned.
-ghost use Rattle.std.specs.Prelude.{◌≡◌, ◌<◌, ℕ, length, slice_get};
-ghost use Rattle.wol_config.specs.Configs.{IsValid};
-ghost use Rattle.manager.specs.Stands.{IsShared};
-ghost use Rattle.rack.specs.Racks.{IsStation, base_of_station};
 ghost use Rattle.cleaning.specs.Racks.{CanCleanAll, CleansStation, IsSameButWorked, IsWorked};
 ghost use Rattle.cleaning.specs.Turns.{CleansIn};
+ghost use Rattle.manager.specs.Stands.{IsShared};
+ghost use Rattle.rack.specs.Racks.{IsStation, base_of_station};
+ghost use Rattle.std.specs.Prelude.{◌≡◌, ◌<◌, ℕ, length, slice_get};
+ghost use Rattle.wol_config.specs.Configs.{IsValid};
 
 use crate::turn::clean_turn;
 use log_cleaner::{CleanFault, Cleaned};

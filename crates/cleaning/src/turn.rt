@@ -1,12 +1,12 @@
 // A volume is cleaned in one turn.
-ghost use Rattle.std.specs.Prelude.{◌≡◌, ◌++◌, ◌∷◌, []};
-ghost use Rattle.turn_lock.specs.Passes.{pass_lock, pass_number, IsPassOf, IsFree, IsInTurn};
-ghost use Rattle.wol_model.specs.History.{worker};
+ghost use Rattle.cleaning.specs.Turns.{CleansIn, DoesClean, operation_of};
+ghost use Rattle.inspection.specs.Looks.{note_told};
 ghost use Rattle.manager.specs.Seen.{look_of_manager};
 ghost use Rattle.manager.specs.Stands.{IsReady, IsHome, IsShared, Stands};
 ghost use Rattle.request_turns.specs.Turns.{notes_seen, HasLeft};
-ghost use Rattle.inspection.specs.Looks.{note_told};
-ghost use Rattle.cleaning.specs.Turns.{CleansIn, DoesClean, operation_of};
+ghost use Rattle.std.specs.Prelude.{◌≡◌, ◌++◌, ◌∷◌, []};
+ghost use Rattle.turn_lock.specs.Passes.{pass_lock, pass_number, IsPassOf, IsFree, IsInTurn};
+ghost use Rattle.wol_model.specs.History.{worker};
 
 use crate::test::can_clean;
 use log_cleaner::{CleanFault, Cleaned, Copies, clean, no_copies};

@@ -1,7 +1,7 @@
 // The program's commands and their arguments, as `clap` is told of them.
-ghost use Rattle.std.specs.Prelude.{◌≡◌, false, IfOk};
 ghost use Rattle.clap.specs.Words.{app_of, rule_of};
 ghost use Rattle.command_words.specs.Application.{Gains, option_rule, positional_rule, the_app, with_name, with_options, with_pair, with_volume};
+ghost use Rattle.std.specs.Prelude.{◌≡◌, false, IfOk};
 
 use clap::{Arg, ArgAction, Command};
 use std::alloc::{AllocError, Global};

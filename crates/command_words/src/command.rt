@@ -1,7 +1,7 @@
 // The command that words ask for.
-ghost use Rattle.std.specs.Prelude.{◌≡◌, IfOk, IfSome, IfNone, IsErrOf, map, string_bytes};
 ghost use Rattle.clap.specs.Words.{found_of, kind_of, rows_of};
 ghost use Rattle.command_words.specs.Commands.{Asks, AsksNothing, IsCommand, NoCommand};
+ghost use Rattle.std.specs.Prelude.{◌≡◌, IfOk, IfSome, IfNone, IsErrOf, map, string_bytes};
 
 use crate::application::application;
 use crate::values::{names_of, options_of, served_of, trace_of, volume_of};

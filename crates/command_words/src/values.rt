@@ -1,9 +1,9 @@
 // The values of a command's arguments.
-ghost use Rattle.std.specs.Prelude.{◌≡◌, ◌↔◌, ◌<◌, ◌≤◌, ◌^◌, ℕ, Some, IfSome, IfNone, IsTrue, decimal, option_map, unwrap_or};
 ghost use Rattle.clap.specs.Words.{first_of, found_of, rows_of};
-ghost use Rattle.solo.specs.Volume.{target_of};
 ghost use Rattle.command_words.specs.Table.{IsHost, IsHostByte};
 ghost use Rattle.command_words.specs.Values.{HasMode, HasName, HasNames, HasOptions, HasServed, HasTrace, HasVolume, HasWorkers, NoName, NoNames, NoOptions, NoServed, NoTrace, NoVolume, named_by, served_by};
+ghost use Rattle.solo.specs.Volume.{target_of};
+ghost use Rattle.std.specs.Prelude.{◌≡◌, ◌↔◌, ◌<◌, ◌≤◌, ◌^◌, ℕ, Some, IfSome, IfNone, IsTrue, decimal, option_map, unwrap_or};
 
 use crate::command::{Generated, Mode, Options, ServedName, ViewNames};
 use clap::ArgMatches;

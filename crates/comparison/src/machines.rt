@@ -1,13 +1,13 @@
 // The machines of the four policies, side by side.
-ghost use Rattle.std.specs.Prelude.{◌≡◌, ◌<◌, ◌≤◌, ◌+◌, ◌^◌, ◌++◌, ◌∷◌, [], ℕ, true, List, length, IfOk, OnOk};
+ghost use Rattle.comparison.specs.Side.{AreAt, AreTogether, HaveRun};
 ghost use Rattle.std.specs.List.{AllByRecursion};
-ghost use Rattle.wol_config.specs.Configs.{IsValid};
-ghost use Rattle.wol_config.specs.declared.config.Config.{Config};
+ghost use Rattle.std.specs.Prelude.{◌≡◌, ◌<◌, ◌≤◌, ◌+◌, ◌^◌, ◌++◌, ◌∷◌, [], ℕ, true, List, length, IfOk, OnOk};
 ghost use Rattle.whatif.specs.Lines.{policy_text, whatif_text};
 ghost use Rattle.whatif.specs.Machine.{Asked};
 ghost use Rattle.whatif.specs.Policies.{compared};
 ghost use Rattle.whatif.specs.Stands.{HasRun, IsAsk, IsMachine};
-ghost use Rattle.comparison.specs.Side.{AreAt, AreTogether, HaveRun};
+ghost use Rattle.wol_config.specs.Configs.{IsValid};
+ghost use Rattle.wol_config.specs.declared.config.Config.{Config};
 
 use std::alloc::Global;
 use whatif::{Ask, Machine, Policy, policy_line};

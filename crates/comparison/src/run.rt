@@ -1,11 +1,11 @@
 // The policies are compared on a trace.
-ghost use Rattle.std.specs.Prelude.{◌≡◌, ◌≤◌, Err, IfOk, IfErr};
-ghost use Rattle.wol_disk.specs.Disk.{Rose};
-ghost use Rattle.wol_config.specs.Configs.{IsValid};
+ghost use Rattle.comparison.specs.Compares.{Compares, MakesWhole, MayCompare, StopsBefore};
 ghost use Rattle.replay.specs.Completes.{Completes};
 ghost use Rattle.replay.specs.Givens.{IsNew, IsWithin, borrow_of, faults_of};
 ghost use Rattle.report.specs.declared.fault.Fault.TheVariants.{TraceSource};
-ghost use Rattle.comparison.specs.Compares.{Compares, MakesWhole, MayCompare, StopsBefore};
+ghost use Rattle.std.specs.Prelude.{◌≡◌, ◌≤◌, Err, IfOk, IfErr};
+ghost use Rattle.wol_config.specs.Configs.{IsValid};
+ghost use Rattle.wol_disk.specs.Disk.{Rose};
 
 use crate::windows::Comparison;
 use replay::{Given, Stop, fault_of_trace};

@@ -1,14 +1,14 @@
 // The windows of a trace, run one after another by each policy.
-ghost use Rattle.std.specs.Prelude.{◌≡◌, ◌<◌, ◌≤◌, ◌+◌, ◌*◌, ◌^◌, ◌++◌, ◌∷◌, [], List, length, map, option_map, IfOk, IfSome, OnOk};
-ghost use Rattle.std.specs.List.{AllByRecursion};
-ghost use Rattle.wol_model.specs.Trace.{ended, started, timed};
-ghost use Rattle.wol_config.specs.Configs.{IsValid, most_of};
-ghost use Rattle.trace_gen.specs.Generated.{targets_of};
-ghost use Rattle.msr_trace.specs.Lines.{Fits, trace_line};
-ghost use Rattle.trace_windows.specs.Requests.{IsInside, asked};
-ghost use Rattle.whatif.specs.Machine.{Asked};
 ghost use Rattle.comparison.specs.Asked.{ask_of, asked_by, asked_of, comparison_of};
 ghost use Rattle.comparison.specs.Side.{HasBegun, HasTaken, HasTakenSome, IsBehind, MayRun};
+ghost use Rattle.msr_trace.specs.Lines.{Fits, trace_line};
+ghost use Rattle.std.specs.List.{AllByRecursion};
+ghost use Rattle.std.specs.Prelude.{◌≡◌, ◌<◌, ◌≤◌, ◌+◌, ◌*◌, ◌^◌, ◌++◌, ◌∷◌, [], List, length, map, option_map, IfOk, IfSome, OnOk};
+ghost use Rattle.trace_gen.specs.Generated.{targets_of};
+ghost use Rattle.trace_windows.specs.Requests.{IsInside, asked};
+ghost use Rattle.whatif.specs.Machine.{Asked};
+ghost use Rattle.wol_config.specs.Configs.{IsValid, most_of};
+ghost use Rattle.wol_model.specs.Trace.{ended, started, timed};
 
 use crate::machines::Machines;
 use msr_trace::Line;

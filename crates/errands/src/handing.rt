@@ -1,7 +1,7 @@
 // Handing over and coming back.
-ghost use Rattle.std.specs.Prelude.{◌≡◌, true, false, [], ◌∷◌, None, Some, IfOk, IfSome, IfNone};
 ghost use Rattle.errands.specs.Ends.{IsIdle, IsAway, IsOver, IsWaiting, IsBusy, IsTold};
 ghost use Rattle.errands.specs.Rule.{idle, away, waits, busy, told, CameBack, Came, opened, fresh};
+ghost use Rattle.std.specs.Prelude.{◌≡◌, true, false, [], ◌∷◌, None, Some, IfOk, IfSome, IfNone};
 
 use crate::ends::{ErrandSeat, ErrandTable, Errands, NoMemory, Sender, Worker};
 use crate::errand::Errand;

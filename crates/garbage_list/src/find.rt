@@ -1,8 +1,8 @@
 // The least version of which something may go, or is due.
-ghost use Rattle.std.specs.Prelude.{◌≤◌};
-ghost use Rattle.std.specs.List.{AllByRecursion};
-ghost use Rattle.redirect_map.specs.Index.{IsIndex};
 ghost use Rattle.garbage_list.specs.Least.{HasLane, can_go, can_go_home, has_awake, IsTold, IsNext};
+ghost use Rattle.redirect_map.specs.Index.{IsIndex};
+ghost use Rattle.std.specs.List.{AllByRecursion};
+ghost use Rattle.std.specs.Prelude.{◌≤◌};
 
 use redirect_map::{Index, Sought};
 

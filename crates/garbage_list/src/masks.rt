@@ -1,9 +1,9 @@
 // Which blocks of a record may go, and which are due.
-ghost use Rattle.std.specs.Prelude.{◌≡◌, ◌⊎◌, ◌+◌, ◌<◌, ◌≤◌, ◌↔◌, ℕ, true, IfSome};
-ghost use Rattle.std.specs.List.{AllByRecursion};
-ghost use Rattle.wol_model.specs.Index.{listed_in, cover_of, goes, has_going, is_due, has_due};
 ghost use Rattle.block_cells.specs.Masks.{IsMask};
 ghost use Rattle.redirect_map.specs.Index.{entry_at, HasVersion};
+ghost use Rattle.std.specs.List.{AllByRecursion};
+ghost use Rattle.std.specs.Prelude.{◌≡◌, ◌⊎◌, ◌+◌, ◌<◌, ◌≤◌, ◌↔◌, ℕ, true, IfSome};
+ghost use Rattle.wol_model.specs.Index.{listed_in, cover_of, goes, has_going, is_due, has_due};
 
 use redirect_map::Index;
 

@@ -4,12 +4,12 @@
 //! `write_many` is `Manager::write_run` with a list of places. `specs/Commits` says what it leaves.
 #![tactic(auto)]
 
-ghost use Rattle.std.specs.Prelude.{◌≡◌, ◌⊎◌, ◌+◌, ◌≤◌, ◌++◌, length, replicate, vec_len, vec_capacity};
-ghost use Rattle.spin_model.specs.Spun.{state_of};
+ghost use Rattle.group_commit.specs.Commits.{HasNoRoom, HasCommitted};
 ghost use Rattle.log_segment.specs.Records.{count_of};
 ghost use Rattle.manager.specs.Groups.{AreItemsOf};
 ghost use Rattle.manager.specs.Stands.{IsReady, IsHome, IsSameManager};
-ghost use Rattle.group_commit.specs.Commits.{HasNoRoom, HasCommitted};
+ghost use Rattle.spin_model.specs.Spun.{state_of};
+ghost use Rattle.std.specs.Prelude.{◌≡◌, ◌⊎◌, ◌+◌, ◌≤◌, ◌++◌, length, replicate, vec_len, vec_capacity};
 
 use log_segment::Item;
 use logger::Shared;

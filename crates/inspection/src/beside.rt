@@ -1,8 +1,8 @@
 // The volumes of a run of stations are looked at for `check`, in four threads where so many can be had.
+ghost use Rattle.inspection.specs.Findings.{CanFindMore, HasFoundMore, CanAllBeLookedAt, AreEmpty, HaveFound, HasFound, CanBeLookedAt};
 ghost use Rattle.std.specs.Prelude.{◌≡◌, ◌<◌, ◌≤◌, ◌+◌, length, IfOk};
 ghost use Rattle.std.specs.Thread.{IsSend, IsSync};
 ghost use Rattle.wol_config.specs.Configs.{IsValid};
-ghost use Rattle.inspection.specs.Findings.{CanFindMore, HasFoundMore, CanAllBeLookedAt, AreEmpty, HaveFound, HasFound, CanBeLookedAt};
 
 use crate::asked::Asked;
 use crate::lines::look_station;

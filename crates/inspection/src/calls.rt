@@ -1,16 +1,16 @@
 // All volumes of a bay are looked at.
-ghost use Rattle.std.specs.Prelude.{◌≡◌, ◌≤◌, ◌<◌, Err, IfOk, IsTrue, OnErr};
-ghost use Rattle.wol_disk.specs.Disk.{Rose};
-ghost use Rattle.wol_bay.specs.Bay.{outs};
-ghost use Rattle.wol_config.specs.Configs.{IsValid};
-ghost use Rattle.volume_images.specs.Left.{IsTold};
-ghost use Rattle.volume_images.specs.Volumes.{NoneOut};
-ghost use Rattle.rack.specs.Opens.{KeepsAllSound, KeepsOthers, LeavesAll};
-ghost use Rattle.open_rack.specs.Sessions.{OpensAndCloses};
-ghost use Rattle.inspection.specs.Racks.{CanLook};
 ghost use Rattle.inspection.specs.Lines.{PrintsVolumes, first_of};
+ghost use Rattle.inspection.specs.Racks.{CanLook};
 ghost use Rattle.inspection.specs.Runs.{Completes, Inspects, MayComplete};
 ghost use Rattle.inspection.specs.declared.calls.Stop.TheVariants.{Sink as sink_failed, Memory as no_memory};
+ghost use Rattle.open_rack.specs.Sessions.{OpensAndCloses};
+ghost use Rattle.rack.specs.Opens.{KeepsAllSound, KeepsOthers, LeavesAll};
+ghost use Rattle.std.specs.Prelude.{◌≡◌, ◌≤◌, ◌<◌, Err, IfOk, IsTrue, OnErr};
+ghost use Rattle.volume_images.specs.Left.{IsTold};
+ghost use Rattle.volume_images.specs.Volumes.{NoneOut};
+ghost use Rattle.wol_bay.specs.Bay.{outs};
+ghost use Rattle.wol_config.specs.Configs.{IsValid};
+ghost use Rattle.wol_disk.specs.Disk.{Rose};
 
 use crate::asked::Asked;
 use crate::found::{append_next, findings_for};

@@ -1,15 +1,15 @@
 // The lines of one volume.
-ghost use Rattle.std.specs.Prelude.{◌≡◌, ◌⊎◌, ◌<◌, ◌++◌, ℕ, [], length, Some, Err, Ok, Contains, IfOk, OnOk, OnErr};
-ghost use Rattle.wol_config.specs.Configs.{IsValid};
-ghost use Rattle.manager.specs.declared.part.Part.{Part};
-ghost use Rattle.manager.specs.declared.station.Station.{Station};
-ghost use Rattle.report.specs.Names.{printed_names};
-ghost use Rattle.report.specs.Troubles.{IsAmong};
-ghost use Rattle.troubles.specs.Troubles.{trouble_of, trouble_of_part};
-ghost use Rattle.rack.specs.Racks.{IsStation, AreUnused, base_of_station};
+ghost use Rattle.inspection.specs.Lines.{AppendsVolume, LooksAtVolume, trouble_line, trouble_told};
 ghost use Rattle.inspection.specs.Looks.{IsConfiguredBase, LooksAt};
 ghost use Rattle.inspection.specs.Racks.{numbers_of, CanLook, IsSameStation, IsSameRack, IsStationAt, LeavesOthers};
-ghost use Rattle.inspection.specs.Lines.{AppendsVolume, LooksAtVolume, trouble_line, trouble_told};
+ghost use Rattle.manager.specs.declared.part.Part.{Part};
+ghost use Rattle.manager.specs.declared.station.Station.{Station};
+ghost use Rattle.rack.specs.Racks.{IsStation, AreUnused, base_of_station};
+ghost use Rattle.report.specs.Names.{printed_names};
+ghost use Rattle.report.specs.Troubles.{IsAmong};
+ghost use Rattle.std.specs.Prelude.{◌≡◌, ◌⊎◌, ◌<◌, ◌++◌, ℕ, [], length, Some, Err, Ok, Contains, IfOk, OnOk, OnErr};
+ghost use Rattle.troubles.specs.Troubles.{trouble_of, trouble_of_part};
+ghost use Rattle.wol_config.specs.Configs.{IsValid};
 
 use crate::asked::Asked;
 use crate::turn::look;

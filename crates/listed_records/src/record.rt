@@ -1,7 +1,7 @@
 // One record of the index: its head, and places for more of them.
+ghost use Rattle.log_layout.specs.Values.{record_head};
 ghost use Rattle.std.specs.Prelude.{◌≡◌, ◌+◌, ◌<◌, ◌≤◌, ◌^◌, IfSome, IsNone};
 ghost use Rattle.wol_model.specs.Heads.{IsRecordHead};
-ghost use Rattle.log_layout.specs.Values.{record_head};
 
 use log_layout::RecHead;
 use redirect_map::{Index, Rec};

@@ -1,10 +1,10 @@
 // The chunks of a volume's covered blocks, one after another.
+ghost use Rattle.block_cells.specs.Masks.{in_mask};
+ghost use Rattle.log_cleaner.specs.Chunks.{IsNext, AreNext, IsTidy, is_within};
+ghost use Rattle.log_segment.specs.declared.item.Item.{Item};
+ghost use Rattle.redirect_map.specs.Index.{IsIndex};
 ghost use Rattle.std.specs.Prelude.{◌≡◌, ◌↔◌, ◌≤◌, ◌<◌, ◌+◌, ◌^◌, ◌∷◌, ℕ, List, true, false, IfSome, take};
 ghost use Rattle.wol_model.specs.Index.{listed_in, is_covered};
-ghost use Rattle.block_cells.specs.Masks.{in_mask};
-ghost use Rattle.redirect_map.specs.Index.{IsIndex};
-ghost use Rattle.log_segment.specs.declared.item.Item.{Item};
-ghost use Rattle.log_cleaner.specs.Chunks.{IsNext, AreNext, IsTidy, is_within};
 
 use log_segment::Item;
 use redirect_map::{Index, Rec};

@@ -1,11 +1,11 @@
 // Chunk after chunk is made tidy.
-ghost use Rattle.std.specs.Prelude.{◌≡◌, ◌≤◌, [], length};
-ghost use Rattle.std.specs.List.{AllByRecursion};
-ghost use Rattle.log_segment.specs.Records.{count_of};
-ghost use Rattle.manager.specs.Stands.{IsReady, IsHome};
 ghost use Rattle.log_cleaner.specs.Cleans.{CanClean, HasCleaned};
 ghost use Rattle.log_cleaner.specs.Steps.{Settles, ended, is_broken, written_of};
 ghost use Rattle.log_cleaner.specs.Underway.{CleansBy};
+ghost use Rattle.log_segment.specs.Records.{count_of};
+ghost use Rattle.manager.specs.Stands.{IsReady, IsHome};
+ghost use Rattle.std.specs.List.{AllByRecursion};
+ghost use Rattle.std.specs.Prelude.{◌≡◌, ◌≤◌, [], length};
 
 use crate::chunks::{END, Gathered, TOGETHER, chunk_len, gather, is_tidy, next_covered};
 use crate::copies::{Copies, no_copies};

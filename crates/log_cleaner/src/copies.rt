@@ -1,10 +1,10 @@
 // The copies of a cleaning, as contracts see them.
 ghost use base.Fml.{ftrue};
+ghost use Rattle.log_cleaner.specs.Steps.{noted};
+ghost use Rattle.manager.specs.Groups.{log_writes};
 ghost use Rattle.std.specs.Prelude.{◌≡◌, ◌++◌, List, [], take};
 ghost use Rattle.wol_disk.specs.Disk.{Block};
 ghost use Rattle.wol_model.specs.Blocks.{Write};
-ghost use Rattle.manager.specs.Groups.{log_writes};
-ghost use Rattle.log_cleaner.specs.Steps.{noted};
 
 use log_segment::Item;
 use manager::{Manager, Ran, WriteRefusal};

@@ -1,12 +1,12 @@
 // One chunk is written again.
-ghost use Rattle.std.specs.Prelude.{◌≡◌, ◌≤◌, length};
-ghost use Rattle.spin_model.specs.Spun.{state_of};
+ghost use Rattle.log_cleaner.specs.Cleans.{CanClean};
+ghost use Rattle.log_cleaner.specs.Steps.{AreCoveredIn, ReadsAll, RewritesBehind, fault_of, told_of};
 ghost use Rattle.log_segment.specs.Records.{count_of};
 ghost use Rattle.manager.specs.Groups.{AreItemsOf};
 ghost use Rattle.manager.specs.Stands.{IsReady, IsHome};
 ghost use Rattle.manager.specs.declared.part.Part.{Part};
-ghost use Rattle.log_cleaner.specs.Cleans.{CanClean};
-ghost use Rattle.log_cleaner.specs.Steps.{AreCoveredIn, ReadsAll, RewritesBehind, fault_of, told_of};
+ghost use Rattle.spin_model.specs.Spun.{state_of};
+ghost use Rattle.std.specs.Prelude.{◌≡◌, ◌≤◌, length};
 
 use crate::CleanFault;
 use crate::copies::{Copies, next_copies, noted};

@@ -1,15 +1,15 @@
 // What may go is given up once chunks were written again.
-ghost use Rattle.std.specs.Prelude.{◌≡◌, ◌<◌, ◌≤◌, true, false, slice_index_or, IfSome, IfNone};
-ghost use Rattle.std.specs.List.{AllByRecursion};
-ghost use Rattle.std.specs.Option.{ForSome};
-ghost use Rattle.wol_model.specs.Index.{listed_in, has_due};
-ghost use Rattle.redirect_map.specs.Index.{entry_at, HasVersion};
-ghost use Rattle.manager.specs.Reclaim.{NoneLiveIn};
-ghost use Rattle.manager.specs.Stands.{IsReady, IsHome};
 ghost use Rattle.log_cleaner.specs.Chunks.{NoneHomed};
 ghost use Rattle.log_cleaner.specs.Cleans.{CanClean};
 ghost use Rattle.log_cleaner.specs.Marks.{AreMarked};
 ghost use Rattle.log_cleaner.specs.Steps.{GivesSome, GivesAll, GivesUp, HasNoneLiveIn};
+ghost use Rattle.manager.specs.Reclaim.{NoneLiveIn};
+ghost use Rattle.manager.specs.Stands.{IsReady, IsHome};
+ghost use Rattle.redirect_map.specs.Index.{entry_at, HasVersion};
+ghost use Rattle.std.specs.List.{AllByRecursion};
+ghost use Rattle.std.specs.Option.{ForSome};
+ghost use Rattle.std.specs.Prelude.{◌≡◌, ◌<◌, ◌≤◌, true, false, slice_index_or, IfSome, IfNone};
+ghost use Rattle.wol_model.specs.Index.{listed_in, has_due};
 
 use crate::marks::{MARKS, is_marked, marks_of};
 use logger::Shared;

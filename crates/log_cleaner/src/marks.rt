@@ -1,10 +1,10 @@
 // Which segments may have live blocks, by one look at the records that are due.
-ghost use Rattle.std.specs.Prelude.{◌≡◌, ◌<◌, ℕ, true, false, slice_index_or, IfSome};
-ghost use Rattle.std.specs.List.{AllByRecursion};
-ghost use Rattle.wol_model.specs.Index.{listed_in};
-ghost use Rattle.redirect_map.specs.Index.{entry_at, IsIndex};
 ghost use Rattle.log_cleaner.specs.Chunks.{NoneHomed};
 ghost use Rattle.log_cleaner.specs.Marks.{mark_of, AreMarked};
+ghost use Rattle.redirect_map.specs.Index.{entry_at, IsIndex};
+ghost use Rattle.std.specs.List.{AllByRecursion};
+ghost use Rattle.std.specs.Prelude.{◌≡◌, ◌<◌, ℕ, true, false, slice_index_or, IfSome};
+ghost use Rattle.wol_model.specs.Index.{listed_in};
 
 use redirect_map::Index;
 

@@ -1,20 +1,20 @@
 // The line of `check`.
-ghost use Rattle.std.specs.Prelude.{◌≡◌, ◌↔◌, ◌++◌, ◌<◌, ℕ, List, [], length, map, IfOk, OnOk, OnErr, IsTrue, IsSome, None, Some};
 ghost use Rattle.hex.specs.Hex.{encode_lower};
-ghost use Rattle.wol_model.specs.History.{worker};
-ghost use Rattle.wol_config.specs.Configs.{IsValid};
-ghost use Rattle.wol_config.specs.Documents.{names_of};
-ghost use Rattle.report.specs.Names.{name_at};
-ghost use Rattle.wol_promise.specs.Ruled.{Noted};
+ghost use Rattle.log_dump.specs.Faults.{was_told};
+ghost use Rattle.log_dump.specs.Segments.{HasDifferent, place_of};
+ghost use Rattle.log_dump.specs.Texts.{check_line, check_text};
+ghost use Rattle.log_dump.specs.Volumes.{IsVolumeOf, array_of, held_segments};
 ghost use Rattle.manager.specs.Causes.{NoneRose, PartRose};
 ghost use Rattle.manager.specs.Reading.{HasOnlyRead};
 ghost use Rattle.manager.specs.Stands.{Keeps, IsReady, IsHome, IsSameManager, Leaves};
 ghost use Rattle.manager.specs.declared.base.ManagerBase.{ManagerBase};
 ghost use Rattle.manager.specs.declared.part.Part.{Part};
-ghost use Rattle.log_dump.specs.Faults.{was_told};
-ghost use Rattle.log_dump.specs.Segments.{HasDifferent, place_of};
-ghost use Rattle.log_dump.specs.Texts.{check_line, check_text};
-ghost use Rattle.log_dump.specs.Volumes.{IsVolumeOf, array_of, held_segments};
+ghost use Rattle.report.specs.Names.{name_at};
+ghost use Rattle.std.specs.Prelude.{◌≡◌, ◌↔◌, ◌++◌, ◌<◌, ℕ, List, [], length, map, IfOk, OnOk, OnErr, IsTrue, IsSome, None, Some};
+ghost use Rattle.wol_config.specs.Configs.{IsValid};
+ghost use Rattle.wol_config.specs.Documents.{names_of};
+ghost use Rattle.wol_model.specs.History.{worker};
+ghost use Rattle.wol_promise.specs.Ruled.{Noted};
 
 use crate::digest::digest_of;
 use crate::fault::DumpFault;

@@ -1,18 +1,18 @@
 // The digest of a volume's array, which is read piece by piece.
-ghost use Rattle.std.specs.Prelude.{◌≡◌, ◌++◌, ◌≤◌, ℕ, List, [], length, IfOk, OnOk, OnErr, IfErr, IsTrue, None, Some};
-ghost use Rattle.sha2.specs.Hashers.{Holds256};
-ghost use Rattle.sha2.specs.Sha256.{sha256};
-ghost use Rattle.spin_model.specs.Spun.{state_of};
-ghost use Rattle.wol_model.specs.History.{worker};
-ghost use Rattle.wol_promise.specs.Ruled.{Noted};
+ghost use Rattle.log_dump.specs.Faults.{was_told};
+ghost use Rattle.log_dump.specs.Texts.{bytes_of};
+ghost use Rattle.log_dump.specs.Volumes.{array_of};
 ghost use Rattle.manager.specs.Causes.{NoneRose, PartRose};
 ghost use Rattle.manager.specs.Reading.{HasOnlyRead};
 ghost use Rattle.manager.specs.Stands.{Keeps, IsReady, IsHome, Leaves};
 ghost use Rattle.manager.specs.declared.base.ManagerBase.{ManagerBase};
 ghost use Rattle.manager.specs.declared.part.Part.{Part};
-ghost use Rattle.log_dump.specs.Faults.{was_told};
-ghost use Rattle.log_dump.specs.Texts.{bytes_of};
-ghost use Rattle.log_dump.specs.Volumes.{array_of};
+ghost use Rattle.sha2.specs.Hashers.{Holds256};
+ghost use Rattle.sha2.specs.Sha256.{sha256};
+ghost use Rattle.spin_model.specs.Spun.{state_of};
+ghost use Rattle.std.specs.Prelude.{◌≡◌, ◌++◌, ◌≤◌, ℕ, List, [], length, IfOk, OnOk, OnErr, IfErr, IsTrue, None, Some};
+ghost use Rattle.wol_model.specs.History.{worker};
+ghost use Rattle.wol_promise.specs.Ruled.{Noted};
 
 use crate::fault::DumpFault;
 use logger::Shared;

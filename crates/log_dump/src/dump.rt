@@ -1,15 +1,15 @@
 // The lines of `dump`.
-ghost use Rattle.std.specs.Prelude.{◌≡◌, ◌↔◌, ◌++◌, ◌<◌, ℕ, List, [], length, OnOk, OnErr, None, Some};
-ghost use Rattle.std.specs.List.{AllByRecursion};
-ghost use Rattle.std.specs.Io.{StartsWith};
-ghost use Rattle.wol_config.specs.Configs.{IsValid};
-ghost use Rattle.wol_model.specs.History.{Kept};
-ghost use Rattle.logger.specs.Lanes.{logger_of};
-ghost use Rattle.redirect_map.specs.Index.{IsIndex};
-ghost use Rattle.manager.specs.Stands.{IsReady, Leaves};
-ghost use Rattle.manager.specs.declared.part.Part.{Part};
 ghost use Rattle.log_dump.specs.Texts.{count_text, mask_text, record_line};
 ghost use Rattle.log_dump.specs.Volumes.{HasLine, IsDump, IsVolumeOf};
+ghost use Rattle.logger.specs.Lanes.{logger_of};
+ghost use Rattle.manager.specs.Stands.{IsReady, Leaves};
+ghost use Rattle.manager.specs.declared.part.Part.{Part};
+ghost use Rattle.redirect_map.specs.Index.{IsIndex};
+ghost use Rattle.std.specs.Io.{StartsWith};
+ghost use Rattle.std.specs.List.{AllByRecursion};
+ghost use Rattle.std.specs.Prelude.{◌≡◌, ◌↔◌, ◌++◌, ◌<◌, ℕ, List, [], length, OnOk, OnErr, None, Some};
+ghost use Rattle.wol_config.specs.Configs.{IsValid};
+ghost use Rattle.wol_model.specs.History.{Kept};
 
 use crate::fault::DumpFault;
 use hex::encode_to_slice;

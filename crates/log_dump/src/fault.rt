@@ -1,7 +1,7 @@
 // Why a volume's lines weren't made.
-ghost use Rattle.std.specs.Prelude.{◌≡◌};
 ghost use Rattle.log_dump.specs.Faults.{refused};
 ghost use Rattle.log_dump.specs.declared.fault.DumpFault.TheVariants.{NoMemory as no_memory};
+ghost use Rattle.std.specs.Prelude.{◌≡◌};
 
 use manager::{Part, ReadRefusal};
 use wol_disk::NoMemory;

@@ -1,7 +1,7 @@
 // How many segments the records of an index lie in.
-ghost use Rattle.std.specs.Prelude.{◌≡◌, ◌≤◌, IfOk, IfErr, OnOk, map};
-ghost use Rattle.std.specs.List.{list_any};
 ghost use Rattle.log_dump.specs.Segments.{HasDifferent, is_same_place, noted, place_of};
+ghost use Rattle.std.specs.List.{list_any};
+ghost use Rattle.std.specs.Prelude.{◌≡◌, ◌≤◌, IfOk, IfErr, OnOk, map};
 
 use crate::fault::DumpFault;
 use redirect_map::Index;

@@ -1,6 +1,6 @@
 // Numbers at places of a block, the lowest byte first.
-ghost use Rattle.std.specs.Prelude.{◌≡◌, ◌+◌, ◌-◌, ◌≤◌, ◌++◌, length, drop, replicate, List, ℕ};
 ghost use Rattle.byteorder.specs.Endian.{little_bytes, little_number};
+ghost use Rattle.std.specs.Prelude.{◌≡◌, ◌+◌, ◌-◌, ◌≤◌, ◌++◌, length, drop, replicate, List, ℕ};
 
 use byteorder::{ByteOrder, LittleEndian};
 

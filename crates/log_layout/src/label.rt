@@ -1,8 +1,8 @@
 // The label of an image.
-ghost use Rattle.std.specs.Prelude.{◌≡◌, ◌<◌, ◌^◌, ◌↔◌, IsTrue, IfSome, IfNone, ℕ};
-ghost use Rattle.wol_model.specs.Heads.{Shape, IsShape, SpellsLabel, label_block};
 ghost use Rattle.log_layout.specs.Fields.{label_at};
 ghost use Rattle.log_layout.specs.Values.{shape_of};
+ghost use Rattle.std.specs.Prelude.{◌≡◌, ◌<◌, ◌^◌, ◌↔◌, IsTrue, IfSome, IfNone, ℕ};
+ghost use Rattle.wol_model.specs.Heads.{Shape, IsShape, SpellsLabel, label_block};
 
 use crate::bytes::{put_bytes, put_u32, put_u64, u32_at, u64_at};
 use wol_disk::Block;

@@ -1,9 +1,9 @@
 // The heads of records, in two forms.
-ghost use Rattle.std.specs.Prelude.{◌≡◌, ◌≤◌, ◌<◌, ◌-◌, ◌^◌, ◌↔◌, IsTrue, IfSome, IfNone, ℕ, ◌+◌, ◌≢◌, drop};
 ghost use Rattle.byteorder.specs.Endian.{little_number};
-ghost use Rattle.wol_model.specs.Heads.{RecordHead, IsRecordHead, IsMaskOfForm, SpellsRecord, head_block};
 ghost use Rattle.log_layout.specs.Fields.{record_at};
 ghost use Rattle.log_layout.specs.Values.{record_head};
+ghost use Rattle.std.specs.Prelude.{◌≡◌, ◌≤◌, ◌<◌, ◌-◌, ◌^◌, ◌↔◌, IsTrue, IfSome, IfNone, ℕ, ◌+◌, ◌≢◌, drop};
+ghost use Rattle.wol_model.specs.Heads.{RecordHead, IsRecordHead, IsMaskOfForm, SpellsRecord, head_block};
 
 use crate::bytes::{put_bytes, put_u32, put_u64, put_u128, u32_at, u64_at, u128_at};
 use wol_disk::Block;

@@ -1,7 +1,7 @@
 // The heads of segments, and gates.
+ghost use Rattle.log_layout.specs.Values.{segment_head};
 ghost use Rattle.std.specs.Prelude.{◌≡◌, ◌↔◌, IsTrue, IfSome, IfNone};
 ghost use Rattle.wol_model.specs.Heads.{SegmentHead, SpellsSegment, segment_block, gate_block};
-ghost use Rattle.log_layout.specs.Values.{segment_head};
 
 use crate::bytes::{put_bytes, put_u32, u32_at};
 use wol_disk::Block;

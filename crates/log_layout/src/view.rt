@@ -1,7 +1,7 @@
 // The loggers that a volume uses: at most sixteen, and none of them twice.
-ghost use Rattle.std.specs.Prelude.{◌≡◌, ◌≤◌, ◌<◌, ◌↔◌, ◌-◌, ◌*◌, ◌++◌, ℕ, List, length, replicate, IsTrue, IfSome, IfNone, SomeIff, slice_index};
-ghost use Rattle.std.specs.List.{flat_map};
 ghost use Rattle.byteorder.specs.Endian.{little_bytes};
+ghost use Rattle.std.specs.List.{flat_map};
+ghost use Rattle.std.specs.Prelude.{◌≡◌, ◌≤◌, ◌<◌, ◌↔◌, ◌-◌, ◌*◌, ◌++◌, ℕ, List, length, replicate, IsTrue, IfSome, IfNone, SomeIff, slice_index};
 ghost use Rattle.wol_model.specs.Blocks.{AreApart};
 ghost use Rattle.wol_model.specs.Heads.{IsViewList, SpellsView, view_block};
 

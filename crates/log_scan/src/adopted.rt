@@ -1,11 +1,11 @@
 // A part that was scanned, as the segment that it is.
+ghost use Rattle.log_scan.specs.Adopted.{IfFree, IfHeld, adopted_part, count_kept};
+ghost use Rattle.log_scan.specs.Scan.{IsScan, IsScanOf};
+ghost use Rattle.log_segment.specs.Segment.{IsFree, IsSegment, IsWhole, Holds, owner_of, place_of, valid_of};
+ghost use Rattle.spin_model.specs.Spun.{state_of};
 ghost use Rattle.std.specs.Prelude.{◌≡◌, ◌≤◌, List, None, Some};
 ghost use Rattle.wol_disk.specs.Disk.{Block, Values, only, reads};
 ghost use Rattle.wol_model.specs.Log.{Record, IsLog};
-ghost use Rattle.spin_model.specs.Spun.{state_of};
-ghost use Rattle.log_segment.specs.Segment.{IsFree, IsSegment, IsWhole, Holds, owner_of, place_of, valid_of};
-ghost use Rattle.log_scan.specs.Scan.{IsScan, IsScanOf};
-ghost use Rattle.log_scan.specs.Adopted.{IfFree, IfHeld, adopted_part, count_kept};
 
 use crate::{Found, Scan};
 use log_segment::{FreeSegment, Segment};

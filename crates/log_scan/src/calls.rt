@@ -1,9 +1,9 @@
 // The scan of a segment. Its name and that of a type differ in the case of a letter, so it stands in a module.
-ghost use Rattle.std.specs.Prelude.{◌≡◌, ◌≤◌, ◌<◌, ◌^◌, ℕ, List, Some, option_map, IfOk, OnOk, IsErrOf};
-ghost use Rattle.wol_disk.specs.Disk.{Block, Values, only, settled, reads, LeavesOnly, Rose, IsImageOf};
-ghost use Rattle.spin_model.specs.Spun.{volume_of, state_of, token_volume};
 ghost use Rattle.log_scan.specs.Scan.{IsScan, IsScanOf, IsDamaged, IsFirstFault, ReadsOnly};
 ghost use Rattle.log_scan.specs.declared.ScanFault.TheVariants as fault;
+ghost use Rattle.spin_model.specs.Spun.{volume_of, state_of, token_volume};
+ghost use Rattle.std.specs.Prelude.{◌≡◌, ◌≤◌, ◌<◌, ◌^◌, ℕ, List, Some, option_map, IfOk, OnOk, IsErrOf};
+ghost use Rattle.wol_disk.specs.Disk.{Block, Values, only, settled, reads, LeavesOnly, Rose, IsImageOf};
 
 use crate::reading::{read_block, read_records};
 use crate::{Scan, ScanFault};

@@ -1,15 +1,15 @@
 // The blocks of a segment, read from its head on.
-ghost use Rattle.std.specs.Prelude.{⊤, ◌≡◌, ◌+◌, ◌<◌, ◌≤◌, ◌^◌, ℕ, List, [], length, Some, MatchOption, IfOk, IsErr, IsErrOf};
+ghost use Rattle.log_layout.specs.Values.{record_head};
+ghost use Rattle.log_scan.specs.Reading.{StandsAt, IsGateAt, IsHeadAt, IsReading};
+ghost use Rattle.log_scan.specs.Scan.{AreFound, IsInside, IsFaultAt, ReadsOnly};
+ghost use Rattle.log_scan.specs.declared.Found.{Found as FoundAt};
+ghost use Rattle.log_scan.specs.declared.ScanFault.TheVariants as fault;
+ghost use Rattle.spin_model.specs.Spun.{volume_of, state_of, token_volume};
 ghost use Rattle.std.specs.List.{AllByRecursion};
+ghost use Rattle.std.specs.Prelude.{⊤, ◌≡◌, ◌+◌, ◌<◌, ◌≤◌, ◌^◌, ℕ, List, [], length, Some, MatchOption, IfOk, IsErr, IsErrOf};
 ghost use Rattle.wol_disk.specs.Disk.{Block, only, Passes};
 ghost use Rattle.wol_model.specs.Heads.{IsRecordHead};
 ghost use Rattle.wol_model.specs.Log.{Record, IsLog, end_of};
-ghost use Rattle.spin_model.specs.Spun.{volume_of, state_of, token_volume};
-ghost use Rattle.log_layout.specs.Values.{record_head};
-ghost use Rattle.log_scan.specs.declared.Found.{Found as FoundAt};
-ghost use Rattle.log_scan.specs.declared.ScanFault.TheVariants as fault;
-ghost use Rattle.log_scan.specs.Scan.{AreFound, IsInside, IsFaultAt, ReadsOnly};
-ghost use Rattle.log_scan.specs.Reading.{StandsAt, IsGateAt, IsHeadAt, IsReading};
 
 use crate::{Found, ScanFault};
 use log_layout::{RecHead, is_gate, read_rec};

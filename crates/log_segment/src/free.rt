@@ -1,8 +1,8 @@
 // Segments that nobody owns.
+ghost use Rattle.log_segment.specs.Kept.{IsFreeInAll, IsIdleOrClaimed};
+ghost use Rattle.spin_model.specs.Spun.{state_of, token_volume};
 ghost use Rattle.std.specs.Prelude.{◌≡◌, ◌≤◌, [], List, Some, IfOk, IfErr};
 ghost use Rattle.wol_disk.specs.Disk.{Block, Values, LeavesOnly, Rose};
-ghost use Rattle.spin_model.specs.Spun.{state_of, token_volume};
-ghost use Rattle.log_segment.specs.Kept.{IsFreeInAll, IsIdleOrClaimed};
 
 use crate::Segment;
 use crate::head::claim_part;

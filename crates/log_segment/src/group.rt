@@ -1,15 +1,15 @@
 // Records behind those that are there.
-ghost use Rattle.std.specs.Prelude.{◌≡◌, ◌⊎◌, ◌+◌, ◌<◌, ◌≤◌, ◌^◌, ◌-◌, ℕ, [], ◌∷◌, ◌++◌, length, take, List, Some, option_map, OnOk};
+ghost use Rattle.log_layout.specs.Values.{record_head};
+ghost use Rattle.log_segment.specs.Group.{reads_as, without_heads};
+ghost use Rattle.log_segment.specs.Kept.{Keeps, KeepsPart};
+ghost use Rattle.log_segment.specs.Records as head;
+ghost use Rattle.log_segment.specs.Records.{group_of, count_of, AreItems};
+ghost use Rattle.spin_model.specs.Spun.{volume_of, state_of, token_volume};
 ghost use Rattle.std.specs.List.{flat_map};
+ghost use Rattle.std.specs.Prelude.{◌≡◌, ◌⊎◌, ◌+◌, ◌<◌, ◌≤◌, ◌^◌, ◌-◌, ℕ, [], ◌∷◌, ◌++◌, length, take, List, Some, option_map, OnOk};
 ghost use Rattle.wol_disk.specs.Disk.{Block, only, put, reads, LeavesOnly, IsImageOf, IsBlend};
 ghost use Rattle.wol_model.specs.Heads.{IsRecordHead, head_block, gate_block};
 ghost use Rattle.wol_model.specs.Log.{Record, EndsLog, HasFirstOf, written, end_of};
-ghost use Rattle.spin_model.specs.Spun.{volume_of, state_of, token_volume};
-ghost use Rattle.log_layout.specs.Values.{record_head};
-ghost use Rattle.log_segment.specs.Kept.{Keeps, KeepsPart};
-ghost use Rattle.log_segment.specs.Records.{group_of, count_of, AreItems};
-ghost use Rattle.log_segment.specs.Records as head;
-ghost use Rattle.log_segment.specs.Group.{reads_as, without_heads};
 
 use crate::Item;
 use log_layout::{RecHead, write_gate, write_rec};

@@ -1,11 +1,11 @@
 // The heads of a segment and of its records, written anew.
+ghost use Rattle.log_layout.specs.Values.{record_head};
+ghost use Rattle.log_segment.specs.Kept.{Keeps, KeepsPart, IsFreeInAll, IsIdleOrClaimed, IsKeptOrTrimmed, IsKeptOrIdle};
+ghost use Rattle.spin_model.specs.Spun.{volume_of, state_of, token_volume};
 ghost use Rattle.std.specs.Prelude.{◌≡◌, ◌+◌, ◌<◌, ◌≤◌, ℕ, [], List, Some, slice_get, slice_set, OnOk};
 ghost use Rattle.wol_disk.specs.Disk.{Block, Values, LeavesOnly};
 ghost use Rattle.wol_model.specs.Heads.{IsRecordHead};
 ghost use Rattle.wol_model.specs.Log.{Record, position_of};
-ghost use Rattle.spin_model.specs.Spun.{volume_of, state_of, token_volume};
-ghost use Rattle.log_layout.specs.Values.{record_head};
-ghost use Rattle.log_segment.specs.Kept.{Keeps, KeepsPart, IsFreeInAll, IsIdleOrClaimed, IsKeptOrTrimmed, IsKeptOrIdle};
 
 use crate::store::store_block;
 use log_layout::{RecHead, SegHead, write_gate, write_rec, write_seg};

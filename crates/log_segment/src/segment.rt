@@ -1,12 +1,12 @@
 // Segments that a volume owns.
+ghost use Rattle.log_layout.specs.Values.{record_head};
+ghost use Rattle.log_segment.specs.Kept.{Keeps, IsFreeInAll, IsWithOrWithout, IsKeptOrTrimmed, IsKeptOrIdle};
+ghost use Rattle.log_segment.specs.Records.{new_record, group_of, count_of, trimmed, count_valid, AreItems, IsSameHead, IsProperPart};
+ghost use Rattle.spin_model.specs.Spun.{state_of, token_volume};
 ghost use Rattle.std.specs.Prelude.{◌≡◌, ◌↔◌, ◌+◌, ◌-◌, ◌<◌, ◌≤◌, ◌^◌, ◌==◌, if◌then◌else◌, ℕ, [], ◌∷◌, ◌++◌, length, take, drop, List, Some, slice_get, slice_set, OnOk, OnErr, IfOk, IfErr, IsErr, IsTrue};
 ghost use Rattle.wol_disk.specs.Disk.{Block, Values, LeavesOnly, Rose};
 ghost use Rattle.wol_model.specs.Heads.{IsRecordHead};
 ghost use Rattle.wol_model.specs.Log.{Record, IsLog, HasFirstOf, position_of, end_of};
-ghost use Rattle.spin_model.specs.Spun.{state_of, token_volume};
-ghost use Rattle.log_layout.specs.Values.{record_head};
-ghost use Rattle.log_segment.specs.Records.{new_record, group_of, count_of, trimmed, count_valid, AreItems, IsSameHead, IsProperPart};
-ghost use Rattle.log_segment.specs.Kept.{Keeps, IsFreeInAll, IsWithOrWithout, IsKeptOrTrimmed, IsKeptOrIdle};
 
 use crate::group::append_records;
 use crate::head::{retire_part, store_head};

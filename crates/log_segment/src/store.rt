@@ -1,8 +1,8 @@
 // Writes of one block, and reads as a disk tells them.
+ghost use Rattle.log_segment.specs.Kept.{KeepsPart};
+ghost use Rattle.spin_model.specs.Spun.{volume_of, state_of, token_volume};
 ghost use Rattle.std.specs.Prelude.{◌≡◌, ◌⊎◌, ◌+◌, ◌≤◌, [], ◌∷◌, List, Some, option_map, OnOk};
 ghost use Rattle.wol_disk.specs.Disk.{Block, only, put, reads, LeavesOnly, IsImageOf};
-ghost use Rattle.spin_model.specs.Spun.{volume_of, state_of, token_volume};
-ghost use Rattle.log_segment.specs.Kept.{KeepsPart};
 
 use spin_model::{Awake, Spun};
 use wol_disk::{Block, Disk, Failed};

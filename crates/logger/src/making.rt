@@ -1,10 +1,10 @@
 // A lane is made, comes to hold segments, and is taken apart.
-ghost use Rattle.std.specs.Prelude.{◌≡◌, ◌≢◌, ◌<◌, ◌≤◌, ◌∷◌, [], ◌++◌, false, true, None, length, map, IfOk, IfErr};
-ghost use Rattle.std.specs.List.{AllByRecursion};
-ghost use Rattle.turn_lock.specs.Passes.{pass_lock, pass_number, pass_mine, IsFree};
-ghost use Rattle.spin_model.specs.Operations.{has_token};
-ghost use Rattle.seg_pool.specs.Operations.{holds};
 ghost use Rattle.log_segment.specs.Segment.{IsSegment, part_of, segment_volume, owner_of, blocks_of};
+ghost use Rattle.seg_pool.specs.Operations.{holds};
+ghost use Rattle.spin_model.specs.Operations.{has_token};
+ghost use Rattle.std.specs.List.{AllByRecursion};
+ghost use Rattle.std.specs.Prelude.{◌≡◌, ◌≢◌, ◌<◌, ◌≤◌, ◌∷◌, [], ◌++◌, false, true, None, length, map, IfOk, IfErr};
+ghost use Rattle.turn_lock.specs.Passes.{pass_lock, pass_number, pass_mine, IsFree};
 
 use crate::lane::{HeldSegment, Lane, LaneParts};
 use log_segment::{FreeSegment, Segment};

@@ -1,8 +1,8 @@
 // Reads of a lane's records.
-ghost use Rattle.std.specs.Prelude.{◌≡◌, ℕ, length};
-ghost use Rattle.turn_lock.specs.Passes.{pass_mine};
 ghost use Rattle.logger.specs.Lanes.{IsLane, HoldsAll, IsAt, IsSameLane, HasUsed, HasIndex, IsReadable, ReadFrom, taken_in, pool_of};
 ghost use Rattle.logger.specs.Trims.{IsRetirable, KeepsSoMany};
+ghost use Rattle.std.specs.Prelude.{◌≡◌, ℕ, length};
+ghost use Rattle.turn_lock.specs.Passes.{pass_mine};
 
 use crate::lane::{HeldSegment, Lane, Spot};
 use crate::shared::Shared;

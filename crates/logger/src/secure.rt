@@ -1,9 +1,9 @@
 // Room on a logger: which held segment has it, and whether the pool gave one.
-ghost use Rattle.std.specs.Prelude.{◌≡◌, ◌≤◌, ◌+◌, ◌⊎◌, true, None, IsSome, MatchOption};
-ghost use Rattle.std.specs.List.{AllByRecursion};
-ghost use Rattle.turn_lock.specs.Passes.{pass_mine};
 ghost use Rattle.log_segment.specs.Segment.{IsSegment};
 ghost use Rattle.logger.specs.Lanes.{IsLane, HoldsAll, IsAt, IsSameLane, IsFirstWithRoom, HasRoom, HasNoRoom, AreWhole, Secured, IsFit, held_in, taken_in, spindle_of, pool_blocks};
+ghost use Rattle.std.specs.List.{AllByRecursion};
+ghost use Rattle.std.specs.Prelude.{◌≡◌, ◌≤◌, ◌+◌, ◌⊎◌, true, None, IsSome, MatchOption};
+ghost use Rattle.turn_lock.specs.Passes.{pass_mine};
 
 use crate::lane::{HeldSegment, Lane};
 use crate::shared::Shared;

@@ -1,12 +1,12 @@
 // Blocks of a lane's records are given up, and a segment without a record that keeps one goes back to its pool.
-ghost use Rattle.std.specs.Prelude.{◌≡◌, IfOk, OnErr, vec_len, vec_capacity};
-ghost use Rattle.turn_lock.specs.Passes.{pass_mine};
-ghost use Rattle.wol_model.specs.Heads.{IsRecordHead};
-ghost use Rattle.spin_model.specs.Spun.{token_volume};
 ghost use Rattle.log_layout.specs.Values.{record_head};
 ghost use Rattle.log_segment.specs.Records.{IsProperPart};
 ghost use Rattle.logger.specs.Lanes.{IsLane, HoldsAll, IsAt, IsSameLane, HasUsed, IsTrimmable, Trimmed, lane_owner, taken_in};
 ghost use Rattle.logger.specs.Trims.{IsWholeAt, IsCuttable, IsRetirable, FreedAt, StaysAt, Cut, Retired};
+ghost use Rattle.spin_model.specs.Spun.{token_volume};
+ghost use Rattle.std.specs.Prelude.{◌≡◌, IfOk, OnErr, vec_len, vec_capacity};
+ghost use Rattle.turn_lock.specs.Passes.{pass_mine};
+ghost use Rattle.wol_model.specs.Heads.{IsRecordHead};
 
 use crate::lane::{HeldSegment, Lane, Spot};
 use crate::read::place_of_index;

@@ -1,11 +1,11 @@
 // Writes to a lane.
-ghost use Rattle.std.specs.Prelude.{◌≡◌, ◌≤◌, ◌<◌, ◌+◌, ◌-◌, ◌^◌, ◌∷◌, [], ◌⊎◌, ℕ, Some, IsSome, IfOk, length, slice_get};
-ghost use Rattle.turn_lock.specs.Passes.{pass_mine};
-ghost use Rattle.spin_model.specs.Spun.{token_volume};
 ghost use Rattle.log_segment.specs.Records.{new_record, group_of, count_of, AreItems};
 ghost use Rattle.log_segment.specs.Segment.{IsFree, room_of, free_volume, free_blocks};
-ghost use Rattle.logger.specs.declared.lane.HeldSegment.{HeldSegment};
 ghost use Rattle.logger.specs.Lanes.{IsLane, HoldsAll, IsAt, IsSameLane, HasRoom, HasNoRoom, IsFirstWithRoom, AreWhole, HasUsed, IsFit, IsGroup, Claimed, Wrote, HasWritten, lane_owner, held_in, taken_in, pool_of, pool_blocks, first_count, group_blocks, group_records, spot_result};
+ghost use Rattle.logger.specs.declared.lane.HeldSegment.{HeldSegment};
+ghost use Rattle.spin_model.specs.Spun.{token_volume};
+ghost use Rattle.std.specs.Prelude.{◌≡◌, ◌≤◌, ◌<◌, ◌+◌, ◌-◌, ◌^◌, ◌∷◌, [], ◌⊎◌, ℕ, Some, IsSome, IfOk, length, slice_get};
+ghost use Rattle.turn_lock.specs.Passes.{pass_mine};
 
 use crate::lane::{HeldSegment, Lane, Spot};
 use crate::secure::first_with_room;

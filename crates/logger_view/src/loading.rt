@@ -1,11 +1,11 @@
 // Label and view, read back.
-ghost use Rattle.std.specs.Prelude.{◌≡◌, ◌⊎◌, ◌<◌, ℕ, List, Some, option_map, Contains, OnOk, IfOk, IfErr, IsErr, IsErrOf};
-ghost use Rattle.wol_disk.specs.Disk.{Block, Values, settled, reads, LeavesOnly, Rose, IsImageOf};
-ghost use Rattle.wol_model.specs.Heads.{IsShape};
-ghost use Rattle.spin_model.specs.Spun.{volume_of, state_of, token_volume};
 ghost use Rattle.log_layout.specs.Values.{shape_of};
 ghost use Rattle.logger_view.specs.Stored.{HasLabel, HasView, IsFirstFault};
 ghost use Rattle.logger_view.specs.declared.loading.ViewFault.TheVariants as fault;
+ghost use Rattle.spin_model.specs.Spun.{volume_of, state_of, token_volume};
+ghost use Rattle.std.specs.Prelude.{◌≡◌, ◌⊎◌, ◌<◌, ℕ, List, Some, option_map, Contains, OnOk, IfOk, IfErr, IsErr, IsErrOf};
+ghost use Rattle.wol_disk.specs.Disk.{Block, Values, settled, reads, LeavesOnly, Rose, IsImageOf};
+ghost use Rattle.wol_model.specs.Heads.{IsShape};
 
 use log_layout::{Label, View, read_label, read_view};
 use spin_model::{Awake, Spun};

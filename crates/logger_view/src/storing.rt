@@ -1,11 +1,11 @@
 // Label, view and the heads of free segments, written.
+ghost use Rattle.log_layout.specs.Values.{shape_of};
+ghost use Rattle.logger_view.specs.Stored.{HasLabel, HasView, IsWithOrWithout, with_label, with_view, with_free_head};
+ghost use Rattle.spin_model.specs.Spun.{volume_of, state_of, token_volume};
 ghost use Rattle.std.specs.Prelude.{◌≡◌, ◌<◌, ◌≤◌, [], ◌∷◌, List, option_map, OnOk, OnErr, IsErr};
 ghost use Rattle.wol_disk.specs.Disk.{Block, only, put, reads, AddsSomeOf, LeavesOnly, Rose, IsImageOf};
 ghost use Rattle.wol_model.specs.Heads.{IsShape, label_block, view_block, free_block};
 ghost use Rattle.wol_model.specs.Log.{IsIdle};
-ghost use Rattle.spin_model.specs.Spun.{volume_of, state_of, token_volume};
-ghost use Rattle.log_layout.specs.Values.{shape_of};
-ghost use Rattle.logger_view.specs.Stored.{HasLabel, HasView, IsWithOrWithout, with_label, with_view, with_free_head};
 
 use log_layout::{Label, SegHead, View, write_label, write_seg, write_view};
 use spin_model::{Awake, Spun};

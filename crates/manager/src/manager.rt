@@ -1,12 +1,12 @@
 // The manager of a volume: how it is made and taken apart, what it tells, and which disks it counts as awake.
-ghost use Rattle.std.specs.Prelude.{◌≡◌, ◌<◌, ◌≤◌, [], ℕ, true, None, length, replicate, slice_get, IfSome};
-ghost use Rattle.wol_model.specs.History.{Kept};
 ghost use Rattle.logger.specs.Lanes.{logger_of};
 ghost use Rattle.manager.specs.Accesses.{HasUsedOnce};
 ghost use Rattle.manager.specs.Reading.{IsReadThrough};
 ghost use Rattle.manager.specs.Seen.{look_of_manager};
 ghost use Rattle.manager.specs.Stands.{IsReady, IsHome, Leaves, opened};
 ghost use Rattle.manager.specs.Stops.{StopsWith};
+ghost use Rattle.std.specs.Prelude.{◌≡◌, ◌<◌, ◌≤◌, [], ℕ, true, None, length, replicate, slice_get, IfSome};
+ghost use Rattle.wol_model.specs.History.{Kept};
 
 use crate::Part;
 use arrayvec::ArrayVec;

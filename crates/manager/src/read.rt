@@ -1,11 +1,4 @@
 // Reads: each run of blocks comes from home or from its newest record.
-ghost use Rattle.std.specs.Prelude.{◌≡◌, ◌↔◌, ◌+◌, ◌≤◌, ◌<◌, [], length, OnOk, IfOk, IfErr, IsSome, is_ok, None, Some};
-ghost use Rattle.std.specs.List.{count_by, range_with_len};
-ghost use Rattle.spin_model.specs.Spun.{state_of};
-ghost use Rattle.wol_model.specs.Blocks.{after};
-ghost use Rattle.wol_model.specs.History.{worker};
-ghost use Rattle.wol_model.specs.Index.{listed_in, is_covered};
-ghost use Rattle.wol_promise.specs.Policy.{woken};
 ghost use Rattle.manager.specs.Answers.{was_read};
 ghost use Rattle.manager.specs.Causes.{PartRose, NoneRose};
 ghost use Rattle.manager.specs.Reading.{CanReadRun, HasReadRun, ReadsBlocks, TellsSources, IsReadThrough, HasOnlyRead, NeedsSources, NeedsFirstOf};
@@ -13,6 +6,13 @@ ghost use Rattle.manager.specs.Seen.{look_of_manager};
 ghost use Rattle.manager.specs.Stands.{CanServe, IsReady, IsHome, IsSameManager, Leaves};
 ghost use Rattle.manager.specs.Stops.{StopsWith};
 ghost use Rattle.manager.specs.declared.part.Part.{Part};
+ghost use Rattle.spin_model.specs.Spun.{state_of};
+ghost use Rattle.std.specs.List.{count_by, range_with_len};
+ghost use Rattle.std.specs.Prelude.{◌≡◌, ◌↔◌, ◌+◌, ◌≤◌, ◌<◌, [], length, OnOk, IfOk, IfErr, IsSome, is_ok, None, Some};
+ghost use Rattle.wol_model.specs.Blocks.{after};
+ghost use Rattle.wol_model.specs.History.{worker};
+ghost use Rattle.wol_model.specs.Index.{listed_in, is_covered};
+ghost use Rattle.wol_promise.specs.Policy.{woken};
 
 use crate::{Manager, Part, ReadRefusal, Sources};
 use logger::{Shared, Spot};

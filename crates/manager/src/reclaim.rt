@@ -1,14 +1,14 @@
 // Steps of reclaim: a record is read, its due blocks are put home, and what may go of it is given up.
-ghost use Rattle.std.specs.Prelude.{◌≡◌, ◌+◌, ℕ, List, true, None, Ok, length, OnOk, IfOk, IsTrue, is_none};
-ghost use Rattle.std.specs.Option.{ForSome};
-ghost use Rattle.wol_model.specs.Log.{has_bit};
-ghost use Rattle.wol_model.specs.Index.{listed_in, is_due, has_going};
-ghost use Rattle.redirect_map.specs.Index.{entry_at, HasVersion};
 ghost use Rattle.manager.specs.Causes.{NoneRose};
 ghost use Rattle.manager.specs.Reading.{IsReadThrough};
 ghost use Rattle.manager.specs.Reclaim.{OnTried, OnKept, OnFailed, TellsStep, KeepsOn, BreaksOff, StopsSince, Always, AreOf, HasFetched, HasStored, HasDropped};
 ghost use Rattle.manager.specs.Stands.{Keeps, IsReady, IsHome};
 ghost use Rattle.manager.specs.declared.base.ManagerBase.{ManagerBase};
+ghost use Rattle.redirect_map.specs.Index.{entry_at, HasVersion};
+ghost use Rattle.std.specs.Option.{ForSome};
+ghost use Rattle.std.specs.Prelude.{◌≡◌, ◌+◌, ℕ, List, true, None, Ok, length, OnOk, IfOk, IsTrue, is_none};
+ghost use Rattle.wol_model.specs.Index.{listed_in, is_due, has_going};
+ghost use Rattle.wol_model.specs.Log.{has_bit};
 ghost use Rattle.wol_promise.specs.Ruled.{Noted};
 
 use crate::{Manager, Part, StepFault};

@@ -1,12 +1,12 @@
 // All blocks of one record are read.
-ghost use Rattle.std.specs.Prelude.{◌≡◌, List, Some, IfErr, OnOk, length};
-ghost use Rattle.wol_promise.specs.Ruled.{Noted};
-ghost use Rattle.redirect_map.specs.Index.{entry_at, IsAnswer, IsIndex};
 ghost use Rattle.manager.specs.Causes.{PartRose, NoneRose};
 ghost use Rattle.manager.specs.Reading.{IsReadThrough};
 ghost use Rattle.manager.specs.Reclaim.{AreOf, HasFetched};
 ghost use Rattle.manager.specs.Stands.{Keeps, CanServe, IsReady, IsHome};
 ghost use Rattle.manager.specs.declared.base.ManagerBase.{ManagerBase};
+ghost use Rattle.redirect_map.specs.Index.{entry_at, IsAnswer, IsIndex};
+ghost use Rattle.std.specs.Prelude.{◌≡◌, List, Some, IfErr, OnOk, length};
+ghost use Rattle.wol_promise.specs.Ruled.{Noted};
 
 use crate::read::at_part;
 use crate::{Manager, Part};

@@ -1,10 +1,10 @@
 // A segment is given up with all its records, whose blocks newer records keep.
-ghost use Rattle.std.specs.Prelude.{OnOk, IsTrue};
-ghost use Rattle.std.specs.Option.{ForSome};
-ghost use Rattle.redirect_map.specs.Index.{entry_at, HasVersion};
 ghost use Rattle.manager.specs.Causes.{NoneRose};
 ghost use Rattle.manager.specs.Reclaim.{OnTried, OnKept, OnFailed, TellsStep, KeepsOn, BreaksOff, StopsSince, Always, HasDroppedSegment, NoneLiveIn};
 ghost use Rattle.manager.specs.Stands.{IsReady, IsHome};
+ghost use Rattle.redirect_map.specs.Index.{entry_at, HasVersion};
+ghost use Rattle.std.specs.Option.{ForSome};
+ghost use Rattle.std.specs.Prelude.{OnOk, IsTrue};
 
 use crate::{Manager, Part, StepFault};
 use listed_records::forget;

@@ -1,8 +1,4 @@
 // Runs of writes: consecutive writes of which some first ones go to one segment together.
-ghost use Rattle.std.specs.Prelude.{◌≡◌, ◌↔◌, ◌+◌, ◌≤◌, ◌<◌, ◌^◌, ℕ, None, Some, Err, IfOk, IfSome, OnOk, length, map, replicate, slice_set};
-ghost use Rattle.std.specs.List.{list_any, range_with_len};
-ghost use Rattle.spin_model.specs.Spun.{state_of};
-ghost use Rattle.wol_model.specs.Index.{listed_in, is_covered};
 ghost use Rattle.log_segment.specs.Records.{count_of};
 ghost use Rattle.logger.specs.Lanes.{logger_of, first_count};
 ghost use Rattle.manager.specs.Answers.{IsPlaceOf};
@@ -12,6 +8,10 @@ ghost use Rattle.manager.specs.Joining.{GoTogether};
 ghost use Rattle.manager.specs.Stands.{IsReady, IsHome, IsSameManager, passed_in};
 ghost use Rattle.manager.specs.Writing.{HaveAnswered, NeedsHome, NeedsLogs, TellsFault, IsAsBefore, IsPlacedAnswer, takes_at};
 ghost use Rattle.manager.specs.declared.part.Part.{Part};
+ghost use Rattle.spin_model.specs.Spun.{state_of};
+ghost use Rattle.std.specs.List.{list_any, range_with_len};
+ghost use Rattle.std.specs.Prelude.{◌≡◌, ◌↔◌, ◌+◌, ◌≤◌, ◌<◌, ◌^◌, ℕ, None, Some, Err, IfOk, IfSome, OnOk, length, map, replicate, slice_set};
+ghost use Rattle.wol_model.specs.Index.{listed_in, is_covered};
 
 use crate::manager::unasked;
 use crate::{Manager, Part, Place, WriteRefusal};

@@ -1,18 +1,18 @@
 // A write of some blocks, which is a run of one item, and those that go home.
-ghost use Rattle.std.specs.Prelude.{◌≡◌, ◌↔◌, ◌+◌, ◌≤◌, ◌<◌, ◌^◌, true, false, None, Some, Err, IsOk, OnOk, length, map};
-ghost use Rattle.std.specs.List.{list_any, range_with_len};
-ghost use Rattle.spin_model.specs.Spun.{state_of};
-ghost use Rattle.wol_model.specs.History.{worker};
-ghost use Rattle.wol_model.specs.Index.{listed_in, is_covered};
 ghost use Rattle.logger.specs.Lanes.{logger_of};
 ghost use Rattle.manager.specs.Accesses.{HasUsedOnce};
-ghost use Rattle.manager.specs.Causes.{NoneRose};
 ghost use Rattle.manager.specs.Answers.{home_write, written, IsPlaceOf};
+ghost use Rattle.manager.specs.Causes.{NoneRose};
 ghost use Rattle.manager.specs.Seen.{look_of_manager};
 ghost use Rattle.manager.specs.Stands.{CanServe, IsReady, IsHome, IsSameManager, Leaves, LeavesPassing, passed_in};
 ghost use Rattle.manager.specs.Stops.{StopsWith, StopsClaiming};
 ghost use Rattle.manager.specs.Writing.{HaveAnswered, HasLook, NeedsHome, NeedsLogs, TellsFault, IsAsBefore, IsHomeAnswer, ruled_place, takes_at, in_flight};
 ghost use Rattle.manager.specs.declared.part.Part.{Part};
+ghost use Rattle.spin_model.specs.Spun.{state_of};
+ghost use Rattle.std.specs.List.{list_any, range_with_len};
+ghost use Rattle.std.specs.Prelude.{◌≡◌, ◌↔◌, ◌+◌, ◌≤◌, ◌<◌, ◌^◌, true, false, None, Some, Err, IsOk, OnOk, length, map};
+ghost use Rattle.wol_model.specs.History.{worker};
+ghost use Rattle.wol_model.specs.Index.{listed_in, is_covered};
 
 use crate::{Manager, Part, Place, WriteRefusal};
 use log_segment::Item;

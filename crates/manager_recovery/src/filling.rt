@@ -1,11 +1,11 @@
 // The index of the records, and the next version.
-ghost use Rattle.std.specs.Prelude.{◌≡◌, ◌<◌, ◌≤◌, ◌^◌, ℕ, map, IfOk};
-ghost use Rattle.std.specs.List.{AllByRecursion};
-ghost use Rattle.wol_model.specs.Index.{AreRising};
 ghost use Rattle.log_scan.specs.declared.Found.{Found};
 ghost use Rattle.log_scan.specs.declared.Scan.{Scan};
 ghost use Rattle.manager_recovery.specs.Scanned.{entries_from, IsEntryInRange, next_found, next_of};
 ghost use Rattle.manager_recovery.specs.declared.listing.FoundRecord.{FoundRecord};
+ghost use Rattle.std.specs.List.{AllByRecursion};
+ghost use Rattle.std.specs.Prelude.{◌≡◌, ◌<◌, ◌≤◌, ◌^◌, ℕ, map, IfOk};
+ghost use Rattle.wol_model.specs.Index.{AreRising};
 
 use crate::listing::FoundRecord;
 use log_scan::{Found, Scan};

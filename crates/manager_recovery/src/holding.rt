@@ -1,9 +1,9 @@
 // The owned segments come into the hands of their lanes.
-ghost use Rattle.std.specs.Prelude.{◌≡◌, [], None};
-ghost use Rattle.std.specs.List.{AllZip};
 ghost use Rattle.manager_recovery.specs.Opening.{CanOpen};
 ghost use Rattle.manager_recovery.specs.Refused.{IsNamesAnswer};
 ghost use Rattle.manager_recovery.specs.Scanned.{IsScanned, AreHeld};
+ghost use Rattle.std.specs.List.{AllZip};
+ghost use Rattle.std.specs.Prelude.{◌≡◌, [], None};
 
 use crate::names::place_of;
 use crate::{Opening, OwnedPart};

@@ -1,13 +1,13 @@
 // The records that keep blocks, by rising version, with the places of their heads.
-ghost use Rattle.std.specs.Prelude.{◌≡◌, ◌≤◌, ◌<◌, ◌+◌, ◌^◌, ◌++◌, ℕ, true, List, map, filter, length, take, None, Some, MatchOption, OnOk, OnErr, IfOk, IsPermutation};
-ghost use Rattle.std.specs.List.{AllByRecursion, AllZip};
-ghost use Rattle.wol_model.specs.Index.{AreRising};
 ghost use Rattle.log_scan.specs.declared.Found.{Found};
 ghost use Rattle.log_scan.specs.declared.Scan.{Scan};
-ghost use Rattle.manager_recovery.specs.declared.opening.OwnedPart.{OwnedPart};
 ghost use Rattle.manager_recovery.specs.Owned.{HaveNoTwins, AreFirstTwins};
 ghost use Rattle.manager_recovery.specs.Scanned.{record_in, lane_of, keeps_some, all_found, head_of, AreSortedByVersion, IsStableByVersion};
 ghost use Rattle.manager_recovery.specs.declared.listing.FoundRecord.{FoundRecord};
+ghost use Rattle.manager_recovery.specs.declared.opening.OwnedPart.{OwnedPart};
+ghost use Rattle.std.specs.List.{AllByRecursion, AllZip};
+ghost use Rattle.std.specs.Prelude.{◌≡◌, ◌≤◌, ◌<◌, ◌+◌, ◌^◌, ◌++◌, ℕ, true, List, map, filter, length, take, None, Some, MatchOption, OnOk, OnErr, IfOk, IsPermutation};
+ghost use Rattle.wol_model.specs.Index.{AreRising};
 
 use crate::OwnedPart;
 use crate::names::place_of;

@@ -1,7 +1,7 @@
 // What can be refused before a disk is read: the label, a logger of the view that isn't there, a segment that the view doesn't name.
-ghost use Rattle.std.specs.Prelude.{◌≡◌, ◌==◌, not, find, position, slice_index_or, false, true, None, Some, MatchOption, is_some};
 ghost use Rattle.manager_recovery.specs.Refused.{IsNamesAnswer, first_missing, first_outside};
 ghost use Rattle.manager_recovery.specs.declared.opening.OwnedPart.{OwnedPart};
+ghost use Rattle.std.specs.Prelude.{◌≡◌, ◌==◌, not, find, position, slice_index_or, false, true, None, Some, MatchOption, is_some};
 
 use crate::{OpenRefusal, Opening, OwnedPart};
 use wol_disk::Disk;

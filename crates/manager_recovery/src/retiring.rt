@@ -1,21 +1,21 @@
 // Home is synced, and owned segments without a record that keeps a block go to their pools.
-ghost use Rattle.std.specs.Prelude.{◌≡◌, ◌≢◌, ◌≤◌, ◌<◌, ◌+◌, ◌++◌, ◌∷◌, [], ℕ, List, false, true, None, Some, Option, option_map, filter, map, not, length, slice_get, slice_set, remove, IfOk, IfErr, OnOk, OnErr, IsErr, IsTrue};
-ghost use Rattle.std.specs.List.{AllByRecursion, AllZip, list_any};
-ghost use Rattle.wol_disk.specs.Disk.{LeavesOnly, IsImageOf, Rose, settled};
-ghost use Rattle.turn_lock.specs.Passes.{pass_lock, pass_number, pass_mine, IsPassOf, IsFree, IsSamePass};
-ghost use Rattle.spin_model.specs.Operations.{has_token};
-ghost use Rattle.spin_model.specs.Spun.{state_of, volume_of};
-ghost use Rattle.seg_pool.specs.Holders.{Gave};
-ghost use Rattle.seg_pool.specs.Operations.{holds, operation_of};
-ghost use Rattle.log_segment.specs.Segment.{IsSegment, IsWhole, segment_volume, blocks_of, valid_of};
-ghost use Rattle.logger.specs.Lanes.{IsLane, AreAccesses, IsAt, IsSameLane, logger_of, held_in, pool_of, pool_blocks};
 ghost use Rattle.log_scan.specs.declared.Found.{Found};
+ghost use Rattle.log_segment.specs.Segment.{IsSegment, IsWhole, segment_volume, blocks_of, valid_of};
 ghost use Rattle.log_segment.specs.declared.free.FreeSegment.{FreeSegment};
-ghost use Rattle.manager_recovery.specs.Opening.{CanOpen, IsHeldIn};
+ghost use Rattle.logger.specs.Lanes.{IsLane, AreAccesses, IsAt, IsSameLane, logger_of, held_in, pool_of, pool_blocks};
 ghost use Rattle.manager_recovery.specs.Left.{IsAsBefore, IsFateOf, Kept, Freed};
+ghost use Rattle.manager_recovery.specs.Opening.{CanOpen, IsHeldIn};
 ghost use Rattle.manager_recovery.specs.Refused.{IsNamesAnswer, IsRecoverable, SegmentRose};
 ghost use Rattle.manager_recovery.specs.Scanned.{HasGivenNone, IsScanned, IsFreedOf, IsUnfreed, IsThinning, has_some, keeps_some, thinned};
 ghost use Rattle.manager_recovery.specs.declared.opening.OwnedPart.{OwnedPart};
+ghost use Rattle.seg_pool.specs.Holders.{Gave};
+ghost use Rattle.seg_pool.specs.Operations.{holds, operation_of};
+ghost use Rattle.spin_model.specs.Operations.{has_token};
+ghost use Rattle.spin_model.specs.Spun.{state_of, volume_of};
+ghost use Rattle.std.specs.List.{AllByRecursion, AllZip, list_any};
+ghost use Rattle.std.specs.Prelude.{◌≡◌, ◌≢◌, ◌≤◌, ◌<◌, ◌+◌, ◌++◌, ◌∷◌, [], ℕ, List, false, true, None, Some, Option, option_map, filter, map, not, length, slice_get, slice_set, remove, IfOk, IfErr, OnOk, OnErr, IsErr, IsTrue};
+ghost use Rattle.turn_lock.specs.Passes.{pass_lock, pass_number, pass_mine, IsPassOf, IsFree, IsSamePass};
+ghost use Rattle.wol_disk.specs.Disk.{LeavesOnly, IsImageOf, Rose, settled};
 
 use crate::names::place_of;
 use crate::{OpenRefusal, Opening, OwnedPart};

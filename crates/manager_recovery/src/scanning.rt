@@ -1,16 +1,16 @@
 // The owned segments are read back, each under the lock of its logger's spindle, and what is damaged is told.
-ghost use Rattle.std.specs.Prelude.{◌≡◌, ◌≤◌, ◌<◌, ◌+◌, ◌^◌, ℕ, List, None, Some, MatchOption, IfOk, IfErr, OnOk, IsTrue, length, take, slice_get};
-ghost use Rattle.std.specs.List.{AllByRecursion};
-ghost use Rattle.wol_disk.specs.Disk.{LeavesOnly, IsImageOf};
-ghost use Rattle.spin_model.specs.Spun.{state_of, volume_of};
-ghost use Rattle.logger.specs.Lanes.{IsLane, IsAt, IsSameLane, logger_of};
 ghost use Rattle.log_scan.specs.Scan.{IsScan};
 ghost use Rattle.log_scan.specs.declared.Found.{Found};
-ghost use Rattle.manager_recovery.specs.Owned.{IsIntact, owned_of};
-ghost use Rattle.manager_recovery.specs.Opening.{CanOpen, SaysOwner};
+ghost use Rattle.logger.specs.Lanes.{IsLane, IsAt, IsSameLane, logger_of};
 ghost use Rattle.manager_recovery.specs.Left.{IsSameOwned};
+ghost use Rattle.manager_recovery.specs.Opening.{CanOpen, SaysOwner};
+ghost use Rattle.manager_recovery.specs.Owned.{IsIntact, owned_of};
 ghost use Rattle.manager_recovery.specs.Refused.{IsNamesAnswer, Refuses};
 ghost use Rattle.manager_recovery.specs.Scanned.{IsReadOf, IsScanned, IsSettledPart, SegmentRefuses, IsPastEnd, IsReadBack, AreReadBack, IsScannedAt};
+ghost use Rattle.spin_model.specs.Spun.{state_of, volume_of};
+ghost use Rattle.std.specs.List.{AllByRecursion};
+ghost use Rattle.std.specs.Prelude.{◌≡◌, ◌≤◌, ◌<◌, ◌+◌, ◌^◌, ℕ, List, None, Some, MatchOption, IfOk, IfErr, OnOk, IsTrue, length, take, slice_get};
+ghost use Rattle.wol_disk.specs.Disk.{LeavesOnly, IsImageOf};
 
 use crate::names::place_of;
 use crate::{OpenRefusal, Opening, OwnedPart};

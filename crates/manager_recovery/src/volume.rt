@@ -1,15 +1,15 @@
 // A volume is opened.
-ghost use Rattle.std.specs.Prelude.{◌≡◌, ◌<◌, ◌+◌, ◌^◌, None, IfOk, IfErr, IsTrue};
-ghost use Rattle.std.specs.List.{AllByRecursion, AllZip};
-ghost use Rattle.spin_model.specs.Spun.{state_of};
 ghost use Rattle.log_scan.specs.declared.Scan.{Scan};
-ghost use Rattle.manager_recovery.specs.Opening.{CanOpen};
 ghost use Rattle.manager_recovery.specs.Left.{IsHandedBack};
 ghost use Rattle.manager_recovery.specs.Opened.{Opens, NoneRoseAtOpening};
+ghost use Rattle.manager_recovery.specs.Opening.{CanOpen};
 ghost use Rattle.manager_recovery.specs.Recovery.{IsIndexOf, IsRecovered, IsIndexRefusal};
 ghost use Rattle.manager_recovery.specs.Refused.{IsNamesAnswer, Refuses, HandsBackAll};
 ghost use Rattle.manager_recovery.specs.Scanned.{IsScanned, all_found, has_some};
 ghost use Rattle.manager_recovery.specs.declared.opening.Opening.{Opening};
+ghost use Rattle.spin_model.specs.Spun.{state_of};
+ghost use Rattle.std.specs.List.{AllByRecursion, AllZip};
+ghost use Rattle.std.specs.Prelude.{◌≡◌, ◌<◌, ◌+◌, ◌^◌, None, IfOk, IfErr, IsTrue};
 
 use crate::filling::{fill_index, next_version};
 use crate::holding::hold_all;

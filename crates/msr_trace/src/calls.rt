@@ -1,7 +1,7 @@
 //! Functions whose names differ from a type's in the case of a letter alone, so that they stand in a module of their own.
+ghost use Rattle.msr_trace.specs.Lines.{trace_line};
 ghost use Rattle.std.specs.Prelude.{◌≡◌, ◌<◌, All};
 ghost use Rattle.wol_model.specs.Trace as trace;
-ghost use Rattle.msr_trace.specs.Lines.{trace_line};
 ghost use Rattle.wol_model.specs.TraceLaws.{LiesIn};
 
 use crate::cutting::Pieces;

@@ -1,8 +1,8 @@
 // The pieces of a request: runs of blocks that lie in the volume and aren't too long.
-ghost use Rattle.std.specs.Prelude.{◌≡◌, ◌+◌, ◌-◌, ◌/◌, ◌%◌, ◌<◌, All};
-ghost use Rattle.std.specs.Iterator.{YieldsFirst, item_count};
-ghost use Rattle.wol_model.specs.Trace as trace;
 ghost use Rattle.msr_trace.specs.Lines.{trace_line};
+ghost use Rattle.std.specs.Iterator.{YieldsFirst, item_count};
+ghost use Rattle.std.specs.Prelude.{◌≡◌, ◌+◌, ◌-◌, ◌/◌, ◌%◌, ◌<◌, All};
+ghost use Rattle.wol_model.specs.Trace as trace;
 ghost use Rattle.wol_model.specs.TraceLaws.{LiesIn};
 
 use crate::format::Line;

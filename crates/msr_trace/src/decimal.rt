@@ -1,9 +1,9 @@
 // Numbers in decimal digits.
-ghost use Rattle.std.specs.Prelude.{◌≡◌, ◌+◌, ◌-◌, ◌*◌, ◌^◌, ◌<◌, ◌≤◌, true, length, IfSome};
+ghost use Rattle.msr_trace.specs.Numbers.{number_of, value_after, with_digit};
 ghost use Rattle.std.specs.Char.{is_digit, digit_value};
 ghost use Rattle.std.specs.List.{list_all};
+ghost use Rattle.std.specs.Prelude.{◌≡◌, ◌+◌, ◌-◌, ◌*◌, ◌^◌, ◌<◌, ◌≤◌, true, length, IfSome};
 ghost use Rattle.std.specs.Str.Parse.{digits_value_after};
-ghost use Rattle.msr_trace.specs.Numbers.{number_of, value_after, with_digit};
 
 /// The number that one to 20 digits from 0 to 9 write, if it is below 2^64. Leading zeros are allowed.
 #[tactic(auto, unfolding(crate::specs::Numbers::number_of))]

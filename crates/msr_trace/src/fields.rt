@@ -1,11 +1,11 @@
 // The fields of a line, by `csv`.
-ghost use Rattle.std.specs.Prelude.{◌≡◌, ◌≢◌, ◌<◌, [], false, length, slice_index, IfOk, OnOk, option_map};
-ghost use Rattle.std.specs.List.{list_any};
 ghost use Rattle.csv.specs.Machine.{next_record};
 ghost use Rattle.csv.specs.Reading.{default_config, strip_bom};
 ghost use Rattle.csv.specs.Records as records;
 ghost use Rattle.csv.specs.declared.parser.State.TheVariants as st;
 ghost use Rattle.msr_trace.specs.Lines.{fields_of, is_feed, is_mark};
+ghost use Rattle.std.specs.List.{list_any};
+ghost use Rattle.std.specs.Prelude.{◌≡◌, ◌≢◌, ◌<◌, [], false, length, slice_index, IfOk, OnOk, option_map};
 
 use crate::chunk::Chunk;
 use csv::{ByteRecord, Reader, ReaderBuilder};

@@ -1,6 +1,6 @@
 // Names of hosts.
-ghost use Rattle.std.specs.Prelude.{◌≡◌, ◌≤◌, length, IfOk};
 ghost use Rattle.msr_trace.specs.Hosts.{bytes_of, IsHeld, mark_of};
+ghost use Rattle.std.specs.Prelude.{◌≡◌, ◌≤◌, length, IfOk};
 
 use std::alloc::Global;
 use std::marker::Model;
@@ -25,8 +25,8 @@ pub struct HostName {
 }
 
 impl Model for HostName {
-    ghost use Rattle.std.specs.Prelude.{◌≡◌, ℕ, List};
     ghost use Rattle.msr_trace.specs.Hosts.{bytes_of, IsHeld, mark_of};
+    ghost use Rattle.std.specs.Prelude.{◌≡◌, ℕ, List};
 
     ghost Value = { List ℕ };
 

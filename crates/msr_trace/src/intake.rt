@@ -1,10 +1,10 @@
 // The bytes that were taken from a source and not given yet.
-ghost use Rattle.std.specs.Prelude.{◌≡◌, ◌+◌, ◌-◌, ◌<◌, ◌≤◌, ◌⊎◌, true, false, [], length, drop, take, position, MatchBool, OnOk, OnErr, IfOk};
-ghost use Rattle.std.specs.List.{list_any, position_or_len};
-ghost use Rattle.std.specs.Io.KnownBytes.{Consumes, IsAtEnd, Keeps};
-ghost use Rattle.wol_disk.specs.Disk.{Rose};
-ghost use Rattle.msr_trace.specs.Lines.{is_feed};
 ghost use Rattle.msr_trace.specs.Intake.{Takes};
+ghost use Rattle.msr_trace.specs.Lines.{is_feed};
+ghost use Rattle.std.specs.Io.KnownBytes.{Consumes, IsAtEnd, Keeps};
+ghost use Rattle.std.specs.List.{list_any, position_or_len};
+ghost use Rattle.std.specs.Prelude.{◌≡◌, ◌+◌, ◌-◌, ◌<◌, ◌≤◌, ◌⊎◌, true, false, [], length, drop, take, position, MatchBool, OnOk, OnErr, IfOk};
+ghost use Rattle.wol_disk.specs.Disk.{Rose};
 
 use crate::parse::LINE_MAX;
 use std::marker::Model;
@@ -22,9 +22,9 @@ pub struct Intake<S: Source> {
 }
 
 impl<S: Source> Model for Intake<S> {
-    ghost use Rattle.std.specs.Prelude.{◌≡◌, ◌-◌, ◌≤◌, true, take, drop};
-    ghost use Rattle.std.specs.Io.KnownBytes.{IsAtEnd};
     ghost use Rattle.msr_trace.specs.Intake.{Held};
+    ghost use Rattle.std.specs.Io.KnownBytes.{IsAtEnd};
+    ghost use Rattle.std.specs.Prelude.{◌≡◌, ◌-◌, ◌≤◌, true, take, drop};
 
     ghost Value = { Held S };
 

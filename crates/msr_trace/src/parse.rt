@@ -1,8 +1,8 @@
 // A line of a trace from its bytes.
-ghost use Rattle.std.specs.Prelude.{◌≡◌, ◌<◌, ◌==◌, false, length, slice_index, IfOk, IfSome, option_map, count_by, Err};
-ghost use Rattle.std.specs.List.{list_any};
 ghost use Rattle.csv.specs.Records as records;
 ghost use Rattle.msr_trace.specs.Lines.{Fits, Gives, body_of, disk_in, field_at, fields_of, is_feed, is_mark, kind_in, line_in, number_in, read_of, trace_line, without_return};
+ghost use Rattle.std.specs.List.{list_any};
+ghost use Rattle.std.specs.Prelude.{◌≡◌, ◌<◌, ◌==◌, false, length, slice_index, IfOk, IfSome, option_map, count_by, Err};
 
 use crate::decimal::number;
 use crate::fields::Fields;

@@ -1,8 +1,8 @@
 // What a replayed write stores, and the mark of what is read.
-ghost use Rattle.std.specs.Prelude.{◌≡◌, ◌+◌, ◌≤◌, ◌^◌, length, map};
-ghost use Rattle.std.specs.List.{flat_map, range_with_len};
-ghost use Rattle.wol_model.specs.Trace.{block_mark, mark, payload_block};
 ghost use Rattle.msr_trace.specs.Payload.{stamp};
+ghost use Rattle.std.specs.List.{flat_map, range_with_len};
+ghost use Rattle.std.specs.Prelude.{◌≡◌, ◌+◌, ◌≤◌, ◌^◌, length, map};
+ghost use Rattle.wol_model.specs.Trace.{block_mark, mark, payload_block};
 
 use std::simd::prelude::*;
 use wol_disk::Block;

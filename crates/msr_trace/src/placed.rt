@@ -1,9 +1,9 @@
 // A line whose fields stand where a row has its own.
-ghost use Rattle.std.specs.Prelude.{◌≡◌, ◌∷◌, ◌++◌, Ok, Some, IfSome};
-ghost use Rattle.std.specs.List.{list_any};
-ghost use Rattle.wol_model.specs.Trace.{TraceLine};
 ghost use Rattle.msr_trace.specs.Lines.{Fits, body_of};
 ghost use Rattle.msr_trace.specs.Spelling.{is_reserved, kind_text};
+ghost use Rattle.std.specs.List.{list_any};
+ghost use Rattle.std.specs.Prelude.{◌≡◌, ◌∷◌, ◌++◌, Ok, Some, IfSome};
+ghost use Rattle.wol_model.specs.Trace.{TraceLine};
 
 use crate::decimal::number;
 use crate::parse::SIZE_MAX;

@@ -1,11 +1,11 @@
 // The lines of a source, one at a time.
-ghost use Rattle.std.specs.Prelude.{◌≡◌, ◌≢◌, ◌≤◌, ◌<◌, ◌+◌, ◌^◌, ◌↔◌, ◌⊎◌, true, false, [], length, option_map, Ok, Err, IfOk, IfSome, IfNone, OnErr, MatchResult};
-ghost use Rattle.std.specs.List.{list_any, position_or_len};
-ghost use Rattle.std.specs.Io.KnownBytes.{Keeps};
-ghost use Rattle.wol_disk.specs.Disk.{Rose};
 ghost use Rattle.msr_trace.specs.Intake.{to_give};
 ghost use Rattle.msr_trace.specs.Lines.{Fits, is_feed, trace_line};
 ghost use Rattle.msr_trace.specs.Reading.{IsDone, RefusesLine, TakesLine, is_no_memory, pending};
+ghost use Rattle.std.specs.Io.KnownBytes.{Keeps};
+ghost use Rattle.std.specs.List.{list_any, position_or_len};
+ghost use Rattle.std.specs.Prelude.{◌≡◌, ◌≢◌, ◌≤◌, ◌<◌, ◌+◌, ◌^◌, ◌↔◌, ◌⊎◌, true, false, [], length, option_map, Ok, Err, IfOk, IfSome, IfNone, OnErr, MatchResult};
+ghost use Rattle.wol_disk.specs.Disk.{Rose};
 
 use crate::fields::Fields;
 use crate::format::{Line, LineFault, TraceFault};
@@ -29,8 +29,8 @@ pub struct Lines<S: Source> {
 }
 
 impl<S: Source> Model for Lines<S> {
-    ghost use Rattle.std.specs.Prelude.{◌≤◌, ◌^◌};
     ghost use Rattle.msr_trace.specs.Reading.{Reading};
+    ghost use Rattle.std.specs.Prelude.{◌≤◌, ◌^◌};
 
     ghost Value = { Reading S };
 

@@ -1,8 +1,8 @@
 // A line of a trace as text.
-ghost use Rattle.std.specs.Prelude.{◌≡◌, ◌++◌, ◌∷◌, [], decimal, OnOk, OnErr};
-ghost use Rattle.std.specs.Io.{StartsWith};
 ghost use Rattle.msr_trace.specs.Lines.{trace_line};
 ghost use Rattle.msr_trace.specs.Spelling.{kind_text, line_text};
+ghost use Rattle.std.specs.Io.{StartsWith};
+ghost use Rattle.std.specs.Prelude.{◌≡◌, ◌++◌, ◌∷◌, [], decimal, OnOk, OnErr};
 
 use crate::format::Line;
 use itoa::Buffer;

@@ -1,6 +1,6 @@
 // What an option asks for.
-ghost use Rattle.std.specs.Prelude.{◌≡◌, ◌≤◌, true, length};
 ghost use Rattle.nbd_handshake.specs.Options.{asks_for_export, is_asking, is_offered, kind_of, name_in};
+ghost use Rattle.std.specs.Prelude.{◌≡◌, ◌≤◌, true, length};
 
 use crate::export::Export;
 use byteorder::{BigEndian, ByteOrder};

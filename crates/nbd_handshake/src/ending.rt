@@ -1,6 +1,6 @@
 // What an option makes of a handshake.
-ghost use Rattle.std.specs.Prelude.{◌≡◌};
 ghost use Rattle.nbd_handshake.specs.Options.{end_of};
+ghost use Rattle.std.specs.Prelude.{◌≡◌};
 
 use crate::asked::{Kind, asks_for_export, is_offered};
 use crate::export::Export;

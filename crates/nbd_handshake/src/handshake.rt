@@ -1,9 +1,9 @@
 // A handshake: the greeting, the client's flags, and its options.
+ghost use Rattle.nbd_handshake.specs.Shakes.{AnswersSo, AsksAlong, GoesOn, IsShake, greeting};
+ghost use Rattle.nbd_session.specs.Sessions.{CountsFaults};
 ghost use Rattle.std.specs.Prelude.{◌≡◌, ◌≤◌, ℕ, length, OnErr, OnOk};
 ghost use Rattle.wol_disk.specs.Disk.{Rose};
 ghost use Rattle.wol_io.specs.Streams.{SinkTakes};
-ghost use Rattle.nbd_session.specs.Sessions.{CountsFaults};
-ghost use Rattle.nbd_handshake.specs.Shakes.{AnswersSo, AsksAlong, GoesOn, IsShake, greeting};
 
 use crate::asked::kind_of;
 use crate::ending::{Shaken, Unagreed, end_of};

@@ -1,8 +1,8 @@
 // What is taken from a source: the client's flags, and its options.
-ghost use Rattle.std.specs.Prelude.{◌≡◌, ◌≤◌, ◌↔◌, IsTrue, length, OnErr, OnOk};
-ghost use Rattle.wol_disk.specs.Disk.{Rose};
 ghost use Rattle.nbd_handshake.specs.Options.{HasMagic};
 ghost use Rattle.nbd_handshake.specs.Taking.{TakesFlags, TakesGiven, TakesOption};
+ghost use Rattle.std.specs.Prelude.{◌≡◌, ◌≤◌, ◌↔◌, IsTrue, length, OnErr, OnOk};
+ghost use Rattle.wol_disk.specs.Disk.{Rose};
 
 use crate::ending::Unagreed;
 use byteorder::{BigEndian, ByteOrder};

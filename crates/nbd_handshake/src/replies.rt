@@ -1,7 +1,7 @@
 // The bytes that answer an option.
-ghost use Rattle.std.specs.Prelude.{◌≡◌, ◌++◌, ◌<◌, ◌≤◌, ◌^◌, [], length, IfOk, OnOk};
 ghost use Rattle.byteorder.specs.Endian.{big_bytes};
 ghost use Rattle.nbd_handshake.specs.Options.{export_bytes, export_replies, info_or_not, info_replies, name_bytes, replies_of, reply, reply_head, size_bytes, told_bytes};
+ghost use Rattle.std.specs.Prelude.{◌≡◌, ◌++◌, ◌<◌, ◌≤◌, ◌^◌, [], length, IfOk, OnOk};
 
 use crate::asked::{Kind, asks_for_export, is_asking, is_offered};
 use crate::export::Export;

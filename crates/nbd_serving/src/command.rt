@@ -1,14 +1,14 @@
 // A volume of a bay is served.
-ghost use Rattle.std.specs.Prelude.{◌≡◌, ◌≤◌, IsTrue};
-ghost use Rattle.wol_bay.specs.Bay.{outs};
-ghost use Rattle.wol_config.specs.Configs.{IsValid};
-ghost use Rattle.wol_disk.specs.Disk.{Rose};
-ghost use Rattle.volume_images.specs.Left.{IsTold};
-ghost use Rattle.volume_images.specs.Volumes.{NoneOut};
-ghost use Rattle.rack.specs.Opens.{KeepsAllSound, KeepsOthers};
 ghost use Rattle.inspection.specs.Runs.{MayComplete};
 ghost use Rattle.nbd_serving.specs.Runs.{Completes, ServesNamed};
 ghost use Rattle.nbd_serving.specs.Wires.{wire};
+ghost use Rattle.rack.specs.Opens.{KeepsAllSound, KeepsOthers};
+ghost use Rattle.std.specs.Prelude.{◌≡◌, ◌≤◌, IsTrue};
+ghost use Rattle.volume_images.specs.Left.{IsTold};
+ghost use Rattle.volume_images.specs.Volumes.{NoneOut};
+ghost use Rattle.wol_bay.specs.Bay.{outs};
+ghost use Rattle.wol_config.specs.Configs.{IsValid};
+ghost use Rattle.wol_disk.specs.Disk.{Rose};
 
 use crate::serving::{Beginning, Serving};
 use crate::stop::Stop;

@@ -1,10 +1,10 @@
 // All volumes are open: one of them is served.
-ghost use Rattle.std.specs.Prelude.{◌≡◌, ◌<◌, ◌≤◌, Contains, length};
-ghost use Rattle.wol_config.specs.Configs.{IsValid, most_of};
 ghost use Rattle.inspection.specs.Racks.{numbers_of, CanLook};
-ghost use Rattle.open_rack.specs.Again.{IsRackAgain};
 ghost use Rattle.nbd_serving.specs.Racks.{Begins, ServesStation};
 ghost use Rattle.nbd_serving.specs.Wires.{wire};
+ghost use Rattle.open_rack.specs.Again.{IsRackAgain};
+ghost use Rattle.std.specs.Prelude.{◌≡◌, ◌<◌, ◌≤◌, Contains, length};
+ghost use Rattle.wol_config.specs.Configs.{IsValid, most_of};
 
 use crate::stop::{Stop, answer_of};
 use inspection::place_of;
@@ -112,9 +112,9 @@ pub(crate) struct Serving {
 }
 
 impl<R: Wait, D: Disk, S: Source, K: Sink> Work<R, D, S, K> for Serving {
-    ghost use Rattle.std.specs.Prelude.{◌<◌, length};
     ghost use Rattle.nbd_serving.specs.Racks.{ServesRack};
     ghost use Rattle.nbd_serving.specs.Wires.{wire};
+    ghost use Rattle.std.specs.Prelude.{◌<◌, length};
 
     type Answer = Result<Ended, Stop>;
 

@@ -1,8 +1,8 @@
 // Why a command ended without the end of a session, and its status.
-ghost use Rattle.std.specs.Prelude.{◌≡◌};
 ghost use Rattle.nbd_serving.specs.Wires.{answer_of, status_of, unagreed_status};
 ghost use Rattle.nbd_serving.specs.declared.stop.Stop.TheVariants as stop;
 ghost use Rattle.report.specs.declared.fault.Fault.TheVariants.{Memory as no_memory};
+ghost use Rattle.std.specs.Prelude.{◌≡◌};
 
 use nbd_handshake::Unagreed;
 use nbd_session::{Ended, NbdFault};

@@ -1,11 +1,11 @@
 // What becomes of one request.
-ghost use Rattle.std.specs.Prelude.{◌≡◌, ◌≢◌, ◌≤◌, None, length, take, IfOk, OnErr, OnOk};
-ghost use Rattle.wol_disk.specs.Disk.{Rose};
 ghost use Rattle.nbd_session.specs.Answers.{IsInside, LooksSo, ReadsSo, Serves, WritesSo, answer_in};
 ghost use Rattle.nbd_session.specs.Errors.{known_error};
 ghost use Rattle.nbd_session.specs.Headers.{payload_of};
 ghost use Rattle.nbd_session.specs.Taking.{AnswersTaken, RefusesSo};
 ghost use Rattle.nbd_session.specs.Turns.{StaysReady};
+ghost use Rattle.std.specs.Prelude.{◌≡◌, ◌≢◌, ◌≤◌, None, length, take, IfOk, OnErr, OnOk};
+ghost use Rattle.wol_disk.specs.Disk.{Rose};
 
 use crate::error::{MOST_BYTES, NbdError, error_of, known_error};
 use crate::header::{Command, Header};

@@ -1,6 +1,6 @@
 // The errors of replies.
-ghost use Rattle.std.specs.Prelude.{◌≡◌};
 ghost use Rattle.nbd_session.specs.Errors.{code_of, error_of, known_error, is_uneven, passes_end, range_error};
+ghost use Rattle.std.specs.Prelude.{◌≡◌};
 
 use crate::header::{Command, Header};
 use crate::volume::Refusal;

@@ -1,6 +1,6 @@
 // The header of a request.
-ghost use Rattle.std.specs.Prelude.{◌≡◌, ◌≤◌, ◌↔◌, IsTrue, length, ◌++◌};
 ghost use Rattle.nbd_session.specs.Headers.{HasMagic, command_of, header_of, payload_of, reply_head};
+ghost use Rattle.std.specs.Prelude.{◌≡◌, ◌≤◌, ◌↔◌, IsTrue, length, ◌++◌};
 
 use byteorder::{BigEndian, ByteOrder};
 

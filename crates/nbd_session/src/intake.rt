@@ -1,8 +1,8 @@
 // What is taken from a source: the header of a request, and its data.
-ghost use Rattle.std.specs.Prelude.{◌≡◌, ◌≤◌, ◌<◌, ◌+◌, length, take, drop, IfOk, OnErr, OnOk};
-ghost use Rattle.std.specs.Io.KnownBytes.{Consumes, ConsumesCount, IsAtEnd, Keeps};
-ghost use Rattle.wol_disk.specs.Disk.{Rose};
 ghost use Rattle.nbd_session.specs.Intake.{FillsRoom, IsComing, IsNext, Skips, TakesData, TakesNext};
+ghost use Rattle.std.specs.Io.KnownBytes.{Consumes, ConsumesCount, IsAtEnd, Keeps};
+ghost use Rattle.std.specs.Prelude.{◌≡◌, ◌≤◌, ◌<◌, ◌+◌, length, take, drop, IfOk, OnErr, OnOk};
+ghost use Rattle.wol_disk.specs.Disk.{Rose};
 
 use crate::header::{Command, HEADER_BYTES, Header, MAGIC_BYTES, has_magic, header_of};
 use wol_disk::Failed;

@@ -1,7 +1,7 @@
 // A range is read and written in pieces, one turn each.
-ghost use Rattle.std.specs.Prelude.{◌≡◌, ◌≤◌, ◌+◌, ◌*◌, ◌/◌, ◌++◌, ◌<◌, ◌^◌, length, take, MatchResult};
 ghost use Rattle.nbd_session.specs.Ranges.{AreWhole, HasRead, HasWritten, HasNotRead, HasNotWritten, ReadsPiece, bytes_of};
 ghost use Rattle.nbd_session.specs.Turns.{StaysReady};
+ghost use Rattle.std.specs.Prelude.{◌≡◌, ◌≤◌, ◌+◌, ◌*◌, ◌/◌, ◌++◌, ◌<◌, ◌^◌, length, take, MatchResult};
 
 use crate::volume::{Refusal, Volume};
 use wol_disk::Block;

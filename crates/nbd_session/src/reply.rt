@@ -1,9 +1,9 @@
 // The reply to a request.
+ghost use Rattle.nbd_session.specs.Answers.{answer_in, reply_of};
+ghost use Rattle.nbd_session.specs.Headers.{reply_head};
 ghost use Rattle.std.specs.Prelude.{◌≡◌, ◌≤◌, ◌++◌, ◌^◌, length, OnErr, OnOk, IfOk, Ok, Err};
 ghost use Rattle.wol_disk.specs.Disk.{Rose};
 ghost use Rattle.wol_io.specs.Streams.{SinkTakes};
-ghost use Rattle.nbd_session.specs.Answers.{answer_in, reply_of};
-ghost use Rattle.nbd_session.specs.Headers.{reply_head};
 
 use crate::error::NbdError;
 use byteorder::{BigEndian, ByteOrder};

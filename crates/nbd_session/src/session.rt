@@ -1,8 +1,8 @@
 // A session: requests one after another.
-ghost use Rattle.std.specs.Prelude.{◌≡◌, ◌≢◌, ◌≤◌, ℕ, List, Option, length, IfOk, IfSome};
 ghost use Rattle.nbd_session.specs.Intake.{IsComing, TakesHeader};
 ghost use Rattle.nbd_session.specs.Sessions.{CountsFaults, GoesOn, IsSession, RepliesSo};
 ghost use Rattle.nbd_session.specs.Turns.{StaysReady};
+ghost use Rattle.std.specs.Prelude.{◌≡◌, ◌≢◌, ◌≤◌, ℕ, List, Option, length, IfOk, IfSome};
 
 use crate::answer::{Desk, take_and_ask};
 use crate::error::NbdError;

@@ -16,8 +16,8 @@ pub enum Refusal {
 
 /// A volume whose one client is the session. Each call is one turn, after which the volume is what the turn says.
 pub trait Volume {
-    ghost use Rattle.std.specs.Prelude.{◌≡◌, ◌≤◌, ◌<◌, ◌+◌, ◌^◌, ℕ, length};
     ghost use Rattle.nbd_session.specs.Turns.{Turn, look_turn, read_turn, write_turn};
+    ghost use Rattle.std.specs.Prelude.{◌≡◌, ◌≤◌, ◌<◌, ◌+◌, ◌^◌, ℕ, length};
 
     /// A turn that was taken, and the volume before and behind it. It is this that says which refusal comes when.
     ghost Turned: { Turn → Self → Self → Type 0 };

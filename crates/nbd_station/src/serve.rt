@@ -1,8 +1,8 @@
 // A session at a station.
-ghost use Rattle.std.specs.Prelude.{◌≡◌};
 ghost use Rattle.nbd_session.specs.Sessions.{CountsFaults, IsSession};
 ghost use Rattle.nbd_station.specs.Stations.{CanServe, OnlyWorks};
 ghost use Rattle.nbd_station.specs.Turns.{MakesTurn};
+ghost use Rattle.std.specs.Prelude.{◌≡◌};
 
 use crate::station::StationVolume;
 use logger::Shared;

@@ -1,11 +1,11 @@
 // A station, as a session asks it.
-ghost use Rattle.std.specs.Prelude.{◌≡◌, ◌≤◌, ◌+◌, length};
-ghost use Rattle.turn_lock.specs.Passes.{pass_lock, pass_number, IsFree, IsPassOf};
-ghost use Rattle.wol_model.specs.History.{worker};
 ghost use Rattle.manager.specs.Stands.{IsShared};
 ghost use Rattle.nbd_session.specs.Turns.{look_turn, read_turn, write_turn};
 ghost use Rattle.nbd_station.specs.Stations.{OnlyWorks};
 ghost use Rattle.nbd_station.specs.Turns.{AnswersWrite, IsOfWrite, MakesTurn, read_refusal, write_refusal};
+ghost use Rattle.std.specs.Prelude.{◌≡◌, ◌≤◌, ◌+◌, length};
+ghost use Rattle.turn_lock.specs.Passes.{pass_lock, pass_number, IsFree, IsPassOf};
+ghost use Rattle.wol_model.specs.History.{worker};
 
 use logger::Shared;
 use manager::{ReadRefusal, Station, WriteRefusal};
@@ -140,9 +140,9 @@ fn write_at<R: Wait, D: Disk>(
 }
 
 impl<R: Wait, D: Disk> Volume for StationVolume<'_, R, D> {
-    ghost use Rattle.std.specs.Prelude.{◌≡◌};
-    ghost use Rattle.nbd_station.specs.Turns.{MakesTurn};
     ghost use Rattle.nbd_station.specs.Stations.{CanServe, OnlyWorks};
+    ghost use Rattle.nbd_station.specs.Turns.{MakesTurn};
+    ghost use Rattle.std.specs.Prelude.{◌≡◌};
 
     ghost Turned = { λ turn s t. MakesTurn D.tells turn s.station.now.worker t.station.now.worker
         × OnlyWorks s.station.now t.station.now × (t.station.ghost_name ≡ s.station.ghost_name) };

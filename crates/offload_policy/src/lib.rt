@@ -1,9 +1,9 @@
 //! Where a manager places a write: at home or in the log of another volume, and which disk is woken for it.
 #![tactic(auto)]
 
-ghost use Rattle.std.specs.Prelude.{◌≡◌, ◌<◌, ◌≤◌, ◌^◌, List, Bool, length, position, IfSome, slice_get};
-ghost use Rattle.std.specs.List.{zip};
 ghost use Rattle.offload_policy.specs.Placing.{step_of, decided_by, is_open, place_of, AreRooms};
+ghost use Rattle.std.specs.List.{zip};
+ghost use Rattle.std.specs.Prelude.{◌≡◌, ◌<◌, ◌≤◌, ◌^◌, List, Bool, length, position, IfSome, slice_get};
 ghost use Rattle.wol_model.specs.Placing.{place as place_in};
 
 /// What is known of a logger's room for a write.

@@ -1,6 +1,6 @@
 // Not all volumes are open.
-ghost use Rattle.std.specs.Prelude.{◌≡◌, ◌≤◌, ◌^◌, length};
 ghost use Rattle.open_rack.specs.NotOpened.{first_closed};
+ghost use Rattle.std.specs.Prelude.{◌≡◌, ◌≤◌, ◌^◌, length};
 
 use rack::VolumeFault;
 use report::Fault;

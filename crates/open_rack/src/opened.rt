@@ -1,11 +1,11 @@
 // All volumes of a bay are opened, and closed behind a work.
+ghost use Rattle.open_rack.specs.Sessions.{OpensAndCloses};
+ghost use Rattle.rack.specs.Opens.{KeepsAllSound, KeepsOthers, LeavesAll};
 ghost use Rattle.std.specs.Prelude.{◌≡◌, ◌≤◌, IfOk, OnErr, IsTrue};
-ghost use Rattle.wol_bay.specs.Bay.{outs};
-ghost use Rattle.wol_config.specs.Configs.{IsValid};
 ghost use Rattle.volume_images.specs.Left.{IsTold};
 ghost use Rattle.volume_images.specs.Volumes.{NoneOut};
-ghost use Rattle.rack.specs.Opens.{KeepsAllSound, KeepsOthers, LeavesAll};
-ghost use Rattle.open_rack.specs.Sessions.{OpensAndCloses};
+ghost use Rattle.wol_bay.specs.Bay.{outs};
+ghost use Rattle.wol_config.specs.Configs.{IsValid};
 
 use crate::work::Work;
 use rack::{close_all, open_all};

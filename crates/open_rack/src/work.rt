@@ -7,13 +7,13 @@ use wol_disk::Disk;
 /// What is done with the volumes of a rack while they are open. `S` is what it reads besides, `K` what it writes to,
 /// and `R` what runs it.
 pub trait Work<R, D: Disk, S, K>: Drop {
+    ghost use Rattle.open_rack.specs.Again.{IsRackAgain};
+    ghost use Rattle.rack.specs.Racks.{IsRack};
+    ghost use Rattle.rack_parts.specs.declared.rack.Rack.{Rack};
     ghost use Rattle.std.specs.Prelude.{ℕ};
     ghost use Rattle.wol_bay.specs.Bay.{BayState};
     ghost use Rattle.wol_config.specs.Configs.{IsValid};
     ghost use Rattle.wol_config.specs.declared.config.Config.{Config};
-    ghost use Rattle.rack.specs.Racks.{IsRack};
-    ghost use Rattle.rack_parts.specs.declared.rack.Rack.{Rack};
-    ghost use Rattle.open_rack.specs.Again.{IsRackAgain};
 
     /// What it answers.
     type Answer;

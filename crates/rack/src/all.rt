@@ -1,20 +1,20 @@
 // All volumes of a bay are opened.
-ghost use Rattle.std.specs.Prelude.{ℕ, ◌≡◌, ◌<◌, ◌≤◌, List, length, All, ◌++◌, None, Some, slice_get, option_map, IfOk, OnErr, IfSome, IsTrue};
-ghost use Rattle.wol_bay.specs.Bay.{outs};
-ghost use Rattle.wol_config.specs.Configs.{IsValid};
-ghost use Rattle.volume_images.specs.Left.{IsTold};
-ghost use Rattle.volume_images.specs.Volumes.{NoneOut, images_read, shapes_of};
-ghost use Rattle.rack_parts.specs.Racks.{IsRack, IsUnused, AreUnused, KeepToViews};
-ghost use Rattle.rack_parts.specs.Rests.{IsImageOut, out_names};
-ghost use Rattle.rack_closing.specs.Owners.{HadRefused};
-ghost use Rattle.rack.specs.Opening.{IsTaken};
-ghost use Rattle.rack_closing.specs.Opens.{AreViewsAsRead, BeganWith, WereThere, AreRefused, LeavesAll, HasFaulty, KeepsOthers, KeepsAllSound};
-ghost use Rattle.wol_disk.specs.Disk.{Rose};
-ghost use Rattle.wol_model.specs.Images.{AreSound};
 ghost use Rattle.manager.specs.declared.part.Part.{Part};
 ghost use Rattle.manager_recovery.specs.declared.refusal.OpenRefusal.TheVariants.{DiskFault};
+ghost use Rattle.rack.specs.Opening.{IsTaken};
 ghost use Rattle.rack_closing.specs.Closes.{HasFaultAt, HasFaultIn};
+ghost use Rattle.rack_closing.specs.Opens.{AreViewsAsRead, BeganWith, WereThere, AreRefused, LeavesAll, HasFaulty, KeepsOthers, KeepsAllSound};
+ghost use Rattle.rack_closing.specs.Owners.{HadRefused};
+ghost use Rattle.rack_parts.specs.Racks.{IsRack, IsUnused, AreUnused, KeepToViews};
+ghost use Rattle.rack_parts.specs.Rests.{IsImageOut, out_names};
 ghost use Rattle.rack_parts.specs.declared.volume_fault.VolumeFault.TheVariants.{Refused};
+ghost use Rattle.std.specs.Prelude.{ℕ, ◌≡◌, ◌<◌, ◌≤◌, List, length, All, ◌++◌, None, Some, slice_get, option_map, IfOk, OnErr, IfSome, IsTrue};
+ghost use Rattle.volume_images.specs.Left.{IsTold};
+ghost use Rattle.volume_images.specs.Volumes.{NoneOut, images_read, shapes_of};
+ghost use Rattle.wol_bay.specs.Bay.{outs};
+ghost use Rattle.wol_config.specs.Configs.{IsValid};
+ghost use Rattle.wol_disk.specs.Disk.{Rose};
+ghost use Rattle.wol_model.specs.Images.{AreSound};
 
 use crate::images::{Images, open_images};
 use crate::lists::Lists;

@@ -1,14 +1,14 @@
 // The images of a configuration are taken out of their bay.
+ghost use Rattle.rack.specs.Opening.{IsNextOpened, IsNextRefused, IsBackAtOnce, AreAsked, HasSentOut, HasAllBack};
+ghost use Rattle.rack_closing.specs.Opens.{KeepsOthers, fault_in_image, fault_of_image};
+ghost use Rattle.rack_parts.specs.Locks.{IsInOrder, AreSettled, AreSpindlesOf};
+ghost use Rattle.rack_parts.specs.Rests.{IsSpindleLock};
 ghost use Rattle.std.specs.Prelude.{◌≡◌, ◌<◌, length, slice_get, Some, ℕ, IfOk, IfErr, OnErr};
+ghost use Rattle.volume_images.specs.Left.{IsTold};
+ghost use Rattle.volume_images.specs.Volumes.{NoneOut};
 ghost use Rattle.wol_bay.specs.Bay.{IsHome};
 ghost use Rattle.wol_config.specs.Configs.{IsValid};
 ghost use Rattle.wol_config.specs.declared.config.VolumeConf.{VolumeConf};
-ghost use Rattle.volume_images.specs.Left.{IsTold};
-ghost use Rattle.volume_images.specs.Volumes.{NoneOut};
-ghost use Rattle.rack_parts.specs.Rests.{IsSpindleLock};
-ghost use Rattle.rack_parts.specs.Locks.{IsInOrder, AreSettled, AreSpindlesOf};
-ghost use Rattle.rack_closing.specs.Opens.{KeepsOthers, fault_in_image, fault_of_image};
-ghost use Rattle.rack.specs.Opening.{IsNextOpened, IsNextRefused, IsBackAtOnce, AreAsked, HasSentOut, HasAllBack};
 
 use manager::Part;
 use manager_recovery::OpenRefusal;
@@ -30,8 +30,8 @@ pub(crate) struct Images<D: Disk> {
 }
 
 impl<D: Disk> Images<D> {
-    ghost use Rattle.std.specs.Prelude.{◌≡◌, ◌≤◌, ◌<◌, ◌∷◌, ◌++◌, [], length, None, IfOk, vec_capacity};
     ghost use Rattle.rack.specs.Making.{AreNewImages, HasRoom, PushesImage};
+    ghost use Rattle.std.specs.Prelude.{◌≡◌, ◌≤◌, ◌<◌, ◌∷◌, ◌++◌, [], length, None, IfOk, vec_capacity};
 
     fn new(alloc: Global, volumes: usize) -> Result<Images<D>, NoMemory>
         ensures { IfOk result (AreNewImages volumes) }

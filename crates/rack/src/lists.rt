@@ -1,6 +1,6 @@
 // The lists that a rack keeps are made, and filled.
-ghost use Rattle.std.specs.Prelude.{ℕ, ◌≡◌, ◌≤◌, [], length, map, IfOk, All, vec_capacity};
 ghost use Rattle.rack.specs.Making.{last_of, ArePopped, IsEmptyShared, AreNewRooms, AreEmptyPasses};
+ghost use Rattle.std.specs.Prelude.{ℕ, ◌≡◌, ◌≤◌, [], length, map, IfOk, All, vec_capacity};
 
 use logger::Shared;
 use manager::Station;
@@ -106,9 +106,9 @@ fn deal_one<T>(rows: &mut [Vec<T>], places: &mut Vec<Option<T>>)
 }
 
 impl<D: Disk> Lists<D> {
-    ghost use Rattle.std.specs.Prelude.{◌≡◌, ◌≤◌, ◌+◌, ℕ, [], length, IfOk, All, vec_capacity};
     ghost use Rattle.rack.specs.Making.{AreLists};
     ghost use Rattle.rack.specs.Making.{PutsSpindles, PutsPools, CanDeal, Deals, IsSetUp};
+    ghost use Rattle.std.specs.Prelude.{◌≡◌, ◌≤◌, ◌+◌, ℕ, [], length, IfOk, All, vec_capacity};
 
     /// Lists with room for so many volumes.
     pub(crate) fn new(alloc: Global, volumes: usize) -> Result<Lists<D>, NoMemory>

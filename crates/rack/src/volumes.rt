@@ -1,15 +1,15 @@
 // The volumes whose images are out are opened.
-ghost use Rattle.std.specs.Prelude.{◌≡◌, ◌<◌, ◌+◌, Some, length, IfOk, OnOk, OnErr, IfErr, ℕ, slice_get, IsTrue};
-ghost use Rattle.wol_config.specs.Configs.{IsValid};
 ghost use Rattle.manager_recovery.specs.Opening.{CanOpen};
 ghost use Rattle.manager_recovery.specs.declared.opening.Opening.{Opening};
-ghost use Rattle.volume_images.specs.Volumes.{shapes_of};
 ghost use Rattle.rack.specs.Locked.{IsLocked, IsUnopened};
-ghost use Rattle.wol_bay.specs.Bay.{BayState, Told};
-ghost use Rattle.rack_parts.specs.Racks.{IsRack, AreUnused, KeepToViews};
-ghost use Rattle.rack_closing.specs.Opens.{BeganWith, AreRefused};
 ghost use Rattle.rack.specs.Opening.{view_at, IsOpeningRack, HasBegun, AreRefusedBelow, HaveFaults, AreSameOut, IsStopped};
+ghost use Rattle.rack_closing.specs.Opens.{BeganWith, AreRefused};
+ghost use Rattle.rack_parts.specs.Racks.{IsRack, AreUnused, KeepToViews};
 ghost use Rattle.rack_parts.specs.declared.heads_said.Said.{Said};
+ghost use Rattle.std.specs.Prelude.{◌≡◌, ◌<◌, ◌+◌, Some, length, IfOk, OnOk, OnErr, IfErr, ℕ, slice_get, IsTrue};
+ghost use Rattle.volume_images.specs.Volumes.{shapes_of};
+ghost use Rattle.wol_bay.specs.Bay.{BayState, Told};
+ghost use Rattle.wol_config.specs.Configs.{IsValid};
 
 use log_layout::View;
 use logger::Shared;

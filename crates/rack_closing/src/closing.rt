@@ -1,16 +1,16 @@
 // A rack is closed.
-ghost use Rattle.std.specs.Prelude.{◌≡◌, ◌<◌, ◌≤◌, ℕ, length, Some, All, IsTrue, slice_get};
-ghost use Rattle.wol_disk.specs.Disk.{Rose};
-ghost use Rattle.wol_bay.specs.Bay.{Told, outs};
-ghost use Rattle.wol_config.specs.Configs.{IsValid};
-ghost use Rattle.spin_model.specs.Spindles.{SpindleView};
-ghost use Rattle.volume_images.specs.Left.{IsTold};
-ghost use Rattle.volume_images.specs.Volumes.{shapes_of};
-ghost use Rattle.rack_parts.specs.Racks.{IsClosable};
+ghost use Rattle.rack_closing.specs.Closes.{IsClosedSpindle, AreClosedVolumes, IsQuiet, AreLeftOfParts, HasFaultIn, ListsFaulty, LeavesOpen, LeavesUnopened, LeavesVolumes};
 ghost use Rattle.rack_closing.specs.Opens.{BeganWith, WereThere, KeepsOthers, KeepsAllSound};
 ghost use Rattle.rack_closing.specs.Owners.{HadRefused};
-ghost use Rattle.rack_closing.specs.Closes.{IsClosedSpindle, AreClosedVolumes, IsQuiet, AreLeftOfParts, HasFaultIn, ListsFaulty, LeavesOpen, LeavesUnopened, LeavesVolumes};
 ghost use Rattle.rack_parts.specs.Closing.{LeavesNoneOut};
+ghost use Rattle.rack_parts.specs.Racks.{IsClosable};
+ghost use Rattle.spin_model.specs.Spindles.{SpindleView};
+ghost use Rattle.std.specs.Prelude.{◌≡◌, ◌<◌, ◌≤◌, ℕ, length, Some, All, IsTrue, slice_get};
+ghost use Rattle.volume_images.specs.Left.{IsTold};
+ghost use Rattle.volume_images.specs.Volumes.{shapes_of};
+ghost use Rattle.wol_bay.specs.Bay.{Told, outs};
+ghost use Rattle.wol_config.specs.Configs.{IsValid};
+ghost use Rattle.wol_disk.specs.Disk.{Rose};
 
 use logger::Shared;
 use rack_parts::{Rack, Rest, end_passes, give_back};

@@ -1,7 +1,7 @@
 // What a rack keeps is closed: stations, pools, spindles.
-ghost use Rattle.std.specs.Prelude.{◌≡◌, ◌<◌, ◌≤◌, ◌++◌, ℕ, List, [], length, vec_capacity, Some, IsSome, All, slice_get, slice_index_or};
 ghost use Rattle.rack_parts.specs.Closing.{pool_in, spindle_in, ArePoolsTaken, AreSpindlesTaken};
 ghost use Rattle.rack_parts.specs.declared.rack.VolumePasses.{VolumePasses};
+ghost use Rattle.std.specs.Prelude.{◌≡◌, ◌<◌, ◌≤◌, ◌++◌, ℕ, List, [], length, vec_capacity, Some, IsSome, All, slice_get, slice_index_or};
 
 use crate::pools::empty_pool;
 use crate::rack::{PoolPass, Rest, VolumePasses};
@@ -13,19 +13,19 @@ use turn_lock::{Pass, TurnLock};
 use wol_disk::Disk;
 
 impl<D: Disk> Rest<D> {
+    ghost use Rattle.log_segment.specs.declared.free.FreeSegment.{FreeSegment};
+    ghost use Rattle.logger.specs.declared.shared.Shared.{Shared};
+    ghost use Rattle.manager.specs.declared.station.Station.{Station};
+    ghost use Rattle.rack_parts.specs.Closing.{CanCloseStations, ClosesStation, ClosesStations, CanClosePool, CanClosePools, IsClosedPool, CanPutAllHeld, PutsAllHeld, RefillsAll, KeepsLogger, KeepsSpindles, KeepsOtherRows, HasSpindlePasses, StandsClosed, CanCloseSpindles, AreClosed};
+    ghost use Rattle.rack_parts.specs.Rests.{spindle_pass, image_here, held_here, OnlyAccess, IsRest};
+    ghost use Rattle.seg_pool.specs.declared.base.PoolBase.{PoolBase};
+    ghost use Rattle.seg_pool.specs.declared.pool.Pool.{Pool};
     ghost use Rattle.std.specs.Prelude.{◌≡◌, ◌≢◌, ◌<◌, ◌≤◌, ◌+◌, ◌++◌, ◌∷◌, ℕ, List, [], length, vec_capacity, Some, slice_get};
     ghost use Rattle.turn_lock.specs.Histories.{Entry};
     ghost use Rattle.turn_lock.specs.Passes.{lock_id};
     ghost use Rattle.turn_lock.specs.declared.lock.TurnLock.{TurnLock};
-    ghost use Rattle.seg_pool.specs.declared.base.PoolBase.{PoolBase};
-    ghost use Rattle.seg_pool.specs.declared.pool.Pool.{Pool};
-    ghost use Rattle.log_segment.specs.declared.free.FreeSegment.{FreeSegment};
-    ghost use Rattle.wol_model.specs.Heads.{Shape};
     ghost use Rattle.wol_config.specs.declared.config.Config.{Config};
-    ghost use Rattle.logger.specs.declared.shared.Shared.{Shared};
-    ghost use Rattle.manager.specs.declared.station.Station.{Station};
-    ghost use Rattle.rack_parts.specs.Rests.{spindle_pass, image_here, held_here, OnlyAccess, IsRest};
-    ghost use Rattle.rack_parts.specs.Closing.{CanCloseStations, ClosesStation, ClosesStations, CanClosePool, CanClosePools, IsClosedPool, CanPutAllHeld, PutsAllHeld, RefillsAll, KeepsLogger, KeepsSpindles, KeepsOtherRows, HasSpindlePasses, StandsClosed, CanCloseSpindles, AreClosed};
+    ghost use Rattle.wol_model.specs.Heads.{Shape};
 
     /// Each station's lock is closed, and what its manager had comes back.
     pub fn close_stations(&mut self, stations: Vec<Station<D>>)
@@ -177,8 +177,8 @@ impl<D: Disk> Rest<D> {
 }
 
 impl<D: Disk> VolumePasses<D> {
-    ghost use Rattle.std.specs.Prelude.{◌≡◌, IsSome};
     ghost use Rattle.rack_parts.specs.Closing.{pool_in, spindle_in, IsPoolTaken, IsSpindleTaken};
+    ghost use Rattle.std.specs.Prelude.{◌≡◌, IsSome};
 
     // The pass of the pool of volume `id` goes.
     fn take_pool(&mut self, id: usize) -> PoolPass<D>

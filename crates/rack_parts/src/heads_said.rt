@@ -1,6 +1,6 @@
 // What the images that are out say, while volumes are opened.
-ghost use Rattle.std.specs.Prelude.{◌≡◌, ◌≤◌, [], length, vec_capacity};
 ghost use Rattle.rack_parts.specs.Parts.{IsLaidOut, is_owned_by};
+ghost use Rattle.std.specs.Prelude.{◌≡◌, ◌≤◌, [], length, vec_capacity};
 
 use crate::rack::ImageRest;
 use log_layout::{SegHead, View};
@@ -26,8 +26,8 @@ pub(crate) fn is_owned_by(head: SegHead, owner: u32) -> bool
 }
 
 impl Said {
-    ghost use Rattle.std.specs.Prelude.{◌≡◌};
     ghost use Rattle.rack_parts.specs.Parts.{owned_count};
+    ghost use Rattle.std.specs.Prelude.{◌≡◌};
 
     /// How many segments the volume owns in this image.
     pub(crate) fn owned(&self, owner: u32) -> usize

@@ -1,6 +1,6 @@
 // Locks with all of their passes, and those of the spindles.
-ghost use Rattle.std.specs.Prelude.{◌≡◌, ◌≤◌, ◌+◌, ℕ, length, IfOk, All};
 ghost use Rattle.rack_parts.specs.Locks.{IsWholeLock, AreSpindlesOf};
+ghost use Rattle.std.specs.Prelude.{◌≡◌, ◌≤◌, ◌+◌, ℕ, length, IfOk, All};
 
 use log_segment::FreeSegment;
 use seg_pool::Pool;

@@ -1,12 +1,12 @@
 // The pool of an image's free segments is made, and emptied.
-ghost use Rattle.std.specs.Prelude.{◌≡◌, ◌<◌, ◌≤◌, ℕ, [], length, None, Some, IfOk, IfErr, OnOk, OnErr, IfSome, IsSome, MatchOption, slice_get, slice_index_or, slice_set, vec_len};
-ghost use Rattle.wol_model.specs.Heads.{Shape};
-ghost use Rattle.wol_config.specs.Configs.{IsValid};
-ghost use Rattle.turn_lock.specs.Passes.{lock_id, lock_passes, AreNewPasses};
 ghost use Rattle.log_segment.specs.Segment.{IsBlank};
-ghost use Rattle.seg_pool.specs.Pools.{IsEmptyPool, IsSamePool, StandsFor, item_at, note_at, room_of, volume_of, blocks_of, base_of};
-ghost use Rattle.volume_images.specs.Volumes.{shapes_of};
 ghost use Rattle.rack_parts.specs.Parts.{AreFillable, IsBlankPart, left_by, FillsSlot, TakesFree, IsFilledPool, IsSameBut, HasPlaces, EmptiesInto, MaySupply, IsSupplied, CanIssue, IsIssuedPool, Supplies, Restores, CanEnd, EndsInto};
+ghost use Rattle.seg_pool.specs.Pools.{IsEmptyPool, IsSamePool, StandsFor, item_at, note_at, room_of, volume_of, blocks_of, base_of};
+ghost use Rattle.std.specs.Prelude.{◌≡◌, ◌<◌, ◌≤◌, ℕ, [], length, None, Some, IfOk, IfErr, OnOk, OnErr, IfSome, IsSome, MatchOption, slice_get, slice_index_or, slice_set, vec_len};
+ghost use Rattle.turn_lock.specs.Passes.{lock_id, lock_passes, AreNewPasses};
+ghost use Rattle.volume_images.specs.Volumes.{shapes_of};
+ghost use Rattle.wol_config.specs.Configs.{IsValid};
+ghost use Rattle.wol_model.specs.Heads.{Shape};
 
 use crate::heads_said::Said;
 use crate::locks::IssuedPool;

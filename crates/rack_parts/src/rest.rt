@@ -1,18 +1,18 @@
 // What comes back to the rest of a rack, and the images that go back to their bay.
-ghost use Rattle.std.specs.Prelude.{◌≡◌, ◌≢◌, ◌<◌, ◌≤◌, ℕ, None, Some, length, IsSome, IfSome, slice_get, All};
-ghost use Rattle.wol_disk.specs.Disk.{Rose};
-ghost use Rattle.wol_model.specs.Heads.{Shape};
-ghost use Rattle.wol_bay.specs.Bay.{outs, IsOut};
-ghost use Rattle.wol_config.specs.Configs.{IsValid};
-ghost use Rattle.wol_config.specs.declared.config.VolumeConf.{VolumeConf};
 ghost use Rattle.logger.specs.Lanes.{IsLane, logger_of, taken_in};
+ghost use Rattle.rack_parts.specs.Closing.{IsComplete, AreComplete, IsImageBack, GivesBack, HasFaultHere, LeavesNoneOut};
+ghost use Rattle.rack_parts.specs.Parts.{IsFilled, HasPlace, IsBarePlace, CanPutLanes, PutsLane, PutsLanes, CanPutHeld, PutsHeld, PopsHeld, IsHomeAway, with_home, ChangesHome, PutsManager, CanPutOwned, PutsOpening};
+ghost use Rattle.rack_parts.specs.Rests.{segment_here, image_here, held_here, IsImageOut, IsImageRest};
+ghost use Rattle.rack_parts.specs.declared.rack.ImageRest.{ImageRest};
+ghost use Rattle.std.specs.Prelude.{◌≡◌, ◌≢◌, ◌<◌, ◌≤◌, ℕ, None, Some, length, IsSome, IfSome, slice_get, All};
 ghost use Rattle.volume_images.specs.Formatted.{part_sizes};
 ghost use Rattle.volume_images.specs.Left.{IsTold};
 ghost use Rattle.volume_images.specs.Volumes.{shape_in, shapes_of};
-ghost use Rattle.rack_parts.specs.Rests.{segment_here, image_here, held_here, IsImageOut, IsImageRest};
-ghost use Rattle.rack_parts.specs.Parts.{IsFilled, HasPlace, IsBarePlace, CanPutLanes, PutsLane, PutsLanes, CanPutHeld, PutsHeld, PopsHeld, IsHomeAway, with_home, ChangesHome, PutsManager, CanPutOwned, PutsOpening};
-ghost use Rattle.rack_parts.specs.Closing.{IsComplete, AreComplete, IsImageBack, GivesBack, HasFaultHere, LeavesNoneOut};
-ghost use Rattle.rack_parts.specs.declared.rack.ImageRest.{ImageRest};
+ghost use Rattle.wol_bay.specs.Bay.{outs, IsOut};
+ghost use Rattle.wol_config.specs.Configs.{IsValid};
+ghost use Rattle.wol_config.specs.declared.config.VolumeConf.{VolumeConf};
+ghost use Rattle.wol_disk.specs.Disk.{Rose};
+ghost use Rattle.wol_model.specs.Heads.{Shape};
 
 use crate::rack::{ImageRest, Rest};
 use logger::{Lane, LaneParts};
@@ -189,10 +189,10 @@ impl<D: Disk> Rest<D> {
 }
 
 impl<D: Disk> ImageRest<D> {
-    ghost use Rattle.std.specs.Prelude.{◌≡◌, ◌<◌, None, Some, length, IsSome};
-    ghost use Rattle.rack_parts.specs.Rests.{segment_here};
-    ghost use Rattle.rack_parts.specs.Parts.{IsFilled};
     ghost use Rattle.rack_parts.specs.Parts.{IsAllHere, IsTogether};
+    ghost use Rattle.rack_parts.specs.Parts.{IsFilled};
+    ghost use Rattle.rack_parts.specs.Rests.{segment_here};
+    ghost use Rattle.std.specs.Prelude.{◌≡◌, ◌<◌, None, Some, length, IsSome};
 
     // A segment comes back.
     fn put(&mut self, index: u32, part: Spun<D>)

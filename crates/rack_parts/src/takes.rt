@@ -1,16 +1,16 @@
 // What goes out of the rest of a rack for a volume that is to be opened.
-ghost use Rattle.std.specs.Prelude.{true, ◌≡◌, ◌<◌, ◌≤◌, ◌+◌, ◌∷◌, [], ◌++◌, List, None, Some, length, map, All, IfOk, OnOk, OnErr, IfSome, IsSome, is_some, vec_len, vec_capacity};
-ghost use Rattle.wol_model.specs.Blocks.{AreApart};
-ghost use Rattle.wol_model.specs.Heads.{IsShape};
-ghost use Rattle.wol_config.specs.Configs.{IsValid};
 ghost use Rattle.log_layout.specs.Values.{shape_of};
 ghost use Rattle.logger.specs.Lanes.{logger_of};
+ghost use Rattle.manager_recovery.specs.declared.opening.Opening.{Opening};
 ghost use Rattle.manager_recovery.specs.declared.opening.OwnedPart.{OwnedPart};
-ghost use Rattle.rack_parts.specs.Rests.{image_here, segment_here, spindle_pass};
 ghost use Rattle.rack_parts.specs.Parts.{CanPutLanes, PutsLanes, IsUsablePlace, IsNewLane, TakesPasses, TakesOneLane, TakesLanes, IsSameRest, loggers_out, segments_of, owned_in, TakesOwnedOf, CanTakeOwnedOf, AreOwnedHere, TakesOwned, HasPlace, ChangesHome, CanTake, TakesOpening, owned_total, count_owners, AreOwnersHere, TakesOwners, TakesOne, is_owned_by};
+ghost use Rattle.rack_parts.specs.Rests.{image_here, segment_here, spindle_pass};
 ghost use Rattle.rack_parts.specs.declared.rack.ImageRest.{ImageRest};
 ghost use Rattle.rack_parts.specs.declared.rack.Rest.{Rest};
-ghost use Rattle.manager_recovery.specs.declared.opening.Opening.{Opening};
+ghost use Rattle.std.specs.Prelude.{true, ◌≡◌, ◌<◌, ◌≤◌, ◌+◌, ◌∷◌, [], ◌++◌, List, None, Some, length, map, All, IfOk, OnOk, OnErr, IfSome, IsSome, is_some, vec_len, vec_capacity};
+ghost use Rattle.wol_config.specs.Configs.{IsValid};
+ghost use Rattle.wol_model.specs.Blocks.{AreApart};
+ghost use Rattle.wol_model.specs.Heads.{IsShape};
 
 use crate::heads_said::{Said, is_owned_by};
 use crate::rack::{ImageRest, Rest};

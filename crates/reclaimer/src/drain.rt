@@ -1,8 +1,4 @@
 // A drain: step by step all records of a volume are put home and given up, whatever sleeps.
-ghost use Rattle.std.specs.Prelude.{◌≡◌, ◌↔◌, ◌≤◌, ℕ, List, [], true, None, Ok, IsTrue, IsSomeAnd, length, OnOk};
-ghost use Rattle.wol_model.specs.Index.{listed_in, has_due};
-ghost use Rattle.wol_promise.specs.Policy.{drained};
-ghost use Rattle.redirect_map.specs.Index.{IsIndex, entry_at};
 ghost use Rattle.manager.specs.Causes.{NoneRose};
 ghost use Rattle.manager.specs.Reclaim.{OnTried, OnKept, OnFailed, TellsStep, KeepsOn, BreaksOff, StopsSince, Always};
 ghost use Rattle.manager.specs.Seen.{look_of_manager};
@@ -11,6 +7,10 @@ ghost use Rattle.manager.specs.declared.base.LaneBase.{LaneBase};
 ghost use Rattle.reclaimer.specs.Counts.{CountsMoved};
 ghost use Rattle.reclaimer.specs.Drains.{HasMoved, Drains, HasDrained, Lowers};
 ghost use Rattle.reclaimer.specs.Steps.{StopsWithin};
+ghost use Rattle.redirect_map.specs.Index.{IsIndex, entry_at};
+ghost use Rattle.std.specs.Prelude.{◌≡◌, ◌↔◌, ◌≤◌, ℕ, List, [], true, None, Ok, IsTrue, IsSomeAnd, length, OnOk};
+ghost use Rattle.wol_model.specs.Index.{listed_in, has_due};
+ghost use Rattle.wol_promise.specs.Policy.{drained};
 
 use crate::next::{due_next, going};
 use crate::room::read_record;

@@ -1,5 +1,4 @@
 // What may go of a record is given up.
-ghost use Rattle.std.specs.Prelude.{◌≡◌, ◌↔◌, None, Ok, IsTrue, OnOk};
 ghost use Rattle.manager.specs.Causes.{NoneRose};
 ghost use Rattle.manager.specs.Reclaim.{OnKept, OnFailed, TellsStep, KeepsOn, BreaksOff, Always};
 ghost use Rattle.manager.specs.Seen.{look_of_manager};
@@ -7,6 +6,7 @@ ghost use Rattle.manager.specs.Stands.{IsReady, IsHome};
 ghost use Rattle.reclaimer.specs.Counts.{CountsGone, LowersGone};
 ghost use Rattle.reclaimer.specs.Fetches.{going_entry};
 ghost use Rattle.reclaimer.specs.Steps.{HasGivenUp, LooksGone, StopsWithin};
+ghost use Rattle.std.specs.Prelude.{◌≡◌, ◌↔◌, None, Ok, IsTrue, OnOk};
 
 use crate::Gone;
 use crate::next::going;

@@ -1,9 +1,9 @@
 // The laws of reclaim, each as a clause of a function without a body.
-ghost use Rattle.std.specs.Prelude.{◌≡◌, None};
-ghost use Rattle.wol_promise.specs.Policy.{IsIdleLook};
 ghost use Rattle.manager.specs.Seen.{look_of_manager};
 ghost use Rattle.reclaimer.specs.Counts.{NothingTaken, TakenAddsUp};
 ghost use Rattle.reclaimer.specs.Fetches.{DataIsKept, due_entry, going_entry};
+ghost use Rattle.std.specs.Prelude.{◌≡◌, None};
+ghost use Rattle.wol_promise.specs.Policy.{IsIdleLook};
 
 use manager::Manager;
 use wol_disk::Disk;

@@ -1,8 +1,8 @@
 // Which record is next.
-ghost use Rattle.std.specs.Prelude.{find, IfSome};
-ghost use Rattle.std.specs.List.{AllByRecursion};
-ghost use Rattle.redirect_map.specs.Index.{IsAnswer, IsIndex};
 ghost use Rattle.garbage_list.specs.Least.{HasLane, can_go, can_go_home};
+ghost use Rattle.redirect_map.specs.Index.{IsAnswer, IsIndex};
+ghost use Rattle.std.specs.List.{AllByRecursion};
+ghost use Rattle.std.specs.Prelude.{find, IfSome};
 
 use garbage_list::{next_due, next_to_go};
 use redirect_map::{Index, Rec};

@@ -1,11 +1,5 @@
 // Due blocks that were fetched go home.
-ghost use Rattle.std.specs.Prelude.{◌≡◌, ◌↔◌, ◌<◌, ◌+◌, ℕ, false, None, Some, Ok, IfOk, IsTrue, length, count_by, OnOk};
-ghost use Rattle.std.specs.Option.{ForSome};
-ghost use Rattle.std.specs.List.{range_with_len};
-ghost use Rattle.wol_model.specs.Log.{has_bit};
-ghost use Rattle.wol_model.specs.Index.{listed_in, is_due, left};
 ghost use Rattle.block_cells.specs.Masks.{IsMask};
-ghost use Rattle.redirect_map.specs.Index.{entry_at, HasVersion, IsIndex};
 ghost use Rattle.manager.specs.Causes.{NoneRose};
 ghost use Rattle.manager.specs.Reclaim.{OnKept, OnFailed, TellsStep, KeepsOn, BreaksOff};
 ghost use Rattle.manager.specs.Seen.{look_of_manager};
@@ -13,6 +7,12 @@ ghost use Rattle.manager.specs.Stands.{IsReady, IsHome};
 ghost use Rattle.reclaimer.specs.Counts.{CountsPut};
 ghost use Rattle.reclaimer.specs.Fetches.{HasData, is_still_due, goes_home, home_count};
 ghost use Rattle.reclaimer.specs.Steps.{HasPutHome, LooksPut, StopsWithin};
+ghost use Rattle.redirect_map.specs.Index.{entry_at, HasVersion, IsIndex};
+ghost use Rattle.std.specs.List.{range_with_len};
+ghost use Rattle.std.specs.Option.{ForSome};
+ghost use Rattle.std.specs.Prelude.{◌≡◌, ◌↔◌, ◌<◌, ◌+◌, ℕ, false, None, Some, Ok, IfOk, IsTrue, length, count_by, OnOk};
+ghost use Rattle.wol_model.specs.Index.{listed_in, is_due, left};
+ghost use Rattle.wol_model.specs.Log.{has_bit};
 
 use crate::Fetch;
 use crate::room::Filled;

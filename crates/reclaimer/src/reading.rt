@@ -1,6 +1,4 @@
 // The next record with due blocks is read.
-ghost use Rattle.std.specs.Prelude.{◌≡◌, ◌↔◌, List, None, Ok, IsTrue, OnOk};
-ghost use Rattle.wol_promise.specs.Ruled.{Noted};
 ghost use Rattle.manager.specs.Causes.{NoneRose};
 ghost use Rattle.manager.specs.Reclaim.{OnKept, OnFailed, TellsStep, KeepsOn, BreaksOff, Always};
 ghost use Rattle.manager.specs.Seen.{look_of_manager};
@@ -8,6 +6,8 @@ ghost use Rattle.manager.specs.Stands.{Keeps, IsReady, IsHome};
 ghost use Rattle.manager.specs.declared.base.ManagerBase.{ManagerBase};
 ghost use Rattle.reclaimer.specs.Fetches.{FindsDue, HasData, due_entry};
 ghost use Rattle.reclaimer.specs.Steps.{HasFetchedNext, StopsWithin};
+ghost use Rattle.std.specs.Prelude.{◌≡◌, ◌↔◌, List, None, Ok, IsTrue, OnOk};
+ghost use Rattle.wol_promise.specs.Ruled.{Noted};
 
 use crate::next::due_next;
 use crate::room::read_record;

@@ -1,9 +1,4 @@
 // Room for a record that is read, so that its due blocks can go home in a later step.
-ghost use Rattle.std.specs.Prelude.{◌≡◌, ◌≤◌, ◌<◌, ◌^◌, List, None, IfOk, IsTrue, IsSomeAnd, OnOk, length};
-ghost use Rattle.std.specs.Option.{ForSome};
-ghost use Rattle.wol_model.specs.Index.{listed_in};
-ghost use Rattle.wol_promise.specs.Ruled.{Noted};
-ghost use Rattle.redirect_map.specs.Index.{entry_at, HasVersion};
 ghost use Rattle.manager.specs.Causes.{NoneRose};
 ghost use Rattle.manager.specs.Reading.{IsReadThrough};
 ghost use Rattle.manager.specs.Reclaim.{OnTried, OnKept, OnFailed, TellsStep, KeepsOn, BreaksOff, StopsSince, Always, HasFetched};
@@ -11,6 +6,11 @@ ghost use Rattle.manager.specs.Stands.{Keeps, IsReady, IsHome};
 ghost use Rattle.manager.specs.declared.base.ManagerBase.{ManagerBase};
 ghost use Rattle.reclaimer.specs.Fetches.{IsFetchOf, HasData};
 ghost use Rattle.reclaimer.specs.Records.{record_of};
+ghost use Rattle.redirect_map.specs.Index.{entry_at, HasVersion};
+ghost use Rattle.std.specs.Option.{ForSome};
+ghost use Rattle.std.specs.Prelude.{◌≡◌, ◌≤◌, ◌<◌, ◌^◌, List, None, IfOk, IsTrue, IsSomeAnd, OnOk, length};
+ghost use Rattle.wol_model.specs.Index.{listed_in};
+ghost use Rattle.wol_promise.specs.Ruled.{Noted};
 
 use garbage_list::due;
 use logger::Shared;
@@ -42,8 +42,8 @@ pub struct Fetch {
 }
 
 impl Model for Fetch {
-    ghost use Rattle.std.specs.Prelude.{◌≡◌, ◌≤◌, length, Option, IfSome};
     ghost use Rattle.reclaimer.specs.Records.{FetchedRecord, record_of};
+    ghost use Rattle.std.specs.Prelude.{◌≡◌, ◌≤◌, length, Option, IfSome};
 
     ghost Value = { Option FetchedRecord };
 

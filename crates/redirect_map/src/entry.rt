@@ -1,11 +1,11 @@
 // A record of the index with its homed blocks, and lists of these.
-ghost use Rattle.std.specs.Prelude.{◌≡◌, ◌<◌, ◌≤◌, ◌^◌, ◌+◌, ◌-◌, take, drop, ◌==◌, ◌&&◌, true, false, nat_lt, IfSome, IfNone, IsSome, None, find, slice_get, length, map};
-ghost use Rattle.std.specs.List.{AllZip, list_any, range_with_len};
-ghost use Rattle.std.specs.List.Sorted.{IsPartitionPoint};
-ghost use Rattle.wol_model.specs.Log.{has_bit};
-ghost use Rattle.wol_model.specs.Index.{AreRising};
-ghost use Rattle.redirect_map.specs.Kept.{is_version, keeps, IsKept, IsUnhomed, IsWithout, AreEntries, NoneHomed};
 ghost use Rattle.redirect_map.specs.Cells.{AreTabled};
+ghost use Rattle.redirect_map.specs.Kept.{is_version, keeps, IsKept, IsUnhomed, IsWithout, AreEntries, NoneHomed};
+ghost use Rattle.std.specs.List.Sorted.{IsPartitionPoint};
+ghost use Rattle.std.specs.List.{AllZip, list_any, range_with_len};
+ghost use Rattle.std.specs.Prelude.{◌≡◌, ◌<◌, ◌≤◌, ◌^◌, ◌+◌, ◌-◌, take, drop, ◌==◌, ◌&&◌, true, false, nat_lt, IfSome, IfNone, IsSome, None, find, slice_get, length, map};
+ghost use Rattle.wol_model.specs.Index.{AreRising};
+ghost use Rattle.wol_model.specs.Log.{has_bit};
 
 use crate::list::Entries;
 use block_cells::{Cell, Rec, moved, newest_of};

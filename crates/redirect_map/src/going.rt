@@ -1,11 +1,11 @@
 // Which blocks of an entry are due, and which may go.
-ghost use Rattle.std.specs.Prelude.{◌≡◌, ◌<◌, ◌≤◌, ◌^◌, ◌+◌, ◌&&◌, ◌||◌, not, nat_eq, nat_lt, ℕ, true, false};
-ghost use Rattle.std.specs.List.{list_any, range_with_len};
-ghost use Rattle.std.specs.HashMap.{get};
-ghost use Rattle.wol_model.specs.Log.{has_bit};
 ghost use Rattle.block_cells.specs.Cells.{is_held};
 ghost use Rattle.redirect_map.specs.Kept.{IsInRange};
 ghost use Rattle.redirect_map.specs.Marked.{is_due_of, goes_of, sought_of};
+ghost use Rattle.std.specs.HashMap.{get};
+ghost use Rattle.std.specs.List.{list_any, range_with_len};
+ghost use Rattle.std.specs.Prelude.{◌≡◌, ◌<◌, ◌≤◌, ◌^◌, ◌+◌, ◌&&◌, ◌||◌, not, nat_eq, nat_lt, ℕ, true, false};
+ghost use Rattle.wol_model.specs.Log.{has_bit};
 
 use crate::entry::Entry;
 use block_cells::{Cell, has, holds, newest_of, with_bit};

@@ -1,13 +1,13 @@
 // The index of a volume's records.
-ghost use Rattle.std.specs.Prelude.{◌≡◌, ◌<◌, ◌≤◌, ◌^◌, ◌+◌, ◌==◌, ℕ, true, not, ◌&&◌, length, map, filter, slice_get, ◌++◌, ◌∷◌, [], OnOk, OnErr, IfSome, IfNone, false, slice_index_or};
-ghost use Rattle.std.specs.Option.{ForSome};
-ghost use Rattle.std.specs.List.{list_any, range_with_len, AllByRecursion};
-ghost use Rattle.wol_model.specs.Log.{has_bit, marks_of};
-ghost use Rattle.wol_model.specs.Extents.{newest};
-ghost use Rattle.wol_model.specs.Index.{listed_in, is_covered, is_live, is_older, is_homed, goes, keeps_a_block};
 ghost use Rattle.block_cells.specs.Masks.{IsMask};
 ghost use Rattle.block_cells.specs.Runs.{runs_of};
 ghost use Rattle.redirect_map.specs.Index.{cover_at, entry_at, HasVersion, entry_of, IsRecordOf, IsAnswer, changed, unhomed, with_homed, given_up, CanAdd, IsAdded, IsIndex, has_sought, PassesOverNone};
+ghost use Rattle.std.specs.List.{list_any, range_with_len, AllByRecursion};
+ghost use Rattle.std.specs.Option.{ForSome};
+ghost use Rattle.std.specs.Prelude.{◌≡◌, ◌<◌, ◌≤◌, ◌^◌, ◌+◌, ◌==◌, ℕ, true, not, ◌&&◌, length, map, filter, slice_get, ◌++◌, ◌∷◌, [], OnOk, OnErr, IfSome, IfNone, false, slice_index_or};
+ghost use Rattle.wol_model.specs.Extents.{newest};
+ghost use Rattle.wol_model.specs.Index.{listed_in, is_covered, is_live, is_older, is_homed, goes, keeps_a_block};
+ghost use Rattle.wol_model.specs.Log.{has_bit, marks_of};
 
 use crate::entry::{Entry, unhome, with_homes};
 use crate::going::{Sought, all_going, any_sought};
@@ -39,13 +39,13 @@ pub struct Index {
 }
 
 impl Model for Index {
-    ghost use Rattle.std.specs.Prelude.{◌≡◌, ◌-◌, ◌/◌, min, map, nat_eq, false};
-    ghost use Rattle.std.specs.HashMap.{get, spare};
-    ghost use Rattle.version_marks.specs.Marks.{mask_of};
+    ghost use Rattle.redirect_map.specs.Cells.{AreTabled};
     ghost use Rattle.redirect_map.specs.Index.{Contents};
     ghost use Rattle.redirect_map.specs.Kept.{seen, AreEntries, NoneHomed};
-    ghost use Rattle.redirect_map.specs.Cells.{AreTabled};
     ghost use Rattle.redirect_map.specs.Marked.{AreMarked};
+    ghost use Rattle.std.specs.HashMap.{get, spare};
+    ghost use Rattle.std.specs.Prelude.{◌≡◌, ◌-◌, ◌/◌, min, map, nat_eq, false};
+    ghost use Rattle.version_marks.specs.Marks.{mask_of};
 
     ghost Value = { Contents };
 

@@ -1,12 +1,12 @@
 // A list of entries by rising version, with dead places: an entry that is taken out leaves its place behind, which
 // keeps nothing, so that no other entry is moved. Where more than half of the places are dead, all these go.
-ghost use Rattle.std.specs.Prelude.{◌≡◌, ◌<◌, ◌≤◌, ◌+◌, ◌-◌, ◌==◌, ◌^◌, ◌++◌, ◌∷◌, [], ℕ, List, Option, Some, None, OnOk, OnErr, IsSome, IfSome, not, take, drop, map, filter, find, length, slice_get, slice_set, false};
-ghost use Rattle.std.specs.List.{AllByRecursion, list_any, range_with_len, remove};
-ghost use Rattle.std.specs.VecDeque.{deque_len, deque_capacity};
-ghost use Rattle.wol_model.specs.Index.{AreRising};
 ghost use Rattle.redirect_map.specs.Index.{HasVersion};
 ghost use Rattle.redirect_map.specs.Kept.{seen, is_version, keeps, IsKept, IsInRange, AreEntries, IsAt};
 ghost use Rattle.redirect_map.specs.Listing.{is_listed, is_dead, place_in, ArePlaces};
+ghost use Rattle.std.specs.List.{AllByRecursion, list_any, range_with_len, remove};
+ghost use Rattle.std.specs.Prelude.{◌≡◌, ◌<◌, ◌≤◌, ◌+◌, ◌-◌, ◌==◌, ◌^◌, ◌++◌, ◌∷◌, [], ℕ, List, Option, Some, None, OnOk, OnErr, IsSome, IfSome, not, take, drop, map, filter, find, length, slice_get, slice_set, false};
+ghost use Rattle.std.specs.VecDeque.{deque_len, deque_capacity};
+ghost use Rattle.wol_model.specs.Index.{AreRising};
 
 use crate::entry::{Entry, any_meets, kept_from, place_of, with_version};
 use std::alloc::Global;
@@ -23,9 +23,9 @@ pub struct Entries {
 }
 
 impl Model for Entries {
+    ghost use Rattle.redirect_map.specs.Listing.{Listing, is_listed, ArePlaces};
     ghost use Rattle.std.specs.Prelude.{◌-◌, filter};
     ghost use Rattle.std.specs.VecDeque.{deque_len, deque_capacity};
-    ghost use Rattle.redirect_map.specs.Listing.{Listing, is_listed, ArePlaces};
 
     ghost Value = { Listing };
 

@@ -1,13 +1,13 @@
 // Marks of records that may have a due block, or one that goes, by version.
-ghost use Rattle.std.specs.Prelude.{◌≡◌, ◌<◌, ◌≤◌, ◌^◌, ◌+◌, ◌%◌, ℕ, Bool, true, false, nat_eq, slice_index_or, Some, ◌==◌, ◌&&◌, ◌||◌};
-ghost use Rattle.std.specs.HashMap.{get};
-ghost use Rattle.wol_model.specs.Log.{has_bit};
-ghost use Rattle.version_marks.specs.Marks.{mask_of};
-ghost use Rattle.block_cells.specs.Masks.{in_mask};
 ghost use Rattle.block_cells.specs.Cells.{keepers_of, version_in};
-ghost use Rattle.redirect_map.specs.Kept.{IsInRange, AreEntries, NoneHomed};
+ghost use Rattle.block_cells.specs.Masks.{in_mask};
 ghost use Rattle.redirect_map.specs.Cells.{AreTabled};
+ghost use Rattle.redirect_map.specs.Kept.{IsInRange, AreEntries, NoneHomed};
 ghost use Rattle.redirect_map.specs.Marked.{there_bit, lane_bit, is_home, begins, IsMarked, AreMarked, AreThere, AreBegun, KeepsBits, IsMarkedUnder, StaysMarked};
+ghost use Rattle.std.specs.HashMap.{get};
+ghost use Rattle.std.specs.Prelude.{◌≡◌, ◌<◌, ◌≤◌, ◌^◌, ◌+◌, ◌%◌, ℕ, Bool, true, false, nat_eq, slice_index_or, Some, ◌==◌, ◌&&◌, ◌||◌};
+ghost use Rattle.version_marks.specs.Marks.{mask_of};
+ghost use Rattle.wol_model.specs.Log.{has_bit};
 
 use crate::entry::Entry;
 use crate::going::{Sought, any_sought};

@@ -1,6 +1,6 @@
 // What is counted of the windows of a run.
-ghost use Rattle.std.specs.Prelude.{◌≡◌, ◌∷◌, [], length};
 ghost use Rattle.replay.specs.Counts.{AddsAtMost, CountsOutcomes, CountsWindow, HasRoomFor, no_totals};
+ghost use Rattle.std.specs.Prelude.{◌≡◌, ◌∷◌, [], length};
 
 use manager::Place;
 use report::Totals;

@@ -1,7 +1,7 @@
 // What a window ends a run with.
-ghost use Rattle.std.specs.Prelude.{◌≡◌, length};
-ghost use Rattle.std.specs.List.{list_any};
 ghost use Rattle.replay.specs.Endings.{fault_of_part, fault_of_read, fault_of_write, fault_of_outcome, fault_of_step, fault_of_window, first_refused, lacked_memory};
+ghost use Rattle.std.specs.List.{list_any};
+ghost use Rattle.std.specs.Prelude.{◌≡◌, length};
 
 use manager::{Part, ReadRefusal, StepFault, WriteRefusal};
 use report::Fault;

@@ -1,14 +1,14 @@
 // Where the lines of a run come from.
-ghost use Rattle.std.specs.Prelude.{◌≡◌, ◌≢◌, ◌≤◌, ◌<◌, ◌+◌, ◌^◌, ◌++◌, ◌∷◌, [], ℕ, List, map, length, option_map, Some, Err, IfOk, IfErr, IfSome, IfNone, OnOk, OnErr, MatchResult};
-ghost use Rattle.std.specs.List.{range_with_len};
-ghost use Rattle.std.specs.Io.KnownBytes.{Keeps};
-ghost use Rattle.wol_disk.specs.Disk.{Rose};
-ghost use Rattle.wol_config.specs.Configs.{IsValid};
-ghost use Rattle.wol_model.specs.Trace.{TraceLine};
 ghost use Rattle.msr_trace.specs.Lines.{Fits, trace_line};
 ghost use Rattle.msr_trace.specs.Reading.{is_no_memory};
-ghost use Rattle.trace_gen.specs.Generated.{line, targets_of};
 ghost use Rattle.replay.specs.Givens.{given_count, IsLive, IsWithin, faults_of, borrow_of, HasGiven, HasGivenAll, Refuses};
+ghost use Rattle.std.specs.Io.KnownBytes.{Keeps};
+ghost use Rattle.std.specs.List.{range_with_len};
+ghost use Rattle.std.specs.Prelude.{◌≡◌, ◌≢◌, ◌≤◌, ◌<◌, ◌+◌, ◌^◌, ◌++◌, ◌∷◌, [], ℕ, List, map, length, option_map, Some, Err, IfOk, IfErr, IfSome, IfNone, OnOk, OnErr, MatchResult};
+ghost use Rattle.trace_gen.specs.Generated.{line, targets_of};
+ghost use Rattle.wol_config.specs.Configs.{IsValid};
+ghost use Rattle.wol_disk.specs.Disk.{Rose};
+ghost use Rattle.wol_model.specs.Trace.{TraceLine};
 
 use msr_trace::{Line, Lines, TraceFault};
 use std::alloc::Global;

@@ -1,11 +1,11 @@
 // A trace is served in a session, with workers that live as long.
-ghost use Rattle.std.specs.Prelude.{◌≡◌, false, length};
-ghost use Rattle.wol_config.specs.Configs.{IsValid};
-ghost use Rattle.request_workers.specs.Crews.{AreWaiting, IsCrew, IsOverCrew};
 ghost use Rattle.replay.specs.Counts.{no_totals};
 ghost use Rattle.replay.specs.Givens.{IsNew};
 ghost use Rattle.replay.specs.Leads.{HasLed};
 ghost use Rattle.replay.specs.Sessions.{AreOptions, IsSession};
+ghost use Rattle.request_workers.specs.Crews.{AreWaiting, IsCrew, IsOverCrew};
+ghost use Rattle.std.specs.Prelude.{◌≡◌, false, length};
+ghost use Rattle.wol_config.specs.Configs.{IsValid};
 
 use crate::counting::Counted;
 use crate::given::Given;

@@ -1,14 +1,14 @@
 // What a run prints.
+ghost use Rattle.replay.specs.Prints.{HandsOn, PrintsLines, PrintsText, all_amounts, line_of_outcome, lines_of_outcomes};
+ghost use Rattle.report.specs.Names.{printed_names};
+ghost use Rattle.report.specs.Summaries.{summary_text, units_of};
+ghost use Rattle.spin_model.specs.Spindles.{SpindleView};
 ghost use Rattle.std.specs.Prelude.{◌≡◌, ◌≤◌, ◌<◌, ◌⊎◌, ◌++◌, ◌^◌, ◌*◌, [], map, length, option_copied, Some, OnOk, OnErr, IfOk, All};
+ghost use Rattle.wol_config.specs.Configs.{IsValid};
 ghost use Rattle.wol_disk.specs.Disk.{Rose};
 ghost use Rattle.wol_io.specs.Streams.{AppendsFront};
 ghost use Rattle.wol_model.specs.Journal.{ArePowers, IsJournal};
 ghost use Rattle.wol_promise.specs.Run.{joined_lines};
-ghost use Rattle.wol_config.specs.Configs.{IsValid};
-ghost use Rattle.report.specs.Names.{printed_names};
-ghost use Rattle.report.specs.Summaries.{summary_text, units_of};
-ghost use Rattle.spin_model.specs.Spindles.{SpindleView};
-ghost use Rattle.replay.specs.Prints.{HandsOn, PrintsLines, PrintsText, all_amounts, line_of_outcome, lines_of_outcomes};
 
 use crate::counting::Counted;
 use crate::stop::Stop;

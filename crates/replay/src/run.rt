@@ -1,20 +1,20 @@
 // A trace is replayed on all volumes of a bay.
-ghost use Rattle.std.specs.Prelude.{◌≡◌, ◌≤◌, ◌^◌, [], length, None, Err};
-ghost use Rattle.wol_bay.specs.Bay.{outs};
-ghost use Rattle.wol_disk.specs.Disk.{Rose};
-ghost use Rattle.wol_config.specs.Configs.{IsValid};
-ghost use Rattle.volume_images.specs.Left.{IsTold};
-ghost use Rattle.volume_images.specs.Volumes.{NoneOut};
+ghost use Rattle.open_rack.specs.NotOpened.{first_closed};
 ghost use Rattle.rack.specs.Opens.{KeepsOthers};
 ghost use Rattle.replay.specs.Account.{KeepsAccount};
-ghost use Rattle.replay.specs.Headlined.{KeepsHeadline};
-ghost use Rattle.replay.specs.Givens.{IsNew, IsWithin, faults_of, borrow_of};
-ghost use Rattle.replay.specs.Sessions.{AreOptions, IsSession};
 ghost use Rattle.replay.specs.Completes.{Completes, MayComplete};
+ghost use Rattle.replay.specs.Givens.{IsNew, IsWithin, faults_of, borrow_of};
+ghost use Rattle.replay.specs.Headlined.{KeepsHeadline};
 ghost use Rattle.replay.specs.Replays.{Replayed, status_in};
-ghost use Rattle.open_rack.specs.NotOpened.{first_closed};
 ghost use Rattle.replay.specs.Runs.{new_session, CanServe, IsFloorOf, ServesFrom, RunsIn};
+ghost use Rattle.replay.specs.Sessions.{AreOptions, IsSession};
+ghost use Rattle.std.specs.Prelude.{◌≡◌, ◌≤◌, ◌^◌, [], length, None, Err};
+ghost use Rattle.volume_images.specs.Left.{IsTold};
+ghost use Rattle.volume_images.specs.Volumes.{NoneOut};
 ghost use Rattle.window_desks.specs.declared.floor.Floor.{Floor};
+ghost use Rattle.wol_bay.specs.Bay.{outs};
+ghost use Rattle.wol_config.specs.Configs.{IsValid};
+ghost use Rattle.wol_disk.specs.Disk.{Rose};
 
 use crate::counting::Counted;
 use crate::given::Given;

@@ -1,18 +1,18 @@
 // The windows of a trace, served one after another.
-ghost use Rattle.std.specs.Prelude.{◌≡◌, ◌≢◌, ◌∷◌, ◌++◌, [], ◌+◌, ◌^◌, List, option_map, IfSome, ◌≤◌, ◌<◌, ◌⊎◌, ◌-◌, true, false, length, OnOk, OnErr, IfOk, IfErr, Err, All};
-ghost use Rattle.std.specs.List.{AllByRecursion};
-ghost use Rattle.wol_disk.specs.Disk.{Rose};
-ghost use Rattle.wol_config.specs.Configs.{IsValid, most_of};
-ghost use Rattle.trace_gen.specs.Generated.{targets_of};
 ghost use Rattle.msr_trace.specs.Lines.{Fits, trace_line};
-ghost use Rattle.trace_windows.specs.Cutting.{HasCut};
-ghost use Rattle.trace_windows.specs.Requests.{IsInside};
-ghost use Rattle.request_workers.specs.Begun.{AreKeepers};
-ghost use Rattle.request_workers.specs.Crews.{IsCrew};
 ghost use Rattle.replay.specs.Counts.{AddsAtMost, HasRoomFor, no_totals};
 ghost use Rattle.replay.specs.Givens.{IsNew, IsWithin, faults_of, borrow_of};
 ghost use Rattle.replay.specs.Served.{HaveStarted, AreSamePasses, StartsOnce};
 ghost use Rattle.replay.specs.Sessions.{EndsIn, Finishes, GoesOn, HasBegunWindow, HasFailedToBegin, HasTaken, StopsAtLine, TakesOn, IsReady, IsSession, ServesSome, ServesWhole};
+ghost use Rattle.request_workers.specs.Begun.{AreKeepers};
+ghost use Rattle.request_workers.specs.Crews.{IsCrew};
+ghost use Rattle.std.specs.List.{AllByRecursion};
+ghost use Rattle.std.specs.Prelude.{◌≡◌, ◌≢◌, ◌∷◌, ◌++◌, [], ◌+◌, ◌^◌, List, option_map, IfSome, ◌≤◌, ◌<◌, ◌⊎◌, ◌-◌, true, false, length, OnOk, OnErr, IfOk, IfErr, Err, All};
+ghost use Rattle.trace_gen.specs.Generated.{targets_of};
+ghost use Rattle.trace_windows.specs.Cutting.{HasCut};
+ghost use Rattle.trace_windows.specs.Requests.{IsInside};
+ghost use Rattle.wol_config.specs.Configs.{IsValid, most_of};
+ghost use Rattle.wol_disk.specs.Disk.{Rose};
 
 use crate::counting::{Counted, NOTHING, add_window};
 use crate::ending::fault_of_window;

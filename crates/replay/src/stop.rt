@@ -1,9 +1,9 @@
 // What ends a run.
-ghost use Rattle.std.specs.Prelude.{◌≡◌};
 ghost use Rattle.msr_trace.specs.Reading.{is_no_memory};
-ghost use Rattle.report.specs.declared.fault.Fault.TheVariants.{Memory as memory};
 ghost use Rattle.replay.specs.Stops.{fault_of_trace};
 ghost use Rattle.replay.specs.declared.stop.Stop.TheVariants.{Sink as sink_failed, Fault as fault};
+ghost use Rattle.report.specs.declared.fault.Fault.TheVariants.{Memory as memory};
+ghost use Rattle.std.specs.Prelude.{◌≡◌};
 
 use msr_trace::TraceFault;
 use report::Fault;

@@ -1,8 +1,8 @@
 // What ended a run, and the line that says so.
-ghost use Rattle.std.specs.Prelude.{◌≡◌, ◌≢◌, ◌++◌, OnOk, OnErr};
-ghost use Rattle.std.specs.Io.{StartsWith};
-ghost use Rattle.report.specs.Names.{printed_names};
 ghost use Rattle.report.specs.Faults.{bad_line_text, cause_text, config_text, fault_text, status_of};
+ghost use Rattle.report.specs.Names.{printed_names};
+ghost use Rattle.std.specs.Io.{StartsWith};
+ghost use Rattle.std.specs.Prelude.{◌≡◌, ◌≢◌, ◌++◌, OnOk, OnErr};
 
 use crate::names::name_at;
 use crate::trouble::{Trouble, trouble_text};

@@ -1,6 +1,6 @@
 // The line of a formatted volume.
-ghost use Rattle.std.specs.Prelude.{◌≡◌, ◌++◌, OnOk, OnErr};
 ghost use Rattle.report.specs.Summaries.{format_text};
+ghost use Rattle.std.specs.Prelude.{◌≡◌, ◌++◌, OnOk, OnErr};
 
 use crate::words::Word::{Number, Text};
 use crate::words::append_line;

@@ -1,6 +1,6 @@
 // The names that volumes are printed by.
-ghost use Rattle.std.specs.Prelude.{◌≡◌};
 ghost use Rattle.report.specs.Names.{name_at, printed_names};
+ghost use Rattle.std.specs.Prelude.{◌≡◌};
 
 use wol_config::VolumeConf;
 

@@ -1,6 +1,6 @@
 // The line of a read.
-ghost use Rattle.std.specs.Prelude.{◌≡◌, ◌++◌, OnOk, OnErr, option_copied};
 ghost use Rattle.report.specs.Summaries.{read_text};
+ghost use Rattle.std.specs.Prelude.{◌≡◌, ◌++◌, OnOk, OnErr, option_copied};
 
 use crate::words::Word::{Number, Text};
 use crate::words::append_line;

@@ -1,8 +1,8 @@
 // What is printed at the end of a run.
-ghost use Rattle.std.specs.Prelude.{◌≡◌, ◌++◌, ◌≤◌, ◌<◌, ◌^◌, length, OnOk, OnErr};
-ghost use Rattle.std.specs.Io.{StartsWith};
 ghost use Rattle.report.specs.Names.{printed_names};
 ghost use Rattle.report.specs.Summaries.{energy_of, places_text, requests_text, sleeps_of, solo_text, summary_text, total_text, units_of, volume_text, volumes_text, wakes_of};
+ghost use Rattle.std.specs.Io.{StartsWith};
+ghost use Rattle.std.specs.Prelude.{◌≡◌, ◌++◌, ◌≤◌, ◌<◌, ◌^◌, length, OnOk, OnErr};
 
 use crate::names::name_at;
 use crate::words::Word::{Large, Number, Text};

@@ -1,7 +1,7 @@
 // What is wrong with a volume, and the text that says so.
-ghost use Rattle.std.specs.Prelude.{◌≡◌, ◌++◌, OnOk, OnErr};
 ghost use Rattle.report.specs.Names.{printed_names};
 ghost use Rattle.report.specs.Troubles.{place_text, trouble_status, trouble_text, twins_text};
+ghost use Rattle.std.specs.Prelude.{◌≡◌, ◌++◌, OnOk, OnErr};
 
 use crate::names::name_at;
 use crate::words::Word::{Number, Text};

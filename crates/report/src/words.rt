@@ -1,7 +1,7 @@
 // Words with spaces between them, which are appended to a text.
-ghost use Rattle.std.specs.Prelude.{◌≡◌, ◌++◌, ◌∷◌, [], map, OnOk, OnErr};
-ghost use Rattle.std.specs.Io.{StartsWith};
 ghost use Rattle.report.specs.Words.{line_of, text_of, word_of};
+ghost use Rattle.std.specs.Io.{StartsWith};
+ghost use Rattle.std.specs.Prelude.{◌≡◌, ◌++◌, ◌∷◌, [], map, OnOk, OnErr};
 
 use itoa::Buffer;
 use wol_disk::NoMemory;

@@ -1,6 +1,6 @@
 // Why a step of reclaim was not done.
-ghost use Rattle.std.specs.Prelude.{◌≡◌};
 ghost use Rattle.request_turns.specs.Entries.{has_failed, refusal_in};
+ghost use Rattle.std.specs.Prelude.{◌≡◌};
 
 use manager::StepFault;
 

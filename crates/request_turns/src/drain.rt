@@ -1,19 +1,19 @@
 // A write that no log has room for: all records are drained, and then the write goes home.
-ghost use Rattle.std.specs.Prelude.{◌≡◌, [], false, None, Some, OnOk, IfErr, length};
-ghost use Rattle.turn_lock.specs.Passes.{pass_lock, pass_number, IsPassOf};
-ghost use Rattle.wol_model.specs.History.{worker, Broke};
-ghost use Rattle.wol_promise.specs.Policy.{drained};
-ghost use Rattle.wol_promise.specs.Ruled.{last_look};
 ghost use Rattle.manager.specs.Reclaim.{OnKept, OnFailed, KeepsOn, BreaksOff, Always};
 ghost use Rattle.manager.specs.Seen.{look_of_manager};
 ghost use Rattle.manager.specs.Stands.{IsReady, IsHome};
 ghost use Rattle.manager.specs.declared.manager.Manager.{Manager};
 ghost use Rattle.request_turns.specs.Counts.{HasTaken, IsTakenOff};
 ghost use Rattle.request_turns.specs.Entries.{note_of, refused_as, has_broken};
-ghost use Rattle.request_turns.specs.Tried.{HasDrained};
 ghost use Rattle.request_turns.specs.Full.{IsFullInPlace, FitsVolume};
+ghost use Rattle.request_turns.specs.Tried.{HasDrained};
 ghost use Rattle.request_turns.specs.Turns.{look_in_place, next_in_place, notes_seen, faulty_part, HasLeftInPlace, StandsInPlace};
 ghost use Rattle.request_turns.specs.Written.{HasWritten, IsDiskFault};
+ghost use Rattle.std.specs.Prelude.{◌≡◌, [], false, None, Some, OnOk, IfErr, length};
+ghost use Rattle.turn_lock.specs.Passes.{pass_lock, pass_number, IsPassOf};
+ghost use Rattle.wol_model.specs.History.{worker, Broke};
+ghost use Rattle.wol_promise.specs.Policy.{drained};
+ghost use Rattle.wol_promise.specs.Ruled.{last_look};
 
 use crate::noted::{Memo, leave_noted_in_place};
 use crate::outcome::Outcome;

@@ -1,8 +1,4 @@
 // Several writes of one volume in one turn: those that go to one log together leave one entry.
-ghost use Rattle.std.specs.Prelude.{◌≡◌, ◌≤◌, ◌+◌, ◌^◌, false, length, map, take, sum_by, vec_capacity};
-ghost use Rattle.std.specs.List.{AllByRecursion, flat_map};
-ghost use Rattle.turn_lock.specs.Passes.{pass_lock, pass_number, IsPassOf, IsFree, IsInTurnWith};
-ghost use Rattle.wol_model.specs.History.{worker};
 ghost use Rattle.log_segment.specs.Records.{count_of};
 ghost use Rattle.manager.specs.Groups.{AreItemsOf, run_writes, run_written};
 ghost use Rattle.manager.specs.Stands.{Stands, IsShared};
@@ -14,6 +10,10 @@ ghost use Rattle.request_turns.specs.Groups.{HasWrittenMany, item_of, blocks_of,
 ghost use Rattle.request_turns.specs.Requests.{IsWithin};
 ghost use Rattle.request_turns.specs.Tried.{CanWriteSome, HasTriedSome};
 ghost use Rattle.request_turns.specs.Turns.{look_in_place, next_in_place, passed_in_place, notes_seen, HasLeftInPlace, StandsInPlace};
+ghost use Rattle.std.specs.List.{AllByRecursion, flat_map};
+ghost use Rattle.std.specs.Prelude.{◌≡◌, ◌≤◌, ◌+◌, ◌^◌, false, length, map, take, sum_by, vec_capacity};
+ghost use Rattle.turn_lock.specs.Passes.{pass_lock, pass_number, IsPassOf, IsFree, IsInTurnWith};
+ghost use Rattle.wol_model.specs.History.{worker};
 
 use crate::drain::drain_and_write;
 use crate::noted::{Memo, leave_noted_in_place};

@@ -1,12 +1,12 @@
 // A helper's turns, one step of reclaim each.
-ghost use Rattle.std.specs.Prelude.{◌≡◌, OnOk, IfErr};
-ghost use Rattle.turn_lock.specs.Passes.{pass_lock};
-ghost use Rattle.wol_model.specs.History.{helper};
 ghost use Rattle.manager.specs.Stands.{IsShared};
 ghost use Rattle.reclaimer.specs.Fetches.{HasData};
 ghost use Rattle.request_turns.specs.Counts.{CountsMore, HasCounted, ReclaimsNothing, gone_count};
 ghost use Rattle.request_turns.specs.Helped.{IsPassAt, HasHelped, AreKept};
 ghost use Rattle.request_turns.specs.Turns.{notes_seen, WasDown, faulty_part};
+ghost use Rattle.std.specs.Prelude.{◌≡◌, OnOk, IfErr};
+ghost use Rattle.turn_lock.specs.Passes.{pass_lock};
+ghost use Rattle.wol_model.specs.History.{helper};
 
 use crate::answer::has_failed;
 use crate::noted::leave_step;

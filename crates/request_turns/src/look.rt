@@ -1,8 +1,8 @@
 // A look in one turn.
-ghost use Rattle.std.specs.Prelude.{◌≡◌};
-ghost use Rattle.turn_lock.specs.Passes.{IsPassOf, IsFree};
 ghost use Rattle.request_turns.specs.Blocks.{HasLooked};
 ghost use Rattle.request_turns.specs.Counts.{ReclaimsNothing};
+ghost use Rattle.std.specs.Prelude.{◌≡◌};
+ghost use Rattle.turn_lock.specs.Passes.{IsPassOf, IsFree};
 
 use crate::noted::leave_step;
 use manager::{Manager, Part};

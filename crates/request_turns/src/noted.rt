@@ -1,13 +1,13 @@
 // How a turn ends: with an entry that the caller's proof names, with its notes.
+ghost use Rattle.manager.specs.Seen.{look_of_manager};
+ghost use Rattle.manager.specs.Stands.{Stands};
+ghost use Rattle.manager.specs.declared.part.Part.{Part};
+ghost use Rattle.request_turns.specs.Stepped.{step_note, StandsStepped, StandsSteppedInPlace, HasLeftStep, HasLeftStepInPlace};
+ghost use Rattle.request_turns.specs.Turns.{look_in_place, notes_seen, HasLeft, HasLeftInPlace, IsBroken, StandsInPlace, WasDown};
 ghost use Rattle.std.specs.Prelude.{ℕ, ◌≡◌, ◌++◌, ◌∷◌, [], None, Some};
 ghost use Rattle.turn_lock.specs.Passes.{pass_lock, pass_number, IsPassOf, IsInTurn};
 ghost use Rattle.wol_promise.specs.Code.{no_note};
 ghost use Rattle.wol_promise.specs.Ruled.{Noted};
-ghost use Rattle.manager.specs.Stands.{Stands};
-ghost use Rattle.manager.specs.Seen.{look_of_manager};
-ghost use Rattle.manager.specs.declared.part.Part.{Part};
-ghost use Rattle.request_turns.specs.Stepped.{step_note, StandsStepped, StandsSteppedInPlace, HasLeftStep, HasLeftStepInPlace};
-ghost use Rattle.request_turns.specs.Turns.{look_in_place, notes_seen, HasLeft, HasLeftInPlace, IsBroken, StandsInPlace, WasDown};
 
 use manager::Manager;
 use std::marker::Brand;

@@ -1,21 +1,21 @@
 // A read in one turn.
-ghost use Rattle.std.specs.Prelude.{Some, ◌≡◌, ◌≤◌, ◌+◌, ◌++◌, ◌∷◌, [], false, length};
-ghost use Rattle.turn_lock.specs.Passes.{pass_lock, pass_number, IsPassOf, IsFree, IsInTurn};
-ghost use Rattle.wol_model.specs.History.{worker};
 ghost use Rattle.manager.specs.Answers.{was_read};
 ghost use Rattle.manager.specs.Seen.{look_of_manager};
 ghost use Rattle.manager.specs.Stands.{Stands, IsShared};
 ghost use Rattle.manager.specs.declared.manager.Manager.{Manager};
 ghost use Rattle.manager.specs.declared.part.Part.{Part};
-ghost use Rattle.request_turns.specs.Entries.{note_of, read_outcome};
-ghost use Rattle.request_turns.specs.Requests.{IsWithin};
 ghost use Rattle.request_turns.specs.Answered.{HasAnswered};
 ghost use Rattle.request_turns.specs.Blocks.{HasReadBlocks};
 ghost use Rattle.request_turns.specs.Counts.{ReclaimsNothing};
+ghost use Rattle.request_turns.specs.Entries.{note_of, read_outcome};
 ghost use Rattle.request_turns.specs.Full.{FitsVolume};
+ghost use Rattle.request_turns.specs.Requests.{IsWithin};
 ghost use Rattle.request_turns.specs.Tried.{CanBeAsked, HasReplied};
 ghost use Rattle.request_turns.specs.Turns.{look_in_place, notes_seen, HasLeft, WasDown, HasLeftInPlace, StandsInPlace};
 ghost use Rattle.request_turns.specs.Written.{HasRead};
+ghost use Rattle.std.specs.Prelude.{Some, ◌≡◌, ◌≤◌, ◌+◌, ◌++◌, ◌∷◌, [], false, length};
+ghost use Rattle.turn_lock.specs.Passes.{pass_lock, pass_number, IsPassOf, IsFree, IsInTurn};
+ghost use Rattle.wol_model.specs.History.{worker};
 
 use crate::noted::{Memo, leave_noted, leave_noted_in_place};
 use crate::outcome::Outcome;

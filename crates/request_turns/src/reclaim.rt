@@ -1,15 +1,15 @@
 // Reclaim in one turn: all that is due goes home, and then what may go is given up.
-ghost use Rattle.std.specs.Prelude.{◌≡◌, ◌<◌, ◌≤◌, ℕ, true, false, None, Ok, OnOk, length};
-ghost use Rattle.turn_lock.specs.Passes.{pass_lock};
-ghost use Rattle.wol_model.specs.History.{worker};
-ghost use Rattle.wol_model.specs.Index.{listed_in, left};
-ghost use Rattle.wol_promise.specs.Policy.{IsIdleLook};
 ghost use Rattle.manager.specs.Seen.{look_of_manager};
 ghost use Rattle.manager.specs.Stands.{IsReady, IsHome, IsShared};
 ghost use Rattle.reclaimer.specs.Fetches.{due_entry, going_entry};
 ghost use Rattle.request_turns.specs.Closed.{Reclaims, HasClosed, HasReclaimed};
 ghost use Rattle.request_turns.specs.Counts.{HasCounted};
 ghost use Rattle.request_turns.specs.Helped.{IsPassAt};
+ghost use Rattle.std.specs.Prelude.{◌≡◌, ◌<◌, ◌≤◌, ℕ, true, false, None, Ok, OnOk, length};
+ghost use Rattle.turn_lock.specs.Passes.{pass_lock};
+ghost use Rattle.wol_model.specs.History.{worker};
+ghost use Rattle.wol_model.specs.Index.{listed_in, left};
+ghost use Rattle.wol_promise.specs.Policy.{IsIdleLook};
 
 use crate::answer::{has_failed, refusal_in};
 use crate::noted::leave_step_in_place;

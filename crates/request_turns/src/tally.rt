@@ -1,6 +1,6 @@
 // What was reclaimed.
-ghost use Rattle.std.specs.Prelude.{◌≡◌, true, false};
 ghost use Rattle.request_turns.specs.Counts.{Counts, CountsMore};
+ghost use Rattle.std.specs.Prelude.{◌≡◌, true, false};
 
 /// How many blocks were put home, and how many records were dropped. A count stands still at its type's end.
 #[derive(Clone, Copy, Debug, PartialEq, Eq)]

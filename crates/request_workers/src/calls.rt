@@ -1,7 +1,7 @@
 // Windows over a floor.
-ghost use Rattle.std.specs.Prelude.{◌≡◌, ◌≤◌, ◌<◌, ◌^◌, [], ℕ, List, map, length, vec_len, vec_capacity, slice_index_or, sum_by, OnOk, OnErr, IfOk};
 ghost use Rattle.request_turns.specs.Counts.{CountsMore};
 ghost use Rattle.request_workers.specs.Crews.{IsCrew};
+ghost use Rattle.std.specs.Prelude.{◌≡◌, ◌≤◌, ◌<◌, ◌^◌, [], ℕ, List, map, length, vec_len, vec_capacity, slice_index_or, sum_by, OnOk, OnErr, IfOk};
 ghost use Rattle.window_desks.specs.Floors.{IsFloor, IsOn, AreInside, HasRun, IsAsItWas};
 ghost use Rattle.window_desks.specs.Requests.{AreOfVolumes};
 ghost use Rattle.window_desks.specs.Worked.{first_fault};

@@ -1,7 +1,7 @@
 // Who serves windows: the caller, and the workers that it hands jobs.
-ghost use Rattle.std.specs.Prelude.{◌≡◌, ◌≤◌, ◌<◌, ℕ, length, slice_index_or};
 ghost use Rattle.request_workers.specs.Crews.{AreIdleSeats, AreOver, IsCrew, IsOverCrew};
 ghost use Rattle.request_workers.specs.Shares.{size_of_runs};
+ghost use Rattle.std.specs.Prelude.{◌≡◌, ◌≤◌, ◌<◌, ℕ, length, slice_index_or};
 
 use crate::job::Job;
 use errands::{Errands, Sender};

@@ -1,7 +1,7 @@
 // Who serves the desks of a window: the caller alone, or the workers beside it.
-ghost use Rattle.std.specs.Prelude.{◌≡◌, ◌≤◌, ◌<◌, ◌+◌, ◌++◌, [], ℕ, length, vec_len, vec_capacity};
 ghost use Rattle.request_workers.specs.Crews.{IsCrew, IsPartCrew, IsSameCrew};
 ghost use Rattle.request_workers.specs.Shares.{CanHelp, CanShare, HasHelpedOn, HasShared, IsLastRun, size_of_runs};
+ghost use Rattle.std.specs.Prelude.{◌≡◌, ◌≤◌, ◌<◌, ◌+◌, ◌++◌, [], ℕ, length, vec_len, vec_capacity};
 
 use crate::crew::{Crew, Seat, run_size};
 use crate::job::Job;

@@ -1,10 +1,10 @@
 // One window of requests over a floor.
-ghost use Rattle.std.specs.Prelude.{◌≡◌, ◌≤◌, ◌<◌, [], ℕ, List, None, length, vec_capacity, slice_index_or};
 ghost use Rattle.request_turns.specs.Counts.{Counts};
 ghost use Rattle.request_workers.specs.Crews.{IsCrew};
+ghost use Rattle.request_workers.specs.Shares.{CanShare, HasRunOn};
+ghost use Rattle.std.specs.Prelude.{◌≡◌, ◌≤◌, ◌<◌, [], ℕ, List, None, length, vec_capacity, slice_index_or};
 ghost use Rattle.window_desks.specs.Desks.{HaveOwn};
 ghost use Rattle.window_desks.specs.Requests.{AreOfVolumes};
-ghost use Rattle.request_workers.specs.Shares.{CanShare, HasRunOn};
 ghost use Rattle.window_desks.specs.declared.desk.Desk.{Desk};
 
 use crate::crew::Crew;

@@ -1,7 +1,7 @@
 // What a worker does until nothing more comes.
-ghost use Rattle.std.specs.Prelude.{◌≡◌, ◌<◌, ◌≤◌, ◌+◌, ℕ, length, slice_index_or};
 ghost use Rattle.errands.specs.Ends.{IsTold, IsWaiting};
 ghost use Rattle.request_workers.specs.Crews.{AreTold, AreToldFrom, AreWaiting, AreWaitingFrom};
+ghost use Rattle.std.specs.Prelude.{◌≡◌, ◌<◌, ◌≤◌, ◌+◌, ℕ, length, slice_index_or};
 
 use crate::job::Task;
 use errands::{Errands, Worker};

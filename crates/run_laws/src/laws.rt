@@ -1,7 +1,7 @@
 // The laws of runs.
-ghost use Rattle.run_laws.specs.Laws.{CutsArePlain, FirstsJoin, LinesArePlain, OthersAnswerNothing, OutcomesJoin};
-ghost use Rattle.run_laws.specs.Journals.{AccountCovers, NoAccount};
 ghost use Rattle.run_laws.specs.Headline.{HistoriesGoOn};
+ghost use Rattle.run_laws.specs.Journals.{AccountCovers, NoAccount};
+ghost use Rattle.run_laws.specs.Laws.{CutsArePlain, FirstsJoin, LinesArePlain, OthersAnswerNothing, OutcomesJoin};
 
 /// Where the answered requests of each volume are its first ones, and are what its one legal history read and wrote: the lines of
 /// the answered reads, with the marks that were told, are those that plain arrays give; and what a crash may leave of the volume is

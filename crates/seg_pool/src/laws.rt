@@ -1,10 +1,10 @@
 // The laws of pools, as clauses of functions without a body.
-ghost use Rattle.std.specs.Prelude.{◌≡◌, ℕ, Some};
-ghost use Rattle.seg_pool.specs.declared.base.Holder.TheVariants.{InPool, HeldBy};
-ghost use Rattle.seg_pool.specs.declared.pool.Pool.{Pool};
 ghost use Rattle.seg_pool.specs.Holders.{holder};
 ghost use Rattle.seg_pool.specs.Laws.{OperationsDiffer, HoldsAfterUse, HeldByOwnEntries};
 ghost use Rattle.seg_pool.specs.Pools.{item_at, note_at, base_of};
+ghost use Rattle.seg_pool.specs.declared.base.Holder.TheVariants.{InPool, HeldBy};
+ghost use Rattle.seg_pool.specs.declared.pool.Pool.{Pool};
+ghost use Rattle.std.specs.Prelude.{◌≡◌, ℕ, Some};
 
 use crate::Blank;
 

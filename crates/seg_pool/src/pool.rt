@@ -40,11 +40,11 @@ impl<T: Blank> Object for Pool<T> {
 }
 
 impl<T: Blank> Pool<T> {
-    ghost use Rattle.turn_lock.specs.Histories.{Entry};
-    ghost use Rattle.seg_pool.specs.declared.base.PoolBase.{PoolBase};
     ghost use Rattle.seg_pool.specs.Holders.{Took, Gave, MayUsePool};
     ghost use Rattle.seg_pool.specs.Operations.{operation_of};
     ghost use Rattle.seg_pool.specs.Pools.{volume_of, blocks_of, room_of, item_at, note_at, item_count, IsEmptyPool, IsSamePool, ChangesOnly, StandsFor, base_of, holders_after};
+    ghost use Rattle.seg_pool.specs.declared.base.PoolBase.{PoolBase};
+    ghost use Rattle.turn_lock.specs.Histories.{Entry};
 
     /// An empty pool with room for the indexes below `room`, for segments of this volume with this many blocks each.
     pub fn new(alloc: Global, room: u32, volume: u32, blocks: u32) -> Result<Pool<T>, NoMemory>

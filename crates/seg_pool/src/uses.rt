@@ -1,9 +1,9 @@
 // Turns of a pool's lock, one use each.
+ghost use Rattle.seg_pool.specs.Holders.{Gave, ArePoolUses};
+ghost use Rattle.seg_pool.specs.Operations.{operation_of, uses_of, holds, taken};
 ghost use Rattle.std.specs.Prelude.{true, false, ◌≡◌, ◌≢◌, ◌<◌, ◌∷◌, [], ◌++◌, ℕ, List, length, IfSome};
 ghost use Rattle.turn_lock.specs.Histories.{Entry, Begins};
 ghost use Rattle.turn_lock.specs.Passes.{pass_lock, pass_number, pass_seen, pass_mine, IsPassOf, IsFree, IsSamePass};
-ghost use Rattle.seg_pool.specs.Holders.{Gave, ArePoolUses};
-ghost use Rattle.seg_pool.specs.Operations.{operation_of, uses_of, holds, taken};
 
 use crate::{Blank, Pool};
 use std::sync::Wait;

@@ -1,8 +1,8 @@
 // One request: blocks of the disk are read and printed, or written and synced.
-ghost use Rattle.std.specs.Prelude.{◌≡◌, ◌+◌, ◌≤◌, ◌^◌, [], ◌∷◌, length, option_map, string_bytes, IfOk, OnOk};
 ghost use Rattle.solo.specs.Requests.{request_of};
-ghost use Rattle.solo.specs.Texts.{read_text};
 ghost use Rattle.solo.specs.Served.{Counts, IsCalm, IsOnlyDisk, IsSettled, LeavesCutOf, Serves, content_of, content_after};
+ghost use Rattle.solo.specs.Texts.{read_text};
+ghost use Rattle.std.specs.Prelude.{◌≡◌, ◌+◌, ◌≤◌, ◌^◌, [], ◌∷◌, length, option_map, string_bytes, IfOk, OnOk};
 
 use crate::fault::Fault;
 use crate::request::Request;

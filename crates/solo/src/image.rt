@@ -1,15 +1,15 @@
 // The image of a run: it is made, the trace is run on it, and it goes back.
-ghost use Rattle.std.specs.Prelude.{◌≡◌, ◌≢◌, [], OnOk, IfOk, IsErrOf, string_bytes};
-ghost use Rattle.std.specs.Io.KnownBytes.{IsAtEnd};
-ghost use Rattle.wol_disk.specs.Disk.{Rose};
-ghost use Rattle.solo.specs.Volume.{IsVolume, target_of};
-ghost use Rattle.solo.specs.Served.{Counts, IsCalm, IsSettled, content_of};
-ghost use Rattle.solo.specs.Texts.{summary_text};
-ghost use Rattle.solo.specs.Runs.{Runs};
-ghost use Rattle.wol_bay.specs.Parts.{faulty_places, sizes_of};
 ghost use Rattle.solo.specs.Faults.{fault_of_bay};
 ghost use Rattle.solo.specs.Images.{IsOnePart, NoneOut, PartCameBackFaulty, RunsInBay, RunsOnFirst};
+ghost use Rattle.solo.specs.Runs.{Runs};
+ghost use Rattle.solo.specs.Served.{Counts, IsCalm, IsSettled, content_of};
 ghost use Rattle.solo.specs.Summed.{SumsUp};
+ghost use Rattle.solo.specs.Texts.{summary_text};
+ghost use Rattle.solo.specs.Volume.{IsVolume, target_of};
+ghost use Rattle.std.specs.Io.KnownBytes.{IsAtEnd};
+ghost use Rattle.std.specs.Prelude.{◌≡◌, ◌≢◌, [], OnOk, IfOk, IsErrOf, string_bytes};
+ghost use Rattle.wol_bay.specs.Parts.{faulty_places, sizes_of};
+ghost use Rattle.wol_disk.specs.Disk.{Rose};
 
 use crate::fault::Fault;
 use crate::tally::Tally;

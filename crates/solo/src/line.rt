@@ -1,8 +1,8 @@
 // One line of the trace: its pieces, one after another.
-ghost use Rattle.std.specs.Prelude.{◌≡◌, ◌+◌, ◌≤◌, ◌<◌, ◌^◌, length, IfOk, OnOk};
 ghost use Rattle.msr_trace.specs.Lines.{Fits, trace_line};
 ghost use Rattle.solo.specs.Requests.{line_requests};
 ghost use Rattle.solo.specs.Served.{Counts, IsCalm, IsSettled, Serves, content_of, content_after};
+ghost use Rattle.std.specs.Prelude.{◌≡◌, ◌+◌, ◌≤◌, ◌<◌, ◌^◌, length, IfOk, OnOk};
 
 use crate::answer::serve;
 use crate::fault::Fault;

@@ -1,9 +1,9 @@
 // One line of the trace: whether it belongs to the volume, and what is counted of it.
-ghost use Rattle.std.specs.Prelude.{◌≡◌, ◌+◌, ◌≤◌, ◌<◌, ◌^◌, length, option_map, if◌then◌else◌, IfSome, OnOk};
 ghost use Rattle.msr_trace.specs.Lines.{Fits, trace_line};
-ghost use Rattle.solo.specs.Volume.{IsVolume, target_of};
 ghost use Rattle.solo.specs.Requests.{is_read, is_write, requests_at, tally_with};
 ghost use Rattle.solo.specs.Served.{Counts, IsCalm, IsSettled, Serves, content_of, content_after};
+ghost use Rattle.solo.specs.Volume.{IsVolume, target_of};
+ghost use Rattle.std.specs.Prelude.{◌≡◌, ◌+◌, ◌≤◌, ◌<◌, ◌^◌, length, option_map, if◌then◌else◌, IfSome, OnOk};
 
 use crate::fault::Fault;
 use crate::line::run_line;

@@ -1,11 +1,11 @@
 // The lines of a trace, run as they come.
-ghost use Rattle.std.specs.Prelude.{◌≡◌, true, length, OnOk};
-ghost use Rattle.std.specs.Io.KnownBytes.{IsAtEnd};
 ghost use Rattle.msr_trace.specs.Reading.{pending};
-ghost use Rattle.solo.specs.Volume.{IsVolume, target_of};
-ghost use Rattle.solo.specs.Served.{Counts, IsCalm, IsSettled, content_of};
-ghost use Rattle.solo.specs.Runs.{Runs};
 ghost use Rattle.solo.specs.Faults.{fault_of};
+ghost use Rattle.solo.specs.Runs.{Runs};
+ghost use Rattle.solo.specs.Served.{Counts, IsCalm, IsSettled, content_of};
+ghost use Rattle.solo.specs.Volume.{IsVolume, target_of};
+ghost use Rattle.std.specs.Io.KnownBytes.{IsAtEnd};
+ghost use Rattle.std.specs.Prelude.{◌≡◌, true, length, OnOk};
 
 use crate::fault::Fault;
 use crate::step::take_line;

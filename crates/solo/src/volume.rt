@@ -1,8 +1,8 @@
 // The volume that a trace is run on.
-ghost use Rattle.std.specs.Prelude.{◌≡◌, [], ◌∷◌, is_some};
-ghost use Rattle.wol_model.specs.Trace.{volume_of};
 ghost use Rattle.msr_trace.specs.Lines.{trace_line};
 ghost use Rattle.solo.specs.Volume.{target_of};
+ghost use Rattle.std.specs.Prelude.{◌≡◌, [], ◌∷◌, is_some};
+ghost use Rattle.wol_model.specs.Trace.{volume_of};
 
 use msr_trace::Line;
 

@@ -1,11 +1,11 @@
 // A disk's spindle, awake or in standby, with its journal.
-ghost use Rattle.std.specs.Prelude.{true, false, not, nat_le, ◌==◌, ◌&&◌, if◌then◌else◌, OnOk, ◌≡◌, ◌<◌, ◌≤◌, ◌+◌, ◌-◌, ◌^◌, ◌∷◌, [], ◌++◌, ℕ, List, map, max, vec_len, vec_capacity, IsTrue, ◌↔◌, OnErr, IfOk};
-ghost use Rattle.wol_model.specs.Journal.{Started, Needed, Done, IsJournal, is_empty};
-ghost use Rattle.wol_model.specs.declared.journal.Turned.TheVariants.{Down, Up};
-ghost use Rattle.turn_lock.specs.Histories.{Entry};
-ghost use Rattle.spin_model.specs.Spun.{token_volume};
 ghost use Rattle.spin_model.specs.Operations.{operation_of};
 ghost use Rattle.spin_model.specs.Spindles.{SpindleView, StandsFor, HasMade, IsSameSpindle, base_of, state_after, begun};
+ghost use Rattle.spin_model.specs.Spun.{token_volume};
+ghost use Rattle.std.specs.Prelude.{true, false, not, nat_le, ◌==◌, ◌&&◌, if◌then◌else◌, OnOk, ◌≡◌, ◌<◌, ◌≤◌, ◌+◌, ◌-◌, ◌^◌, ◌∷◌, [], ◌++◌, ℕ, List, map, max, vec_len, vec_capacity, IsTrue, ◌↔◌, OnErr, IfOk};
+ghost use Rattle.turn_lock.specs.Histories.{Entry};
+ghost use Rattle.wol_model.specs.Journal.{Started, Needed, Done, IsJournal, is_empty};
+ghost use Rattle.wol_model.specs.declared.journal.Turned.TheVariants.{Down, Up};
 
 use crate::Awake;
 use std::alloc::Global;
@@ -27,8 +27,8 @@ pub struct Spindle {
 }
 
 impl Model for Spindle {
-    ghost use Rattle.std.specs.Prelude.{false, ◌≡◌, ◌<◌, ◌≤◌, vec_len, vec_capacity};
     ghost use Rattle.spin_model.specs.Spindles.{SpindleView};
+    ghost use Rattle.std.specs.Prelude.{false, ◌≡◌, ◌<◌, ◌≤◌, vec_len, vec_capacity};
 
     ghost Value = { SpindleView };
 

@@ -6,8 +6,8 @@ pub struct Awake {
 }
 
 impl Awake {
-    ghost use Rattle.std.specs.Prelude.{◌≡◌};
     ghost use Rattle.spin_model.specs.Spun.{token_volume};
+    ghost use Rattle.std.specs.Prelude.{◌≡◌};
 
     /// A token of the volume's spindle.
     pub(crate) fn of(volume: u32) -> Awake

@@ -1,12 +1,12 @@
 // Turns of a spindle's lock, one use each.
+ghost use Rattle.spin_model.specs.Operations.{operation_of, has_token};
+ghost use Rattle.spin_model.specs.Spindles.{SpindleView, StandsFor, HasMade, state_after, begun};
+ghost use Rattle.spin_model.specs.Spun.{token_volume};
+ghost use Rattle.spin_model.specs.Turns.{HasLeft};
 ghost use Rattle.std.specs.Prelude.{true, false, ◌≡◌, ◌<◌, ◌^◌, ◌∷◌, [], ◌++◌, List, IfOk};
 ghost use Rattle.turn_lock.specs.Histories.{Entry, Begins};
 ghost use Rattle.turn_lock.specs.Passes.{pass_lock, pass_number, pass_seen, pass_mine, IsPassOf, IsFree, IsInTurnWith, IsSamePass};
 ghost use Rattle.wol_model.specs.Journal.{Started, Needed, Done};
-ghost use Rattle.spin_model.specs.Spun.{token_volume};
-ghost use Rattle.spin_model.specs.Operations.{operation_of, has_token};
-ghost use Rattle.spin_model.specs.Spindles.{SpindleView, StandsFor, HasMade, state_after, begun};
-ghost use Rattle.spin_model.specs.Turns.{HasLeft};
 
 use crate::{Awake, Spindle};
 use std::marker::Brand;

@@ -1,8 +1,8 @@
 // The generator of a trace's lines.
-ghost use Rattle.std.specs.Prelude.{◌≡◌, ◌+◌, ◌<◌, ◌^◌, IfOk, OnOk, OnErr};
-ghost use Rattle.wol_config.specs.Configs.{IsValid};
 ghost use Rattle.msr_trace.specs.Lines.{trace_line};
+ghost use Rattle.std.specs.Prelude.{◌≡◌, ◌+◌, ◌<◌, ◌^◌, IfOk, OnOk, OnErr};
 ghost use Rattle.trace_gen.specs.Generated.{line, targets_of};
+ghost use Rattle.wol_config.specs.Configs.{IsValid};
 
 use crate::line::{chosen, gap, line_of};
 use crate::words::Words;

@@ -1,8 +1,8 @@
 // A line from its words.
-ghost use Rattle.std.specs.Prelude.{◌≡◌, ◌+◌, ◌≤◌, ◌<◌, ◌^◌, IfOk};
-ghost use Rattle.wol_config.specs.Configs.{IsValid};
 ghost use Rattle.msr_trace.specs.Lines.{trace_line};
+ghost use Rattle.std.specs.Prelude.{◌≡◌, ◌+◌, ◌≤◌, ◌<◌, ◌^◌, IfOk};
 ghost use Rattle.trace_gen.specs.Generated.{chosen, gap_of, kind_of, line_of, target_of, targets_of};
+ghost use Rattle.wol_config.specs.Configs.{IsValid};
 
 use crate::words::Words;
 use msr_trace::{HostName, Kind, Line};

@@ -1,13 +1,13 @@
 // What a line asks for: the volume that it belongs to, and its requests.
-ghost use Rattle.std.specs.Prelude.{◌≡◌, false, ◌<◌, ◌≤◌, ◌^◌, ◌++◌, ◌&&◌, ◌==◌, ℕ, length, map, position, take, IfSome, OnOk, OnErr};
-ghost use Rattle.std.specs.List.{list_any};
-ghost use Rattle.std.specs.Str.{bytes_eq};
 ghost use Rattle.msr_trace.specs.Hosts.{mark_of};
-ghost use Rattle.wol_config.specs.Configs.{IsValid, most_of};
-ghost use Rattle.trace_gen.specs.Generated.{target_of, targets_of};
-ghost use Rattle.wol_model.specs.Trace.{home_of, pieces, requests_on, volume_of};
 ghost use Rattle.msr_trace.specs.Lines.{Fits, trace_line};
+ghost use Rattle.std.specs.List.{list_any};
+ghost use Rattle.std.specs.Prelude.{◌≡◌, false, ◌<◌, ◌≤◌, ◌^◌, ◌++◌, ◌&&◌, ◌==◌, ℕ, length, map, position, take, IfSome, OnOk, OnErr};
+ghost use Rattle.std.specs.Str.{bytes_eq};
+ghost use Rattle.trace_gen.specs.Generated.{target_of, targets_of};
 ghost use Rattle.trace_windows.specs.Requests.{numbered};
+ghost use Rattle.wol_config.specs.Configs.{IsValid, most_of};
+ghost use Rattle.wol_model.specs.Trace.{home_of, pieces, requests_on, volume_of};
 
 use crate::request::Request;
 use msr_trace::{HostName, Line};

@@ -1,11 +1,11 @@
 // The requests of a window.
-ghost use Rattle.std.specs.Prelude.{◌≡◌, ◌+◌, ◌<◌, ◌≤◌, ◌^◌, true, not, length, IfOk, IfSome, OnOk, OnErr};
-ghost use Rattle.wol_config.specs.Configs.{IsValid, most_of};
-ghost use Rattle.trace_gen.specs.Generated.{targets_of};
-ghost use Rattle.wol_model.specs.Trace.{requests_on};
 ghost use Rattle.msr_trace.specs.Lines.{Fits, trace_line};
-ghost use Rattle.trace_windows.specs.Requests.{numbered};
+ghost use Rattle.std.specs.Prelude.{◌≡◌, ◌+◌, ◌<◌, ◌≤◌, ◌^◌, true, not, length, IfOk, IfSome, OnOk, OnErr};
+ghost use Rattle.trace_gen.specs.Generated.{targets_of};
 ghost use Rattle.trace_windows.specs.Batches.{Admits, IsPut, no_lines, with_line};
+ghost use Rattle.trace_windows.specs.Requests.{numbered};
+ghost use Rattle.wol_config.specs.Configs.{IsValid, most_of};
+ghost use Rattle.wol_model.specs.Trace.{requests_on};
 
 use crate::asking::push_requests;
 use crate::request::Request;

@@ -1,10 +1,10 @@
 // Lines of a trace are taken one by one, and are cut into windows.
-ghost use Rattle.std.specs.Prelude.{◌≡◌, ◌+◌, ◌<◌, ◌≤◌, ◌^◌, ℕ, [], Some, option_map, IfOk, IfSome, OnOk, OnErr};
-ghost use Rattle.wol_config.specs.Configs.{IsValid, most_of};
-ghost use Rattle.trace_gen.specs.Generated.{targets_of};
 ghost use Rattle.msr_trace.specs.Lines.{Fits, trace_line};
+ghost use Rattle.std.specs.Prelude.{◌≡◌, ◌+◌, ◌<◌, ◌≤◌, ◌^◌, ℕ, [], Some, option_map, IfOk, IfSome, OnOk, OnErr};
+ghost use Rattle.trace_gen.specs.Generated.{targets_of};
 ghost use Rattle.trace_windows.specs.Batches.{no_lines};
 ghost use Rattle.trace_windows.specs.Cutting.{HasCut, Takes};
+ghost use Rattle.wol_config.specs.Configs.{IsValid, most_of};
 
 use crate::asking::{count_requests, volume_of};
 use crate::batch::{Batch, Entry, put_line};

@@ -1,6 +1,6 @@
 // A worker that counts up, and the one that hands it numbers.
-ghost use Rattle.std.specs.Prelude.{◌≡◌, IfOk};
 ghost use Rattle.errands.specs.Ends.{IsIdle, IsOver, IsTold, IsWaiting};
+ghost use Rattle.std.specs.Prelude.{◌≡◌, IfOk};
 
 use errands::{Errand, Errands, NoMemory, Sender, Worker};
 use std::alloc::Global;

@@ -1,8 +1,8 @@
 // Marks of versions.
-ghost use Rattle.std.specs.Prelude.{◌≡◌, ◌<◌, ◌≤◌, ◌+◌, ◌==◌, ◌&&◌, ℕ, length, not, nat_lt, slice_index, bit_and, OnOk, OnErr, IfOk, ◌^◌, IfSome, IfNone, if◌then◌else◌, false};
 ghost use Rattle.std.specs.List.{count_by};
-ghost use Rattle.wol_model.specs.Index.{AreRising};
+ghost use Rattle.std.specs.Prelude.{◌≡◌, ◌<◌, ◌≤◌, ◌+◌, ◌==◌, ◌&&◌, ℕ, length, not, nat_lt, slice_index, bit_and, OnOk, OnErr, IfOk, ◌^◌, IfSome, IfNone, if◌then◌else◌, false};
 ghost use Rattle.version_marks.specs.Marks.{mask_in, AreApart, mask_of};
+ghost use Rattle.wol_model.specs.Index.{AreRising};
 
 use crate::tree::{first_leaf, set_leaf};
 use std::alloc::Global;

@@ -1,6 +1,6 @@
 // What is asked of a view, and why it is refused.
-ghost use Rattle.std.specs.Prelude.{◌≡◌};
 ghost use Rattle.logger_view.specs.declared.loading.ViewFault.{ViewFault};
+ghost use Rattle.std.specs.Prelude.{◌≡◌};
 ghost use Rattle.view_change.specs.Changes.{id_of, refusal_of_load};
 ghost use Rattle.view_change.specs.declared.answers.ChangeRefusal.TheVariants as refusal;
 

@@ -1,11 +1,11 @@
 // A view with a logger more or less, stored in the part of label and view.
-ghost use Rattle.std.specs.Prelude.{◌≡◌, ◌≢◌, ◌↔◌, ◌⊎◌, ◌<◌, ◌≤◌, ℕ, List, Some, option_map, IfOk, IfErr, IsErrOf, IsSome};
-ghost use Rattle.wol_disk.specs.Disk.{Block, Values, only, settled, reads, LeavesOnly, Rose, IsImageOf};
-ghost use Rattle.wol_model.specs.Heads.{IsViewList};
-ghost use Rattle.spin_model.specs.Spun.{volume_of, state_of, token_volume};
 ghost use Rattle.logger_view.specs.Stored.{with_view};
+ghost use Rattle.spin_model.specs.Spun.{volume_of, state_of, token_volume};
+ghost use Rattle.std.specs.Prelude.{◌≡◌, ◌≢◌, ◌↔◌, ◌⊎◌, ◌<◌, ◌≤◌, ℕ, List, Some, option_map, IfOk, IfErr, IsErrOf, IsSome};
 ghost use Rattle.view_change.specs.Changes.{Allows, Answers, MayShow, RefusesView, changed, id_of};
 ghost use Rattle.view_change.specs.declared.answers.Change.TheVariants as asked;
+ghost use Rattle.wol_disk.specs.Disk.{Block, Values, only, settled, reads, LeavesOnly, Rose, IsImageOf};
+ghost use Rattle.wol_model.specs.Heads.{IsViewList};
 
 use crate::{Change, ChangeRefusal};
 use arrayvec::ArrayVec;

@@ -1,15 +1,15 @@
 // The view of a volume of a bay is changed.
+ghost use Rattle.inspection.specs.Runs.{MayComplete};
+ghost use Rattle.open_rack.specs.NotOpened.{LeavesBay};
+ghost use Rattle.rack.specs.Opens.{KeepsOthers};
 ghost use Rattle.std.specs.Prelude.{◌≡◌, ◌<◌, ◌≤◌, length, Err, IsTrue};
-ghost use Rattle.wol_bay.specs.Bay.{outs};
-ghost use Rattle.wol_config.specs.Configs.{IsValid};
+ghost use Rattle.view_change.specs.Changes.{id_of};
+ghost use Rattle.view_commands.specs.Runs.{ChangesView, ChangesVolume, Completes};
+ghost use Rattle.view_commands.specs.declared.order.Stop.TheVariants as stop;
 ghost use Rattle.volume_images.specs.Left.{IsTold};
 ghost use Rattle.volume_images.specs.Volumes.{NoneOut};
-ghost use Rattle.rack.specs.Opens.{KeepsOthers};
-ghost use Rattle.open_rack.specs.NotOpened.{LeavesBay};
-ghost use Rattle.inspection.specs.Runs.{MayComplete};
-ghost use Rattle.view_change.specs.Changes.{id_of};
-ghost use Rattle.view_commands.specs.declared.order.Stop.TheVariants as stop;
-ghost use Rattle.view_commands.specs.Runs.{ChangesView, ChangesVolume, Completes};
+ghost use Rattle.wol_bay.specs.Bay.{outs};
+ghost use Rattle.wol_config.specs.Configs.{IsValid};
 
 use crate::draining::Draining;
 use crate::image::change_image;

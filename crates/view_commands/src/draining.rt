@@ -1,9 +1,9 @@
 // All volumes are open: one of them is drained, where its view is to lose a logger.
-ghost use Rattle.std.specs.Prelude.{◌≡◌, ◌<◌, ◌≤◌, ◌^◌, Some, Ok, Err, Contains, length, slice_get, IfSome, IfNone, IfErr, OnOk};
-ghost use Rattle.wol_config.specs.Configs.{IsValid};
-ghost use Rattle.report.specs.declared.fault.Fault.TheVariants.{Volume};
 ghost use Rattle.inspection.specs.Racks.{numbers_of, CanLook, IsSameRack};
+ghost use Rattle.report.specs.declared.fault.Fault.TheVariants.{Volume};
+ghost use Rattle.std.specs.Prelude.{◌≡◌, ◌<◌, ◌≤◌, ◌^◌, Some, Ok, Err, Contains, length, slice_get, IfSome, IfNone, IfErr, OnOk};
 ghost use Rattle.view_commands.specs.Drains.{TellsDrain, trouble_of_step};
+ghost use Rattle.wol_config.specs.Configs.{IsValid};
 
 use inspection::place_of;
 use manager::StepFault;

@@ -1,15 +1,15 @@
 // The view in the image of one volume is changed.
 ghost use Rattle.std.specs.Prelude.{ℕ, ◌≡◌, ◌<◌, ◌≤◌, ◌+◌, ◌∷◌, [], length, slice_get, Some, Err};
-ghost use Rattle.wol_bay.specs.Bay.{IsHome, outs};
-ghost use Rattle.wol_config.specs.Configs.{IsValid};
-ghost use Rattle.wol_config.specs.declared.config.VolumeConf.{VolumeConf};
-ghost use Rattle.wol_model.specs.Images.{image_size};
 ghost use Rattle.view_change.specs.Changes.{id_of};
 ghost use Rattle.view_commands.specs.Images.{ChangesInBay, fault_of_bay, stop_of, told_as};
 ghost use Rattle.view_commands.specs.Orders.{IsOfWords};
 ghost use Rattle.view_commands.specs.declared.order.Stop.TheVariants as stop;
 ghost use Rattle.view_commands.specs.declared.order.ViewRefusal.{ViewRefusal};
 ghost use Rattle.volume_images.specs.Volumes.{shape_in};
+ghost use Rattle.wol_bay.specs.Bay.{IsHome, outs};
+ghost use Rattle.wol_config.specs.Configs.{IsValid};
+ghost use Rattle.wol_config.specs.declared.config.VolumeConf.{VolumeConf};
+ghost use Rattle.wol_model.specs.Images.{image_size};
 
 use crate::order::{Stop, ViewRefusal};
 use log_layout::View;

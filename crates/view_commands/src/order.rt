@@ -1,6 +1,6 @@
 // What is asked of a view, why it isn't done, and the line that says so.
-ghost use Rattle.std.specs.Prelude.{◌≡◌, ◌++◌, OnOk, OnErr};
 ghost use Rattle.report.specs.declared.fault.Fault.TheVariants.{Memory as no_memory};
+ghost use Rattle.std.specs.Prelude.{◌≡◌, ◌++◌, OnOk, OnErr};
 ghost use Rattle.view_commands.specs.Orders.{change_of, refusal_text};
 ghost use Rattle.view_commands.specs.declared.order.Stop.TheVariants as stop;
 

@@ -1,13 +1,13 @@
 // The line of a view.
-ghost use Rattle.std.specs.Prelude.{◌≡◌, ◌≤◌, Err, IfOk};
-ghost use Rattle.wol_config.specs.Documents.{names_of};
 ghost use Rattle.report.specs.Names.{name_at};
-ghost use Rattle.report.specs.declared.fault.Fault.{Fault};
 ghost use Rattle.report.specs.declared.fault.Fault.TheVariants.{Memory};
+ghost use Rattle.report.specs.declared.fault.Fault.{Fault};
+ghost use Rattle.std.specs.Prelude.{◌≡◌, ◌≤◌, Err, IfOk};
 ghost use Rattle.view_commands.specs.Orders.{view_text};
 ghost use Rattle.view_commands.specs.Printed.{PrintsView};
 ghost use Rattle.view_commands.specs.declared.order.Stop.TheVariants as stop;
 ghost use Rattle.view_commands.specs.declared.order.ViewRefusal.{ViewRefusal};
+ghost use Rattle.wol_config.specs.Documents.{names_of};
 
 use crate::order::Stop;
 use log_layout::View;

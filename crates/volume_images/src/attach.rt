@@ -1,13 +1,13 @@
 // An image goes out of its bay to be opened, and comes back where it is refused.
-ghost use Rattle.std.specs.Prelude.{◌≡◌, ◌≤◌, [], List, Option, option_map, IfOk, IfErr, OnOk, OnErr, IfSome, IsErrOf, vec_capacity};
-ghost use Rattle.wol_disk.specs.Disk.{Block, Values, Rose};
-ghost use Rattle.wol_model.specs.Heads.{IsShape};
-ghost use Rattle.wol_bay.specs.Bay.{IsHome, IsOut, sent_out};
-ghost use Rattle.wol_bay.specs.Refusals.{blocks_at, refusal, IsAnswered};
-ghost use Rattle.spin_model.specs.Spun.{token_volume};
 ghost use Rattle.log_layout.specs.Values.{shape_of};
+ghost use Rattle.spin_model.specs.Spun.{token_volume};
+ghost use Rattle.std.specs.Prelude.{◌≡◌, ◌≤◌, [], List, Option, option_map, IfOk, IfErr, OnOk, OnErr, IfSome, IsErrOf, vec_capacity};
 ghost use Rattle.volume_images.specs.Formatted.{part_sizes};
 ghost use Rattle.volume_images.specs.Sent.{IsSentOut, IsOpenable, IsGivenBack};
+ghost use Rattle.wol_bay.specs.Bay.{IsHome, IsOut, sent_out};
+ghost use Rattle.wol_bay.specs.Refusals.{blocks_at, refusal, IsAnswered};
+ghost use Rattle.wol_disk.specs.Disk.{Block, Values, Rose};
+ghost use Rattle.wol_model.specs.Heads.{IsShape};
 
 use crate::image::part_sizes;
 use crate::parts::ImageParts;

@@ -1,9 +1,9 @@
 // What a format writes to a part of an image.
-ghost use Rattle.std.specs.Prelude.{◌≡◌, List, option_map, OnOk, IsErr, IsSome};
-ghost use Rattle.wol_disk.specs.Disk.{Block, only, reads, Rose, IsImageOf};
-ghost use Rattle.spin_model.specs.Spun.{volume_of, state_of, token_volume};
 ghost use Rattle.logger_view.specs.Stored.{IsWithOrWithout};
+ghost use Rattle.spin_model.specs.Spun.{volume_of, state_of, token_volume};
+ghost use Rattle.std.specs.Prelude.{◌≡◌, List, option_map, OnOk, IsErr, IsSome};
 ghost use Rattle.volume_images.specs.Contents.{changed, Fits};
+ghost use Rattle.wol_disk.specs.Disk.{Block, only, reads, Rose, IsImageOf};
 
 use log_layout::{Label, View};
 use logger_view::{store_free, store_label, store_view};

@@ -1,12 +1,12 @@
 // All images of a configuration are formatted.
 ghost use Rattle.std.specs.Prelude.{◌≡◌, ◌≤◌, ◌<◌, ℕ, length, OnOk, IsErrOf};
-ghost use Rattle.wol_disk.specs.Disk.{Rose};
-ghost use Rattle.wol_bay.specs.Bay.{outs};
-ghost use Rattle.wol_config.specs.Configs.{IsValid};
-ghost use Rattle.volume_images.specs.declared.fault.PartName.{PartName};
+ghost use Rattle.volume_images.specs.Formats.{LeavesImages, LeavesSound, LeavesZeros, LosesNone};
 ghost use Rattle.volume_images.specs.Left.{IsTold};
 ghost use Rattle.volume_images.specs.Volumes.{NoneOut};
-ghost use Rattle.volume_images.specs.Formats.{LeavesImages, LeavesSound, LeavesZeros, LosesNone};
+ghost use Rattle.volume_images.specs.declared.fault.PartName.{PartName};
+ghost use Rattle.wol_bay.specs.Bay.{outs};
+ghost use Rattle.wol_config.specs.Configs.{IsValid};
+ghost use Rattle.wol_disk.specs.Disk.{Rose};
 
 use crate::fault::RackFault;
 use crate::image::format_image;

@@ -1,12 +1,12 @@
 // The heads of an image's segments are read.
-ghost use Rattle.std.specs.Prelude.{◌≡◌, ◌≤◌, ◌∷◌, [], Some, List, option_map, IfOk, OnOk, IfSome, IfNone, IsErrOf};
-ghost use Rattle.wol_disk.specs.Disk.{Block, Values, Rose, IsImageOf, reads, settled};
-ghost use Rattle.wol_model.specs.Heads.{SegmentHead};
-ghost use Rattle.spin_model.specs.Spun.{volume_of, state_of, token_volume};
 ghost use Rattle.log_layout.specs.Values.{segment_head};
+ghost use Rattle.spin_model.specs.Spun.{volume_of, state_of, token_volume};
+ghost use Rattle.std.specs.Prelude.{◌≡◌, ◌≤◌, ◌∷◌, [], Some, List, option_map, IfOk, OnOk, IfSome, IfNone, IsErrOf};
 ghost use Rattle.volume_images.specs.Accepted.{HasHead, IsHeadless, IsConfigured};
 ghost use Rattle.volume_images.specs.Reads.{IsOnlyRead};
 ghost use Rattle.volume_images.specs.declared.heads.HeadFault.TheVariants as fault;
+ghost use Rattle.wol_disk.specs.Disk.{Block, Values, Rose, IsImageOf, reads, settled};
+ghost use Rattle.wol_model.specs.Heads.{SegmentHead};
 
 use log_layout::{SegHead, read_seg};
 use spin_model::{Awake, Spun};

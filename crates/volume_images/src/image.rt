@@ -1,18 +1,18 @@
 // The image of one volume is made anew and formatted.
+ghost use Rattle.log_layout.specs.Values.{shape_of};
 ghost use Rattle.std.specs.Prelude.{ℕ, ◌≡◌, ◌≤◌, ◌<◌, length, slice_index_or, ◌∷◌, ◌++◌, replicate, List, IfOk, OnOk, IfErr, IsErrOf, IsSome};
+ghost use Rattle.volume_images.specs.Formatted.{part_sizes, blank_parts, formatted_parts, free_segment, IsUnlabelledOrFormatted};
+ghost use Rattle.volume_images.specs.Left.{IsTold, LeavesImage, HasFailed, fault_of_bay};
+ghost use Rattle.volume_images.specs.Settled.{AreSettled};
+ghost use Rattle.volume_images.specs.Volumes.{shape_in};
+ghost use Rattle.volume_images.specs.declared.fault.PartName.{PartName};
+ghost use Rattle.wol_bay.specs.Bay.{IsHome, outs};
+ghost use Rattle.wol_bay.specs.Parts.{sizes_of, blocks_of};
+ghost use Rattle.wol_config.specs.Configs.{IsValid};
+ghost use Rattle.wol_config.specs.declared.config.VolumeConf.{VolumeConf};
 ghost use Rattle.wol_disk.specs.Disk.{Block, Rose, IsImageOf};
 ghost use Rattle.wol_disk.specs.Zeros.{zeros};
 ghost use Rattle.wol_model.specs.Heads.{IsShape};
-ghost use Rattle.wol_bay.specs.Bay.{IsHome, outs};
-ghost use Rattle.wol_bay.specs.Parts.{sizes_of, blocks_of};
-ghost use Rattle.log_layout.specs.Values.{shape_of};
-ghost use Rattle.volume_images.specs.Settled.{AreSettled};
-ghost use Rattle.volume_images.specs.Formatted.{part_sizes, blank_parts, formatted_parts, free_segment, IsUnlabelledOrFormatted};
-ghost use Rattle.volume_images.specs.Left.{IsTold, LeavesImage, HasFailed, fault_of_bay};
-ghost use Rattle.wol_config.specs.Configs.{IsValid};
-ghost use Rattle.wol_config.specs.declared.config.VolumeConf.{VolumeConf};
-ghost use Rattle.volume_images.specs.Volumes.{shape_in};
-ghost use Rattle.volume_images.specs.declared.fault.PartName.{PartName};
 
 use crate::content::Content;
 use crate::fault::{PartName, RackFault};

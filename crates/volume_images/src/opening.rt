@@ -1,17 +1,17 @@
 // An image is opened, in one use of its spindle.
-ghost use Rattle.std.specs.Prelude.{◌≡◌, ◌⊎◌, ◌≤◌, ◌∷◌, ◌++◌, [], false, ℕ, option_map, IfOk, IfErr, OnOk, OnErr, IfSome, IsErrOf};
-ghost use Rattle.wol_disk.specs.Disk.{Rose};
-ghost use Rattle.wol_model.specs.Heads.{IsShape};
-ghost use Rattle.wol_model.specs.Journal.{Needed, Done};
-ghost use Rattle.turn_lock.specs.Passes.{pass_lock, pass_number, pass_mine, IsPassOf, IsFree, IsSamePass};
-ghost use Rattle.wol_bay.specs.Bay.{IsHome, outs, sent_out};
-ghost use Rattle.wol_bay.specs.Refusals.{blocks_at};
-ghost use Rattle.spin_model.specs.Operations.{has_token, operation_of};
 ghost use Rattle.log_layout.specs.Values.{shape_of};
+ghost use Rattle.spin_model.specs.Operations.{has_token, operation_of};
+ghost use Rattle.std.specs.Prelude.{◌≡◌, ◌⊎◌, ◌≤◌, ◌∷◌, ◌++◌, [], false, ℕ, option_map, IfOk, IfErr, OnOk, OnErr, IfSome, IsErrOf};
+ghost use Rattle.turn_lock.specs.Passes.{pass_lock, pass_number, pass_mine, IsPassOf, IsFree, IsSamePass};
 ghost use Rattle.volume_images.specs.Formatted.{part_sizes};
 ghost use Rattle.volume_images.specs.Left.{IsTold};
 ghost use Rattle.volume_images.specs.Refusals.{IsCutOpenable, SaysSo, Refuses, IsCallFault, refusal_of_bay};
 ghost use Rattle.volume_images.specs.declared.reading.ImageFault.{ImageFault};
+ghost use Rattle.wol_bay.specs.Bay.{IsHome, outs, sent_out};
+ghost use Rattle.wol_bay.specs.Refusals.{blocks_at};
+ghost use Rattle.wol_disk.specs.Disk.{Rose};
+ghost use Rattle.wol_model.specs.Heads.{IsShape};
+ghost use Rattle.wol_model.specs.Journal.{Needed, Done};
 
 use crate::attach::{OutImage, read_out, send_out};
 use crate::reading::ImageFault;

@@ -1,13 +1,13 @@
 // What one image says is read: its label, its view, and the heads of its segments.
-ghost use Rattle.std.specs.Prelude.{◌≡◌, ◌≤◌, ◌<◌, ◌^◌, [], ℕ, List, length, option_map, IfOk, IfErr, OnOk, IsErrOf, All, vec_capacity};
-ghost use Rattle.wol_disk.specs.Disk.{settled};
-ghost use Rattle.wol_model.specs.Heads.{IsShape};
-ghost use Rattle.spin_model.specs.Spun.{volume_of, state_of, token_volume};
 ghost use Rattle.log_layout.specs.Values.{shape_of};
+ghost use Rattle.spin_model.specs.Spun.{volume_of, state_of, token_volume};
+ghost use Rattle.std.specs.Prelude.{◌≡◌, ◌≤◌, ◌<◌, ◌^◌, [], ℕ, List, length, option_map, IfOk, IfErr, OnOk, IsErrOf, All, vec_capacity};
 ghost use Rattle.volume_images.specs.Accepted.{head_place};
+ghost use Rattle.volume_images.specs.Heads.{SayHeads, AlwaysSay, IsDamagedSegment, RoseAt, AreCalm};
 ghost use Rattle.volume_images.specs.ImageParts.{ArePartsOf, IsReadImage, IsCalmImage, MayOpen, MayNotOpen};
 ghost use Rattle.volume_images.specs.Reads.{AreOnlyRead};
-ghost use Rattle.volume_images.specs.Heads.{SayHeads, AlwaysSay, IsDamagedSegment, RoseAt, AreCalm};
+ghost use Rattle.wol_disk.specs.Disk.{settled};
+ghost use Rattle.wol_model.specs.Heads.{IsShape};
 
 use crate::heads::{HeadFault, read_head};
 use crate::parts::ImageParts;

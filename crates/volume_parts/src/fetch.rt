@@ -1,10 +1,10 @@
 // Reads of a part that is reached under the lock of its spindle.
-ghost use Rattle.std.specs.Prelude.{false, ◌≡◌, ◌+◌, ◌≤◌, length, take, drop, OnOk, IfSome, IsErr};
-ghost use Rattle.turn_lock.specs.Passes.{pass_lock, pass_mine, IsPassOf, IsFree, IsSamePass};
-ghost use Rattle.wol_disk.specs.Disk.{LeavesOnly, IsImageOf, Rose, reads};
 ghost use Rattle.spin_model.specs.Operations.{has_token};
 ghost use Rattle.spin_model.specs.Spun.{state_of, volume_of};
+ghost use Rattle.std.specs.Prelude.{false, ◌≡◌, ◌+◌, ◌≤◌, length, take, drop, OnOk, IfSome, IsErr};
+ghost use Rattle.turn_lock.specs.Passes.{pass_lock, pass_mine, IsPassOf, IsFree, IsSamePass};
 ghost use Rattle.volume_parts.specs.Accesses.{HasUsedOnce};
+ghost use Rattle.wol_disk.specs.Disk.{LeavesOnly, IsImageOf, Rose, reads};
 
 use spin_model::{Spindle, Spun, give_token, take_token};
 use std::sync::Wait;

@@ -1,16 +1,16 @@
 // Groups: which items go to a log together, and how a lane takes them.
-ghost use Rattle.std.specs.Prelude.{◌≡◌, ◌+◌, ◌-◌, ◌≤◌, ◌<◌, ◌^◌, true, not, None, Some, IfSome, IsNone, MatchOption, length, take, slice_get};
-ghost use Rattle.std.specs.List.{AllByRecursion, list_any};
-ghost use Rattle.wol_model.specs.Index.{listed_in};
 ghost use Rattle.log_segment.specs.Records.{group_of, count_of, AreItems};
 ghost use Rattle.log_segment.specs.declared.item.Item.{Item};
 ghost use Rattle.logger.specs.Lanes.{IsLane, HoldsAll, IsAt, AreWhole, first_count, lane_owner, held_in, taken_in, pool_blocks};
-ghost use Rattle.volume_parts.specs.Offers.{IsTurnedAway, HasTakenWrite};
-ghost use Rattle.volume_parts.specs.Puts.{PutIn};
-ghost use Rattle.volume_parts.specs.Offers.{passed_in};
 ghost use Rattle.offload_policy.specs.Placing.{may_hold};
-ghost use Rattle.volume_parts.specs.Listing.{recs_at, entered_all};
+ghost use Rattle.std.specs.List.{AllByRecursion, list_any};
+ghost use Rattle.std.specs.Prelude.{◌≡◌, ◌+◌, ◌-◌, ◌≤◌, ◌<◌, ◌^◌, true, not, None, Some, IfSome, IsNone, MatchOption, length, take, slice_get};
 ghost use Rattle.volume_parts.specs.Joining.{meets, is_covered_behind, GoTogether, room_for};
+ghost use Rattle.volume_parts.specs.Listing.{recs_at, entered_all};
+ghost use Rattle.volume_parts.specs.Offers.{IsTurnedAway, HasTakenWrite};
+ghost use Rattle.volume_parts.specs.Offers.{passed_in};
+ghost use Rattle.volume_parts.specs.Puts.{PutIn};
+ghost use Rattle.wol_model.specs.Index.{listed_in};
 
 use log_segment::Item;
 use logger::{Lane, Shared, Spot};

@@ -1,8 +1,8 @@
 // Writes to home, between a turn in which its spindle is needed and one in which it is done.
-ghost use Rattle.std.specs.Prelude.{◌≡◌, ◌+◌, ◌≤◌, false, length};
-ghost use Rattle.turn_lock.specs.Passes.{pass_lock, pass_mine, IsPassOf, IsFree, IsSamePass};
 ghost use Rattle.spin_model.specs.Operations.{has_token};
 ghost use Rattle.spin_model.specs.Spun.{state_of, volume_of, token_volume};
+ghost use Rattle.std.specs.Prelude.{◌≡◌, ◌+◌, ◌≤◌, false, length};
+ghost use Rattle.turn_lock.specs.Passes.{pass_lock, pass_mine, IsPassOf, IsFree, IsSamePass};
 ghost use Rattle.volume_parts.specs.Accesses.{HasUsedOnce, Stored};
 
 use spin_model::{Awake, Spindle, Spun, give_token, take_token};

@@ -1,12 +1,12 @@
 // Blocks that are put home: each run of the mask's blocks is written in one call, and all are synced once.
-ghost use Rattle.std.specs.Prelude.{◌≡◌, ◌+◌, ◌≤◌, ◌<◌, ℕ, false, length};
-ghost use Rattle.turn_lock.specs.Passes.{pass_lock, pass_mine, IsPassOf, IsFree, IsSamePass};
+ghost use Rattle.listed_records.specs.Changes.{put_block};
 ghost use Rattle.spin_model.specs.Operations.{has_token};
 ghost use Rattle.spin_model.specs.Spun.{state_of, volume_of, token_volume};
-ghost use Rattle.wol_model.specs.Log.{has_bit};
+ghost use Rattle.std.specs.Prelude.{◌≡◌, ◌+◌, ◌≤◌, ◌<◌, ℕ, false, length};
+ghost use Rattle.turn_lock.specs.Passes.{pass_lock, pass_mine, IsPassOf, IsFree, IsSamePass};
 ghost use Rattle.volume_parts.specs.Accesses.{HasUsedOnce};
 ghost use Rattle.volume_parts.specs.Accesses.{IsPut};
-ghost use Rattle.listed_records.specs.Changes.{put_block};
+ghost use Rattle.wol_model.specs.Log.{has_bit};
 
 use spin_model::{Awake, Spindle, Spun, give_token, take_token};
 use std::sync::Wait;

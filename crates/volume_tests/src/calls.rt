@@ -1,7 +1,7 @@
 // What a manager is asked for.
-ghost use Rattle.std.specs.Prelude.{◌≤◌, ◌+◌, length};
 ghost use Rattle.log_segment.specs.Records.{count_of};
 ghost use Rattle.manager.specs.Groups.{AreItemsOf};
+ghost use Rattle.std.specs.Prelude.{◌≤◌, ◌+◌, length};
 ghost use Rattle.volume_tests.specs.Rigs.{IsRig};
 
 use crate::rig::Rig;

@@ -1,8 +1,8 @@
 // A disk in memory that counts how often it was synced.
 ghost use Rattle.std.specs.Prelude.{◌≡◌, ◌+◌, ◌≤◌, length, take, drop, option_map, OnOk, OnErr, IfSome, IsErr, true};
+ghost use Rattle.volume_tests.specs.Counting.{counting_state};
 ghost use Rattle.wol_disk.specs.Disk.{added, settled, reads, AddsSomeOf, Passes};
 ghost use Rattle.wol_disk.specs.Memory.{mem_sound, mem_told};
-ghost use Rattle.volume_tests.specs.Counting.{counting_state};
 
 use wol_disk::{Block, Disk, Failed, MemDisk};
 

@@ -1,15 +1,15 @@
 // The machine: all volumes and all disks by one policy.
-ghost use Rattle.std.specs.Prelude.{◌≡◌, ◌<◌, ◌≤◌, ◌+◌, ◌^◌, ◌++◌, ◌∷◌, [], ℕ, true, false, List, length, map, OnOk, OnErr, IfOk, if◌then◌else◌};
 ghost use Rattle.std.specs.List.{AllByRecursion, range_with_len};
-ghost use Rattle.wol_model.specs.Journal.{SpindleState, Began, ArePowers, used};
-ghost use Rattle.wol_config.specs.Configs.{IsValid};
+ghost use Rattle.std.specs.Prelude.{◌≡◌, ◌<◌, ◌≤◌, ◌+◌, ◌^◌, ◌++◌, ◌∷◌, [], ℕ, true, false, List, length, map, OnOk, OnErr, IfOk, if◌then◌else◌};
+ghost use Rattle.whatif.specs.Disks.{AreDisks, AreKeptTo, IsKept, moments_of};
 ghost use Rattle.whatif.specs.Machine.{Asked, all_sleeps, all_units, all_wakes, asking, seeing, tidying};
 ghost use Rattle.whatif.specs.Policies.{compared, goes_down, machine_after};
-ghost use Rattle.whatif.specs.declared.policy.Policy.{Policy};
-ghost use Rattle.wol_config.specs.declared.config.Config.{Config};
-ghost use Rattle.whatif.specs.Disks.{AreDisks, AreKeptTo, IsKept, moments_of};
-ghost use Rattle.whatif.specs.Volumes.{volume_in};
 ghost use Rattle.whatif.specs.Stands.{AreNew, AreReady, HasRun, HaveTurned, IsAmong, IsAsk, IsMachine, Stands};
+ghost use Rattle.whatif.specs.Volumes.{volume_in};
+ghost use Rattle.whatif.specs.declared.policy.Policy.{Policy};
+ghost use Rattle.wol_config.specs.Configs.{IsValid};
+ghost use Rattle.wol_config.specs.declared.config.Config.{Config};
+ghost use Rattle.wol_model.specs.Journal.{SpindleState, Began, ArePowers, used};
 
 use crate::disk::Disk;
 use crate::policy::{Ask, Compared, Policy};

@@ -1,10 +1,10 @@
 // What a volume puts home and gives up after a window.
-ghost use Rattle.std.specs.Prelude.{◌≡◌, ◌<◌, ◌≤◌, ℕ, true, false, List, length, IfNone, IfSome, None, is_none};
 ghost use Rattle.std.specs.List.{AllByRecursion};
-ghost use Rattle.wol_model.specs.Index.{left, listed_in};
-ghost use Rattle.whatif.specs.Machine.{Reach, give_step, put_step, next_due, next_to_go, reclaiming};
+ghost use Rattle.std.specs.Prelude.{◌≡◌, ◌<◌, ◌≤◌, ℕ, true, false, List, length, IfNone, IfSome, None, is_none};
 ghost use Rattle.whatif.specs.Disks.{IsKept, moments_of};
+ghost use Rattle.whatif.specs.Machine.{Reach, give_step, put_step, next_due, next_to_go, reclaiming};
 ghost use Rattle.whatif.specs.Volumes.{HasDone, IsVolume, IsWithin, StaysOpen, give_answer, look_in, put_answer, reach_in};
+ghost use Rattle.wol_model.specs.Index.{left, listed_in};
 
 use crate::disk::{Disk, access_at};
 use crate::volume::Volume;

@@ -1,13 +1,13 @@
 // One volume: what of it is logged, which disks it sees awake, and what its requests do.
-ghost use Rattle.std.specs.Prelude.{◌≡◌, ◌<◌, ◌≤◌, ◌+◌, ◌-◌, ◌^◌, ◌&&◌, ℕ, not, false, List, length, slice_set, slice_index_or, OnOk, IfOk, None};
 ghost use Rattle.std.specs.List.{AllByRecursion};
-ghost use Rattle.wol_model.specs.Journal.{SpindleState};
+ghost use Rattle.std.specs.Prelude.{◌≡◌, ◌<◌, ◌≤◌, ◌+◌, ◌-◌, ◌^◌, ◌&&◌, ℕ, not, false, List, length, slice_set, slice_index_or, OnOk, IfOk, None};
+ghost use Rattle.whatif.specs.Disks.{AreDisks, IsKept, moments_of};
+ghost use Rattle.whatif.specs.Machine.{Reach, answering, first_look, reading, seeing, source_of, write_of, writing};
+ghost use Rattle.whatif.specs.Volumes.{HasDone, IsVolume, IsWithin, look_in, reach_in, volume_in};
 ghost use Rattle.wol_model.specs.Index.{listed_in};
+ghost use Rattle.wol_model.specs.Journal.{SpindleState};
 ghost use Rattle.wol_model.specs.Placing.{Log};
 ghost use Rattle.wol_promise.specs.Policy.{placed, woken};
-ghost use Rattle.whatif.specs.Machine.{Reach, answering, first_look, reading, seeing, source_of, write_of, writing};
-ghost use Rattle.whatif.specs.Disks.{AreDisks, IsKept, moments_of};
-ghost use Rattle.whatif.specs.Volumes.{HasDone, IsVolume, IsWithin, look_in, reach_in, volume_in};
 
 use crate::disk::{Disk, access_at};
 use crate::policy::Ask;

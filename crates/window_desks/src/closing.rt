@@ -1,12 +1,12 @@
 // The reclaim turns after the requests.
+ghost use Rattle.manager.specs.Stands.{IsShared};
+ghost use Rattle.request_turns.specs.Helped.{IsPassAt};
 ghost use Rattle.std.specs.Prelude.{◌≡◌, ◌<◌, ℕ, length, slice_index_or, None};
 ghost use Rattle.turn_lock.specs.Passes.{pass_lock};
-ghost use Rattle.wol_model.specs.History.{worker};
-ghost use Rattle.manager.specs.Stands.{IsShared};
 ghost use Rattle.window_desks.specs.Closed.{HasClosedDesk, AreClosed};
 ghost use Rattle.window_desks.specs.Desks.{AreAt, ShareDesks};
-ghost use Rattle.request_turns.specs.Helped.{IsPassAt};
 ghost use Rattle.window_desks.specs.declared.desk.Desk.{Desk};
+ghost use Rattle.wol_model.specs.History.{worker};
 
 use crate::desk::Desk;
 use crate::request::Reclaim;

@@ -1,7 +1,7 @@
 // The requests of a window, each for the desk of its volume.
 ghost use Rattle.std.specs.Prelude.{◌<◌, [], ℕ, length, slice_index_or, OnOk};
-ghost use Rattle.window_desks.specs.Handed.{IsHanded, HasTaken, AreHandedOut};
 ghost use Rattle.window_desks.specs.Floors.{AreSameButRoom, IsSameButRoom};
+ghost use Rattle.window_desks.specs.Handed.{IsHanded, HasTaken, AreHandedOut};
 ghost use Rattle.window_desks.specs.Requests.{AreOfVolumes};
 ghost use Rattle.window_desks.specs.declared.desk.Desk.{Desk};
 

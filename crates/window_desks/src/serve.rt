@@ -1,16 +1,16 @@
 // Serving the requests of one volume, in batches of consecutive writes.
-ghost use Rattle.std.specs.Prelude.{◌≡◌, ◌≤◌, ◌<◌, ◌+◌, ◌++◌, [], ℕ, All, length, replicate, vec_len, vec_capacity, slice_range};
-ghost use Rattle.turn_lock.specs.Passes.{pass_lock};
-ghost use Rattle.wol_model.specs.History.{worker};
 ghost use Rattle.manager.specs.Stands.{IsShared};
+ghost use Rattle.request_turns.specs.Answered.{HasAnsweredMany};
+ghost use Rattle.request_turns.specs.Counts.{HasCounted};
 ghost use Rattle.request_turns.specs.Helped.{IsPassAt};
 ghost use Rattle.request_turns.specs.Requests.{IsWithin};
-ghost use Rattle.request_turns.specs.Counts.{HasCounted};
-ghost use Rattle.request_turns.specs.Answered.{HasAnsweredMany};
+ghost use Rattle.std.specs.Prelude.{◌≡◌, ◌≤◌, ◌<◌, ◌+◌, ◌++◌, [], ℕ, All, length, replicate, vec_len, vec_capacity, slice_range};
+ghost use Rattle.turn_lock.specs.Passes.{pass_lock};
 ghost use Rattle.window_desks.specs.Batches.{IsBatch};
 ghost use Rattle.window_desks.specs.Desks.{IsReadyDesk, IsReadyAt};
 ghost use Rattle.window_desks.specs.Requests.{was_answered};
 ghost use Rattle.window_desks.specs.Served.{HasServed, HasServedUpTo};
+ghost use Rattle.wol_model.specs.History.{worker};
 
 use crate::batch::first_batch;
 use crate::desk::Desk;

@@ -1,7 +1,7 @@
 // What a bay in memory notes of the parts that came back with a fault.
 ghost use Rattle.std.specs.Prelude.{◌≡◌, ◌≢◌, ◌+◌, ◌≤◌, ◌<◌, ◌++◌, [], MatchBool, flat_map, length, vec_len, vec_capacity};
-ghost use Rattle.wol_bay.specs.Parts.{faulty_places};
 ghost use Rattle.wol_bay.specs.MemBay.{named_places};
+ghost use Rattle.wol_bay.specs.Parts.{faulty_places};
 
 use crate::held::Faulty;
 use wol_disk::{Disk, MemDisk, StopDisk};

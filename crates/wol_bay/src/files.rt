@@ -1,7 +1,7 @@
 // Images in a folder, each in a file of its own.
 ghost use Rattle.std.specs.Prelude.{◌≡◌, ◌≢◌, ◌+◌, ◌≤◌, [], None, OnOk, OnErr, IfOk, MatchBool, length, option_map, ◌<◌, ◌^◌, ◌*◌, IsErr};
-ghost use Rattle.wol_bay.specs.Parts.{AreBlank, AreCut, blocks_of, faulty_places};
 ghost use Rattle.wol_bay.specs.Bay.{came_back};
+ghost use Rattle.wol_bay.specs.Parts.{AreBlank, AreCut, blocks_of, faulty_places};
 ghost use Rattle.wol_disk.specs.Disk.{Rose};
 
 use crate::bays::Bay;
@@ -56,8 +56,8 @@ pub struct FilePart {
 }
 
 impl<'a, R: Files<File = File>> FileBay<'a, R> {
-    ghost use Rattle.wol_bay.specs.FileBay.{file_bay_state};
     ghost use Rattle.wol_bay.specs.Bay.{BayState};
+    ghost use Rattle.wol_bay.specs.FileBay.{file_bay_state};
 
     /// The bay of this folder, without a bound on files.
     pub fn new(rt: R, alloc: Global, folder: &'a str) -> FileBay<'a, R>
@@ -356,8 +356,8 @@ impl FilePart {
 }
 
 impl Disk for FilePart {
-    ghost use Rattle.wol_bay.specs.FilePart.{file_part_state, file_part_sound, file_part_told};
     ghost use Rattle.std.specs.Prelude.{false};
+    ghost use Rattle.wol_bay.specs.FilePart.{file_part_state, file_part_sound, file_part_told};
 
     ghost state = { file_part_state };
 

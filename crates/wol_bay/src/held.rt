@@ -1,8 +1,8 @@
 // What a bay in memory keeps: its images, the names that are out, and the faults that it was told of.
 ghost use Rattle.std.specs.Prelude.{◌≡◌, ◌≤◌, ◌<◌, ◌+◌, ◌*◌, [], IfOk, length, sum, string_bytes, vec_capacity, vec_len};
+ghost use Rattle.wol_bay.specs.Stored.{stored_blocks};
 ghost use Rattle.wol_disk.specs.Disk.{only};
 ghost use Rattle.wol_disk.specs.Memory.{mem_values};
-ghost use Rattle.wol_bay.specs.Stored.{stored_blocks};
 
 use crate::names::Entry;
 use std::alloc::Global;

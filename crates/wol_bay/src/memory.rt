@@ -1,12 +1,12 @@
 // Images in memory.
+ghost use Rattle.std.specs.Arc.{arc_value};
 ghost use Rattle.std.specs.Prelude.{◌≡◌, ◌≢◌, ◌+◌, ◌*◌, ◌≤◌, [], ◌∷◌, Some, None, IfSome, IfOk, OnOk, OnErr, IfErr, IsErrOf, ◌⊎◌, ◌++◌, length, map, sum, option_map, vec_len, vec_capacity};
-ghost use Rattle.wol_bay.specs.Parts.{AreBlank, AreCut, blocks_of, sizes_of, faulty_places};
-ghost use Rattle.wol_bay.specs.Stored.{stored_blocks};
 ghost use Rattle.wol_bay.specs.Bay.{AreApart};
 ghost use Rattle.wol_bay.specs.Held.{named_image};
+ghost use Rattle.wol_bay.specs.Parts.{AreBlank, AreCut, blocks_of, sizes_of, faulty_places};
+ghost use Rattle.wol_bay.specs.Stored.{stored_blocks};
 ghost use Rattle.wol_disk.specs.BlockValues.{all_values};
 ghost use Rattle.wol_disk.specs.Disk.{Rose};
-ghost use Rattle.std.specs.Arc.{arc_value};
 
 use crate::bays::Bay;
 use crate::fault::BayFault;
@@ -48,12 +48,12 @@ fn list_parts(alloc: Global, parts: &[StopDisk<MemDisk>]) -> Result<Vec<BlockVal
 }
 
 impl MemBay {
-    ghost use Rattle.wol_disk.specs.Plan.{no_plan};
-    ghost use Rattle.wol_disk.specs.Memory.{mem_state, plan_of};
-    ghost use Rattle.wol_bay.specs.Refusals.{blocks_at, refusal};
     ghost use Rattle.wol_bay.specs.Bay.{BayState, Told, IsHome, Holds, sent_out, image_of, removed, restarted, with_image};
-    ghost use Rattle.wol_bay.specs.Plans.{Planned, plans_without};
     ghost use Rattle.wol_bay.specs.MemBay.{mem_bay_state, plans_of, bay_fuse, AreArmed};
+    ghost use Rattle.wol_bay.specs.Plans.{Planned, plans_without};
+    ghost use Rattle.wol_bay.specs.Refusals.{blocks_at, refusal};
+    ghost use Rattle.wol_disk.specs.Memory.{mem_state, plan_of};
+    ghost use Rattle.wol_disk.specs.Plan.{no_plan};
 
     /// A bay with no image.
     pub fn new(alloc: Global) -> MemBay
@@ -293,9 +293,9 @@ impl MemBay {
 impl Bay for MemBay {
     type Part = StopDisk<MemDisk>;
 
+    ghost use Rattle.wol_bay.specs.Bay.{IsHome, IsOut, sent_out, came_back};
     ghost use Rattle.wol_bay.specs.MemBay.{mem_bay_state, plans_of, bay_fuse, AreArmed};
     ghost use Rattle.wol_bay.specs.Plans.{Planned, plans_without};
-    ghost use Rattle.wol_bay.specs.Bay.{IsHome, IsOut, sent_out, came_back};
     ghost use Rattle.wol_bay.specs.Refusals.{blocks_at, refusal, IsAnswered};
 
     ghost state = { mem_bay_state };

@@ -1,8 +1,8 @@
 // What a restart leaves of an image in memory.
 ghost use Rattle.std.specs.Prelude.{◌≡◌, drop};
+ghost use Rattle.wol_bay.specs.Stored.{stored_blocks};
 ghost use Rattle.wol_disk.specs.Disk.{only};
 ghost use Rattle.wol_disk.specs.Record.{chosen};
-ghost use Rattle.wol_bay.specs.Stored.{stored_blocks};
 
 use wol_disk::{Disk, MemDisk, StopDisk};
 

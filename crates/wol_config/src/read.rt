@@ -2,9 +2,9 @@
 ghost use Rattle.std.specs.Prelude.{◌≡◌, ◌*◌, ◌<◌, ◌≤◌, None, IfOk, IfErr, IsErrOf, length};
 ghost use Rattle.toml.specs.Data.{Members};
 ghost use Rattle.toml.specs.View.{table_view};
-ghost use Rattle.wol_config.specs.Keys.{key_fault};
-ghost use Rattle.wol_config.specs.Documents.{number_or, number_at, first_fault, power_keys, document_fault};
 ghost use Rattle.wol_config.specs.Configs.{IsDocument, IsConfigOf, IsAnswer, IsRefusal, IsValid};
+ghost use Rattle.wol_config.specs.Documents.{number_or, number_at, first_fault, power_keys, document_fault};
+ghost use Rattle.wol_config.specs.Keys.{key_fault};
 
 use crate::values::{as_number, find, number, tables};
 use crate::volumes::volumes;

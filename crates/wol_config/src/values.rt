@@ -1,10 +1,10 @@
 // The values at the keys of a table.
-ghost use Rattle.std.specs.Prelude.{◌≡◌, ◌≤◌, ℕ, Bool, false, true, None, Some, IfOk, IfErr, option_map, length};
 ghost use Rattle.std.specs.List.{list_all};
-ghost use Rattle.toml.specs.View.{table_view, view, items_view};
+ghost use Rattle.std.specs.Prelude.{◌≡◌, ◌≤◌, ℕ, Bool, false, true, None, Some, IfOk, IfErr, option_map, length};
 ghost use Rattle.toml.specs.Data.{get_member, string, array};
-ghost use Rattle.wol_config.specs.Keys.{key_text, key_fault, value_fault, number_from_to, text_of, tables_from_to, texts_up_to, judged, may_miss, is_table, is_text, is_between};
+ghost use Rattle.toml.specs.View.{table_view, view, items_view};
 ghost use Rattle.wol_config.specs.Documents.{number_of, number_at};
+ghost use Rattle.wol_config.specs.Keys.{key_text, key_fault, value_fault, number_from_to, text_of, tables_from_to, texts_up_to, judged, may_miss, is_table, is_text, is_between};
 
 use crate::{ConfigFault, Key};
 use toml::{Table, Value};

@@ -1,12 +1,12 @@
 // The views of the volumes.
-ghost use Rattle.std.specs.Prelude.{◌≡◌, ◌≤◌, Bool, true, None, ◌<◌, IfErr, IfSome, OnOk, SomeIff, length, map, position};
 ghost use Rattle.std.specs.List.{list_all};
+ghost use Rattle.std.specs.Prelude.{◌≡◌, ◌≤◌, Bool, true, None, ◌<◌, IfErr, IfSome, OnOk, SomeIff, length, map, position};
 ghost use Rattle.std.specs.Str.{bytes_eq};
 ghost use Rattle.toml.specs.View.{view};
-ghost use Rattle.wol_config.specs.Keys.{is_table, is_text};
-ghost use Rattle.wol_config.specs.Documents.{text_of, volume_in, volumes_fault, names_of, number_named, numbers_named, is_good_view, view_fault};
-ghost use Rattle.wol_config.specs.Tables.{members_in, names_in, texts_in};
 ghost use Rattle.wol_config.specs.Configs.{IsAnswer, volumes_of};
+ghost use Rattle.wol_config.specs.Documents.{text_of, volume_in, volumes_fault, names_of, number_named, numbers_named, is_good_view, view_fault};
+ghost use Rattle.wol_config.specs.Keys.{is_table, is_text};
+ghost use Rattle.wol_config.specs.Tables.{members_in, names_in, texts_in};
 
 use crate::values::texts;
 use crate::volumes::as_members;

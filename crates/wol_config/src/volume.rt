@@ -1,10 +1,10 @@
 // One volume, but for its view.
-ghost use Rattle.std.specs.Prelude.{◌≡◌, ◌&&◌, ◌||◌, ◌==◌, Bool, None, IfOk, IfErr, [], length};
 ghost use Rattle.std.specs.List.{list_all};
+ghost use Rattle.std.specs.Prelude.{◌≡◌, ◌&&◌, ◌||◌, ◌==◌, Bool, None, IfOk, IfErr, [], length};
 ghost use Rattle.toml.specs.View.{table_view};
-ghost use Rattle.wol_config.specs.Keys.{key_fault, is_between, is_name_byte, is_host_byte};
-ghost use Rattle.wol_config.specs.Documents.{text_at, first_fault, volume_keys, volume_in};
 ghost use Rattle.wol_config.specs.Configs.{IsAnswer};
+ghost use Rattle.wol_config.specs.Documents.{text_at, first_fault, volume_keys, volume_in};
+ghost use Rattle.wol_config.specs.Keys.{key_fault, is_between, is_name_byte, is_host_byte};
 
 use crate::values::{number, text, texts};
 use crate::{ConfigFault, Key, Name, VolumeConf};

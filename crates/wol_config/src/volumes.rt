@@ -1,11 +1,11 @@
 // All volumes of a document.
-ghost use Rattle.std.specs.Prelude.{◌≡◌, ◌≤◌, ◌<◌, Bool, true, None, IfOk, IfErr, OnOk, [], length, map};
 ghost use Rattle.std.specs.List.{list_all, list_any};
+ghost use Rattle.std.specs.Prelude.{◌≡◌, ◌≤◌, ◌<◌, Bool, true, None, IfOk, IfErr, OnOk, [], length, map};
 ghost use Rattle.toml.specs.View.{view, table_view};
-ghost use Rattle.wol_config.specs.Keys.{is_table};
-ghost use Rattle.wol_config.specs.Documents.{members_of, volume_in, volumes_fault, are_twins, twice_fault, tables_fault};
-ghost use Rattle.wol_config.specs.Tables.{members_in};
 ghost use Rattle.wol_config.specs.Configs.{IsAnswer, volumes_of};
+ghost use Rattle.wol_config.specs.Documents.{members_of, volume_in, volumes_fault, are_twins, twice_fault, tables_fault};
+ghost use Rattle.wol_config.specs.Keys.{is_table};
+ghost use Rattle.wol_config.specs.Tables.{members_in};
 
 use crate::views::set_views;
 use crate::volume::volume;

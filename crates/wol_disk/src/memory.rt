@@ -2,8 +2,8 @@
 ghost use Rattle.std.specs.Prelude.{◌≡◌, ◌+◌, ◌≤◌, ◌<◌, [], ◌∷◌, ◌++◌, length, take, drop, option_map, OnOk, OnErr, IfOk, IfSome, IsErr, Some};
 ghost use Rattle.wol_disk.specs.Disk.{reads, only, put, added, settled, AddsSomeOf, Passes, IsUnchanged};
 ghost use Rattle.wol_disk.specs.Plan.{GoesByPlan, no_plan, with_call};
-ghost use Rattle.wol_disk.specs.Zeros.{zeros};
 ghost use Rattle.wol_disk.specs.Record.{values_after, chosen};
+ghost use Rattle.wol_disk.specs.Zeros.{zeros};
 ghost use Rattle.wol_disk.specs.declared.record.Call.TheVariants.{Wrote, Synced};
 
 use crate::plan::FaultPlan;
@@ -81,9 +81,9 @@ fn note_sync(calls: &mut Vec<Call>) -> Result<(), AllocError>
 }
 
 impl MemDisk {
-    ghost use Rattle.wol_disk.specs.Memory.{mem_state, mem_values, plan_of};
-    ghost use Rattle.wol_disk.specs.Later.{added_each};
     ghost use Rattle.wol_disk.specs.BlockValues.{all_values};
+    ghost use Rattle.wol_disk.specs.Later.{added_each};
+    ghost use Rattle.wol_disk.specs.Memory.{mem_state, mem_values, plan_of};
 
     /// A disk of so many zero blocks, of which no call is planned to fail.
     pub fn new(alloc: Global, blocks: u64) -> Result<MemDisk, NoMemory>
@@ -203,8 +203,8 @@ impl MemDisk {
 }
 
 impl Disk for MemDisk {
-    ghost use Rattle.wol_disk.specs.Memory.{mem_state, mem_sound, mem_told, plan_of};
     ghost use Rattle.std.specs.Prelude.{true};
+    ghost use Rattle.wol_disk.specs.Memory.{mem_state, mem_sound, mem_told, plan_of};
 
     ghost state = { mem_state };
 

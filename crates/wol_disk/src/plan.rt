@@ -1,7 +1,7 @@
 // The calls of a disk in memory that are to fail.
 ghost use Rattle.std.specs.Prelude.{◌≡◌, ◌≤◌, OnOk, OnErr, IsErr};
-ghost use Rattle.wol_disk.specs.Plan.{Plan, GoesByPlan};
 ghost use Rattle.wol_disk.specs.Disk.{next_count};
+ghost use Rattle.wol_disk.specs.Plan.{Plan, GoesByPlan};
 
 use crate::Failed;
 use std::alloc::{AllocError, Global};

@@ -128,8 +128,8 @@ impl<D: Disk> StopDisk<D> {
 
 impl StopDisk<MemDisk> {
     ghost use Rattle.wol_disk.specs.Memory.{mem_state, mem_values, plan_of};
-    ghost use Rattle.wol_disk.specs.Stop.{inner_of, fuse_of};
     ghost use Rattle.wol_disk.specs.Record.{chosen};
+    ghost use Rattle.wol_disk.specs.Stop.{inner_of, fuse_of};
 
     /// Leaves one image of the inner disk, as a crash does.
     pub fn restart(&mut self, choice: &[u32])

@@ -19,9 +19,9 @@ pub struct BlockValues {
 }
 
 impl BlockValues {
-    ghost use Rattle.wol_disk.specs.Touch.{touched};
-    ghost use Rattle.wol_disk.specs.Record.{block_after};
     ghost use Rattle.wol_disk.specs.BlockValues.{oldest_of, later_of, values_of};
+    ghost use Rattle.wol_disk.specs.Record.{block_after};
+    ghost use Rattle.wol_disk.specs.Touch.{touched};
 
     // A block that has this value and no other.
     fn new(alloc: Global, value: Block) -> BlockValues

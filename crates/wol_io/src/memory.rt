@@ -1,10 +1,10 @@
 // Sources and sinks in memory, which fail where they were planned to.
-ghost use Rattle.std.specs.Prelude.{◌≡◌, ◌≢◌, ◌↔◌, ◌<◌, ◌≤◌, [], ◌++◌, length, drop, IsErr, IfOk, OnOk, OnErr};
-ghost use Rattle.std.specs.Io.{ReadsAtMost};
 ghost use Rattle.std.specs.Io.KnownBytes.{ReadConsumes};
+ghost use Rattle.std.specs.Io.{ReadsAtMost};
+ghost use Rattle.std.specs.Prelude.{◌≡◌, ◌≢◌, ◌↔◌, ◌<◌, ◌≤◌, [], ◌++◌, length, drop, IsErr, IfOk, OnOk, OnErr};
 ghost use Rattle.wol_disk.specs.Disk.{Rose};
-ghost use Rattle.wol_io.specs.Plan.{after_call, faults_of, FallsShort, fresh};
 ghost use Rattle.wol_io.specs.Memory.{handed, most_of};
+ghost use Rattle.wol_io.specs.Plan.{after_call, faults_of, FallsShort, fresh};
 ghost use Rattle.wol_io.specs.Streams.{SinkTakes};
 
 use crate::plan::Plan;

@@ -14,8 +14,8 @@ pub struct Plan {
 }
 
 impl Model for Plan {
-    ghost use Rattle.std.specs.Prelude.{◌≡◌};
     ghost use Rattle.std.specs.Option.{ForSome};
+    ghost use Rattle.std.specs.Prelude.{◌≡◌};
     ghost use Rattle.wol_io.specs.Plan.{Plan};
 
     ghost Value = { Plan };

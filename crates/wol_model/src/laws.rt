@@ -1,11 +1,11 @@
 // The laws of the definitions, each as a clause of a function without a body.
 ghost use Rattle.wol_model.specs.ArrayLaws.{AfterNothing, AfterMore, AfterLength, AfterPut, AfterWithin, AfterVersions, BlendBefore, BlendAfter};
-ghost use Rattle.wol_model.specs.HistoryLaws.{OneMoreReply, OneMoreEntry, WritesMore, FlightMore, CutWhole};
 ghost use Rattle.wol_model.specs.HeadLaws.{OneLabel, OneView, OneSegmentHead, OneRecordHead, GateIsNoHead, ReadingHeads, ReadingLogs, OneLog, NotBoth};
-ghost use Rattle.wol_model.specs.RecoveryLaws.{GivingUp, Emptied, Logging, WritingHome, CutShort, PuttingHome, Trimming, Retiring, Claiming, Appending};
+ghost use Rattle.wol_model.specs.HistoryLaws.{OneMoreReply, OneMoreEntry, WritesMore, FlightMore, CutWhole};
 ghost use Rattle.wol_model.specs.Holding.{OpeningStep, LoggingStep, HomeStep, HomeInFlight, PuttingStep, PuttingInFlight, GivingUpStep, EmptyStep, FewerHomed};
-ghost use Rattle.wol_model.specs.TraceLaws.{PiecesLie, PiecesCover, WindowsHaveAll, WindowsAre};
 ghost use Rattle.wol_model.specs.IndexLaws.{LiveIsNewest, LeastGoesOrIsDue, FullMask, MaskOr, MaskAnd, MaskWithout, IndexFinds, IndexFindsNone, Reading, PuttingLowers, GivingUpLowers};
+ghost use Rattle.wol_model.specs.RecoveryLaws.{GivingUp, Emptied, Logging, WritingHome, CutShort, PuttingHome, Trimming, Retiring, Claiming, Appending};
+ghost use Rattle.wol_model.specs.TraceLaws.{PiecesLie, PiecesCover, WindowsHaveAll, WindowsAre};
 
 /// Arrays after writes, and writes as a disk puts them.
 pub fn array_laws()

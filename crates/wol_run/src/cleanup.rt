@@ -1,6 +1,6 @@
 // The volumes of the configuration, cleaned.
-ghost use Rattle.wol_disk.specs.Disk.{Rose};
 ghost use Rattle.solo.specs.Images.{NoneOut};
+ghost use Rattle.wol_disk.specs.Disk.{Rose};
 ghost use Rattle.wol_run.specs.Cleaning.{RunsCleaning};
 ghost use Rattle.wol_run.specs.Completing.{HasSoundImages, HaveVersionsToClean};
 ghost use Rattle.wol_run.specs.Settings.{IsConfigured};

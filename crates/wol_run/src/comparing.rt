@@ -1,9 +1,9 @@
 // Policies compared on a trace.
-ghost use Rattle.std.specs.Prelude.{◌≡◌, ◌⊎◌, true};
-ghost use Rattle.wol_disk.specs.Disk.{Rose};
-ghost use Rattle.wol_config.specs.Configs.{IsValid};
-ghost use Rattle.replay.specs.Givens.{IsNew, borrow_of, faults_of};
 ghost use Rattle.comparison.specs.Compares.{MayCompare};
+ghost use Rattle.replay.specs.Givens.{IsNew, borrow_of, faults_of};
+ghost use Rattle.std.specs.Prelude.{◌≡◌, ◌⊎◌, true};
+ghost use Rattle.wol_config.specs.Configs.{IsValid};
+ghost use Rattle.wol_disk.specs.Disk.{Rose};
 ghost use Rattle.wol_run.specs.Comparing.{IsComparison, RunsWhatIf};
 ghost use Rattle.wol_run.specs.Completing.{IsGoodTrace};
 ghost use Rattle.wol_run.specs.Replaying.{HasLeft, HasSource, seen, trace_of};

@@ -1,10 +1,10 @@
 // The images of the configuration, formatted.
+ghost use Rattle.solo.specs.Images.{NoneOut};
 ghost use Rattle.std.specs.Prelude.{◌≡◌, IfOk};
+ghost use Rattle.volume_images.specs.Volumes.{shape_in};
+ghost use Rattle.wol_config.specs.Configs.{IsValid};
 ghost use Rattle.wol_model.specs.Heads.{IsShape};
 ghost use Rattle.wol_model.specs.Images.{image_size};
-ghost use Rattle.wol_config.specs.Configs.{IsValid};
-ghost use Rattle.volume_images.specs.Volumes.{shape_in};
-ghost use Rattle.solo.specs.Images.{NoneOut};
 ghost use Rattle.wol_run.specs.Formatting.{RunsFormat, fault_of, format_lines, trouble_of};
 ghost use Rattle.wol_run.specs.Tops.{TellsSink};
 

@@ -1,11 +1,11 @@
 // The volumes of the configuration, looked at.
+ghost use Rattle.solo.specs.Images.{NoneOut};
 ghost use Rattle.std.specs.Prelude.{◌≡◌};
 ghost use Rattle.wol_disk.specs.Disk.{Rose};
-ghost use Rattle.solo.specs.Images.{NoneOut};
-ghost use Rattle.wol_run.specs.Tops.{IsDoneOrMemory, TellsSink};
-ghost use Rattle.wol_run.specs.Settings.{IsConfigured};
 ghost use Rattle.wol_run.specs.Completing.{HasSoundImages};
 ghost use Rattle.wol_run.specs.Inspecting.{RunsLook, status_of_first};
+ghost use Rattle.wol_run.specs.Settings.{IsConfigured};
+ghost use Rattle.wol_run.specs.Tops.{IsDoneOrMemory, TellsSink};
 
 use crate::settings::config_of;
 use crate::telling::{NO_MEMORY, end_with, tell_fault};

@@ -1,13 +1,13 @@
 // Traces replayed on the volumes of the configuration.
-ghost use Rattle.std.specs.Prelude.{◌≡◌, ◌⊎◌, ◌≤◌, ◌^◌, true};
-ghost use Rattle.wol_disk.specs.Disk.{Rose};
-ghost use Rattle.wol_config.specs.Configs.{IsValid};
-ghost use Rattle.solo.specs.Images.{NoneOut};
-ghost use Rattle.replay.specs.Givens.{IsNew, IsWithin, borrow_of, faults_of};
-ghost use Rattle.wol_run.specs.Commands.{IsCount};
-ghost use Rattle.wol_run.specs.Replaying.{HasLeft, HasSource, IsReplay, RunsReplay, lines_of, options_as, reclaim_of, seen, trace_of};
 ghost use Rattle.replay.specs.Completes.{MayComplete};
+ghost use Rattle.replay.specs.Givens.{IsNew, IsWithin, borrow_of, faults_of};
+ghost use Rattle.solo.specs.Images.{NoneOut};
+ghost use Rattle.std.specs.Prelude.{◌≡◌, ◌⊎◌, ◌≤◌, ◌^◌, true};
+ghost use Rattle.wol_config.specs.Configs.{IsValid};
+ghost use Rattle.wol_disk.specs.Disk.{Rose};
+ghost use Rattle.wol_run.specs.Commands.{IsCount};
 ghost use Rattle.wol_run.specs.Completing.{HasSoundImages, HaveVersions, IsGoodTrace, seed_lines};
+ghost use Rattle.wol_run.specs.Replaying.{HasLeft, HasSource, IsReplay, RunsReplay, lines_of, options_as, reclaim_of, seen, trace_of};
 ghost use Rattle.wol_run.specs.Settings.{HasConfig, IsConfigured};
 ghost use Rattle.wol_run.specs.Tops.{IsDoneOrMemory, TellsSink};
 

@@ -1,8 +1,8 @@
 // A volume of the configuration, served to a client, at once or behind a handshake.
+ghost use Rattle.command_words.specs.Values.{served_by};
+ghost use Rattle.solo.specs.Images.{NoneOut};
 ghost use Rattle.std.specs.Prelude.{◌≡◌, ◌≤◌, ◌<◌};
 ghost use Rattle.wol_disk.specs.Disk.{Rose};
-ghost use Rattle.solo.specs.Images.{NoneOut};
-ghost use Rattle.command_words.specs.Values.{served_by};
 ghost use Rattle.wol_run.specs.Completing.{HasSoundImages};
 ghost use Rattle.wol_run.specs.Serving.{EndsAtClient, RunsServing, wire};
 ghost use Rattle.wol_run.specs.Settings.{IsConfigured};

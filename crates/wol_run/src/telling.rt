@@ -1,8 +1,8 @@
 // The last text of a run, and its status.
-ghost use Rattle.std.specs.Prelude.{◌≡◌, ◌≢◌, ◌≤◌, ◌<◌, ◌⊎◌, codes};
-ghost use Rattle.wol_disk.specs.Disk.{Rose};
 ghost use Rattle.report.specs.Faults.{fault_text, status_of as status_of_report};
 ghost use Rattle.report.specs.Names.{printed_names};
+ghost use Rattle.std.specs.Prelude.{◌≡◌, ◌≢◌, ◌≤◌, ◌<◌, ◌⊎◌, codes};
+ghost use Rattle.wol_disk.specs.Disk.{Rose};
 ghost use Rattle.wol_run.specs.Tops.{EndsWith, TellsFault, TellsSink, TellsStatus};
 
 use crate::status::{bad_line_text, fault_text, status_of};

@@ -1,6 +1,6 @@
 // The top call: the command that the words are, run to its exit status.
-ghost use Rattle.std.specs.Prelude.{map, string_bytes};
 ghost use Rattle.solo.specs.Images.{NoneOut};
+ghost use Rattle.std.specs.Prelude.{map, string_bytes};
 ghost use Rattle.wol_run.specs.Outside.{outside};
 ghost use Rattle.wol_run.specs.Run.{Run};
 

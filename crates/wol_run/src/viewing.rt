@@ -1,9 +1,9 @@
 // The view of a volume of the configuration, changed.
-ghost use Rattle.std.specs.Prelude.{◌≡◌, ◌⊎◌, codes};
-ghost use Rattle.wol_disk.specs.Disk.{Rose};
-ghost use Rattle.solo.specs.Images.{NoneOut};
-ghost use Rattle.view_commands.specs.Orders.{refusal_text};
 ghost use Rattle.command_words.specs.Values.{named_by};
+ghost use Rattle.solo.specs.Images.{NoneOut};
+ghost use Rattle.std.specs.Prelude.{◌≡◌, ◌⊎◌, codes};
+ghost use Rattle.view_commands.specs.Orders.{refusal_text};
+ghost use Rattle.wol_disk.specs.Disk.{Rose};
 ghost use Rattle.wol_run.specs.Completing.{HasSoundImages};
 ghost use Rattle.wol_run.specs.Settings.{IsConfigured};
 ghost use Rattle.wol_run.specs.Tops.{EndsWith, IsDoneOrMemory, TellsSink};

@@ -1,7 +1,7 @@
 // An image goes out and comes back, while no other is out.
+ghost use Rattle.bay_tests.specs.Home.{AreAllHome};
 ghost use Rattle.std.specs.Prelude.{◌≡◌, ◌≤◌, OnOk, IsTrue};
 ghost use Rattle.wol_bay.specs.Bay.{Holds};
-ghost use Rattle.bay_tests.specs.Home.{AreAllHome};
 
 use fixtures::same_at;
 use std::test::Fail;

@@ -1,13 +1,13 @@
 // The smallest command over all volumes: it opens them, does nothing with them, and closes them.
+ghost use Rattle.open_rack.specs.NotOpened.{LeavesBay};
+ghost use Rattle.open_rack.specs.Sessions.{OpensAndCloses};
+ghost use Rattle.rack.specs.Opens.{KeepsOthers};
 ghost use Rattle.std.specs.Prelude.{◌≡◌, [], Some, IfOk};
+ghost use Rattle.volume_images.specs.Left.{IsTold};
+ghost use Rattle.volume_images.specs.Volumes.{NoneOut};
 ghost use Rattle.wol_bay.specs.Bay.{outs};
 ghost use Rattle.wol_bay.specs.MemBay.{mem_bay_state};
 ghost use Rattle.wol_config.specs.Configs.{IsValid};
-ghost use Rattle.volume_images.specs.Left.{IsTold};
-ghost use Rattle.volume_images.specs.Volumes.{NoneOut};
-ghost use Rattle.rack.specs.Opens.{KeepsOthers};
-ghost use Rattle.open_rack.specs.NotOpened.{LeavesBay};
-ghost use Rattle.open_rack.specs.Sessions.{OpensAndCloses};
 
 use super::inspected::{FIVE, tries};
 use fixtures::{Change, OWNED, SRC0, THREE, USR0, WEB0, put};

@@ -1,8 +1,8 @@
 // Two small volumes that are formatted in a bay in memory, with ample memory.
-ghost use Rattle.std.specs.Prelude.{◌≡◌, ◌≤◌, length, MatchOption, OnErr};
-ghost use Rattle.wol_model.specs.Heads.{IsShape};
 ghost use Rattle.log_layout.specs.Values.{shape_of};
+ghost use Rattle.std.specs.Prelude.{◌≡◌, ◌≤◌, length, MatchOption, OnErr};
 ghost use Rattle.wol_bay.specs.Bay.{IsHome, outs};
+ghost use Rattle.wol_model.specs.Heads.{IsShape};
 
 use fixtures::{TWO, read_image};
 use log_layout::{Label, SegHead};

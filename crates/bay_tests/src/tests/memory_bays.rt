@@ -1,8 +1,8 @@
 // Bays in memory, with ample memory.
+ghost use Rattle.bay_tests.specs.Home.{AreAllHome};
 ghost use Rattle.std.specs.Prelude.{◌≡◌, OnOk};
 ghost use Rattle.wol_bay.specs.Bay.{Holds};
 ghost use Rattle.wol_bay.specs.MemBay.{mem_bay_state};
-ghost use Rattle.bay_tests.specs.Home.{AreAllHome};
 
 use super::bay_calls::{read_image, reads, write_image, writes};
 use fixtures::same;

@@ -1,8 +1,8 @@
 // Small bays in memory, with ample memory.
 ghost use Rattle.std.specs.Prelude.{◌≡◌};
+ghost use Rattle.volume_images.specs.Volumes.{NoneOut};
 ghost use Rattle.wol_bay.specs.Bay.{outs};
 ghost use Rattle.wol_config.specs.Configs.{IsValid};
-ghost use Rattle.volume_images.specs.Volumes.{NoneOut};
 
 use fixtures::{TWO, config_text};
 use manager_recovery::OpenRefusal;

@@ -1,6 +1,6 @@
 // Random calls of an index and of a plain list.
-ghost use Rattle.std.specs.Prelude.{◌≤◌, ◌+◌};
 ghost use Rattle.index_tests.specs.Below.{AreBelow};
+ghost use Rattle.std.specs.Prelude.{◌≤◌, ◌+◌};
 
 use super::dice::Dice;
 use super::list::{Item, covered, known_at, newest, unhome};

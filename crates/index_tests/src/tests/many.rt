@@ -1,6 +1,6 @@
 // 100,000 and more records of one block, on three lanes.
-ghost use Rattle.std.specs.Prelude.{◌≡◌, ◌<◌, ◌≤◌, ◌*◌, length, IfOk};
 ghost use Rattle.index_tests.specs.Below.{AreBelow};
+ghost use Rattle.std.specs.Prelude.{◌≡◌, ◌<◌, ◌≤◌, ◌*◌, length, IfOk};
 
 use super::same::same;
 use super::steps::{add_next, give_up, put_home};

@@ -1,9 +1,9 @@
 // Two records that overlap: blocks 1 to 4 under version 1, and then blocks 2 and 3 under version 2. The newer one is read, and what it
 // covers goes.
-ghost use Rattle.std.specs.Prelude.{◌≡◌, ◌∷◌, [], IfOk};
-ghost use Rattle.std.specs.List.{AllByRecursion};
-ghost use Rattle.redirect_map.specs.Index.{cover_at, entry_of, unhomed};
 ghost use Rattle.garbage_list.specs.Least.{HasLane};
+ghost use Rattle.redirect_map.specs.Index.{cover_at, entry_of, unhomed};
+ghost use Rattle.std.specs.List.{AllByRecursion};
+ghost use Rattle.std.specs.Prelude.{◌≡◌, ◌∷◌, [], IfOk};
 
 use super::same::same;
 use garbage_list::{due, may_go, next_due, next_to_go};

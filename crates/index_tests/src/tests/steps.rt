@@ -1,6 +1,6 @@
 // Single calls of an index whose versions are all below a number, on three lanes.
-ghost use Rattle.std.specs.Prelude.{◌≡◌, ◌<◌, ◌≤◌, ◌+◌, ◌^◌};
 ghost use Rattle.index_tests.specs.Below.{AreBelow};
+ghost use Rattle.std.specs.Prelude.{◌≡◌, ◌<◌, ◌≤◌, ◌+◌, ◌^◌};
 
 use garbage_list::may_go;
 use redirect_map::{Index, Rec};

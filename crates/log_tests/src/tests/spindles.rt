@@ -1,10 +1,10 @@
 // A spindle alone, and one under its lock with a part of its disk.
+ghost use Rattle.spin_model.specs.Operations.{has_token};
+ghost use Rattle.spin_model.specs.Spun.{volume_of, disk_of};
 ghost use Rattle.std.specs.Prelude.{false, ◌≡◌, ◌≤◌, ◌∷◌, [], IfOk};
 ghost use Rattle.turn_lock.specs.Passes.{pass_lock, pass_mine, IsPassOf, IsFree};
 ghost use Rattle.wol_disk.specs.Memory.{mem_state};
 ghost use Rattle.wol_model.specs.declared.journal.Turned.TheVariants.{Down, Up};
-ghost use Rattle.spin_model.specs.Spun.{volume_of, disk_of};
-ghost use Rattle.spin_model.specs.Operations.{has_token};
 
 use spin_model::{Spindle, Spun, begin_turn, give_token, start_turn, take_token};
 use std::alloc::Global;

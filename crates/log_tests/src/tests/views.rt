@@ -1,7 +1,7 @@
 // Labels and views that were written down by hand, stored in parts in memory and loaded.
+ghost use Rattle.spin_model.specs.Spun.{volume_of, disk_of, token_volume};
 ghost use Rattle.std.specs.Prelude.{◌≡◌, IfOk};
 ghost use Rattle.wol_disk.specs.Memory.{mem_state};
-ghost use Rattle.spin_model.specs.Spun.{volume_of, disk_of, token_volume};
 
 use super::layout::block;
 use log_layout::{Label, View};

@@ -1,7 +1,7 @@
 // Runs by several workers, and runs that end early. The expected outputs were worked out by hand from the formats.
-ghost use Rattle.std.specs.Prelude.{◌≡◌, ◌≤◌};
 ghost use Rattle.replay.specs.Givens.{IsNew};
 ghost use Rattle.replay.specs.Sessions.{AreOptions};
+ghost use Rattle.std.specs.Prelude.{◌≡◌, ◌≤◌};
 
 use super::gates::Holding;
 use super::volumes::{formatted, run, status_of};

@@ -1,9 +1,9 @@
 // What is the same in all tests: volumes, a run on them and its status, what a check tells of them, and a crash of their disks.
+ghost use Rattle.replay.specs.Sessions.{AreOptions};
 ghost use Rattle.std.specs.Prelude.{◌≡◌, [], Some, IfOk};
 ghost use Rattle.wol_bay.specs.Bay.{outs};
 ghost use Rattle.wol_bay.specs.MemBay.{mem_bay_state};
 ghost use Rattle.wol_config.specs.Configs.{IsValid};
-ghost use Rattle.replay.specs.Sessions.{AreOptions};
 
 use fixtures::{Left, Volume};
 use inspection::{Asked, inspect};

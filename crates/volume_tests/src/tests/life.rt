@@ -1,8 +1,8 @@
 // A segment from its claim until it is retired.
+ghost use Rattle.log_segment.specs.Segment.{IsFree, free_disk, free_volume, free_blocks, disk_of, segment_volume};
+ghost use Rattle.spin_model.specs.Spun.{token_volume};
 ghost use Rattle.std.specs.Prelude.{◌≡◌, ◌<◌, ◌≤◌, ◌^◌, ◌+◌, length, List, Some, IfOk, IfErr};
 ghost use Rattle.wol_disk.specs.Disk.{Block, Values, Rose};
-ghost use Rattle.spin_model.specs.Spun.{token_volume};
-ghost use Rattle.log_segment.specs.Segment.{IsFree, free_disk, free_volume, free_blocks, disk_of, segment_volume};
 
 use log_layout::RecHead;
 use log_segment::{FreeSegment, Segment};

@@ -1,8 +1,8 @@
 // Locks that have one pass each, and what lies under them.
+ghost use Rattle.log_segment.specs.Segment.{IsBlank};
 ghost use Rattle.std.specs.Prelude.{◌≡◌, []};
 ghost use Rattle.turn_lock.specs.Passes.{pass_lock, pass_mine};
 ghost use Rattle.volume_tests.specs.Counting.{counting_state};
-ghost use Rattle.log_segment.specs.Segment.{IsBlank};
 ghost use Rattle.volume_tests.specs.Locked.{HasOnePass, HasSpindle, HasKeptSpindle, HasPool};
 
 use super::opening::open_segment;

@@ -1,9 +1,9 @@
 // Rigs are made and taken apart.
-ghost use Rattle.std.specs.Prelude.{◌≡◌, ◌∷◌, [], false, length};
-ghost use Rattle.turn_lock.specs.Passes.{pass_lock, pass_mine, IsFree};
-ghost use Rattle.spin_model.specs.Operations.{has_token};
 ghost use Rattle.logger.specs.Lanes.{AreAccesses};
 ghost use Rattle.logger.specs.declared.lane.Lane.{Lane};
+ghost use Rattle.spin_model.specs.Operations.{has_token};
+ghost use Rattle.std.specs.Prelude.{◌≡◌, ◌∷◌, [], false, length};
+ghost use Rattle.turn_lock.specs.Passes.{pass_lock, pass_mine, IsFree};
 ghost use Rattle.volume_tests.specs.Locked.{HasOnePass, HasTwoPasses, HasKeptSpindle};
 ghost use Rattle.volume_tests.specs.Rigs.{IsNewLane, IsRig};
 

@@ -1,8 +1,8 @@
 // A part that is scanned and becomes the segment that it is.
-ghost use Rattle.std.specs.Prelude.{◌≡◌, ◌≤◌, IfOk, IfErr};
-ghost use Rattle.spin_model.specs.Spun.{volume_of, state_of, token_volume};
-ghost use Rattle.log_segment.specs.Segment.{IsFree, IsSegment, IsWhole};
 ghost use Rattle.log_scan.specs.Adopted.{IfFree, IfHeld, adopted_part};
+ghost use Rattle.log_segment.specs.Segment.{IsFree, IsSegment, IsWhole};
+ghost use Rattle.spin_model.specs.Spun.{volume_of, state_of, token_volume};
+ghost use Rattle.std.specs.Prelude.{◌≡◌, ◌≤◌, IfOk, IfErr};
 
 use log_scan::calls::scan;
 use log_scan::{Adopted, ScanFault, adopt};

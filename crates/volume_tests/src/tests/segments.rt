@@ -1,8 +1,8 @@
 // Segments that are stopped, and read back after a restart.
+ghost use Rattle.log_segment.specs.Segment.{IsFree, free_volume};
+ghost use Rattle.spin_model.specs.Spun.{token_volume, volume_of};
 ghost use Rattle.std.specs.Prelude.{◌≡◌, ◌≤◌, IfOk};
 ghost use Rattle.wol_disk.specs.Memory.{mem_state};
-ghost use Rattle.spin_model.specs.Spun.{token_volume, volume_of};
-ghost use Rattle.log_segment.specs.Segment.{IsFree, free_volume};
 
 use super::opening::open_segment;
 use log_layout::{RecHead, SegHead, write_rec, write_seg};
