@@ -93,14 +93,8 @@ impl MemDisk {
         ensures plan { IfOk result (λ m. plan_of m ≡ no_plan) }
     {
         let first = zero_blocks(alloc, blocks as usize)?;
-        let now = zero_blocks(alloc, blocks as usize)?;
-        Ok(MemDisk {
-            alloc,
-            first,
-            now,
-            calls: Vec::new(alloc),
-            plan: FaultPlan::new(alloc),
-        })
+        let disk = MemDisk::of_blocks(alloc, first)?;
+        Ok(disk)
     }
 
     /// Makes the call with that number fail. Calls are counted from 0 since the disk was made; a number that has

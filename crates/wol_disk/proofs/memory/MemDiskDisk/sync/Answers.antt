@@ -19,6 +19,4 @@ pub returns-in-Err-clause-plan : goal.returns-in-Err-clause-plan
 returns-in-Err-clause-plan c = lacks_memory c.args.self.now.plan c.begin.new.self c.lack.new.self _ _ c.in_ok-begin.ensures.plan (λ e. cc) refl c.lack.ensures.short c.lack.ensures.counts
 
 pub returns-in-Err-clause-passes : goal.returns-in-Err-clause-passes
-returns-in-Err-clause-passes c =
-    let g = lacks_memory c.args.self.now.plan c.begin.new.self c.lack.new.self _ _ c.in_ok-begin.ensures.plan (λ e. cc) refl c.lack.ensures.short c.lack.ensures.counts in
-    passes_unrecorded g (only c.args.self.now.first.items) c.args.self.now.calls.items c.note_sync.new.calls.items c.in-Err.ensures.err
+returns-in-Err-clause-passes c = passes_unrecorded (returns-in-Err-clause-plan c) (only c.args.self.now.first.items) c.args.self.now.calls.items c.note_sync.new.calls.items c.in-Err.ensures.err
