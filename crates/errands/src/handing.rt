@@ -27,9 +27,6 @@ const DONE: u64 = 2;
 // Nothing more comes.
 const OVER: u64 = 3;
 
-// How often a thread looks before it sleeps. On a busy machine 1 was as fast with four workers, and slower by half with two.
-const LOOKS: u32 = 100;
-
 // The seat takes the empty slot, and makes the worker.
 fn open<T: Errand>(
     table: ErrandTable<T>,
@@ -84,9 +81,13 @@ impl<T: Errand> Errands<T> {
         self.came.load(SeqCst)
     }
 
+    // How often a thread looks before it sleeps. On a busy machine 1 was as fast with four workers, and slower by half
+    // with two.
+    const LOOKS: u32 = 100;
+
     // Waits until the phase is no longer the one that was seen, or for no reason.
     fn rest<R: Wait>(&self, rt: &R, seen: u32) {
-        for _ in 0..LOOKS {
+        for _ in 0..Self::LOOKS {
             if self.table.shared.peek(PHASE) != u64::from(seen) {
                 return;
             }
@@ -101,15 +102,11 @@ impl<T: Errand> Errands<T> {
         requires ready { T.ready item }
         ensures { IsAway self.now sender.new item }
     {
-        let found = self
-            .table
-            .shared
-            .exchange(&mut sender.seat, SLOT, Some(item));
+        let table = &self.table.shared;
+        let found = table.exchange(&mut sender.seat, SLOT, Some(item));
         let None = found else { unreachable!() };
-        self.table
-            .shared
-            .store::<Gives>(&mut sender.seat, PHASE, GIVEN);
-        self.table.shared.wake_all(PHASE);
+        table.store::<Gives>(&mut sender.seat, PHASE, GIVEN);
+        table.wake_all(PHASE);
     }
 
     // Waits until what was handed over is served.
@@ -194,14 +191,10 @@ impl<T: Errand> Errands<T> {
         requires { (x : T) × IsBusy self.now worker.old x × T.served x item }
         ensures { IsWaiting self.now worker.new }
     {
-        let found = self
-            .table
-            .shared
-            .exchange(&mut worker.seat, SLOT, Some(item));
+        let table = &self.table.shared;
+        let found = table.exchange(&mut worker.seat, SLOT, Some(item));
         let None = found else { unreachable!() };
-        self.table
-            .shared
-            .store::<Leaves>(&mut worker.seat, PHASE, DONE);
-        self.table.shared.wake_all(PHASE);
+        table.store::<Leaves>(&mut worker.seat, PHASE, DONE);
+        table.wake_all(PHASE);
     }
 }
