@@ -1,6 +1,6 @@
 -- A pool as one more use is made.
 use Rattle.std.proofs.Common.{◌≡◌, ◌≢◌, ◌<◌, ℕ, true, false, List, [], ◌∷◌, ◌++◌, length, None, Some, is_some, get_or, set, refl, sym, ap, ◌∙◌, subst, arith, ⊎_elim, get_or-set_same, get_or-set_other}
-use Rattle.std.proofs.lemmas.List.{get_or_past}
+use Rattle.std.proofs.lemmas.List.{get_or_past, map-append}
 use Rattle.std.proofs.lemmas.Bool.Decides.{eqb_tells, leb_tells}
 use Rattle.turn_lock.specs.Histories.{Entry}
 use Rattle.seg_pool.specs.declared.base.Holder.{Holder}
@@ -20,12 +20,10 @@ use_of-operation_of (Took (Some index)) = refl
 use_of-operation_of (Gave index) = refl
 
 pub uses_of-push : (es : List Entry) (n : ℕ) (u : PoolUse) → uses_of (es ++ (n, operation_of u) ∷ []) ≡ uses_of es ++ (n, u) ∷ []
-uses_of-push [] n u = ap (λ (v : PoolUse). (n, v) ∷ []) (use_of-operation_of u)
-uses_of-push (e ∷ es) n u = ap (λ (us : List (ℕ × PoolUse)). (e.0, use_of e.1) ∷ us) (uses_of-push es n u)
+uses_of-push es n u = rw (map-append, use_of-operation_of u)
 
 entries_of-push : (us : List (ℕ × PoolUse)) (n : ℕ) (u : PoolUse) → entries_of (us ++ (n, u) ∷ []) ≡ entries_of us ++ (n, operation_of u) ∷ []
-entries_of-push [] n u = refl
-entries_of-push (v ∷ us) n u = ap (λ (es : List Entry). (v.0, operation_of v.1) ∷ es) (entries_of-push us n u)
+entries_of-push us n u = map-append _ us ((n, u) ∷ [])
 
 pool_after-push : (hs : List Holder) (us : List (ℕ × PoolUse)) (n : ℕ) (u : PoolUse) → pool_after hs (us ++ (n, u) ∷ []) ≡ pool_used (pool_after hs us) n u
 pool_after-push hs [] n u = refl

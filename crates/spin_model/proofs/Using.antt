@@ -1,5 +1,6 @@
 -- A spindle as one more use is made.
 use Rattle.std.proofs.Common.{◌≡◌, ℕ, List, [], ◌∷◌, ◌++◌, refl, sym, ap, ◌∙◌, subst}
+use Rattle.std.proofs.lemmas.List.{map-append}
 use Rattle.turn_lock.specs.Histories.{Entry}
 use Rattle.wol_model.specs.Journal.{Use, Started, Began, Needed, Done, Stayed, SpindleState, new_spindle, used, spindle_after, MayUse, AreUses}
 use Rattle.spin_model.specs.declared.spindle.SpindleBase.{SpindleBase}
@@ -15,12 +16,10 @@ use_of-operation_of Done = refl
 use_of-operation_of Stayed = refl
 
 pub uses_of-push : (es : List Entry) (n : ℕ) (u : Use) → uses_of (es ++ (n, operation_of u) ∷ []) ≡ uses_of es ++ (n, u) ∷ []
-uses_of-push [] n u = ap (λ (v : Use). (n, v) ∷ []) (use_of-operation_of u)
-uses_of-push (e ∷ es) n u = ap (λ (us : List (ℕ × Use)). (e.0, use_of e.1) ∷ us) (uses_of-push es n u)
+uses_of-push es n u = rw (map-append, use_of-operation_of u)
 
 entries_of-push : (us : List (ℕ × Use)) (n : ℕ) (u : Use) → entries_of (us ++ (n, u) ∷ []) ≡ entries_of us ++ (n, operation_of u) ∷ []
-entries_of-push [] n u = refl
-entries_of-push (v ∷ us) n u = ap (λ (es : List Entry). (v.0, operation_of v.1) ∷ es) (entries_of-push us n u)
+entries_of-push us n u = map-append _ us ((n, u) ∷ [])
 
 spindle_after-push : (t : ℕ) (s : SpindleState) (us : List (ℕ × Use)) (n : ℕ) (u : Use) → spindle_after t s (us ++ (n, u) ∷ []) ≡ used t (spindle_after t s us) n u
 spindle_after-push t s [] n u = refl
