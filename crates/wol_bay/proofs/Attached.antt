@@ -1,5 +1,5 @@
 -- What a bay in memory knows of an image that is asked for.
-use Rattle.std.proofs.Common.{◌≡◌, ℕ, ◌+◌, ◌*◌, ◌<◌, Bool, true, false, cond, List, [], ◌∷◌, length, map, Option, None, Some, IfSome, option_map, is_some, refl, sym, ap, subst, ◌∙◌, arith, length-append, nat_eq}
+use Rattle.std.proofs.Common.{◌≡◌, ℕ, ◌+◌, ◌*◌, ◌<◌, Bool, true, false, cond, List, [], ◌∷◌, length, map, Option, None, Some, IfSome, option_map, is_some, get_or, refl, sym, ap, subst, ◌∙◌, arith, length-append, nat_eq}
 use Rattle.std.proofs.lemmas.Bool.Decides.{nat_tests}
 use Rattle.std.proofs.lemmas.List.{length-map}
 use Rattle.std.proofs.lemmas.List.Sums.{sum_by-cons}
@@ -27,6 +27,18 @@ told_image name images image e = at_named (λ i. string_bytes i.name) (λ i. (na
 
 pub told_absent : (name : Name) (images : List held.Image) → at_name name (by_name (λ i. string_bytes i.name) images) ≡ None → at_name name (map named_image images) ≡ None
 told_absent name images e = at_named (λ i. string_bytes i.name) (λ i. (named_image i).1) name images ∙ ap (option_map (λ i. (named_image i).1)) e
+
+-- an image that is at its place is refused where its length isn't that of the sizes
+pub told_length : (name : Name) (list images : List held.Image) (at : ℕ) (image : held.Image) (sizes : List ℕ) (fits : Bool) → list ≡ images
+    → ((i : held.Image) → i ≡ get_or list at i → at_name name (by_name (λ i. string_bytes i.name) list) ≡ Some i)
+    → image ≡ get_or images at image → nat_eq image.bytes (512 * sum sizes) ≡ fits
+    → cond fits None (Some (WrongLength image.bytes)) ≡ refusal_of sizes (at_name name (map named_image images))
+told_length name list images at image sizes fits same found here test =
+    let there = subst (λ (l : List held.Image). at_name name (by_name (λ i. string_bytes i.name) l) ≡ Some image) same (found image (here ∙ ap (λ (l : List held.Image). get_or l at image) (sym same))) in
+    sym (
+    ap (refusal_of sizes) (told_image name images image there) ∙ ap (λ (n : ℕ). cond (nat_eq n (512 * sum sizes)) None (Some (WrongLength n))) (sym image.in_all)
+    ∙ ap (λ (t : Bool). cond t None (Some (WrongLength image.bytes))) test
+    )
 
 -- parts have as many blocks as their sizes together
 pub stored_size : (parts : List (StopDisk MemDisk)) → length (stored_blocks parts) ≡ sum (sizes_of (λ part. stop_state mem_state part) parts)
