@@ -7,7 +7,7 @@ use Rattle.wol_model.specs.declared.trace.Kind.{Kind}
 use Rattle.wol_model.specs.declared.trace.Piece.{Piece}
 use Rattle.msr_trace.specs.Lines.{Fits}
 use Rattle.trace_windows.specs.declared.request.Request.{Request}
-use Rattle.trace_windows.specs.Requests.{numbered}
+use Rattle.trace_windows.specs.Requests.{numbered, with_number}
 use Rattle.trace_windows.specs.Laws.{NumbersLeave}
 use Rattle.trace_windows.proofs.Few.{few_pieces}
 
@@ -16,7 +16,7 @@ numbered_both n [] ss = let same : n ≡ n + 0 = omega arith in ap (λ (m : ℕ)
 numbered_both n (r ∷ rs) ss =
     let later : (n + 1) + length rs ≡ n + suc (length rs) = omega arith in
     let rest : numbered (n + 1) (rs ++ ss) ≡ numbered (n + 1) rs ++ numbered (n + suc (length rs)) ss = numbered_both (n + 1) rs ss ∙ ap (λ (m : ℕ). numbered (n + 1) rs ++ numbered m ss) later in
-    ap (λ (others : List Request). record { number = n; line = r.line; volume = r.volume; kind = r.kind; lbn = r.first; count = r.count } ∷ others) rest
+    ap (λ (others : List Request). with_number n r ∷ others) rest
 
 pub length-numbered : (n : ℕ) (rs : List trace.Request) → length (numbered n rs) ≡ length rs
 length-numbered n [] = refl

@@ -9,17 +9,17 @@ use Rattle.trace_windows.specs.declared.request.Request.{Request}
 abbrev pub asked : Request → trace.Request
 asked r = record { line = r.line; volume = r.volume; kind = r.kind; first = r.lbn; count = r.count }
 
+-- a request of the model with its number
+abbrev pub with_number : ℕ → trace.Request → Request
+with_number n r =
+    record { number = n; line = line; volume = volume; kind = kind; lbn = first; count = count }
+  where
+    open r use {line, volume, kind, first, count}
+
 -- requests of the model with numbers, which count up from `next`
 abbrev pub numbered : (next : ℕ) → List trace.Request → List Request
 numbered next [] = []
-numbered next (r ∷ rs) = record {
-  number = next;
-  line = r.line;
-  volume = r.volume;
-  kind = r.kind;
-  lbn = r.first;
-  count = r.count;
-} ∷ numbered (next + 1) rs
+numbered next (r ∷ rs) = with_number next r ∷ numbered (next + 1) rs
 
 -- the requests of a window: those of its lines, in order
 abbrev pub requests_in : (most : ℕ) → List Target → Window → List trace.Request
