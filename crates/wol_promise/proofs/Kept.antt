@@ -1,4 +1,4 @@
--- One Kept more, other flags, and one read more.
+-- Other entries, other flags, one Kept more, and one read more.
 use Rattle.std.proofs.Common.{◌+◌, ◌≡◌, inl, inr, ℕ, Bool, true, false, List, [], ◌∷◌, ◌++◌, length, Option, None, Some, refl, sym, ap, subst, ◌∙◌}
 use Rattle.std.specs.Prelude.{IsTrue, is_some, slice_range}
 use Rattle.std.proofs.lemmas.List.{append-nil}
@@ -7,7 +7,7 @@ use Rattle.wol_model.specs.Blocks.{Write, after}
 use Rattle.wol_model.specs.History.{Kept, Read, worker, writes, flight_of, IsLegalNext, IsKept, IsHelp}
 use Rattle.wol_promise.specs.Ruled.{Noted, entries_of, IsStep, last_look}
 use Rattle.wol_promise.specs.Manager.{Parts, ManagerSeen, Base, look_of}
-use Rattle.wol_promise.specs.Stands.{Upholds, StandsFor}
+use Rattle.wol_promise.specs.Stands.{HasHistory, Upholds, StandsFor}
 use Rattle.wol_promise.proofs.OneMore.{MayFollow, history_more, writes_then, flight_then, stands_then, or_none}
 
 -- a manager that is up has no call that failed
@@ -18,6 +18,23 @@ not_broken parts base m notes ws (Some l) u up = absurd (let no : true ≡ false
 -- what a manager that is up and stands for its entries upholds
 pub calm_of : {P : Type 0} (parts : Parts P) (base : Base) (m : ManagerSeen P) (notes : List Noted) → StandsFor parts base m notes → m.down ≡ None → Upholds parts base m notes (writes (entries_of notes)) None
 calm_of parts base m notes s up = subst (Upholds parts base m notes (writes (entries_of notes))) (not_broken parts base m notes (writes (entries_of notes)) (flight_of (entries_of notes)) s.upholds up) s.upholds
+
+-- other entries that have the same writes, in flight or not
+pub renoted : {P : Type 0} {parts : Parts P} {base : Base} {m : ManagerSeen P} {old new : List Noted} {ws : List Write} {fl : Option (List Write)}
+    → Upholds parts base m old ws fl → HasHistory parts.told base new → Upholds parts base m new ws fl
+renoted u history = record {
+  began = u.began;
+  history = history;
+  lie = u.lie;
+  versioned = u.versioned;
+  known = u.known;
+  places = u.places;
+  is_down = u.is_down;
+  failed = u.failed;
+  calm = u.calm;
+  sound = u.sound;
+  cut = u.cut;
+}
 
 -- other flags
 pub other_flags : {P : Type 0} (parts : Parts P) (base : Base) (m : ManagerSeen P) (home_up : Bool) (ups : List Bool) (notes : List Noted) (ws : List Write) (fl : Option (List Write))
@@ -39,19 +56,7 @@ other_flags parts base m home_up ups notes ws fl u same = record {
 module _ {P : Type 0} (parts : Parts P) (base : Base) (m : ManagerSeen P) (notes : List Noted) (n : Noted) (step : IsTrue n.ruled → IsStep n n.entry.pass n.entry.operation (last_look base.look notes) n.look) where
   -- what is upheld stays so with one entry more that writes nothing and was allowed
   pub same_but_noted : (ws : List Write) (fl : Option (List Write)) → Upholds parts base m notes ws fl → MayFollow parts.told base notes n → Upholds parts base m (notes ++ n ∷ []) ws fl
-  same_but_noted ws fl u may = record {
-    began = u.began;
-    history = history_more parts.told base notes n u.history may;
-    lie = u.lie;
-    versioned = u.versioned;
-    known = u.known;
-    places = u.places;
-    is_down = u.is_down;
-    failed = u.failed;
-    calm = u.calm;
-    sound = u.sound;
-    cut = u.cut;
-  }
+  same_but_noted ws fl u may = renoted u (history_more parts.told base notes n u.history may)
 
   may_keep : n.entry.operation ≡ Kept → MayFollow parts.told base notes n
   may_keep kept = record {
