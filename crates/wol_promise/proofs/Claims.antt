@@ -13,6 +13,7 @@ use Rattle.wol_promise.specs.Ruled.{Noted}
 use Rattle.wol_promise.specs.Manager.{Parts, Held, ManagerSeen, Base, IsFound, IsBacked, extents_held, is_homed_in, WasWritten}
 use Rattle.wol_promise.specs.Stands.{LieInHome, IsHeldBy, place_in, ApartFrom, AreApartPlaces, IsPlaced, Upholds}
 use Rattle.wol_promise.proofs.Lists.{all_map, all_insert, member_insert}
+use Rattle.wol_promise.proofs.Places.{places_with}
 
 abbrev pub empty_segment : {P : Type 0} → P → (lane index : ℕ) → Held P
 empty_segment part lane index = record { part = part; lane = lane; index = index; broken = false; records = [] }
@@ -62,16 +63,8 @@ module _ {P : Type 0} (parts : Parts P) (base : Base) (m : ManagerSeen P) (notes
       below = insert (λ (v : Held P). AllByRecursion (λ q. (IsValid (extent_of q).cover → ⊥) → q.head.version < m.next) v.records) tt k.below;
       within = insert (LieInHome base.home_blocks) tt k.within;
     };
-    places = let p = u.places in record {
-      flags = p.flags;
-      few = p.few;
-      home_blocks = p.home_blocks;
-      most = p.most;
-      home_size = p.home_size;
-      home_volume = p.home_volume;
-      each = insert (IsHeldBy parts base) by p.each;
-      apart = places_insert front t back new_place (subst (λ (l : List (Held P)). AreApartPlaces (map place_in l)) held p.apart);
-    };
+    places = let p = u.places in places_with p refl refl refl (insert (IsHeldBy parts base) by p.each)
+        (places_insert front t back new_place (subst (λ (l : List (Held P)). AreApartPlaces (map place_in l)) held p.apart));
     is_down = u.is_down;
     failed = λ name is. absurd (let no : None ≡ Some name = sym up ∙ is in cc);
     calm = λ none. let c = u.calm none in record {

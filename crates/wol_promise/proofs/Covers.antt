@@ -35,7 +35,8 @@ any_found p (x ∷ xs) is = ⊎_elim
 pub same_cover : {P : Type 0} (s : Held P) (k : ℕ) (r : Record) (e : Indexed) → IsEntryOf s k r e → cover_of e.listed ≡ (extent_of r).cover
 same_cover s k r e is = λ i. record { version = is.version i; covers = marked (is.first i) (is.keep i) }
 
-extent_among : {P : Type 0} (held : List (Held P)) (s : Held P) (r : Record) → Contains held s → Contains s.records r → Contains (extents_held held) (extent_of r)
+-- a record of a held segment is among the extents
+pub extent_among : {P : Type 0} (held : List (Held P)) (s : Held P) (r : Record) → Contains held s → Contains s.records r → Contains (extents_held held) (extent_of r)
 extent_among [] s r has is = absurd (let lt = has.1 in omega arith)
 extent_among {P} (t ∷ held) s r has is = ⊎_elim
     (λ same. Contains-append_left (map extent_of t.records) (extents_held held) (extent_of r) (member_map extent_of t.records r (subst (λ (u : Held P). Contains u.records r) (sym same) is)))

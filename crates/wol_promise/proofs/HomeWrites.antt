@@ -16,6 +16,7 @@ use Rattle.wol_promise.specs.Manager.{Parts, HomePart, Held, ManagerSeen, Base, 
 use Rattle.wol_promise.specs.Stands.{AreKnown, HasPlaces, LiesInVolume, Upholds, StandsFor}
 use Rattle.wol_promise.proofs.Lists.{all_map, all_joined}
 use Rattle.wol_promise.proofs.OneMore.{history_more, writes_then, flight_then, stands_then, or_none}
+use Rattle.wol_promise.proofs.Places.{places_with, calm_with}
 use Rattle.wol_promise.proofs.Known.{versions_with_home, acknowledged, flying}
 use Rattle.wol_promise.proofs.Broke.{broke_more}
 use Rattle.wol_promise.proofs.SoundSegments.{logs_sound}
@@ -51,7 +52,7 @@ known_flying {P} base next ws fl held known = record {
 
 -- home's part is another one, of the same place
 pub places_with_home : {P : Type 0} (parts : Parts P) (base : Base) (home part : P) (held : List (Held P)) (ups : List Bool) → parts.size part ≡ parts.size home → parts.volume part ≡ parts.volume home → HasPlaces parts base home held ups → HasPlaces parts base part held ups
-places_with_home parts base home part held ups size volume p = record { flags = p.flags; few = p.few; home_blocks = p.home_blocks; most = p.most; home_size = size ∙ p.home_size; home_volume = volume ∙ p.home_volume; each = p.each; apart = p.apart }
+places_with_home parts base home part held ups size volume p = places_with p refl size volume p.each p.apart
 
 module _ {P : Type 0} (parts : Parts P) (base : Base) (m : ManagerSeen P) (part : P) (size : parts.size part ≡ parts.size m.home) (volume : parts.volume part ≡ parts.volume m.home) where
   module _ (notes : List Noted) (n : Noted) (w : Write) (u : Upholds parts base m notes (writes (entries_of notes)) None) (none : flight_of (entries_of notes) ≡ None) (client : n.entry.pass ≡ worker)
@@ -79,20 +80,13 @@ module _ {P : Type 0} (parts : Parts P) (base : Base) (m : ManagerSeen P) (part 
           places = places_with_home parts base m.home part m.held m.ups size volume u.places;
           is_down = ap is_some up;
           failed = λ name is. absurd (let no : None ≡ Some name = sym up ∙ is in cc);
-          calm = λ _. let c = u.calm refl in record {
-            unbroken = c.unbroken;
-            untaken = c.untaken;
-            sorted = c.sorted;
-            below = c.below;
-            placed = c.placed;
-            whole = λ told. let whole = c.whole told in record {
-              logs = whole.logs;
-              distinct = whole.distinct;
-              index = whole.index;
-              holds = λ bs is. let from = is_after bs is in subst (λ (h : List Block). Holds base.array (ws ++ w ∷ []) m.next h (extents_held m.held) (is_homed_in m.indexed)) (sym from.2)
-                  (home_step base.array ws m.next from.0 (extents_held m.held) (is_homed_in m.indexed) w (whole.holds from.0 from.1) (uncovered told));
-            };
-          };
+          calm = λ _. let c = u.calm refl in calm_with c c.placed (λ told. let whole = c.whole told in record {
+            logs = whole.logs;
+            distinct = whole.distinct;
+            index = whole.index;
+            holds = λ bs is. let from = is_after bs is in subst (λ (h : List Block). Holds base.array (ws ++ w ∷ []) m.next h (extents_held m.held) (is_homed_in m.indexed)) (sym from.2)
+                (home_step base.array ws m.next from.0 (extents_held m.held) (is_homed_in m.indexed) w (whole.holds from.0 from.1) (uncovered told));
+          });
           sound = λ told some. absurd (false≢true some);
           cut = λ told fl is. absurd (let no : None ≡ Some fl = is in cc);
         })

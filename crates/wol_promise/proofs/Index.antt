@@ -2,6 +2,7 @@
 use Rattle.std.proofs.Common.{◌≡◌, ⊎_elim, ◌<◌, ◌≤◌, ◌+◌, ℕ, zero, suc, Bool, true, false, not, ◌&&◌, ◌||◌, List, [], ◌∷◌, ◌++◌, map, length, take, Some, refl, sym, ap, subst, ◌∙◌, arith, ltb, replicate}
 use Rattle.std.specs.Prelude.{slice_get}
 use Rattle.std.specs.List.{AllByRecursion, flat_map}
+use Rattle.std.proofs.Math.Bool.{or-false}
 use Rattle.std.proofs.lemmas.List.{map-append}
 use Rattle.std.proofs.lemmas.List.Elements.{Contains-append_left, Contains-push}
 use Rattle.wol_model.specs.Extents.{Cover, remarked, IsValid, has_newer}
@@ -65,11 +66,7 @@ both true b e = (refl, e)
 both false b e = cc
 
 newer_push : (cs : List Cover) (c : Cover) (v b : ℕ) → has_newer (cs ++ c ∷ []) v b ≡ (has_newer cs v b || (c.covers b && ltb v c.version))
-newer_push [] c v b = or_false (c.covers b && ltb v c.version)
-  where
-    or_false : (t : Bool) → (t || false) ≡ t
-    or_false true = refl
-    or_false false = refl
+newer_push [] c v b = or-false (c.covers b && ltb v c.version)
 newer_push (d ∷ cs) c v b = (λ i. (d.covers b && ltb v d.version) || newer_push cs c v b i) ∙ assoc (d.covers b && ltb v d.version) (has_newer cs v b) (c.covers b && ltb v c.version)
   where
     assoc : (x y z : Bool) → (x || (y || z)) ≡ ((x || y) || z)
@@ -94,12 +91,8 @@ cleared_is_listed es n e is = record {
         (λ i. (cover_of e).covers b && not (has_newer (same i) e.version b))
         ∙ (λ i. (cover_of e).covers b && not (newer_push (listed_covers es) (cover_of n) e.version b i))
         ∙ (λ i. (cover_of e).covers b && not (has_newer (listed_covers es) e.version b || (not_true ((cover_of n).covers b) apart i && ltb e.version (cover_of n).version)))
-        ∙ (λ i. (cover_of e).covers b && not (or_false (has_newer (listed_covers es) e.version b) i)) ∙ was
+        ∙ (λ i. (cover_of e).covers b && not (or-false (has_newer (listed_covers es) e.version b) i)) ∙ was
       where
-        or_false : (t : Bool) → (t || false) ≡ t
-        or_false true = refl
-        or_false false = refl
-
         same : listed_covers (map (cleared_listed (cover_of n).covers) es ++ n ∷ []) ≡ listed_covers es ++ cover_of n ∷ []
         same = map-append cover_of (map (cleared_listed (cover_of n).covers) es) (n ∷ []) ∙ ap (λ (l : List Cover). l ++ cover_of n ∷ []) (covers_stay (cover_of n).covers es)
 

@@ -9,6 +9,7 @@ use Rattle.wol_promise.specs.Ruled.{Noted, entries_of, IsStep, last_look}
 use Rattle.wol_promise.specs.Manager.{Parts, ManagerSeen, Base, look_of}
 use Rattle.wol_promise.specs.Stands.{HasHistory, Upholds, StandsFor}
 use Rattle.wol_promise.proofs.OneMore.{MayFollow, history_more, writes_then, flight_then, stands_then, or_none}
+use Rattle.wol_promise.proofs.Places.{places_with}
 
 -- a manager that is up has no call that failed
 pub not_broken : {P : Type 0} (parts : Parts P) (base : Base) (m : ManagerSeen P) (notes : List Noted) (ws : List Write) (fl : Option (List Write)) → Upholds parts base m notes ws fl → m.down ≡ None → fl ≡ None
@@ -45,7 +46,7 @@ other_flags parts base m home_up ups notes ws fl u same = record {
   lie = u.lie;
   versioned = u.versioned;
   known = u.known;
-  places = let p = u.places in record { flags = same ∙ p.flags; few = p.few; home_blocks = p.home_blocks; most = p.most; home_size = p.home_size; home_volume = p.home_volume; each = p.each; apart = p.apart };
+  places = let p = u.places in places_with p same refl refl p.each p.apart;
   is_down = u.is_down;
   failed = u.failed;
   calm = u.calm;

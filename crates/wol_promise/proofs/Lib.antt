@@ -1,5 +1,6 @@
 pub mod Lists
 pub mod OneMore
+pub mod Places
 pub mod Index
 pub mod Known
 pub mod Kept

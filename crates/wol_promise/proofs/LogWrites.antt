@@ -10,6 +10,7 @@ use Rattle.wol_model.specs.Log.{Record, IsLog, extent_of}
 use Rattle.wol_promise.specs.Manager.{Parts, Held, Base, extents_held, AllRecords, SaysOwnerOrFree}
 use Rattle.wol_promise.specs.Stands.{IsHeldBy, place_in, AreApartPlaces, HasPlaces, IsPlaced}
 use Rattle.wol_promise.proofs.Lists.{all_swap, member_mid, member_swap}
+use Rattle.wol_promise.proofs.Places.{places_with}
 
 -- ---- One segment of the held ones is another, at the same place
 
@@ -20,20 +21,13 @@ same_places (u ∷ front) s t back same = λ i. place_in u ∷ same_places front
 pub places_with_segment : {P : Type 0} (parts : Parts P) (base : Base) (home : P) (front : List (Held P)) (s t : Held P) (back : List (Held P)) (ups : List Bool)
     → t.lane ≡ s.lane → t.index ≡ s.index → parts.size t.part ≡ parts.size s.part → parts.volume t.part ≡ parts.volume s.part → ((bs : List Block) → parts.may_be t.part bs → SaysOwnerOrFree base.owner bs)
     → HasPlaces parts base home (front ++ s ∷ back) ups → HasPlaces parts base home (front ++ t ∷ back) ups
-places_with_segment parts base home front s t back ups lane index size volume owned p = record {
-  flags = p.flags;
-  few = p.few;
-  home_blocks = p.home_blocks;
-  most = p.most;
-  home_size = p.home_size;
-  home_volume = p.home_volume;
-  each = all_swap (IsHeldBy parts base) (IsHeldBy parts base) (λ u by. by) front s t back (λ by. record {
-    logger = ap (slice_get base.view) lane ∙ by.logger ∙ ap Some (sym volume);
-    room = subst (λ (n : ℕ). base.most + 2 ≤ n) (sym size) by.room;
-    owned = owned;
-  }) p.each;
-  apart = subst AreApartPlaces (sym (same_places front s t back (λ i. (lane i, index i)))) p.apart;
-}
+places_with_segment parts base home front s t back ups lane index size volume owned p = places_with p refl refl refl
+    (all_swap (IsHeldBy parts base) (IsHeldBy parts base) (λ u by. by) front s t back (λ by. record {
+      logger = ap (slice_get base.view) lane ∙ by.logger ∙ ap Some (sym volume);
+      room = subst (λ (n : ℕ). base.most + 2 ≤ n) (sym size) by.room;
+      owned = owned;
+    }) p.each)
+    (subst AreApartPlaces (sym (same_places front s t back (λ i. (lane i, index i)))) p.apart)
 
 pub placed_with_segment : {P : Type 0} (parts : Parts P) (front : List (Held P)) (s t : Held P) (back : List (Held P)) → t.lane ≡ s.lane → t.index ≡ s.index → parts.size t.part ≡ parts.size s.part
     → (e : Indexed) → IsPlaced parts (front ++ s ∷ back) e → IsPlaced parts (front ++ t ∷ back) e

@@ -20,6 +20,7 @@ use Rattle.wol_promise.specs.Stands.{HasPlaces, IsPlaced, Upholds, StandsFor}
 use Rattle.wol_promise.proofs.Lists.{all_map, all_swap, member_mid, member_swap}
 use Rattle.wol_promise.proofs.Broke.{broke_more}
 use Rattle.wol_promise.proofs.HomeWrites.{places_with_home}
+use Rattle.wol_promise.proofs.Places.{places_with}
 use Rattle.wol_promise.proofs.SoundSegments.{logs_sound}
 use Rattle.wol_promise.proofs.Stops.{putting_stops}
 
@@ -165,4 +166,4 @@ module _ {P : Type 0} (parts : Parts P) (base : Base) (m : ManagerSeen P) (part 
       (λ x is. let from = images x is in (from.0, whole.holds from.0 from.1, from.2)))
     where
       places : HasPlaces parts base m.home m.held ups
-      places = let p = u.places in record { flags = flags ∙ p.flags; few = p.few; home_blocks = p.home_blocks; most = p.most; home_size = p.home_size; home_volume = p.home_volume; each = p.each; apart = p.apart }
+      places = let p = u.places in places_with p flags refl refl p.each p.apart

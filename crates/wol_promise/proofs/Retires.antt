@@ -16,6 +16,7 @@ use Rattle.wol_promise.specs.Manager.{Parts, Held, ManagerSeen, Base, IsFound, I
 use Rattle.wol_promise.specs.Stands.{AreKnown, LieInHome, IsHeldBy, place_in, ApartFrom, AreApartPlaces, IsPlaced, IsCalm, Upholds}
 use Rattle.wol_promise.proofs.Lists.{all_map, all_front, all_back, all_joined, member_front, member_behind, all_member, member_of}
 use Rattle.wol_promise.proofs.LogWrites.{around}
+use Rattle.wol_promise.proofs.Places.{places_with}
 use Rattle.wol_promise.proofs.SoundSegments.{apart_without}
 
 -- no record of these keeps a block
@@ -61,16 +62,8 @@ given_back {P} parts base m notes ws front t back u up held left calm = record {
     below = less (λ (v : Held P). AllByRecursion (λ q. (IsValid (extent_of q).cover → ⊥) → q.head.version < m.next) v.records) k.below;
     within = less (LieInHome base.home_blocks) k.within;
   };
-  places = let p = u.places in record {
-    flags = p.flags;
-    few = p.few;
-    home_blocks = p.home_blocks;
-    most = p.most;
-    home_size = p.home_size;
-    home_volume = p.home_volume;
-    each = less (IsHeldBy parts base) (subst (AllByRecursion (IsHeldBy parts base)) held p.each);
-    apart = places_without front t back (subst (λ (l : List (Held P)). AreApartPlaces (map place_in l)) held p.apart);
-  };
+  places = let p = u.places in places_with p refl refl refl (less (IsHeldBy parts base) (subst (AllByRecursion (IsHeldBy parts base)) held p.each))
+      (places_without front t back (subst (λ (l : List (Held P)). AreApartPlaces (map place_in l)) held p.apart));
   is_down = u.is_down;
   failed = λ name is. absurd (let no : None ≡ Some name = sym up ∙ is in cc);
   calm = λ none. calm;

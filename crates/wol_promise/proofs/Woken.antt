@@ -3,6 +3,7 @@ use Rattle.std.proofs.Common.{◌≡◌, ◌≢◌, ◌⊎◌, inl, inr, ◌<◌
 use Rattle.std.specs.Prelude.{slice_set, is_some}
 use Rattle.std.specs.List.{list_any, count_by, range_with_len}
 use Rattle.std.specs.Option.{option_map_or}
+use Rattle.std.proofs.Math.Bool.{or-false, or-true, or_assoc, or_self}
 use Rattle.std.proofs.Math.ListN.{length-set}
 use Rattle.std.proofs.lemmas.List.{get_or-set_same, get_or-set_other}
 use Rattle.std.proofs.lemmas.List.Folds.{list_any-append}
@@ -31,17 +32,9 @@ any_joined p a n m = ap (list_any p) (range_joined a n m) ∙ list_any-append p 
 
 pub any_same : (p : ℕ → Bool) (t : Bool) (a n : ℕ) → 1 ≤ n → ((b : ℕ) → a ≤ b → b < a + n → p b ≡ t) → list_any p (range_with_len a n) ≡ t
 any_same p t a zero some same = absurd (omega arith)
-any_same p t a (suc zero) some same = (λ i. same a (omega arith) (omega arith) i || false) ∙ or_false t
-  where
-    or_false : (u : Bool) → (u || false) ≡ u
-    or_false true = refl
-    or_false false = refl
+any_same p t a (suc zero) some same = (λ i. same a (omega arith) (omega arith) i || false) ∙ or-false t
 any_same p t a (suc (suc n)) some same =
     (λ i. same a (omega arith) (omega arith) i || any_same p t (a + 1) (suc n) (omega arith) (λ b le lt. same b (omega arith) (omega arith)) i) ∙ or_self t
-  where
-    or_self : (u : Bool) → (u || u) ≡ u
-    or_self true = refl
-    or_self false = refl
 
 pub count_all : (p : ℕ → Bool) (a n : ℕ) → ((b : ℕ) → a ≤ b → b < a + n → p b ≡ true) → count_by p (range_with_len a n) ≡ n
 count_all p a zero same = refl
@@ -73,23 +66,11 @@ covered_is (e ∷ es) b = at ((cover_of e).covers b) (covered_is es b)
 
 -- ---- looks
 
-or_assoc : (a b c : Bool) → ((a || b) || c) ≡ (a || (b || c))
-or_assoc true b c = refl
-or_assoc false b c = refl
-
-or_none : (a : Bool) → (a || false) ≡ a
-or_none true = refl
-or_none false = refl
-
-or_true : (a : Bool) → (a || true) ≡ true
-or_true true = refl
-or_true false = refl
-
 -- nothing was read
 pub woken_none : (l : Look) (first : ℕ) → woken l first 0 ≡ l
 woken_none l first = λ i. record {
-  home_up = or_none l.home_up i;
-  ups = sym (fill_by_all (λ k. get_or l.ups k false || false) l.ups (length l.ups) false refl (λ k lt. sym (or_none (get_or l.ups k false)))) i;
+  home_up = or-false l.home_up i;
+  ups = sym (fill_by_all (λ k. get_or l.ups k false || false) l.ups (length l.ups) false refl (λ k lt. sym (or-false (get_or l.ups k false)))) i;
   next = l.next;
   listed = l.listed;
   down = l.down;
@@ -159,9 +140,9 @@ module _ (es : List Listed) (first n : ℕ) (some : 1 ≤ n) where
 -- a run of blocks that no record covers
 pub woken_home : (l : Look) (first n : ℕ) → 1 ≤ n → IsBareRun l.listed first n → woken l first n ≡ record l { home_up = true }
 woken_home l first n some bare = λ i. record {
-  home_up = ((λ j. l.home_up || bare_reads_home l.listed first n some bare j) ∙ or_true l.home_up) i;
+  home_up = ((λ j. l.home_up || bare_reads_home l.listed first n some bare j) ∙ or-true l.home_up) i;
   ups = sym (fill_by_all (λ k. get_or l.ups k false || list_any (has_newest_on l.listed k) (range_with_len first n)) l.ups (length l.ups) false refl
-      (λ k lt. sym ((λ j. get_or l.ups k false || bare_reads_lane l.listed first n some bare k j) ∙ or_none (get_or l.ups k false)))) i;
+      (λ k lt. sym ((λ j. get_or l.ups k false || bare_reads_lane l.listed first n some bare k j) ∙ or-false (get_or l.ups k false)))) i;
   next = l.next;
   listed = l.listed;
   down = l.down;
@@ -170,7 +151,7 @@ woken_home l first n some bare = λ i. record {
 -- a run of blocks of which a record on one lane is the newest
 pub woken_log : (l : Look) (first n lane : ℕ) → 1 ≤ n → lane < length l.ups → IsLaneRun l.listed lane first n → woken l first n ≡ record l { ups = slice_set l.ups lane true }
 woken_log l first n lane some within run = λ i. record {
-  home_up = ((λ j. l.home_up || log_reads_home l.listed first n some lane run j) ∙ or_none l.home_up) i;
+  home_up = ((λ j. l.home_up || log_reads_home l.listed first n some lane run j) ∙ or-false l.home_up) i;
   ups = sym (fill_by_all up (slice_set l.ups lane true) (length l.ups) false (length-set l.ups lane true) (λ k lt. sym (same k (cases_eq k lane)))) i;
   next = l.next;
   listed = l.listed;
@@ -181,7 +162,7 @@ woken_log l first n lane some within run = λ i. record {
     up k = get_or l.ups k false || list_any (has_newest_on l.listed k) (range_with_len first n)
 
     same : (k : ℕ) → (k ≡ lane) ⊎ (k ≢ lane) → up k ≡ get_or (set l.ups lane true) k false
-    same k (inl here) = (λ i. get_or l.ups k false || (log_reads_lane l.listed first n some lane run k ∙ eq-eqb lane k (sym here)) i) ∙ or_true (get_or l.ups k false)
+    same k (inl here) = (λ i. get_or l.ups k false || (log_reads_lane l.listed first n some lane run k ∙ eq-eqb lane k (sym here)) i) ∙ or-true (get_or l.ups k false)
         ∙ sym (ap (λ (j : ℕ). get_or (set l.ups lane true) j false) here ∙ get_or-set_same l.ups lane true false within)
-    same k (inr other) = (λ i. get_or l.ups k false || (log_reads_lane l.listed first n some lane run k ∙ ne_eqb lane k (λ is_k. other (sym is_k))) i) ∙ or_none (get_or l.ups k false)
+    same k (inr other) = (λ i. get_or l.ups k false || (log_reads_lane l.listed first n some lane run k ∙ ne_eqb lane k (λ is_k. other (sym is_k))) i) ∙ or-false (get_or l.ups k false)
         ∙ sym (get_or-set_other l.ups lane k true false other)
