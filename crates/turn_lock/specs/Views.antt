@@ -65,38 +65,18 @@ module _ {B : Type 0} where
 
   -- the same at another stage
   abbrev pub at_stage : View B → Stage → View B
-  at_stage v s = record {
-    base = v.base;
-    parts = v.parts;
-    stage = s;
-    number = v.number;
-    seen = v.seen;
-    mine = v.mine;
-    took = v.took;
-  }
+  at_stage v s = record v { stage = s }
 
   -- it has the turn with the ticket t, and has seen all entries
   abbrev pub holding : View B → ℕ → List Entry → View B
-  holding v t es = record {
-    base = v.base;
-    parts = v.parts;
-    stage = Holding t;
-    number = v.number;
-    seen = es;
-    mine = v.mine;
-    took = v.took;
-  }
+  holding v t es = record v { stage = Holding t; seen = es }
 
   -- after a turn with this operation
   abbrev pub turned : View B → List ℕ → View B
-  turned v op = record {
-    base = v.base;
-    parts = v.parts;
+  turned v op = record v {
     stage = Idle;
-    number = v.number;
     seen = v.seen ++ (v.number, op) ∷ [];
     mine = v.mine ++ (v.number, op) ∷ [];
-    took = v.took;
   }
 
   -- it has so many passes to issue, and the number m next
@@ -113,15 +93,7 @@ module _ {B : Type 0} where
 
   -- what is left of an issuer that issued a pass
   abbrev pub issuer_after : View B → View B
-  issuer_after v = record {
-    base = v.base;
-    parts = v.parts - 1;
-    stage = Issuer (next_of v.stage + 1);
-    number = v.number;
-    seen = v.seen;
-    mine = v.mine;
-    took = v.took;
-  }
+  issuer_after v = record v { parts = v.parts - 1; stage = Issuer (next_of v.stage + 1) }
 
   -- the pass that an issuer issues
   abbrev pub issued : View B → View B
@@ -153,15 +125,7 @@ module _ {B : Type 0} where
 
   -- v, which took in w and all that w took in
   abbrev pub joined : View B → View B → View B
-  joined v w = record {
-    base = v.base;
-    parts = v.parts + w.parts;
-    stage = v.stage;
-    number = v.number;
-    seen = v.seen;
-    mine = v.mine;
-    took = v.took ++ claim_of w ∷ w.took;
-  }
+  joined v w = record v { parts = v.parts + w.parts; took = v.took ++ claim_of w ∷ w.took }
 
 -- what a seat claims, and what it took in
 abbrev pub claims_of : {B : Type 0} → View B → List Claim
