@@ -2,6 +2,7 @@
 use Rattle.std.proofs.Common.{◌≡◌, ◌⊎◌, inl, inr, ⊎_elim, ◌<◌, ◌≤◌, ◌+◌, ◌-◌, ◌*◌, ◌/◌, ◌%◌, ◌^◌, ℕ, Bool, true, false, not, ◌&&◌, ◌||◌, refl, sym, ap, ◌∙◌, arith, eqb, leb, ltb, bit_and, bit_or}
 use mir.Val.{bits}
 use Rattle.std.specs.Int.{Width, bit_at, bit_not, w128, trailing_zeros}
+use Rattle.std.proofs.Math.Bool.{or-false, or-true}
 use Rattle.std.proofs.lemmas.Nat.{pow-add, pow_pos}
 use Rattle.std.proofs.lemmas.Nat.Bits.{bit_at_set_same, bit_at_set_other, bit_at_above, bit_at-zero, bit_at_cat_low, bit_at_cat_high, bit_at_or, bit_at_and, bit_at-lt, bit_at_not, bit_at-trailing_zeros, and_pow, same_from_bits}
 use Rattle.std.proofs.lemmas.Bool.{cases_lt, cases_eq, lt-ltb, le-ltb, le-leb, lt-leb, eq-eqb, ne_eqb}
@@ -128,17 +129,9 @@ some_bit m some fits = (trailing_zeros w128 m, eq-eqb (bit_at m (trailing_zeros 
 -- one bit, and a mask with it
 pub has_bit-set : (w : Width) (m k i : ℕ) → k < bits w → has_bit (bit_or m (1 * 2 ^ k % 2 ^ bits w)) i ≡ (has_bit m i || eqb i k)
 has_bit-set w m k i within = ⊎_elim
-    (λ here. rw (eq-eqb i k here) (ap (λ (n : ℕ). eqb (bit_at (bit_or m (1 * 2 ^ k % 2 ^ bits w)) n) 1) here ∙ eq-eqb (bit_at (bit_or m (1 * 2 ^ k % 2 ^ bits w)) k) 1 (bit_at_set_same w m k within) ∙ sym (or_true (has_bit m i))))
-    (λ apart. rw (ne_eqb i k apart) (ap (λ (n : ℕ). eqb n 1) (bit_at_set_other w m k within i apart) ∙ sym (or_false (has_bit m i))))
+    (λ here. rw (eq-eqb i k here) (ap (λ (n : ℕ). eqb (bit_at (bit_or m (1 * 2 ^ k % 2 ^ bits w)) n) 1) here ∙ eq-eqb (bit_at (bit_or m (1 * 2 ^ k % 2 ^ bits w)) k) 1 (bit_at_set_same w m k within) ∙ sym (or-true (has_bit m i))))
+    (λ apart. rw (ne_eqb i k apart) (ap (λ (n : ℕ). eqb n 1) (bit_at_set_other w m k within i apart) ∙ sym (or-false (has_bit m i))))
     (cases_eq i k)
-  where
-    or_true : (t : Bool) → (t || true) ≡ true
-    or_true true = refl
-    or_true false = refl
-
-    or_false : (t : Bool) → (t || false) ≡ t
-    or_false true = refl
-    or_false false = refl
 
 pub has_bit-pow : (k i : ℕ) → k < 128 → has_bit (1 * 2 ^ k % 2 ^ 128) i ≡ eqb i k
 has_bit-pow k i within = ap (λ (n : ℕ). has_bit n i) (sym (nothing (1 * 2 ^ k % 2 ^ 128))) ∙ has_bit-set w128 0 k i within ∙ ap (λ (t : Bool). t || eqb i k) (has_bit-zero i)

@@ -5,17 +5,16 @@ use Rattle.std.specs.List.{list_any, count_by, range_with_len, AllByRecursion, c
 use Rattle.std.specs.Option.{option_map, option_and_then, option_or}
 use Rattle.std.proofs.lemmas.Option.{same_Some, none-some}
 use Rattle.std.proofs.lemmas.Bool.{le-leb, ltb-true, false≢true, cases_lt, lt-leb}
-use Rattle.std.proofs.lemmas.List.Elements.{Contains-append_left, Contains-append_right}
 use Rattle.wol_disk.specs.Disk.{Block}
 use Rattle.wol_model.specs.Blocks.{block_of, overlaid_from, Write, AreApart, last_written}
 use Rattle.wol_model.specs.Extents.{Cover, Extent, newest, newer_of, newest_block, with_extents, covers_of, AreDistinct, has_newer}
 use Rattle.wol_model.specs.Index.{Listed, Indexed, listed_in, listed_covers, cover_of, is_covered, AreRising, is_live}
-use Rattle.wol_model.specs.Log.{Record, extent_of, has_bit}
+use Rattle.wol_model.specs.Log.{extent_of, has_bit}
 use Rattle.wol_model.proofs.Counts.{both, marked_within, not_true}
 use Rattle.wol_model.proofs.Live.{live_is_newest}
 use Rattle.wol_model.proofs.Newest.{above, newer_is_above}
 use Rattle.wol_promise.specs.Manager.{Held, IsBacked, IsIndexOf, extents_held, versions}
-use Rattle.wol_promise.proofs.Covers.{any_member, any_found, same_cover, held_is_listed}
+use Rattle.wol_promise.proofs.Covers.{any_member, any_found, same_cover, extent_among, held_is_listed}
 use Rattle.wol_promise.proofs.Lists.{member_map, member_of, member_front, member_behind, all_member}
 use Rattle.block_cells.specs.declared.record.Rec.{Rec}
 use Rattle.redirect_map.specs.Index.{cover_at}
@@ -82,13 +81,6 @@ around_of {X} (y ∷ ys) x has = ⊎_elim
     (member_front y ys x has)
 
 -- ---- one block
-
-extent_among : {P : Type 0} (held : List (Held P)) (s : Held P) (r : Record) → Contains held s → Contains s.records r → Contains (extents_held held) (extent_of r)
-extent_among [] s r has is = absurd (let lt = has.1 in omega arith)
-extent_among {P} (t ∷ held) s r has is = ⊎_elim
-    (λ same. Contains-append_left (map extent_of t.records) (extents_held held) (extent_of r) (member_map extent_of t.records r (subst (λ (u : Held P). Contains u.records r) (sym same) is)))
-    (λ there. Contains-append_right (map extent_of t.records) (extents_held held) (extent_of r) (extent_among held s r there is))
-    (member_front t held s has)
 
 any_covers : (es : List Listed) (b : ℕ) → list_any (λ (c : Cover). c.covers b) (listed_covers es) ≡ is_covered es b
 any_covers [] b = refl

@@ -2,6 +2,7 @@
 use Rattle.std.proofs.Common.{◌≡◌, false, List, ◌∷◌, ◌++◌, None, Some, refl, sym, subst, ◌∙◌, ◌<◌, ◌≤◌, ℕ, zero, suc, ◌+◌, Bool, not, ◌&&◌, [], map, length, take, ap, arith, append_assoc, inl, ◌^◌, true, ◌||◌, length-append}
 use Rattle.std.specs.List.{AllByRecursion, flat_map}
 use Rattle.std.specs.Prelude.{Contains, slice_get, IsTrue, is_some}
+use Rattle.std.proofs.Math.Bool.{or-false}
 use Rattle.std.proofs.lemmas.Bool.{false≢true}
 use Rattle.std.proofs.lemmas.List.{map-append, append-nil}
 use Rattle.std.proofs.lemmas.List.Folds.{list_any-append}
@@ -14,6 +15,7 @@ use Rattle.wol_promise.specs.Manager.{Parts, Held, ManagerSeen, Base, Recovers, 
 use Rattle.wol_promise.specs.Stands.{IsHeldBy, HasPlaces, IsPlaced, IsCalm, Upholds, AreKnown, HasVersions, LiesInHome, LieInHome, LiesInVolume, StandsFor}
 use Rattle.wol_promise.proofs.Lists.{all_map, all_swap, all_back, all_front, all_joined, all_push, all_parts, all_mid, member_mid, member_of}
 use Rattle.wol_promise.proofs.LogWrites.{places_with_segment, placed_with_segment, says_owner, around, low_extents}
+use Rattle.wol_promise.proofs.Places.{places_with}
 use Rattle.wol_disk.specs.Disk.{Block}
 use Rattle.wol_model.specs.Extents.{Extent, KeepsAll, write_of, covers_of, AreDistinct, with_extents, IsValid}
 use Rattle.wol_model.specs.History.{IsCut, whole, Wrote, Broke, worker, writes, flight_of, IsLegalNext}
@@ -244,10 +246,6 @@ end_more rs r counted =
 
 -- ---- What is homed
 
-or_false : (t : Bool) → (t || false) ≡ t
-or_false true = refl
-or_false false = refl
-
 cleared_homed : (covers : ℕ → Bool) (es : List Indexed) (b : ℕ) → is_homed_in (map (cleared covers) es) b ≡ (is_homed_in es b && not (covers b))
 cleared_homed covers [] b = refl
 cleared_homed covers (e ∷ es) b = (λ i. remarked_is e.listed.first e.listed.homed (λ c m. m && not (covers c)) b refl i || cleared_homed covers es b i) ∙ either (is_homed e.listed b) (is_homed_in es b) (not (covers b))
@@ -261,7 +259,7 @@ cleared_homed covers (e ∷ es) b = (λ i. remarked_is e.listed.first e.listed.h
 homed_with : {P : Type 0} (es : List Indexed) (s : Held P) (r : Record) → is_homed_in (indexed_with es s r) ≡ (λ b. is_homed_in es b && not ((extent_of r).cover.covers b))
 homed_with es s r = fun_ext (λ b. list_any-append (λ (e : Indexed). is_homed e.listed b) (map (cleared (extent_of r).cover.covers) es) (entry_of s r ∷ [])
     ∙ ap (λ (t : Bool). is_homed_in (map (cleared (extent_of r).cover.covers) es) b || (t || false)) (none_marked r.head.first r.head.count b)
-    ∙ or_false (is_homed_in (map (cleared (extent_of r).cover.covers) es) b) ∙ cleared_homed (extent_of r).cover.covers es b)
+    ∙ or-false (is_homed_in (map (cleared (extent_of r).cover.covers) es) b) ∙ cleared_homed (extent_of r).cover.covers es b)
 
 all_cleared : (covers : ℕ → Bool) (Q R : Indexed → Type 0) → ((e : Indexed) → Q e → R (cleared covers e)) → (es : List Indexed) → AllByRecursion Q es → AllByRecursion R (map (cleared covers) es)
 all_cleared covers Q R f [] all = tt
@@ -381,7 +379,7 @@ module _ {P : Type 0} (parts : Parts P) (base : Base) (m : ManagerSeen P) (home_
   calm = subst (λ (l : List (Held P)). IsCalm parts base ws m.next m.home l m.indexed m.taken) held (u.calm refl)
 
   places : HasPlaces parts base m.home (front ++ s ∷ back) ups
-  places = let p = subst (λ (l : List (Held P)). HasPlaces parts base m.home l m.ups) held u.places in record { flags = flags ∙ p.flags; few = p.few; home_blocks = p.home_blocks; most = p.most; home_size = p.home_size; home_volume = p.home_volume; each = p.each; apart = p.apart }
+  places = let p = subst (λ (l : List (Held P)). HasPlaces parts base m.home l m.ups) held u.places in places_with p flags refl refl p.each p.apart
 
   known : parts.told → AreKnown base m.next ws [] (front ++ s ∷ back)
   known told = subst (AreKnown base m.next ws []) held (u.known told)

@@ -15,6 +15,7 @@ use Rattle.wol_promise.specs.Manager.{Parts, PartName, Held, ManagerSeen, Base, 
 use Rattle.wol_promise.specs.Stands.{AreKnown, LiesInHome, IsHeldBy, place_in, AreApartPlaces, HasPlaces, IsPlaced, IsWhole, Upholds, StandsFor}
 use Rattle.wol_promise.proofs.Broke.{broke_more}
 use Rattle.wol_promise.proofs.LogWrites.{says_owner}
+use Rattle.wol_promise.proofs.Places.{places_with}
 use Rattle.wol_promise.proofs.SoundSegments.{logs_sound}
 use Rattle.wol_promise.proofs.Stops.{still_stops}
 use Rattle.listed_records.proofs.Elements.{zip_all, zip_each, became}
@@ -102,20 +103,13 @@ module _ {P : Type 0} (parts : Parts P) (base : Base) (m : ManagerSeen P) (part 
   logs = zip_each (IsTouched parts base.owner) (λ (t : Held P). (bs : List Block) → parts.may_be t.part bs → IsLog bs base.owner t.records) (λ s t is. is.images) m.held held zip
 
   places_touched : HasPlaces parts base m.home m.held m.ups → HasPlaces parts base part held ups
-  places_touched p = record {
-    flags = flags ∙ p.flags;
-    few = p.few;
-    home_blocks = p.home_blocks;
-    most = p.most;
-    home_size = size ∙ p.home_size;
-    home_volume = volume ∙ p.home_volume;
-    each = zip_all (IsTouched parts base.owner) (IsHeldBy parts base) (IsHeldBy parts base) (λ s t is by. record {
-      logger = ap (slice_get base.view) is.lane ∙ by.logger ∙ ap Some (sym is.volume);
-      room = subst (λ (n : ℕ). base.most + 2 ≤ n) (sym is.size) by.room;
-      owned = λ bs may. says_owner base.owner bs t.records (is.images bs may);
-    }) m.held held zip p.each;
-    apart = subst AreApartPlaces (sym (same_places parts base.owner m.held held zip)) p.apart;
-  }
+  places_touched p = places_with p flags size volume
+      (zip_all (IsTouched parts base.owner) (IsHeldBy parts base) (IsHeldBy parts base) (λ s t is by. record {
+        logger = ap (slice_get base.view) is.lane ∙ by.logger ∙ ap Some (sym is.volume);
+        room = subst (λ (n : ℕ). base.most + 2 ≤ n) (sym is.size) by.room;
+        owned = λ bs may. says_owner base.owner bs t.records (is.images bs may);
+      }) m.held held zip p.each)
+      (subst AreApartPlaces (sym (same_places parts base.owner m.held held zip)) p.apart)
 
   known_touched : (ws : List Write) → AreKnown base m.next ws [] m.held → AreKnown base m.next ws [] held
   known_touched ws k = record {

@@ -23,7 +23,8 @@ use Rattle.wol_promise.proofs.Covers.{goes_is_may_go}
 use Rattle.wol_promise.proofs.GiveUps.{drops}
 use Rattle.wol_promise.proofs.Lists.{all_map, all_swap, all_parts, all_front, all_back, all_joined, member_mid}
 use Rattle.wol_promise.proofs.LogWrites.{places_with_segment, around}
-use Rattle.wol_promise.proofs.Retires.{AreEmpty, retires}
+use Rattle.wol_promise.proofs.Places.{places_with, calm_with}
+use Rattle.wol_promise.proofs.Retires.{AreEmpty, given_back, retires}
 use Rattle.wol_promise.proofs.SegmentBreaks.{IsQuiet, quiet_stops}
 use Rattle.wol_promise.proofs.SoundSegments.{IsSoundBetween, one_sound}
 use Rattle.wol_promise.proofs.Stops.{still_stops}
@@ -153,7 +154,7 @@ module _ {P : Type 0} (parts : Parts P) (base : Base) (m : ManagerSeen P) (home_
   failed_segment = record m { held = front ++ t ∷ back; home_up = home_up; ups = ups; down = Some (SegmentPart logger s.index) }
 
   places : HasPlaces parts base m.home (front ++ s ∷ back) ups
-  places = let p = subst (λ (l : List (Held P)). HasPlaces parts base m.home l m.ups) held u.places in record { flags = flags ∙ p.flags; few = p.few; home_blocks = p.home_blocks; most = p.most; home_size = p.home_size; home_volume = p.home_volume; each = p.each; apart = p.apart }
+  places = let p = subst (λ (l : List (Held P)). HasPlaces parts base m.home l m.ups) held u.places in places_with p flags refl refl p.each p.apart
 
   abbrev Written : Held P → Type 0
   Written v = AllByRecursion (λ q. IsValid (extent_of q).cover → WasWritten (base.records ++ (writes (entries_of notes) ++ [])) q) v.records
@@ -179,6 +180,36 @@ module _ {P : Type 0} (parts : Parts P) (base : Base) (m : ManagerSeen P) (home_
       (λ told. let sides = all_parts Logs front s back (subst (AllByRecursion Logs) held ((u.calm refl).whole told).logs) in let within = all_parts (LieInHome base.home_blocks) front t back (known told).within in
       one_sound (λ v. parts.may_be v.part) base.owner base.home_blocks front back t sides.0 sides.1 within.0 within.1 (between told)) cut
 
+-- ---- the same parts without images: what is said of the index and of records alone stays
+
+module _ {P : Type 0} (parts : Parts P) where
+  abbrev blind : Parts P
+  blind = record { told = parts.told; may_be = λ p bs. ⊥; size = parts.size; volume = parts.volume; faults = parts.faults }
+
+  as_blind : (l : List (Held P)) (es : List Indexed) → AllByRecursion (IsPlaced parts l) es → AllByRecursion (IsPlaced blind l) es
+  as_blind l es all = all_map (IsPlaced parts l) (IsPlaced blind l) (λ d is. record { segment = is.segment; is_held = is.is_held; lane = is.lane; index = is.index; behind = is.behind; within = is.within }) es all
+
+  unseen : (base : Base) (m : ManagerSeen P) (notes : List Noted) (ws : List Write) → Upholds parts base m notes ws None → Upholds blind base m notes ws None
+  unseen base m notes ws u = record {
+    began = u.began;
+    history = u.history;
+    lie = u.lie;
+    versioned = u.versioned;
+    known = u.known;
+    places = let p = u.places in places_with p refl refl refl
+        (all_map (IsHeldBy parts base) (IsHeldBy blind base) (λ v by. record { logger = by.logger; room = by.room; owned = λ bs no. absurd no }) m.held p.each) p.apart;
+    is_down = u.is_down;
+    failed = u.failed;
+    calm = λ none. let c = u.calm none in calm_with c (as_blind m.held m.indexed c.placed) (λ told. let w = c.whole told in record {
+      logs = all_map (λ (v : Held P). (bs : List Block) → parts.may_be v.part bs → IsLog bs base.owner v.records) (λ (v : Held P). (bs : List Block) → blind.may_be v.part bs → IsLog bs base.owner v.records) (λ v log bs no. absurd no) m.held w.logs;
+      distinct = w.distinct;
+      index = w.index;
+      holds = λ image no. absurd no;
+    });
+    sound = λ told some. absurd (false≢true some);
+    cut = λ told fl is. absurd (let no : None ≡ Some fl = is in cc);
+  }
+
 -- ---- a segment that is given back with its last record
 
 module _ {P : Type 0} (parts : Parts P) (base : Base) (m : ManagerSeen P) (notes : List Noted) (ws : List Write) (u : Upholds parts base m notes ws None) (up : m.down ≡ None)
@@ -191,95 +222,25 @@ module _ {P : Type 0} (parts : Parts P) (base : Base) (m : ManagerSeen P) (notes
   abbrev s : Held P
   s = record { part = old_part; lane = lane; index = index; broken = false; records = fs ++ r ∷ gs }
 
-  -- the same parts without images: what is said of the index and of records alone stays
-  abbrev blind : Parts P
-  blind = record { told = parts.told; may_be = λ p bs. ⊥; size = parts.size; volume = parts.volume; faults = parts.faults }
-
-  as_blind : (l : List (Held P)) (es : List Indexed) → AllByRecursion (IsPlaced parts l) es → AllByRecursion (IsPlaced blind l) es
-  as_blind l es all = all_map (IsPlaced parts l) (IsPlaced blind l) (λ d is. record { segment = is.segment; is_held = is.is_held; lane = is.lane; index = is.index; behind = is.behind; within = is.within }) es all
-
-  unseen : Upholds blind base m notes ws None
-  unseen = record {
-    began = u.began;
-    history = u.history;
-    lie = u.lie;
-    versioned = u.versioned;
-    known = u.known;
-    places = let p = u.places in record {
-      flags = p.flags;
-      few = p.few;
-      home_blocks = p.home_blocks;
-      most = p.most;
-      home_size = p.home_size;
-      home_volume = p.home_volume;
-      each = all_map (IsHeldBy parts base) (IsHeldBy blind base) (λ v by. record { logger = by.logger; room = by.room; owned = λ bs no. absurd no }) m.held p.each;
-      apart = p.apart;
-    };
-    is_down = u.is_down;
-    failed = u.failed;
-    calm = λ none. let c = u.calm none in record {
-      unbroken = c.unbroken;
-      untaken = c.untaken;
-      sorted = c.sorted;
-      below = c.below;
-      placed = as_blind m.held m.indexed c.placed;
-      whole = λ told. let w = c.whole told in record {
-        logs = all_map (λ (v : Held P). (bs : List Block) → parts.may_be v.part bs → IsLog bs base.owner v.records) (λ (v : Held P). (bs : List Block) → blind.may_be v.part bs → IsLog bs base.owner v.records) (λ v log bs no. absurd no) m.held w.logs;
-        distinct = w.distinct;
-        index = w.index;
-        holds = λ image no. absurd no;
-      };
-    };
-    sound = λ told some. absurd (false≢true some);
-    cut = λ told fl is. absurd (let no : None ≡ Some fl = is in cc);
-  }
-
-  without : Upholds blind base (record m { held = hf ++ hb; indexed = front ++ back }) notes ws None
-  without = retires blind base (record m { held = hf ++ record { part = old_part; lane = lane; index = index; broken = false; records = fs ++ trimmed r mask ∷ gs } ∷ hb; indexed = front ++ back }) notes ws hf
+  without : Upholds (blind parts) base (record m { held = hf ++ hb; indexed = front ++ back }) notes ws None
+  without = retires (blind parts) base (record m { held = hf ++ record { part = old_part; lane = lane; index = index; broken = false; records = fs ++ trimmed r mask ∷ gs } ∷ hb; indexed = front ++ back }) notes ws hf
       (record { part = old_part; lane = lane; index = index; broken = false; records = fs ++ trimmed r mask ∷ gs }) hb
-      (drops blind base m notes ws unseen up hf old_part old_part lane index hb fs r gs mask front e back held indexed refl refl (λ bs no. absurd no) its kept gone) up refl empty (as_blind (hf ++ hb) (front ++ back) elsewhere)
+      (drops (blind parts) base m notes ws (unseen parts base m notes ws u) up hf old_part old_part lane index hb fs r gs mask front e back held indexed refl refl (λ bs no. absurd no) its kept gone) up refl empty
+      (as_blind parts (hf ++ hb) (front ++ back) elsewhere)
 
   less : (Q : Held P → Type 0) → AllByRecursion Q m.held → AllByRecursion Q (hf ++ hb)
   less Q all = let l = subst (AllByRecursion Q) held all in all_joined Q hf hb (all_front Q hf (s ∷ hb) l) (all_back Q hf (s ∷ hb) l).1
 
   pub vanishes : Upholds parts base (record m { held = hf ++ hb; indexed = front ++ back }) notes ws None
-  vanishes = record {
-    began = u.began;
-    history = u.history;
-    lie = u.lie;
-    versioned = u.versioned;
-    known = without.known;
-    places = let p = u.places in record {
-      flags = p.flags;
-      few = p.few;
-      home_blocks = p.home_blocks;
-      most = p.most;
-      home_size = p.home_size;
-      home_volume = p.home_volume;
-      each = less (IsHeldBy parts base) p.each;
-      apart = without.places.apart;
-    };
-    is_down = u.is_down;
-    failed = λ name is. absurd (let no : None ≡ Some name = sym up ∙ is in cc);
-    calm = λ none. let c = without.calm none in record {
-      unbroken = c.unbroken;
-      untaken = c.untaken;
-      sorted = c.sorted;
-      below = c.below;
-      placed = elsewhere;
-      whole = λ told. let w = c.whole told in let old = (u.calm none).whole told in record {
-        logs = less (λ (v : Held P). (bs : List Block) → parts.may_be v.part bs → IsLog bs base.owner v.records) old.logs;
-        distinct = w.distinct;
-        index = w.index;
-        holds = λ home is. fewer_homed base.array ws m.next home (extents_held (hf ++ hb)) (is_homed_in m.indexed) (is_homed_in (front ++ back))
-            (holds_without hf old_part lane index hb fs r gs mask (front ++ e ∷ back) e its kept base.array ws m.next (is_homed_in m.indexed) (may old) (empty told) home
-            (subst (λ (l : List (Held P)). Holds base.array ws m.next home (extents_held l) (is_homed_in m.indexed)) held (old.holds home is)))
-            (λ b homed. subst (λ (l : List Indexed). is_homed_in l b ≡ true) (sym indexed) (fewer_marks front e back b homed));
-      };
-    };
-    sound = λ told some. absurd (false≢true some);
-    cut = λ told fl is. absurd (let no : None ≡ Some fl = is in cc);
-  }
+  vanishes = given_back parts base m notes ws hf s hb u up held (front ++ back) (calm_with (without.calm refl) elsewhere (λ told. let w = (without.calm refl).whole told in let old = (u.calm refl).whole told in record {
+    logs = less (λ (v : Held P). (bs : List Block) → parts.may_be v.part bs → IsLog bs base.owner v.records) old.logs;
+    distinct = w.distinct;
+    index = w.index;
+    holds = λ home is. fewer_homed base.array ws m.next home (extents_held (hf ++ hb)) (is_homed_in m.indexed) (is_homed_in (front ++ back))
+        (holds_without hf old_part lane index hb fs r gs mask (front ++ e ∷ back) e its kept base.array ws m.next (is_homed_in m.indexed) (may old) (empty told) home
+        (subst (λ (l : List (Held P)). Holds base.array ws m.next home (extents_held l) (is_homed_in m.indexed)) held (old.holds home is)))
+        (λ b homed. subst (λ (l : List Indexed). is_homed_in l b ≡ true) (sym indexed) (fewer_marks front e back b homed));
+  }))
     where
       may : IsWhole parts base ws m.next m.home m.held m.indexed → (b : ℕ) → goes (listed_in (front ++ e ∷ back)) e.listed b ≡ true → may_go (covers_of (extents_held (hf ++ s ∷ hb))) (is_homed_in m.indexed) (extent_of r).cover b ≡ true
       may w b given = subst (λ (l : List Indexed). may_go (covers_of (extents_held (hf ++ s ∷ hb))) (is_homed_in l) (extent_of r).cover b ≡ true) (sym indexed)

@@ -1,11 +1,10 @@
 // Writes to a lane.
 ghost use Rattle.log_segment.specs.Records.{new_record, group_of, count_of, AreItems};
 ghost use Rattle.log_segment.specs.Segment.{IsFree, room_of, free_volume, free_blocks};
-ghost use Rattle.logger.specs.Lanes.{IsLane, HoldsAll, IsAt, IsSameLane, HasRoom, HasNoRoom, IsFirstWithRoom, AreWhole, HasUsed, IsFit, IsGroup, Claimed, Wrote, HasWritten, lane_owner, held_in, taken_in, pool_of, pool_blocks, first_count, group_blocks, group_records, spot_result};
+ghost use Rattle.logger.specs.Lanes.{IsLane, IsAt, HasRoom, HasNoRoom, IsFirstWithRoom, AreWhole, IsFit, IsGroup, Claimed, HasWritten, lane_owner, held_in, taken_in, pool_blocks, first_count, group_blocks, group_records, spot_result};
 ghost use Rattle.logger.specs.declared.lane.HeldSegment.{HeldSegment};
 ghost use Rattle.spin_model.specs.Spun.{token_volume};
 ghost use Rattle.std.specs.Prelude.{◌≡◌, ◌≤◌, ◌<◌, ◌+◌, ◌-◌, ◌^◌, ◌∷◌, [], ◌⊎◌, ℕ, Some, IsSome, IfOk, length, slice_get};
-ghost use Rattle.turn_lock.specs.Passes.{pass_mine};
 
 use crate::lane::{HeldSegment, Lane, Spot};
 use crate::secure::first_with_room;
@@ -112,13 +111,7 @@ impl<D: Disk> Lane<D> {
         requires some { 1 ≤ length items.now }
         requires items { AreItems items.now }
         requires blocks { count_of items.now ≡ length from.now }
-        ensures lane { IsLane D.state self.new }
-        ensures same { IsSameLane self.old self.new }
-        ensures all { HoldsAll self.old → HoldsAll self.new }
-        ensures at { IsAt shared.now self.new }
-        ensures pool { pass_mine (pool_of self.new) ≡ pass_mine (pool_of self.old) }
-        ensures used { HasUsed self.old self.new }
-        ensures moved { Wrote D.state self.old self.new (first_count items.now)
+        ensures { HasWritten D.state shared.now self.old self.new (first_count items.now)
             (group_of (lane_owner self.old) version items.now from.now) result }
     {
         let group = Group {

@@ -2,6 +2,7 @@
 use Rattle.std.proofs.Common.{◌≡◌, ◌<◌, ◌≤◌, ◌+◌, ◌-◌, ℕ, zero, suc, Bool, true, false, cond, not, ◌&&◌, ◌||◌, List, [], ◌∷◌, ◌++◌, map, length, take, drop, set, Option, Some, None, refl, sym, ap, ◌∙◌, subst, arith, eqb, is_some}
 use Rattle.std.specs.Prelude.{slice_get}
 use Rattle.std.specs.List.{AllByRecursion, remove}
+use Rattle.std.proofs.Math.Bool.{and-false, and-true}
 use Rattle.std.proofs.lemmas.Bool.{ne_eqb, eq-eqb, lt-ltb, false≢true, or_left, or_right}
 use Rattle.wol_model.specs.Index.{AreRising}
 use Rattle.block_cells.specs.declared.blocks.Cell.{Cell}
@@ -91,14 +92,6 @@ version_above x xs b c above is =
     let same : found.1.record.version ≡ c.version = found.2.version_is in
     omega arith
 
-and_true : (t : Bool) → (t && true) ≡ t
-and_true true = refl
-and_true false = refl
-
-and_false : (t : Bool) → (t && false) ≡ false
-and_false true = refl
-and_false false = refl
-
 -- the record at a place is the newest of a block where it keeps it and no later one does
 pub held_at : (items : List Entry) (k : ℕ) (e : Entry) (b : ℕ) → AreRising (map (λ (d : Entry). d.record.version) items) → slice_get items k ≡ Some e
     → is_held e.record.version false (cell_of items b) ≡ (keeps e b && not (one_keeps (drop (suc k) items) b))
@@ -139,7 +132,7 @@ alone_at (x ∷ xs) zero e b rising at =
     subst (λ (d : Entry). is_held d.record.version true (cell_of (x ∷ xs) b) ≡ (is_held d.record.version false (cell_of (x ∷ xs) b) && true)) f (here (keeps x b) (cell_of xs b) refl)
   where
     here : (t : Bool) (o : Option Cell) → cell_of xs b ≡ o → is_held x.record.version true (with_older t x.record.version o) ≡ (is_held x.record.version false (with_older t x.record.version o) && true)
-    here true None there = sym (and_true (eqb x.record.version x.record.version && true))
+    here true None there = sym (and-true (eqb x.record.version x.record.version && true))
     here false None there = refl
     here t (Some c) there = some t
       where
@@ -161,7 +154,7 @@ alone_at (x ∷ xs) (suc k) e b rising at = step (keeps x b) (cell_of xs b) refl
     step true (Some c) there rest =
         let one : 1 ≤ c.keepers = some_keeper xs b c there in
         let many : eqb (c.keepers + 1) 1 ≡ false = ne_eqb (c.keepers + 1) 1 (λ same. absurd (omega arith)) in
-        rw (many, and_false (eqb c.version e.record.version)) (sym (and_false (eqb c.version e.record.version && true)))
+        rw (many, and-false (eqb c.version e.record.version)) (sym (and-false (eqb c.version e.record.version && true)))
 
 -- ---- One entry more
 

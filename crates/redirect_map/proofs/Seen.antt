@@ -2,6 +2,7 @@
 use Rattle.std.proofs.Common.{◌≡◌, ◌<◌, ℕ, zero, suc, Bool, true, false, cond, ◌&&◌, ◌||◌, List, [], ◌∷◌, map, length, take, drop, get_or, Some, refl, sym, ap, ◌∙◌, subst, arith, ltb}
 use Rattle.std.specs.Prelude.{slice_get, option_map}
 use Rattle.std.specs.List.{AllByRecursion, find}
+use Rattle.std.proofs.Math.Bool.{and-false, and-true}
 use Rattle.std.proofs.lemmas.Bool.{lt-ltb, le-ltb, eqb-true}
 use Rattle.std.proofs.lemmas.Option.{slice_get-get_or}
 use Rattle.wol_model.specs.Extents.{has_newer, has_older}
@@ -41,14 +42,6 @@ pub all_more : {X : Type 0} (P Q : X → Type 0) → ((x : X) → P x → Q x) �
 all_more P Q f [] all = tt
 all_more P Q f (x ∷ xs) all = (f x all.0, all_more P Q f xs all.1)
 
-and_false : (t : Bool) → (t && false) ≡ false
-and_false true = refl
-and_false false = refl
-
-and_true : (t : Bool) → (t && true) ≡ t
-and_true true = refl
-and_true false = refl
-
 -- where all versions are above v, a newer one covers a block just where one keeps it
 all_newer : (v b : ℕ) (items : List Entry) → AllByRecursion (λ w. v < w) (map (λ (e : Entry). e.record.version) items) → AllByRecursion IsInRange items
     → has_newer (listed_covers (listed_in (map seen items))) v b ≡ one_keeps items b
@@ -56,7 +49,7 @@ all_newer v b [] above ranges = refl
 all_newer v b (x ∷ xs) above ranges = λ i. here i || all_newer v b xs above.1 ranges.1 i
   where
     here : ((cover_at (seen x)).covers b && ltb v x.record.version) ≡ keeps x b
-    here = ap (λ (t : Bool). (cover_at (seen x)).covers b && t) (lt-ltb v x.record.version above.0) ∙ and_true ((cover_at (seen x)).covers b) ∙ covers_seen x b ranges.0
+    here = ap (λ (t : Bool). (cover_at (seen x)).covers b && t) (lt-ltb v x.record.version above.0) ∙ and-true ((cover_at (seen x)).covers b) ∙ covers_seen x b ranges.0
 
 -- and where all are at v or above, none is older
 none_older : (v b : ℕ) (items : List Entry) → AllByRecursion (λ w. v < w) (map (λ (e : Entry). e.record.version) items) → has_older (listed_covers (listed_in (map seen items))) v b ≡ false
@@ -66,7 +59,7 @@ none_older v b (x ∷ xs) above = λ i. here i || none_older v b xs above.1 i
     here : ((cover_at (seen x)).covers b && ltb x.record.version v) ≡ false
     here =
         let less : v < x.record.version = above.0 in
-        ap (λ (t : Bool). (cover_at (seen x)).covers b && t) (le-ltb x.record.version v (omega arith)) ∙ and_false ((cover_at (seen x)).covers b)
+        ap (λ (t : Bool). (cover_at (seen x)).covers b && t) (le-ltb x.record.version v (omega arith)) ∙ and-false ((cover_at (seen x)).covers b)
 
 -- the newer entries are those behind
 pub newer_at : (items : List Entry) (k : ℕ) (e : Entry) (b : ℕ) → AreRising (map (λ (d : Entry). d.record.version) items) → AllByRecursion IsInRange items → slice_get items k ≡ Some e
@@ -75,10 +68,10 @@ newer_at [] k e b rising ranges at = absurd (cc)
 newer_at (x ∷ xs) zero e b rising ranges at =
     let f : x ≡ e = cc in
     subst (λ (d : Entry). (((cover_at (seen x)).covers b && ltb d.record.version x.record.version) || has_newer (listed_covers (listed_in (map seen xs))) d.record.version b) ≡ one_keeps xs b) f
-    (λ i. (ap (λ (t : Bool). (cover_at (seen x)).covers b && t) (le-ltb x.record.version x.record.version (omega arith)) ∙ and_false ((cover_at (seen x)).covers b)) i || all_newer x.record.version b xs rising.0 ranges.1 i)
+    (λ i. (ap (λ (t : Bool). (cover_at (seen x)).covers b && t) (le-ltb x.record.version x.record.version (omega arith)) ∙ and-false ((cover_at (seen x)).covers b)) i || all_newer x.record.version b xs rising.0 ranges.1 i)
 newer_at (x ∷ xs) (suc k) e b rising ranges at =
     let less : x.record.version < e.record.version = all_at (λ (d : Entry). x.record.version < d.record.version) xs k e (all_before_map (λ w. x.record.version < w) (λ (d : Entry). d.record.version) xs rising.0) at in
-    λ i. (ap (λ (t : Bool). (cover_at (seen x)).covers b && t) (le-ltb e.record.version x.record.version (omega arith)) ∙ and_false ((cover_at (seen x)).covers b)) i || newer_at xs k e b rising.1 ranges.1 at i
+    λ i. (ap (λ (t : Bool). (cover_at (seen x)).covers b && t) (le-ltb e.record.version x.record.version (omega arith)) ∙ and-false ((cover_at (seen x)).covers b)) i || newer_at xs k e b rising.1 ranges.1 at i
 
 -- the older ones are those before
 pub older_at : (items : List Entry) (k : ℕ) (e : Entry) (b : ℕ) → AreRising (map (λ (d : Entry). d.record.version) items) → AllByRecursion IsInRange items → slice_get items k ≡ Some e
@@ -87,10 +80,10 @@ older_at [] k e b rising ranges at = absurd (cc)
 older_at (x ∷ xs) zero e b rising ranges at =
     let f : x ≡ e = cc in
     subst (λ (d : Entry). (((cover_at (seen x)).covers b && ltb x.record.version d.record.version) || has_older (listed_covers (listed_in (map seen xs))) d.record.version b) ≡ false) f
-    (λ i. (ap (λ (t : Bool). (cover_at (seen x)).covers b && t) (le-ltb x.record.version x.record.version (omega arith)) ∙ and_false ((cover_at (seen x)).covers b)) i || none_older x.record.version b xs rising.0 i)
+    (λ i. (ap (λ (t : Bool). (cover_at (seen x)).covers b && t) (le-ltb x.record.version x.record.version (omega arith)) ∙ and-false ((cover_at (seen x)).covers b)) i || none_older x.record.version b xs rising.0 i)
 older_at (x ∷ xs) (suc k) e b rising ranges at =
     let less : x.record.version < e.record.version = all_at (λ (d : Entry). x.record.version < d.record.version) xs k e (all_before_map (λ w. x.record.version < w) (λ (d : Entry). d.record.version) xs rising.0) at in
-    λ i. (ap (λ (t : Bool). (cover_at (seen x)).covers b && t) (lt-ltb x.record.version e.record.version less) ∙ and_true ((cover_at (seen x)).covers b) ∙ covers_seen x b ranges.0) i || older_at xs k e b rising.1 ranges.1 at i
+    λ i. (ap (λ (t : Bool). (cover_at (seen x)).covers b && t) (lt-ltb x.record.version e.record.version less) ∙ and-true ((cover_at (seen x)).covers b) ∙ covers_seen x b ranges.0) i || older_at xs k e b rising.1 ranges.1 at i
 
 find_passes : {X : Type 0} (p : X → Bool) (xs : List X) (x : X) → find p xs ≡ Some x → p x ≡ true
 find_passes p [] x e = absurd (cc)

@@ -4,6 +4,7 @@ use Rattle.std.specs.Prelude.{slice_get}
 use Rattle.std.specs.Int.{bit_not, w128}
 use Rattle.std.specs.Option.{ForSome}
 use Rattle.std.specs.List.{AllZip, remove}
+use Rattle.std.proofs.Math.Bool.{and-false, and-true}
 use Rattle.std.proofs.lemmas.Bool.{and_parts, false≢true, leb-true}
 use Rattle.wol_model.specs.Log.{has_bit}
 use Rattle.wol_model.specs.Extents.{has_newer, has_older}
@@ -79,14 +80,6 @@ trimmed_keeps e mask b r fits = ap (λ (t : Bool). leb e.record.lbn b && t) (has
     at true k m = refl
     at false k m = refl
 
-and_true : (t : Bool) → (t && true) ≡ t
-and_true true = refl
-and_true false = refl
-
-and_false : (t : Bool) → (t && false) ≡ false
-and_false true = refl
-and_false false = refl
-
 -- an entry gives up the blocks of the mask
 pub cell_trimmed : (items : List Entry) (version k : ℕ) (e : Entry) (mask b : ℕ) → AreEntries items → IsAt items version k e → GoesAll items version mask → mask < 2 ^ 128
     → cell_of (set items k (trimmed e mask)) b ≡ cond (in_mask e.record.lbn mask b) (take_one (cell_of items b)) (cell_of items b)
@@ -99,13 +92,13 @@ cell_trimmed items version k e mask b es at all fits = here (in_mask e.record.lb
     here : (t : Bool) → in_mask e.record.lbn mask b ≡ t → cell_of (set items k (trimmed e mask)) b ≡ cond t (take_one (cell_of items b)) (cell_of items b)
     here true on =
         let facts = gone_block items version k e mask b es at all on in
-        cell_set_less items k e (trimmed e mask) b at.at facts.0 (keep ∙ ap (λ (t : Bool). keeps e b && not t) on ∙ and_false (keeps e b)) facts.1
-    here false off = cell_set_same items k e (trimmed e mask) b at.at refl (keep ∙ ap (λ (t : Bool). keeps e b && not t) off ∙ and_true (keeps e b))
+        cell_set_less items k e (trimmed e mask) b at.at facts.0 (keep ∙ ap (λ (t : Bool). keeps e b && not t) on ∙ and-false (keeps e b)) facts.1
+    here false off = cell_set_same items k e (trimmed e mask) b at.at refl (keep ∙ ap (λ (t : Bool). keeps e b && not t) off ∙ and-true (keeps e b))
 
 -- a trimmed entry that keeps nothing
 empty_keeps : (e : Entry) (mask b : ℕ) → bit_and e.record.keep (bit_not w128 mask) ≡ 0 → keeps (trimmed e mask) b ≡ false
 unfolding trimmed
-empty_keeps e mask b none = ap (λ (m : ℕ). leb e.record.lbn b && has_bit m (b - e.record.lbn)) none ∙ ap (λ (t : Bool). leb e.record.lbn b && t) (has_bit-zero (b - e.record.lbn)) ∙ and_false (leb e.record.lbn b)
+empty_keeps e mask b none = ap (λ (m : ℕ). leb e.record.lbn b && has_bit m (b - e.record.lbn)) none ∙ ap (λ (t : Bool). leb e.record.lbn b && t) (has_bit-zero (b - e.record.lbn)) ∙ and-false (leb e.record.lbn b)
 
 pub cell_emptied : (items : List Entry) (version k : ℕ) (e : Entry) (mask b : ℕ) → AreEntries items → IsAt items version k e → GoesAll items version mask → mask < 2 ^ 128 → bit_and e.record.keep (bit_not w128 mask) ≡ 0
     → cell_of (remove items k) b ≡ cond (in_mask e.record.lbn mask b) (take_one (cell_of items b)) (cell_of items b)
