@@ -51,7 +51,7 @@ image_both [] ws (x ∷ c) d i j = absurd i
 image_both (v ∷ vs) ws [] d i j = absurd i
 image_both (v ∷ vs) ws (x ∷ c) d i j = (i.0, image_both vs ws c d i.1 j)
 
-joined_image : (a b : Option (List (Values Block))) (c d : List Block) → IsImageOf a c → IsImageOf b d → IsImageOf (joined a b) (c ++ d)
+pub joined_image : (a b : Option (List (Values Block))) (c d : List Block) → IsImageOf a c → IsImageOf b d → IsImageOf (joined a b) (c ++ d)
 joined_image None b c d i j = absurd i
 joined_image (Some vs) None c d i j = absurd j
 joined_image (Some vs) (Some ws) c d i j = image_both vs ws c d i j
