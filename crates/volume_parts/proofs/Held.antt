@@ -15,6 +15,32 @@ use Rattle.volume_parts.specs.Held.{Logs, AllHold, AllLanesHold, held_with, all_
 use Rattle.spin_model.specs.Spun.{state_of}
 use Rattle.log_segment.specs.Segment.{Holds, owner_of}
 use Rattle.volume_parts.specs.Reads.{SegmentRead, LaneRead}
+use Rattle.volume_parts.proofs.Lanes.{held_as}
+
+zip_append : {X Y : Type 0} (R : X → Y → Type 0) (xs us : List X) (ys vs : List Y) → AllZip R xs ys → AllZip R us vs → AllZip R (xs ++ us) (ys ++ vs)
+zip_append R [] us [] vs p q = q
+zip_append R [] us (y ∷ ys) vs p q = absurd p
+zip_append R (x ∷ xs) us [] vs p q = absurd p
+zip_append R (x ∷ xs) us (y ∷ ys) vs p q = (p.0, zip_append R xs us ys vs p.1 q)
+
+-- ---- Lanes before and after reads: each held segment with its records
+
+module _ {D : Type 0} (state : D → State) (Owned : HeldSegment D → Type 0) (Kept : HeldSegment D → List Record → Type 0) (R : Held (Spun D) → Held (Spun D) → Type 0)
+    (so : (k : ℕ) (h i : HeldSegment D) (rs : List Record) → SegmentRead state h i → Owned h → Kept h rs → R (held_as k h rs) (held_as k i rs)) where
+  read_hold : (k : ℕ) (hs is : List (HeldSegment D)) (logs : List (List Record)) → AllZip (SegmentRead state) hs is → AllByRecursion Owned hs → AllHold Kept hs logs → AllZip R (held_with k hs logs) (held_with k is logs)
+  read_hold k [] [] logs zip owned all = tt
+  read_hold k [] (i ∷ is) logs zip owned all = absurd zip
+  read_hold k (h ∷ hs) [] logs zip owned all = absurd zip
+  read_hold k (h ∷ hs) (i ∷ is) [] zip owned all = tt
+  read_hold k (h ∷ hs) (i ∷ is) (rs ∷ logs) zip owned all = (so k h i rs zip.0 owned.0 all.0, read_hold k hs is logs zip.1 owned.1 all.1)
+
+  pub read_lanes : (k : ℕ) (ls ms : List (Lane D)) (logs : Logs) → AllZip (LaneRead state) ls ms → AllByRecursion (λ (l : Lane D). AllByRecursion Owned (held_in l)) ls → AllLanesHold Kept ls logs → AllZip R (all_held k ls logs) (all_held k ms logs)
+  read_lanes k [] [] logs zip owned all = tt
+  read_lanes k [] (m ∷ ms) logs zip owned all = absurd zip
+  read_lanes k (l ∷ ls) [] logs zip owned all = absurd zip
+  read_lanes k (l ∷ ls) (m ∷ ms) [] zip owned all = tt
+  read_lanes k (l ∷ ls) (m ∷ ms) (rs ∷ logs) zip owned all = zip_append R (held_with k (held_in l) rs) (all_held (k + 1) ls logs) (held_with k (held_in m) rs) (all_held (k + 1) ms logs)
+      (read_hold k (held_in l) (held_in m) rs zip.0.held owned.0 all.0) (read_lanes (k + 1) ls ms logs zip.1 owned.1 all.1)
 
 -- ---- Two lists of held segments that differ in their records alone
 
@@ -36,13 +62,7 @@ module _ {D : Type 0} (R S : HeldSegment D → List Record → Type 0) where
   same_held j [] (l ∷ ls) ms a c = absurd a
   same_held j (x ∷ lanes) [] ms a c = absurd a
   same_held j (x ∷ lanes) (l ∷ ls) [] a c = absurd c
-  same_held j (x ∷ lanes) (l ∷ ls) (m ∷ ms) a c = zip_append (held_with j (held_in x) l) (held_with j (held_in x) m) (all_held (j + 1) lanes ls) (all_held (j + 1) lanes ms) (same_with j (held_in x) l m a.0 c.0) (same_held (j + 1) lanes ls ms a.1 c.1)
-    where
-      zip_append : (xs ys us vs : List (Held (Spun D))) → AllZip IsSameHeld xs ys → AllZip IsSameHeld us vs → AllZip IsSameHeld (xs ++ us) (ys ++ vs)
-      zip_append [] [] us vs p q = q
-      zip_append [] (y ∷ ys) us vs p q = absurd p
-      zip_append (x ∷ xs) [] us vs p q = absurd p
-      zip_append (x ∷ xs) (y ∷ ys) us vs p q = (p.0, zip_append xs ys us vs p.1 q)
+  same_held j (x ∷ lanes) (l ∷ ls) (m ∷ ms) a c = zip_append IsSameHeld (held_with j (held_in x) l) (all_held (j + 1) lanes ls) (held_with j (held_in x) m) (all_held (j + 1) lanes ms) (same_with j (held_in x) l m a.0 c.0) (same_held (j + 1) lanes ls ms a.1 c.1)
 
 module _ {D : Type 0} where
   -- a segment of one has one of the other
@@ -84,34 +104,13 @@ module _ {D : Type 0} (state : D → State) (tells : Bool) (owner : ℕ) (P : Ty
   abbrev Kept : HeldSegment D → List Record → Type 0
   Kept h rs = IsTrue tells → P → Holds state h.segment rs
 
-  moved_hold : (k : ℕ) (hs is : List (HeldSegment D)) (logs : List (List Record)) → AllZip (SegmentRead state) hs is → AllByRecursion Owned hs → AllHold Kept hs logs → AllZip (IsMoved state owner) (held_with k hs logs) (held_with k is logs)
-  moved_hold k [] [] logs zip owned all = tt
-  moved_hold k [] (i ∷ is) logs zip owned all = absurd zip
-  moved_hold k (h ∷ hs) [] logs zip owned all = absurd zip
-  moved_hold k (h ∷ hs) (i ∷ is) [] zip owned all = tt
-  moved_hold k (h ∷ hs) (i ∷ is) (rs ∷ logs) zip owned all = let r = zip.0 in (
-    record {
-      place = λ j. (k, r.index j);
-      records = refl;
-      leaves = subst (λ (o : ℕ). LeavesOnly (state_of state h.segment.part) (state_of state i.segment.part) (λ c. IsLog c o rs)) owned.0 (r.any_moment rs (all.0 told now));
-    },
-    moved_hold k hs is logs zip.1 owned.1 all.1,
-  )
-
-  zip_append : {X Y : Type 0} (R : X → Y → Type 0) (xs us : List X) (ys vs : List Y) → AllZip R xs ys → AllZip R us vs → AllZip R (xs ++ us) (ys ++ vs)
-  zip_append R [] us [] vs p q = q
-  zip_append R [] us (y ∷ ys) vs p q = absurd p
-  zip_append R (x ∷ xs) us [] vs p q = absurd p
-  zip_append R (x ∷ xs) us (y ∷ ys) vs p q = (p.0, zip_append R xs us ys vs p.1 q)
-
   pub moved_lanes : (k : ℕ) (ls ms : List (Lane D)) (logs : Logs) → AllZip (LaneRead state) ls ms → AllByRecursion (λ (l : Lane D). AllByRecursion Owned (held_in l)) ls → AllLanesHold Kept ls logs
       → AllZip (IsMoved state owner) (all_held k ls logs) (all_held k ms logs)
-  moved_lanes k [] [] logs zip owned all = tt
-  moved_lanes k [] (m ∷ ms) logs zip owned all = absurd zip
-  moved_lanes k (l ∷ ls) [] logs zip owned all = absurd zip
-  moved_lanes k (l ∷ ls) (m ∷ ms) [] zip owned all = tt
-  moved_lanes k (l ∷ ls) (m ∷ ms) (rs ∷ logs) zip owned all = zip_append (IsMoved state owner) (held_with k (held_in l) rs) (all_held (k + 1) ls logs) (held_with k (held_in m) rs) (all_held (k + 1) ms logs)
-      (moved_hold k (held_in l) (held_in m) rs zip.0.held owned.0 all.0) (moved_lanes (k + 1) ls ms logs zip.1 owned.1 all.1)
+  moved_lanes = read_lanes state Owned Kept (IsMoved state owner) (λ k h i rs r owned all. record {
+    place = λ j. (k, r.index j);
+    records = refl;
+    leaves = subst (λ (o : ℕ). LeavesOnly (state_of state h.segment.part) (state_of state i.segment.part) (λ c. IsLog c o rs)) owned (r.any_moment rs (all told now));
+  })
 
 pub moved_extents : {D : Type 0} (state : D → State) (owner : ℕ) (held held' : List (Held (Spun D))) → AllZip (IsMoved state owner) held held' → extents_held held' ≡ extents_held held
 moved_extents state owner [] [] zip = refl

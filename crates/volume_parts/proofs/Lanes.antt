@@ -1,6 +1,6 @@
 -- Lanes and the segments that they hold: one lane is another, and one segment in it is another, is new or is gone.
 use Rattle.std.proofs.Common.{◌≡◌, ◌+◌, ℕ, zero, suc, sym, subst, ◌∙◌, arith, append_assoc, List, [], ◌∷◌, ◌++◌, None, Some, refl, ap, ◌≢◌, ⊎_elim, map, ◌⊎◌, ◌<◌, ◌≤◌, Bool, length, inl, inr, Option}
-use Rattle.std.specs.Prelude.{slice_get, slice_set, Contains, IfSome}
+use Rattle.std.specs.Prelude.{slice_get, slice_set, remove, Contains, IfSome}
 use Rattle.std.specs.List.{AllByRecursion}
 use Rattle.std.proofs.lemmas.Option.{same_Some, none-some, slice_get-map}
 use Rattle.std.proofs.lemmas.List.Elements.{Contains-append_left, Contains-append_right}
@@ -57,12 +57,16 @@ held_as k h rs = record { part = part_of h.segment; lane = k; index = h.index; b
 
 -- ---- One held segment is another
 
--- an element within what stands in the middle of a list
+-- two parts of what stands in the middle of a list
+around : {X : Type 0} (before front back after : List X) → before ++ ((front ++ back) ++ after) ≡ (before ++ front) ++ (back ++ after)
+around {X} before front back after = ap (λ (l : List X). before ++ l) (append_assoc front back after) ∙ sym (append_assoc before front (back ++ after))
+
+-- an element within it
 around_mid : {X : Type 0} (before front : List X) (x : X) (back after : List X) → before ++ ((front ++ x ∷ back) ++ after) ≡ (before ++ front) ++ x ∷ (back ++ after)
-around_mid {X} before front x back after = ap (λ (l : List X). before ++ l) (append_assoc front (x ∷ back) after) ∙ sym (append_assoc before front (x ∷ (back ++ after)))
+around_mid before front x back after = around before front (x ∷ back) after
 
 module _ {D : Type 0} (R : HeldSegment D → List Record → Type 0) where
-  -- the segment at place i of those of a lane, with the segments around it; and how it is where another one is put there
+  -- the segment at place i of those of a lane, with the segments around it; and how it is where another one is put there, and without it
   pub record InLane (k : ℕ) (hs : List (HeldSegment D)) (ls : List (List Record)) (i : ℕ) (h : HeldSegment D) : Type 1 where
     pub front : List (Held (Spun D))
     pub back : List (Held (Spun D))
@@ -72,6 +76,9 @@ module _ {D : Type 0} (R : HeldSegment D → List Record → Type 0) where
     pub lists : List Record → List (List Record)
     pub then_is : (n : HeldSegment D) (rs : List Record) → held_with k (slice_set hs i n) (lists rs) ≡ front ++ held_as k n rs ∷ back
     pub then_all : (S : HeldSegment D → List Record → Type 0) → ((s : HeldSegment D) (rs : List Record) → R s rs → S s rs) → (n : HeldSegment D) (rs : List Record) → S n rs → AllHold S (slice_set hs i n) (lists rs)
+    pub rest : List (List Record)
+    pub rest_is : held_with k (remove hs i) rest ≡ front ++ back
+    pub rest_all : (S : HeldSegment D → List Record → Type 0) → ((s : HeldSegment D) (rs : List Record) → R s rs → S s rs) → AllHold S (remove hs i) rest
 
   pub in_lane : (k : ℕ) (hs : List (HeldSegment D)) (ls : List (List Record)) (i : ℕ) (h : HeldSegment D) → slice_get hs i ≡ Some h → AllHold R hs ls → InLane k hs ls i h
   in_lane k [] ls i h at all = absurd (none-some h at)
@@ -85,6 +92,9 @@ module _ {D : Type 0} (R : HeldSegment D → List Record → Type 0) where
     lists = λ m. m ∷ ls;
     then_is = λ n m. refl;
     then_all = λ S so n m here. (here, hold_map R S so hs ls all.1);
+    rest = ls;
+    rest_is = refl;
+    rest_all = λ S so. hold_map R S so hs ls all.1;
   }
   in_lane k (x ∷ hs) (l ∷ ls) (suc i) h at all = let r = in_lane k hs ls i h at all.1 in record {
     front = held_as k x l ∷ r.front;
@@ -95,6 +105,9 @@ module _ {D : Type 0} (R : HeldSegment D → List Record → Type 0) where
     lists = λ m. l ∷ r.lists m;
     then_is = λ n m j. held_as k x l ∷ r.then_is n m j;
     then_all = λ S so n m here. (so x l all.0, r.then_all S so n m here);
+    rest = l ∷ r.rest;
+    rest_is = λ j. held_as k x l ∷ r.rest_is j;
+    rest_all = λ S so. (so x l all.0, r.rest_all S so);
   }
 
   -- the segments of the lane at place k with those of the other lanes around them, numbered from j on; and how they are where
@@ -146,6 +159,9 @@ module _ {D : Type 0} (R : HeldSegment D → List Record → Type 0) where
     pub then_is : (new : Lane D) (n : HeldSegment D) (rs : List Record) → held_in new ≡ slice_set (held_in old) i n → all_held j (slice_set lanes k new) (lists rs) ≡ front ++ held_as place n rs ∷ back
     pub then_all : (S : HeldSegment D → List Record → Type 0) → ((s : HeldSegment D) (rs : List Record) → R s rs → S s rs) → (new : Lane D) (n : HeldSegment D) (rs : List Record) → held_in new ≡ slice_set (held_in old) i n → S n rs
         → AllLanesHold S (slice_set lanes k new) (lists rs)
+    pub rest : Logs
+    pub rest_is : (new : Lane D) → held_in new ≡ remove (held_in old) i → all_held j (slice_set lanes k new) rest ≡ front ++ back
+    pub rest_all : (S : HeldSegment D → List Record → Type 0) → ((s : HeldSegment D) (rs : List Record) → R s rs → S s rs) → (new : Lane D) → held_in new ≡ remove (held_in old) i → AllLanesHold S (slice_set lanes k new) rest
 
   pub in_lanes : (place j : ℕ) (lanes : List (Lane D)) (logs : Logs) (k i : ℕ) (old : Lane D) (h : HeldSegment D) → place ≡ j + k → slice_get lanes k ≡ Some old → slice_get (held_in old) i ≡ Some h → AllLanesHold R lanes logs → InLanes place j lanes logs k i old h
   in_lanes place j lanes logs k i old h sum lane at all =
@@ -159,6 +175,10 @@ module _ {D : Type 0} (R : HeldSegment D → List Record → Type 0) where
         then_is = λ new n rs is. a.then_is new (r.lists rs) ∙ ap (λ (hs : List (HeldSegment D)). a.before ++ (held_with place hs (r.lists rs) ++ a.after)) is
             ∙ ap (λ (l : List (Held (Spun D))). a.before ++ (l ++ a.after)) (r.then_is n rs) ∙ around_mid a.before r.front (held_as place n rs) r.back a.after;
         then_all = λ S so new n rs is here. a.then_all S so new (r.lists rs) (subst (λ (hs : List (HeldSegment D)). AllHold S hs (r.lists rs)) (sym is) (r.then_all S so n rs here));
+        rest = a.lists r.rest;
+        rest_is = λ new is. a.then_is new r.rest ∙ ap (λ (hs : List (HeldSegment D)). a.before ++ (held_with place hs r.rest ++ a.after)) is
+            ∙ ap (λ (l : List (Held (Spun D))). a.before ++ (l ++ a.after)) r.rest_is ∙ around a.before r.front r.back a.after;
+        rest_all = λ S so new is. a.then_all S so new r.rest (subst (λ (hs : List (HeldSegment D)). AllHold S hs r.rest) (sym is) (r.rest_all S so));
       }
 
 -- ---- A segment more at the end of a lane

@@ -200,26 +200,23 @@ module _ (home_up covered : Bool) (ups : List Bool) (rooms : List Room) where
     decided : (known wanted : Step) → ((j : ℕ) → Ask j ≡ wanted → ⊥) → (j : ℕ) → slice_get rooms j ≡ Some Unknown → decided_by (slice_get rooms j) j known ≡ wanted → ⊥
     decided known wanted never j room is = never j (sym (ap (λ (o : Option Room). decided_by o j known) room) ∙ is)
 
-    -- so no lane is known to have room
-    pub no_log : (lane : ℕ) → step_of home_up covered ups rooms ≡ Log lane → ⊥
-    no_log lane = at (home_up && not covered) covered (position (is_open true) (zip ups rooms)) (position (is_open false) (zip ups rooms)) refl refl
+    -- so the step is home, a question or none
+    only_asks : (wanted : Step) → (Home ≡ wanted → ⊥) → (WakeHome ≡ wanted → ⊥) → ((j : ℕ) → Ask j ≡ wanted → ⊥) → (Full ≡ wanted → ⊥) → step_of home_up covered ups rooms ≡ wanted → ⊥
+    only_asks wanted home woken asked full = at (home_up && not covered) covered (position (is_open true) (zip ups rooms)) (position (is_open false) (zip ups rooms)) refl refl
       where
-        at : (t c : Bool) (o q : Option ℕ) → position (is_open true) (zip ups rooms) ≡ o → position (is_open false) (zip ups rooms) ≡ q → cond t Home (log_or rooms Log o (cond c (log_or rooms WakeLog q Full) WakeHome)) ≡ Log lane → ⊥
-        at true c o q first second is = absurd (cc is)
-        at false c (Some j) q first second is = decided (Log j) (Log lane) (λ k e. cc) j (found_unknown true j first) is
-        at false true None (Some j) first second is = decided (WakeLog j) (Log lane) (λ k e. cc) j (found_unknown false j second) is
-        at false true None None first second is = absurd (cc is)
-        at false false None q first second is = absurd (cc is)
+        at : (t c : Bool) (o q : Option ℕ) → position (is_open true) (zip ups rooms) ≡ o → position (is_open false) (zip ups rooms) ≡ q → cond t Home (log_or rooms Log o (cond c (log_or rooms WakeLog q Full) WakeHome)) ≡ wanted → ⊥
+        at true c o q first second is = home is
+        at false c (Some j) q first second is = decided (Log j) wanted asked j (found_unknown true j first) is
+        at false true None (Some j) first second is = decided (WakeLog j) wanted asked j (found_unknown false j second) is
+        at false true None None first second is = full is
+        at false false None q first second is = woken is
+
+    -- no lane is known to have room
+    pub no_log : (lane : ℕ) → step_of home_up covered ups rooms ≡ Log lane → ⊥
+    no_log lane = only_asks (Log lane) (λ e. cc) (λ e. cc) (λ k e. cc) (λ e. cc)
 
     pub no_woken_log : (lane : ℕ) → step_of home_up covered ups rooms ≡ WakeLog lane → ⊥
-    no_woken_log lane = at (home_up && not covered) covered (position (is_open true) (zip ups rooms)) (position (is_open false) (zip ups rooms)) refl refl
-      where
-        at : (t c : Bool) (o q : Option ℕ) → position (is_open true) (zip ups rooms) ≡ o → position (is_open false) (zip ups rooms) ≡ q → cond t Home (log_or rooms Log o (cond c (log_or rooms WakeLog q Full) WakeHome)) ≡ WakeLog lane → ⊥
-        at true c o q first second is = absurd (cc is)
-        at false c (Some j) q first second is = decided (Log j) (WakeLog lane) (λ k e. cc) j (found_unknown true j first) is
-        at false true None (Some j) first second is = decided (WakeLog j) (WakeLog lane) (λ k e. cc) j (found_unknown false j second) is
-        at false true None None first second is = absurd (cc is)
-        at false false None q first second is = absurd (cc is)
+    no_woken_log lane = only_asks (WakeLog lane) (λ e. cc) (λ e. cc) (λ k e. cc) (λ e. cc)
 
 -- ---- Each lane is asked once
 

@@ -10,7 +10,7 @@ use Rattle.spin_model.specs.Operations.{has_token}
 use Rattle.spin_model.specs.declared.spun.Spun.{Spun}
 use Rattle.spin_model.specs.declared.spindle.Spindle.{Spindle}
 use Rattle.spin_model.specs.declared.spindle.SpindleBase.{SpindleBase}
-use Rattle.seg_pool.specs.Holders.{Took}
+use Rattle.seg_pool.specs.Holders.{PoolUse, Took}
 use Rattle.seg_pool.specs.Operations.{use_of}
 use Rattle.log_segment.specs.Segment.{IsWhole, blocks_of, valid_of}
 use Rattle.offload_policy.specs.declared.Room.{Room}
@@ -77,20 +77,20 @@ pub record At {D : Type 0} (shared : Shared D) (id : ℕ) (spindle : PassOf Spin
   pub spindle_is : (d : _) → pass_lock spindle ≡ lock_id (slice_index_or shared.spindles.items id d)
   pub lanes_ : AllByRecursion (IsAt shared) lanes
 
+-- the pool was found empty
+abbrev pub found_empty : PoolUse → Bool
+found_empty (Took None) = true
+found_empty _ = false
+
+-- a segment was taken
+abbrev pub took_segment : PoolUse → Bool
+took_segment (Took (Some index)) = true
+took_segment _ = false
+
 -- in how many of these turns of a pool it was found empty
 abbrev pub nones_in : List Entry → ℕ
-nones_in entries = count_by (λ (e : Entry). is_none (use_of e.1)) entries
-  where
-    is_none : Rattle.seg_pool.specs.Holders.PoolUse → Bool
-    is_none (Took None) = true
-    is_none (Took (Some index)) = false
-    is_none (Rattle.seg_pool.specs.Holders.Gave index) = false
+nones_in entries = count_by (λ (e : Entry). found_empty (use_of e.1)) entries
 
 -- in how many of these turns a segment was taken
 abbrev pub takes_in : List Entry → ℕ
-takes_in entries = count_by (λ (e : Entry). is_taken (use_of e.1)) entries
-  where
-    is_taken : Rattle.seg_pool.specs.Holders.PoolUse → Bool
-    is_taken (Took None) = false
-    is_taken (Took (Some index)) = true
-    is_taken (Rattle.seg_pool.specs.Holders.Gave index) = false
+takes_in entries = count_by (λ (e : Entry). took_segment (use_of e.1)) entries

@@ -1,7 +1,7 @@
 //! The parts of a volume, home and the lanes to its logs, as its manager uses them, and what is known of them.
 //!
-//! `fetch.rt` reads blocks of home under the lock of its spindle, `home.rt` writes blocks there and syncs, `put.rt` does so with the
-//! blocks of a mask; `group.rt` decides which first items of a run go to a log together (`together`), has a lane write them
+//! `home.rt` reads blocks of home under the lock of its spindle (`fetch_at`), and writes and syncs blocks there (`store_at`), or those
+//! of a mask (`put_at`); `group.rt` decides which first items of a run go to a log together (`together`), has a lane write them
 //! (`put_group`), and lists their records (`list_group`). Of `specs/`: `Accesses` says what a write does to a part, `Reads` what
 //! reads do; `Items` has what items stand for, `Joining` which of them join, `Listing` how they are listed; `Lanes` has what holds of
 //! lanes between calls, `Held` the segments that they hold, as the promise sees them, `Offers`, `Puts` and `Claims` what writes do to
@@ -9,12 +9,8 @@
 //! that is another, `Records` and `Places` for items that go to a log together, `Claims` for a segment that was claimed.
 #![tactic(auto)]
 
-mod fetch;
 mod group;
 mod home;
-mod put;
 
-pub use fetch::fetch_at;
 pub use group::{list_group, put_group, together};
-pub use home::store_at;
-pub use put::put_at;
+pub use home::{fetch_at, put_at, store_at};

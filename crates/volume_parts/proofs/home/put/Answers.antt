@@ -8,8 +8,8 @@ use Rattle.spin_model.specs.Spun.{state_of}
 use Rattle.wol_model.specs.Log.{has_bit}
 use Rattle.listed_records.specs.Changes.{put_block}
 use Rattle.volume_parts.proofs.Accesses.{Putting, putting_none, putting_skip, putting_more, put_failed, put_synced}
-use Rattle.volume_parts.proofs.put.put.Goals as goal
-use Rattle.volume_parts.proofs.put.put.Goals.{then-mask-at-eq1+in_ok-write, else-mask-at-eq1}
+use Rattle.volume_parts.proofs.home.put.Goals as goal
+use Rattle.volume_parts.proofs.home.put.Goals.{then-mask-at-eq1+in_ok-write, else-mask-at-eq1}
 
 in_mask_at : (mask at : ℕ) → bit_and (mask / 2 ^ at) 1 ≡ 1 → has_bit mask at ≡ true
 in_mask_at mask at is = ap (λ (k : ℕ). eqb k 1) (sym (shr_and_one mask at)) ∙ eq-eqb _ 1 is

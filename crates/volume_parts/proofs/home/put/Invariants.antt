@@ -1,7 +1,7 @@
 use Rattle.std.proofs.Common.{length, ◌-◌, ◌+◌, ◌≤◌}
 use Rattle.listed_records.specs.Changes.{put_block}
 use Rattle.volume_parts.proofs.Accesses.{Putting}
-use Rattle.volume_parts.proofs.put.put.Given as goal
+use Rattle.volume_parts.proofs.home.put.Given as goal
 
 -- the runs before this block are written
 abbrev pub invariant-loop-at : goal.invariant-loop-at

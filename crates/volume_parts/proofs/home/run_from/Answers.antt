@@ -3,7 +3,7 @@ use Rattle.std.proofs.Common.{◌≡◌, ⊎_elim, ◌/◌, ◌^◌, ℕ, sym, a
 use Rattle.std.proofs.lemmas.Nat.Bits.{shr_and_one}
 use Rattle.std.proofs.lemmas.Bool.{cases_lt}
 use Rattle.wol_model.specs.Log.{has_bit}
-use Rattle.volume_parts.proofs.put.run_from.Goals as goal
+use Rattle.volume_parts.proofs.home.run_from.Goals as goal
 
 tested : (mask i : ℕ) → eqb (bit_and (mask / 2 ^ i) 1) 1 ≡ has_bit mask i
 tested mask i = ap (λ (k : ℕ). eqb k 1) (shr_and_one mask i)
