@@ -18,8 +18,8 @@
 //! a run leaves, also one of one item, `Answered` for the lanes that were asked. The steps on the model's side are lemmas of
 //! `wol_promise` and `listed_records`. To add a call: state it from `Keeps` to `Stands` with its entry (`Leaves`), or,
 //! where it leaves no entry, from `Keeps` to `Keeps`. The steps of reclaim do the latter: `reclaim.rt` has `fetch_rec`
-//! (over `record.rt`), `store_home` (by `put_at`, which writes the runs of a mask and syncs) and `drop_rec`, and
-//! `retire.rt` has `drop_segment`, by which a segment goes with all its records; `specs/Reclaim` says what each leaves. In
+//! (over `read_record`), `store_home` (by `put_at`, which writes the runs of a mask and syncs), `drop_rec`, and
+//! `drop_segment`, by which a segment goes with all its records; `specs/Reclaim` says what each leaves. In
 //! `proofs/`: `StoreHome` for blocks that go home, `DropCall`, `DropKeeps`, `DropPiece` and `DropStops` for blocks that are
 //! given up, `Retiring`, `RetireCall` and `RetireStops` for whole segments, `GoneSegment` for a lane without one of them,
 //! `SinceReads` for a stop at any moment since an earlier one.
@@ -31,8 +31,6 @@ mod object;
 mod part;
 mod read;
 mod reclaim;
-mod record;
-mod retire;
 mod run;
 mod station;
 mod write;

@@ -1,18 +1,22 @@
-// Reads: each run of blocks comes from home or from its newest record.
+// Reads: each run of blocks comes from home or from its newest record, and a record can be read with all its blocks.
 ghost use Rattle.manager.specs.Answers.{was_read};
 ghost use Rattle.manager.specs.Causes.{PartRose, NoneRose};
 ghost use Rattle.manager.specs.Reading.{CanReadRun, HasReadRun, ReadsBlocks, TellsSources, IsReadThrough, HasOnlyRead, NeedsSources, NeedsFirstOf};
+ghost use Rattle.manager.specs.Reclaim.{AreOf, HasFetched};
 ghost use Rattle.manager.specs.Seen.{look_of_manager};
-ghost use Rattle.manager.specs.Stands.{CanServe, IsReady, IsHome, IsSameManager, Leaves};
+ghost use Rattle.manager.specs.Stands.{CanServe, IsReady, IsHome, IsSameManager, Keeps, Leaves};
 ghost use Rattle.manager.specs.Stops.{StopsWith};
+ghost use Rattle.manager.specs.declared.base.ManagerBase.{ManagerBase};
 ghost use Rattle.manager.specs.declared.part.Part.{Part};
+ghost use Rattle.redirect_map.specs.Index.{entry_at, IsAnswer, IsIndex};
 ghost use Rattle.spin_model.specs.Spun.{state_of};
 ghost use Rattle.std.specs.List.{count_by, range_with_len};
-ghost use Rattle.std.specs.Prelude.{◌≡◌, ◌↔◌, ◌+◌, ◌≤◌, ◌<◌, [], length, OnOk, IfOk, IfErr, IsSome, is_ok, None, Some};
+ghost use Rattle.std.specs.Prelude.{◌≡◌, ◌↔◌, ◌+◌, ◌≤◌, ◌<◌, List, [], length, OnOk, IfOk, IfErr, IsSome, is_ok, None, Some};
 ghost use Rattle.wol_model.specs.Blocks.{after};
 ghost use Rattle.wol_model.specs.History.{worker};
 ghost use Rattle.wol_model.specs.Index.{listed_in, is_covered};
 ghost use Rattle.wol_promise.specs.Policy.{woken};
+ghost use Rattle.wol_promise.specs.Ruled.{Noted};
 
 use crate::{Manager, Part, ReadRefusal, Sources};
 use logger::{Shared, Spot};
@@ -22,7 +26,7 @@ use volume_parts::fetch_at;
 use wol_disk::{Block, Disk, Failed};
 
 // The same answer, where the refusal names the part.
-pub(crate) fn at_part(part: Part, answer: Result<(), Failed>) -> Result<(), Part>
+fn at_part(part: Part, answer: Result<(), Failed>) -> Result<(), Part>
     ensures like { is_ok result ≡ is_ok answer }
     ensures part { IfErr result (λ p. p ≡ part) }
 {
@@ -137,6 +141,45 @@ impl<D: Disk> Manager<D> {
         };
         let skip = (lbn - record.lbn) as u32;
         let answer = lane.read(rt, shared, &spot, skip, out);
+        at_part(segment, answer)
+    }
+
+    // Reads all blocks of this record of the index, kept or not. The refusal names its segment.
+    pub(crate) fn read_record<R: Wait>(
+        &mut self,
+        rt: &R,
+        shared: &Shared<D>,
+        record: &Rec,
+        out: &mut [Block],
+    ) -> Result<(), Part>
+        requires serves { CanServe D.state shared.now self.old }
+        requires index { IsIndex self.old.index.entries }
+        requires there { IsAnswer (entry_at self.old.index.entries «record».now.version)
+            (Some «record».now) }
+        requires count { length out.old ≡ «record».now.count }
+        ensures ready { IsReady D.state self.new }
+        ensures at { IsHome shared.now self.new }
+        ensures read { IsReadThrough D.state self.old self.new }
+        ensures fetched { HasFetched «record».now.lane self.old self.new }
+        ensures content { (b : ManagerBase) (notes : List Noted)
+            → Keeps D.tells D.state self.old b notes
+            → OnOk result
+            (AreOf D.tells self.old.index.entries «record».now.version out.new b notes) }
+        ensures cause { IfErr result (PartRose D.state self.old self.new) }
+        ensures calm { OnOk result (NoneRose D.state self.old self.new) }
+    {
+        let place = record.lane as usize;
+        self.ups[place] = true;
+        let lane = &mut self.lanes[place];
+        let spot = Spot {
+            segment: record.segment,
+            pos: record.pos,
+        };
+        let segment = Part::Segment {
+            volume: lane.logger(),
+            index: record.segment,
+        };
+        let answer = lane.read(rt, shared, &spot, 0, out);
         at_part(segment, answer)
     }
 

@@ -1,7 +1,8 @@
-// Steps of reclaim: a record is read, its due blocks are put home, and what may go of it is given up.
+// Steps of reclaim: a record is read, its due blocks are put home, and what may go of it is given up; or a segment goes with all
+// its records.
 ghost use Rattle.manager.specs.Causes.{NoneRose};
 ghost use Rattle.manager.specs.Reading.{IsReadThrough};
-ghost use Rattle.manager.specs.Reclaim.{OnTried, OnKept, OnFailed, TellsStep, KeepsOn, BreaksOff, StopsSince, Always, AreOf, HasFetched, HasStored, HasDropped};
+ghost use Rattle.manager.specs.Reclaim.{OnTried, OnKept, OnFailed, TellsStep, KeepsOn, BreaksOff, StopsSince, Always, AreOf, HasFetched, HasStored, HasDropped, HasDroppedSegment, NoneLiveIn};
 ghost use Rattle.manager.specs.Stands.{Keeps, IsReady, IsHome};
 ghost use Rattle.manager.specs.declared.base.ManagerBase.{ManagerBase};
 ghost use Rattle.redirect_map.specs.Index.{entry_at, HasVersion};
@@ -13,7 +14,7 @@ ghost use Rattle.wol_promise.specs.Ruled.{Noted};
 
 use crate::{Manager, Part, StepFault};
 use garbage_list::may_go;
-use listed_records::head_of;
+use listed_records::{forget, head_of};
 use logger::{Shared, Spot};
 use std::sync::Wait;
 use volume_parts::put_at;
@@ -186,6 +187,64 @@ impl<D: Disk> Manager<D> {
             Err(Failed) => {
                 self.down = Some(segment);
                 Err(StepFault::DiskFault(segment))
+            }
+        }
+    }
+
+    /// Gives up the segment of this version's record with all its records, none of which has a live block. It is retired
+    /// by one write of its head, and given to its pool. `DiskFault` comes only where the segment's count of faults rose in
+    /// this call, and brings the manager down; `Down` exactly where it is down.
+    pub fn drop_segment<R: Wait>(
+        &mut self,
+        rt: &R,
+        shared: &Shared<D>,
+        version: u64,
+    ) -> Result<(), StepFault>
+        requires ready { IsReady D.state self.old }
+        requires at { IsHome shared.now self.old }
+        requires there { HasVersion self.old.index.entries version }
+        requires covered { ForSome (entry_at self.old.index.entries version)
+            (λ e. NoneLiveIn e.listed.lane e.index self.old.index.entries) }
+        ensures ready { IsReady D.state self.new }
+        ensures at { IsHome shared.now self.new }
+        ensures fault { TellsStep D.state result self.old self.new }
+        ensures calm { OnOk result (NoneRose D.state self.old self.new) }
+        ensures dropped { OnTried result
+            (ForSome (entry_at self.old.index.entries version)
+            (λ e. HasDroppedSegment e.listed.lane e.index self.old self.new result)) }
+        ensures keeps { OnKept result (KeepsOn D.tells D.state self.old self.new Always) }
+        ensures broke { OnFailed result (BreaksOff D.tells D.state self.old self.new Always) }
+        ensures any_moment { OnTried result
+            (IsTrue D.tells → StopsSince D.tells D.state self.old self.new Always) }
+    {
+        if let Some(part) = self.down {
+            return Err(StepFault::Down(part));
+        }
+        let Some(record) = self.index.find(version) else {
+            unreachable!()
+        };
+        let place = record.lane as usize;
+        self.ups[place] = true;
+        let lane = &mut self.lanes[place];
+        let retired = Part::Segment {
+            volume: lane.logger(),
+            index: record.segment,
+        };
+        let count = lane.valid(record.segment);
+        match lane.retire(rt, shared, record.segment) {
+            Ok(()) => {
+                forget(
+                    &mut self.index,
+                    &self.ups,
+                    record.lane,
+                    record.segment,
+                    count,
+                );
+                Ok(())
+            }
+            Err(Failed) => {
+                self.down = Some(retired);
+                Err(StepFault::DiskFault(retired))
             }
         }
     }
