@@ -11,7 +11,7 @@ use Rattle.log_segment.specs.Segment.{disk_of}
 use Rattle.logger.specs.Lanes.{IsLane, held_in, logger_of}
 use Rattle.logger.specs.declared.lane.HeldSegment.{HeldSegment}
 use Rattle.logger.specs.declared.lane.Lane.{Lane}
-use Rattle.manager.specs.Causes.{AreCalm, NoneRose, SegmentRose}
+use Rattle.manager.specs.Causes.{AreCalm, LaneSince, NoneRose, SegmentRose}
 use Rattle.manager.specs.Reading.{LaneRead, SegmentRead, IsReadThrough}
 use Rattle.manager.specs.Stands.{IsReady, IsReadyLane}
 use Rattle.manager.specs.declared.manager.Manager.{Manager}
@@ -71,20 +71,27 @@ module _ {D : Type 0} (state : D → State) where
 
 -- ---- Where one rose
 
+-- a lane is another in a call
+abbrev pub lane_since : {D : Type 0} (lanes lanes' : List (Lane D)) (k : ℕ) (old new : Lane D) (logger : ℕ) → slice_get lanes k ≡ Some old → lanes' ≡ slice_set lanes k new → logger ≡ logger_of old → LaneSince lanes lanes' logger
+lane_since lanes lanes' k old new logger was set logger_is = record {
+  place = k;
+  before = old;
+  after = new;
+  was = was;
+  is = ap (λ ls. slice_get ls k) set ∙ get_set lanes k old new was;
+  named = logger_is;
+}
+
 -- a segment of one lane took the place of another, and its count rose
-pub segment_rose : {D : Type 0} (state : D → State) (m m' : Manager D) (k i : ℕ) (old new : Lane D) (o n : HeldSegment D) → slice_get m.lanes.items k ≡ Some old → m'.lanes.items ≡ slice_set m.lanes.items k new → slice_get (held_in old) i ≡ Some o → held_in new ≡ slice_set (held_in old) i n
-    → (volume index : ℕ) → volume ≡ logger_of old → index ≡ o.index → Rose (disk_of state o.segment).faults (disk_of state n.segment).faults → SegmentRose state m m' volume index
-segment_rose state m m' k i old new o n lane lanes there held volume index volume_is index_is rose = record {
-  lane = k;
+pub segment_rose : {D : Type 0} (state : D → State) (lanes lanes' : List (Lane D)) (k i : ℕ) (old new : Lane D) (o n : HeldSegment D) → slice_get lanes k ≡ Some old → lanes' ≡ slice_set lanes k new → slice_get (held_in old) i ≡ Some o → held_in new ≡ slice_set (held_in old) i n
+    → (volume index : ℕ) → volume ≡ logger_of old → index ≡ o.index → Rose (disk_of state o.segment).faults (disk_of state n.segment).faults → SegmentRose state lanes lanes' volume index
+segment_rose state lanes lanes' k i old new o n lane set there held volume index volume_is index_is rose = record {
+  lane = lane_since lanes lanes' k old new volume lane set volume_is;
   place = i;
-  old_lane = old;
-  new_lane = new;
   old_segment = o;
   new_segment = n;
-  was_lane = lane;
-  is_lane = ap (λ ls. slice_get ls k) lanes ∙ get_set m.lanes.items k old new lane;
   was_there = there;
   is_there = ap (λ hs. slice_get hs i) held ∙ get_set (held_in old) i o n there;
-  named = (volume_is, index_is);
+  named = index_is;
   rose = rose;
 }

@@ -52,7 +52,7 @@ use Rattle.volume_parts.proofs.Lanes.{counted_set, held_set, ready_set, placed_s
 use Rattle.listed_records.proofs.Entries.{none_there, lies_there, not_there as lies_elsewhere, still_map, still_push}
 use Rattle.listed_records.proofs.Elements.{all_at, all_set, get_set, same_or_not}
 use Rattle.volume_parts.proofs.Records.{entered, count_more, group_long, group_some, group_look_woken}
-use Rattle.manager.proofs.Calm.{segment_rose}
+use Rattle.manager.proofs.Calm.{lane_since, segment_rose}
 use Rattle.manager.proofs.Putting.{Pieces}
 use Rattle.manager.proofs.ReadyLanes.{locks_set, takes_of_set}
 use Rattle.manager.specs.Listing.{recs_at, entered_all}
@@ -390,19 +390,15 @@ module _ {D : Type 0} (state : D → State) (m : Manager D) (k : ℕ) (old new :
   group_stops_put tells told sound (to_new f n blank held claimed is) m' lanes home t b notes kp = group_claim_stops tells state sound t m b notes kp up k old new lane m' lanes home is_lane same items from are enough untaken f n held (claimed.any_moment (told t f.part.inner).0 (told t f.part.inner).1)
 
   pub group_cause : (refusal : ℕ × Failed) → PutIn state old new total news (Err refusal) → (m' : Manager D) → m'.lanes.items ≡ slice_set m.lanes.items k new → PartRoseOrClaimed state m m' (part.Segment (logger_of old) refusal.0)
-  group_cause refusal (to_held i o n at free held grown is) m' lanes = inl (segment_rose state m m' k i old new o n lane lanes at held _ _ refl is grown.cause)
+  group_cause refusal (to_held i o n at free held grown is) m' lanes = inl (segment_rose state m.lanes.items m'.lanes.items k i old new o n lane lanes at held _ _ refl is grown.cause)
   group_cause refusal (to_new f n blank held claimed is) m' lanes = inr (record {
-    lane = k;
-    old_lane = old;
-    new_lane = new;
+    lane = lane_since m.lanes.items m'.lanes.items k old new (logger_of old) lane lanes refl;
     free = f;
     segment = n;
-    was_lane = lane;
-    is_lane = ap (λ (l : List (Lane D)). slice_get l k) lanes ∙ get_set m.lanes.items k old new lane;
     was_apart = subst (λ (x : ℕ). AllByRecursion (λ (h : HeldSegment D). h.index ≢ x) (held_in old)) (sym is)
         (apart_last (held_in old) n (map (λ (t : ℕ × FreeSegment D). t.0) (option_to_list (taken_in new))) (subst (λ (hs : List (HeldSegment D)). AreApart (map (λ (h : HeldSegment D). h.index) hs ++ map (λ (t : ℕ × FreeSegment D). t.0) (option_to_list (taken_in new)))) held is_lane.apart));
     is_there = subst (λ (hs : List (HeldSegment D)). Contains hs n) (sym held) (Contains-push (held_in old) n);
-    named = (refl, is);
+    named = is;
     volume = sym claimed.volume;
     rose = claimed.cause;
   })

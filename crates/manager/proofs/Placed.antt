@@ -1,5 +1,5 @@
 -- A lane that had no room, and a write that was placed: what its answer says.
-use Rattle.std.proofs.Common.{◌≡◌, ◌≤◌, ℕ, Bool, sym, subst, ◌∙◌, arith, List, Option, None, Some, refl, ap, inl, inr, ⊎_elim, ◌+◌, zero, suc, true, false, ◌&&◌, [], ◌∷◌, ◌++◌, map, length, Result, Ok, Err}
+use Rattle.std.proofs.Common.{◌≡◌, ◌≤◌, ℕ, Bool, sym, subst, ◌∙◌, arith, List, Option, None, Some, refl, ap, inl, inr, ⊎_elim, ◌+◌, true, false, ◌&&◌, [], ◌∷◌, ◌++◌, map, length, Result, Ok, Err}
 use Rattle.std.specs.Prelude.{Contains, slice_get, slice_set, IsTrue, ⊤, ◌==◌, OnOk, MatchBool}
 use Rattle.std.specs.declared.alloc.Global.{Global}
 use Rattle.std.specs.declared.vec.Vec.{Vec}
@@ -24,13 +24,13 @@ use Rattle.manager.specs.Stops.{Stops, ImageSince, HeldSince, TellsClaim}
 use Rattle.manager.specs.declared.base.ManagerBase.{ManagerBase}
 use Rattle.manager.specs.declared.manager.Manager.{Manager}
 use Rattle.volume_parts.proofs.Lanes.{counted_same, quiet_held, quiet_all, untaken_set, ready_set, placed_set, nones_none, takes_none}
-use Rattle.listed_records.proofs.Elements.{all_at, all_set}
+use Rattle.listed_records.proofs.Elements.{all_at, all_set, zip_back}
 use Rattle.manager.proofs.ReadyLanes.{locks_set, nones_at_set, takes_of_set}
 use Rattle.wol_promise.proofs.Stops.{still_stops}
 use Rattle.manager.proofs.Moments.{still_logs, home_holds, stops_so}
 use Rattle.std.specs.List.{AllByRecursion, AllZip, list_any, range_with_len}
 use Rattle.std.specs.Option.{option_map}
-use Rattle.std.proofs.lemmas.Option.{none-some, same_Some, slice_get-map}
+use Rattle.std.proofs.lemmas.Option.{same_Some, slice_get-map}
 use Rattle.turn_lock.specs.declared.pass.PassOf.{PassOf}
 use Rattle.spin_model.specs.Spun.{state_of}
 use Rattle.spin_model.specs.declared.spindle.Spindle.{Spindle}
@@ -45,7 +45,7 @@ use Rattle.offload_policy.specs.declared.Step.{Step}
 use Rattle.logger.specs.declared.shared.Shared.{Shared}
 use Rattle.manager.specs.Accesses.{HasUsedOnce}
 use Rattle.manager.specs.Answers.{home_write, IsPlaceOf}
-use Rattle.manager.specs.Causes.{PartRoseOrClaimed, NoneRose}
+use Rattle.manager.specs.Causes.{LaneSince, PartRoseOrClaimed, NoneRose}
 use Rattle.manager.specs.Writing.{HaveAnswered, NeedsHome, TellsFault, IsHomeAnswer, IsLogAnswer, IsPlacedAnswer, ruled_place, takes_at, was_tried, is_at_home, is_in_log}
 use Rattle.manager.specs.declared.part.Part.{Part}
 use Rattle.manager.specs.declared.part.Place.{Place}
@@ -165,13 +165,6 @@ zip_shape R (x ∷ xs) [] logs all shape = absurd all
 zip_shape R (x ∷ xs) (y ∷ ys) [] all shape = absurd shape
 zip_shape {D} R (x ∷ xs) (y ∷ ys) (ls ∷ logs) all shape = (subst (λ (hs : List (HeldSegment D)). AllHold R hs ls) (sym all.0) shape.0, zip_shape R xs ys logs all.1 shape.1)
 
-zip_at : {X Y : Type 0} (R : X → Y → Type 0) (xs : List X) (ys : List Y) (k : ℕ) (y : Y) → AllZip R xs ys → slice_get ys k ≡ Some y → (x : X) × (slice_get xs k ≡ Some x) × R x y
-zip_at R [] [] k y all is = absurd (none-some y is)
-zip_at R [] (z ∷ ys) k y all is = absurd all
-zip_at R (x ∷ xs) [] k y all is = absurd all
-zip_at R (x ∷ xs) (z ∷ ys) zero y all is = (x, refl, subst (R x) (same_Some z y is) all.0)
-zip_at R (x ∷ xs) (z ∷ ys) (suc k) y all is = zip_at R xs ys k y all.1 is
-
 -- ---- A write that was placed after lanes were asked
 
 module _ {D : Type 0} (tells : Bool) (state : D → State) (shared : Shared D) (first : ℕ) (blocks : List Block) (old now : Manager D) (a : Asking tells state shared (length blocks) old now) where
@@ -216,49 +209,36 @@ module _ {D : Type 0} (tells : Bool) (state : D → State) (shared : Shared D) (
   pub passed_unplaced : (b : ManagerBase) (notes : List Noted) (n : Noted) → n.passed ≡ passed_in now.rooms.items → Keeps tells state old b notes → HasPassed (nones_at now.lanes.items b.lanes) (notes ++ n ∷ [])
   passed_unplaced b notes n is k = passed_more (length blocks) (λ k. false) now.rooms.items old.lanes.items now.lanes.items a.lanes b.lanes notes n k.locks.each is k.passed
 
+  -- a lane since the lanes were asked
+  abbrev lane_before : (lanes : List (Lane D)) (logger : ℕ) (s : LaneSince now.lanes.items lanes logger) → (l : LaneSince old.lanes.items lanes logger) × (held_in s.before ≡ held_in l.before)
+  lane_before lanes logger s =
+      let o = zip_back (λ (o : Lane D) (n : Lane D). held_in n ≡ held_in o) old.lanes.items now.lanes.items s.place s.before segments_as s.was in
+      let e = sym (slice_get-map logger_of now.lanes.items s.place ∙ ap (option_map logger_of) s.was) ∙ (ap (λ (l : List ℕ). slice_get l s.place) loggers_as ∙ (slice_get-map logger_of old.lanes.items s.place ∙ ap (option_map logger_of) o.1)) in
+      (record { place = s.place; before = o.0; after = s.after; was = o.1; is = s.is; named = s.named ∙ same_Some (logger_of s.before) (logger_of o.0) e }, o.2)
+
   -- a part whose count rose since the lanes were asked
   rose_before : (new : Manager D) (p : Part) → PartRoseOrClaimed state now new p → PartRoseOrClaimed state old new p
   rose_before new (part.Home volume) rose = subst (λ (m : Manager D). (volume ≡ m.id) × Rose (state_of state m.home).faults (state_of state new.home).faults) a.rest rose
-  rose_before new (part.Segment logger index) (inl s) =
-      let o = zip_at (λ (o : Lane D) (n : Lane D). held_in n ≡ held_in o) old.lanes.items now.lanes.items s.lane s.old_lane segments_as s.was_lane in
-      let named = logger_before s.lane o.0 s.old_lane o.1 s.was_lane in inl (record {
-        lane = s.lane;
-        place = s.place;
-        old_lane = o.0;
-        new_lane = s.new_lane;
-        old_segment = s.old_segment;
-        new_segment = s.new_segment;
-        was_lane = o.1;
-        is_lane = s.is_lane;
-        was_there = ap (λ (hs : List (HeldSegment D)). slice_get hs s.place) (sym o.2) ∙ s.was_there;
-        is_there = s.is_there;
-        named = (s.named.0 ∙ named, s.named.1);
-        rose = s.rose;
-      })
-    where
-      logger_before : (k : ℕ) (o n : Lane D) → slice_get old.lanes.items k ≡ Some o → slice_get now.lanes.items k ≡ Some n → logger_of n ≡ logger_of o
-      logger_before k o n is_o is_n = let e = sym (slice_get-map logger_of now.lanes.items k ∙ ap (option_map logger_of) is_n) ∙ (ap (λ (l : List ℕ). slice_get l k) loggers_as ∙ (slice_get-map logger_of old.lanes.items k ∙ ap (option_map logger_of) is_o)) in
-          same_Some (logger_of n) (logger_of o) e
-  rose_before new (part.Segment logger index) (inr s) =
-      let o = zip_at (λ (o : Lane D) (n : Lane D). held_in n ≡ held_in o) old.lanes.items now.lanes.items s.lane s.old_lane segments_as s.was_lane in
-      let named = logger_before s.lane o.0 s.old_lane o.1 s.was_lane in inr (record {
-        lane = s.lane;
-        old_lane = o.0;
-        new_lane = s.new_lane;
-        free = s.free;
-        segment = s.segment;
-        was_lane = o.1;
-        is_lane = s.is_lane;
-        was_apart = subst (AllByRecursion (λ (h : HeldSegment D). h.index ≡ index → ⊥)) o.2 s.was_apart;
-        is_there = s.is_there;
-        named = (s.named.0 ∙ named, s.named.1);
-        volume = s.volume;
-        rose = s.rose;
-      })
-    where
-      logger_before : (k : ℕ) (o n : Lane D) → slice_get old.lanes.items k ≡ Some o → slice_get now.lanes.items k ≡ Some n → logger_of n ≡ logger_of o
-      logger_before k o n is_o is_n = let e = sym (slice_get-map logger_of now.lanes.items k ∙ ap (option_map logger_of) is_n) ∙ (ap (λ (l : List ℕ). slice_get l k) loggers_as ∙ (slice_get-map logger_of old.lanes.items k ∙ ap (option_map logger_of) is_o)) in
-          same_Some (logger_of n) (logger_of o) e
+  rose_before new (part.Segment logger index) (inl s) = let l = lane_before new.lanes.items logger s.lane in inl (record {
+    lane = l.0;
+    place = s.place;
+    old_segment = s.old_segment;
+    new_segment = s.new_segment;
+    was_there = ap (λ (hs : List (HeldSegment D)). slice_get hs s.place) (sym l.1) ∙ s.was_there;
+    is_there = s.is_there;
+    named = s.named;
+    rose = s.rose;
+  })
+  rose_before new (part.Segment logger index) (inr s) = let l = lane_before new.lanes.items logger s.lane in inr (record {
+    lane = l.0;
+    free = s.free;
+    segment = s.segment;
+    was_apart = subst (AllByRecursion (λ (h : HeldSegment D). h.index ≡ index → ⊥)) l.1 s.was_apart;
+    is_there = s.is_there;
+    named = s.named;
+    volume = s.volume;
+    rose = s.rose;
+  })
 
   pub fault_before : (new : Manager D) (r : Result Place WriteRefusal) → TellsFault state r now new → TellsFault state r old new
   fault_before new (Ok p) is = is ∙ ap (λ (m : Manager D). m.down) a.rest

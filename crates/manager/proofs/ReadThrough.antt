@@ -67,37 +67,20 @@ module _ {D : Type 0} (state : D → State) (sound : (d : D) → IsDisk (state d
   pub rose_through : (k l m : Manager D) → IsReadThrough state k l → (p : Part) → PartRose state l m p → PartRose state k m p
   rose_through k l m a (Home volume) r = (r.0 ∙ a.same.id, rose_then (state_of state k.home).faults (state_of state l.home).faults (state_of state m.home).faults a.home.faults r.1)
   rose_through k l m a (Segment volume index) r =
-      let lane = zip_back (LaneRead state) k.lanes.items l.lanes.items r.lane r.old_lane a.lanes r.was_lane in
-      let segment = zip_back (SegmentRead state) (held_in lane.0) (held_in r.old_lane) r.place r.old_segment lane.2.held r.was_there in
+      let lane = zip_back (LaneRead state) k.lanes.items l.lanes.items r.lane.place r.lane.before a.lanes r.lane.was in
+      let segment = zip_back (SegmentRead state) (held_in lane.0) (held_in r.lane.before) r.place r.old_segment lane.2.held r.was_there in
       record {
-        lane = r.lane;
+        lane = record { place = r.lane.place; before = lane.0; after = r.lane.after; was = lane.1; is = r.lane.is; named = r.lane.named ∙ lane.2.same.logger };
         place = r.place;
-        old_lane = lane.0;
-        new_lane = r.new_lane;
         old_segment = segment.0;
         new_segment = r.new_segment;
-        was_lane = lane.1;
-        is_lane = r.is_lane;
         was_there = segment.1;
         is_there = r.is_there;
-        named = (r.named.0 ∙ lane.2.same.logger, r.named.1 ∙ segment.2.index);
+        named = r.named ∙ segment.2.index;
         rose = rose_then (disk_of state segment.0.segment).faults (disk_of state r.old_segment.segment).faults (disk_of state r.new_segment.segment).faults segment.2.faults r.rose;
       }
 
 -- what rose did so whatever the manager tells of it
 pub rose_down : {D : Type 0} (state : D → State) (old new : Manager D) (down : Option Part) (p : Part) → PartRose state old new p → PartRose state old (record new { down = down }) p
 rose_down state old new down (Home volume) r = r
-rose_down state old new down (Segment volume index) r = record {
-  lane = r.lane;
-  place = r.place;
-  old_lane = r.old_lane;
-  new_lane = r.new_lane;
-  old_segment = r.old_segment;
-  new_segment = r.new_segment;
-  was_lane = r.was_lane;
-  is_lane = r.is_lane;
-  was_there = r.was_there;
-  is_there = r.is_there;
-  named = r.named;
-  rose = r.rose;
-}
+rose_down state old new down (Segment volume index) r = r

@@ -1,5 +1,5 @@
 -- A write before a pool is asked: the notes of rooms and the room of the index are all that may have changed.
-use Rattle.std.proofs.Common.{◌≡◌, inl, inr, ⊎_elim, ℕ, zero, suc, Bool, true, false, List, [], ◌∷◌, ◌++◌, length, Option, None, Some, Result, Ok, Err, refl, sym, ap, subst, ◌∙◌, arith}
+use Rattle.std.proofs.Common.{◌≡◌, ℕ, zero, suc, Bool, true, false, List, [], ◌∷◌, ◌++◌, length, Option, None, Some, Result, Ok, Err, refl, sym, ap, subst, ◌∙◌, arith}
 use Rattle.std.specs.Prelude.{IsTrue, OnOk, replicate, MatchBool}
 use Rattle.std.specs.List.{AllByRecursion}
 use Rattle.std.proofs.lemmas.Option.{slice_get_within}
@@ -81,8 +81,7 @@ module _ {D : Type 0} (tells : Bool) (state : D → State) (old : Manager D) (ro
 
   rose_then : (new : Manager D) (p : Part) → PartRoseOrClaimed state (record old { rooms = record { items = rooms }; index = index }) new p → PartRoseOrClaimed state old new p
   rose_then new (part.Home volume) rose = rose
-  rose_then new (part.Segment logger i) rose = ⊎_elim (λ s. inl (record { lane = s.lane; place = s.place; old_lane = s.old_lane; new_lane = s.new_lane; old_segment = s.old_segment; new_segment = s.new_segment; was_lane = s.was_lane; is_lane = s.is_lane; was_there = s.was_there; is_there = s.is_there; named = s.named; rose = s.rose }))
-      (λ s. inr (record { lane = s.lane; old_lane = s.old_lane; new_lane = s.new_lane; free = s.free; segment = s.segment; was_lane = s.was_lane; is_lane = s.is_lane; was_apart = s.was_apart; is_there = s.is_there; named = s.named; volume = s.volume; rose = s.rose })) rose
+  rose_then new (part.Segment logger i) rose = rose
 
   pub fault_then : (new : Manager D) (r : Result Place WriteRefusal) → TellsFault state r (record old { rooms = record { items = rooms }; index = index }) new → TellsFault state r old new
   fault_then new (Ok p) is_down = is_down

@@ -1,5 +1,5 @@
 -- Where the count of faults of a part rose in a call, and where none did.
-use Rattle.std.specs.Prelude.{◌≡◌, ◌≢◌, ◌⊎◌, ℕ, Contains, slice_get, Some}
+use Rattle.std.specs.Prelude.{◌≡◌, ◌≢◌, ◌⊎◌, ℕ, List, Contains, slice_get, Some}
 use Rattle.std.specs.List.{AllByRecursion}
 use Rattle.wol_disk.specs.Disk.{State, Rose}
 use Rattle.spin_model.specs.Spun.{state_of}
@@ -13,36 +13,37 @@ use Rattle.manager.specs.declared.part.Part.{Part}
 use Rattle.manager.specs.declared.part.Part.TheVariants.{Home, Segment}
 pub use Rattle.volume_parts.specs.Reads.{AreCalm}
 
--- the count of a segment that a lane of this logger holds
-pub record SegmentRose {D : Type 0} (state : D → State) (old new : Manager D) (logger index : ℕ) :
-    Type 0 where
-  pub lane : ℕ
+-- a lane of this logger, at its place of the view, before and after a call
+pub record LaneSince {D : Type 0} (old new : List (Lane D)) (logger : ℕ) : Type 0 where
   pub place : ℕ
-  pub old_lane : Lane D
-  pub new_lane : Lane D
+  pub before : Lane D
+  pub after : Lane D
+  pub was : slice_get old place ≡ Some before
+  pub is : slice_get new place ≡ Some after
+  pub named : logger ≡ logger_of before
+
+-- the count of a segment that a lane of this logger holds
+pub record SegmentRose {D : Type 0} (state : D → State) (old new : List (Lane D))
+    (logger index : ℕ) : Type 0 where
+  pub lane : LaneSince old new logger
+  pub place : ℕ
   pub old_segment : HeldSegment D
   pub new_segment : HeldSegment D
-  pub was_lane : slice_get old.lanes.items lane ≡ Some old_lane
-  pub is_lane : slice_get new.lanes.items lane ≡ Some new_lane
-  pub was_there : slice_get (held_in old_lane) place ≡ Some old_segment
-  pub is_there : slice_get (held_in new_lane) place ≡ Some new_segment
-  pub named : (logger ≡ logger_of old_lane) × (index ≡ old_segment.index)
+  pub was_there : slice_get (held_in lane.before) place ≡ Some old_segment
+  pub is_there : slice_get (held_in lane.after) place ≡ Some new_segment
+  pub named : index ≡ old_segment.index
   pub rose : Rose (disk_of state old_segment.segment).faults
       (disk_of state new_segment.segment).faults
 
 -- the count of a segment that was free, and was claimed in the call by a lane of this logger
-pub record ClaimRose {D : Type 0} (state : D → State) (old new : Manager D) (logger index : ℕ) :
-    Type 0 where
-  pub lane : ℕ
-  pub old_lane : Lane D
-  pub new_lane : Lane D
+pub record ClaimRose {D : Type 0} (state : D → State) (old new : List (Lane D))
+    (logger index : ℕ) : Type 0 where
+  pub lane : LaneSince old new logger
   pub free : FreeSegment D
   pub segment : HeldSegment D
-  pub was_lane : slice_get old.lanes.items lane ≡ Some old_lane
-  pub is_lane : slice_get new.lanes.items lane ≡ Some new_lane
-  pub was_apart : AllByRecursion (λ (h : HeldSegment D). h.index ≢ index) (held_in old_lane)
-  pub is_there : Contains (held_in new_lane) segment
-  pub named : (logger ≡ logger_of old_lane) × (index ≡ segment.index)
+  pub was_apart : AllByRecursion (λ (h : HeldSegment D). h.index ≢ index) (held_in lane.before)
+  pub is_there : Contains (held_in lane.after) segment
+  pub named : index ≡ segment.index
   pub volume : free_volume free ≡ segment_volume segment.segment
   pub rose : Rose (free_disk state free).faults (disk_of state segment.segment).faults
 
@@ -50,13 +51,15 @@ pub record ClaimRose {D : Type 0} (state : D → State) (old new : Manager D) (l
 abbrev pub PartRose : {D : Type 0} → (D → State) → (old new : Manager D) → Part → Type 0
 PartRose state old new (Home volume) =
     (volume ≡ old.id) × Rose (state_of state old.home).faults (state_of state new.home).faults
-PartRose state old new (Segment volume index) = SegmentRose state old new volume index
+PartRose state old new (Segment volume index) =
+    SegmentRose state old.lanes.items new.lanes.items volume index
 
 -- the count of this part, which may have been claimed in the call
 abbrev pub PartRoseOrClaimed : {D : Type 0} → (D → State) → (old new : Manager D) → Part → Type 0
 PartRoseOrClaimed state old new (Home volume) = PartRose state old new (Home volume)
 PartRoseOrClaimed state old new (Segment volume index) =
-    SegmentRose state old new volume index ⊎ ClaimRose state old new volume index
+    SegmentRose state old.lanes.items new.lanes.items volume index
+    ⊎ ClaimRose state old.lanes.items new.lanes.items volume index
 
 -- ---- Where none rose
 

@@ -91,7 +91,7 @@ pub returns-clause-cause : goal.returns-clause-cause
 returns-clause-cause g c =
     let m = c.args.self.now in let state = g.D.Disk.state in let k = c.args.record.now.lane in let l = c.index_mut-lane.result.now in let l' = c.read-answer.new.self in let moved = c.read-answer.ensures.moved in
     let s = spotted_in state m c.requires.serves.ready c.requires.serves.up c.args.record.now c.args.lbn (length c.args.out.now) c.requires.some c.requires.source l c.index_mut-lane.ensures.value in
-    err_like _ c.read-answer.result c.at_part.result c.at_part.ensures.like c.at_part.ensures.part moved.cause (λ rose. segment_rose state m _ k moved.place l l' moved.old_segment moved.new_segment s.spot.lane_is refl moved.there moved.held _ _ c.logger.ensures (sym moved.named) rose)
+    err_like _ c.read-answer.result c.at_part.result c.at_part.ensures.like c.at_part.ensures.part moved.cause (λ rose. segment_rose state m.lanes.items _ k moved.place l l' moved.old_segment moved.new_segment s.spot.lane_is refl moved.there moved.held _ _ c.logger.ensures (sym moved.named) rose)
 
 pub returns-clause-calm : goal.returns-clause-calm
 returns-clause-calm g c =
