@@ -351,9 +351,9 @@ module _ {D : Type 0} {state : D → State} {m : Manager D} {version : ℕ} {r :
           where
             by : Trimmed {T = T} {E = E} state old new (record { segment = r.segment; pos = r.pos }) (record { form = 2; owner = m.id; version = version; first = r.lbn; count = r.count; mask = r.keep }) (bit_and r.keep (bit_not w128 given)) (Err x)
                 → PartRose state m (record m { lanes = with_item m.lanes r.lane new; ups = record { items = ups }; down = Some (part.Segment volume r.segment) }) (part.Segment volume r.segment)
-            by (in_place i o n there named held pool cut) = segment_rose state m _ r.lane i old new o n lane refl there held _ _ volume_is (sym named) cut.cause
+            by (in_place i o n there named held pool cut) = segment_rose state m.lanes.items _ r.lane i old new o n lane refl there held _ _ volume_is (sym named) cut.cause
             by (to_pool i o free there named held pool ok gave) = absurd (false≢true ok)
-            by (not_freed i o n there named held pool err stayed) = segment_rose state m _ r.lane i old new o n lane refl there held _ _ volume_is (sym named) stayed.cause
+            by (not_freed i o n there named held pool err stayed) = segment_rose state m.lanes.items _ r.lane i old new o n lane refl there held _ _ volume_is (sym named) stayed.cause
 
         pub stands_broke : (tells : Bool) (sound : (d : D) → IsDisk (state d)) → BreaksOff tells state m (record m { lanes = with_item m.lanes r.lane new; ups = record { items = ups }; down = Some (part.Segment volume r.segment) }) Always
         stands_broke tells sound b notes nt any note kp = record {

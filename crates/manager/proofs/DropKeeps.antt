@@ -40,7 +40,7 @@ use Rattle.manager.specs.Stands.{Keeps, IsReadyLane, entries_at}
 use Rattle.manager.specs.declared.base.ManagerBase.{ManagerBase}
 use Rattle.manager.specs.declared.manager.Manager.{Manager}
 use Rattle.listed_records.proofs.Entries.{count-cons, lies_there, none_here, At, kept_marks, keep_within, keeps_is, given_list}
-use Rattle.manager.proofs.DropPiece.{Piece, piece, was_lane, was_held, with_records, set_mid, GoneLanes, gone_lanes}
+use Rattle.manager.proofs.DropPiece.{Piece, piece, was_lane, was_held, with_records, set_mid}
 use Rattle.listed_records.proofs.Elements.{all_both, all_at, get_set}
 use Rattle.manager.proofs.DropReady.{none_left, nothing_kept as nothing_is_kept}
 use Rattle.volume_parts.proofs.Lanes.{held_as, InLanes, in_lanes, image_is_log, untaken_set}
@@ -132,15 +132,15 @@ module _ {D : Type 0} (tells : Bool) (state : D → State) (m : Manager D) (b : 
   decide true is = inl is
   decide false is = inr is
 
+  pub split : InLanes R k 0 m.lanes.items kp.logs k i old o
+  split = in_lanes R k 0 m.lanes.items kp.logs k i old o (omega arith) lane there kp.held
+
+  pub p : Piece tells state m b notes kp.logs kp.ready (upholds_up tells state m b notes kp up) up k old lane i o there version e at lane_is index_is r rec split.front split.records split.back split.is split.here
+  p = piece tells state m b notes kp.logs kp.ready (upholds_up tells state m b notes kp up) up k old lane i o there version e at lane_is index_is r rec split.front split.records split.back split.is split.here
+
   -- ---- the segment stays
 
   module _ {T E : Type 0} (x : T) (n : HeldSegment D) (held : held_in new ≡ slice_set (held_in old) i n) (cut : CutDown {T = T} {E = E} state o n r.pos (record { form = 2; owner = m.id; version = version; first = r.lbn; count = r.count; mask = r.keep }) (bit_and r.keep (bit_not w128 given)) (Ok x)) where
-    pub split : InLanes R k 0 m.lanes.items kp.logs k i old o
-    split = in_lanes R k 0 m.lanes.items kp.logs k i old o (omega arith) lane there kp.held
-
-    pub p : Piece tells state m b notes kp.logs kp.ready (upholds_up tells state m b notes kp up) up k old lane i o there version e at lane_is index_is r rec split.front split.records split.back split.is split.here
-    p = piece tells state m b notes kp.logs kp.ready (upholds_up tells state m b notes kp up) up k old lane i o there version e at lane_is index_is r rec split.front split.records split.back split.is split.here
-
     abbrev after_ : List Record
     after_ = p.fs ++ trimmed p.it keep ∷ p.gs
 
@@ -210,12 +210,6 @@ module _ {D : Type 0} (tells : Bool) (state : D → State) (m : Manager D) (b : 
   -- ---- the segment went to the pool
 
   module _ (blocks : ℕ) (free : FreeSegment D) (held : held_in new ≡ remove (held_in old) i) (gave : GaveUp state o blocks free r.pos (record { form = 2; owner = m.id; version = version; first = r.lbn; count = r.count; mask = r.keep }) (bit_and r.keep (bit_not w128 given))) where
-    pub less : GoneLanes R k 0 m.lanes.items kp.logs k i old o
-    less = gone_lanes R k 0 m.lanes.items kp.logs k i old o (omega arith) lane there kp.held
-
-    pub p' : Piece tells state m b notes kp.logs kp.ready (upholds_up tells state m b notes kp up) up k old lane i o there version e at lane_is index_is r rec less.front less.records less.back less.is less.here
-    p' = piece tells state m b notes kp.logs kp.ready (upholds_up tells state m b notes kp up) up k old lane i o there version e at lane_is index_is r rec less.front less.records less.back less.is less.here
-
     nothing_kept : bit_and r.keep (bit_not w128 given) ≡ 0
     nothing_kept = nothing_is_kept state m kp.ready up k old lane version e index at few lane_is r rec given fits bits i o there index_is new is_lane same untaken held gave.fewer
 
@@ -228,51 +222,51 @@ module _ {D : Type 0} (tells : Bool) (state : D → State) (m : Manager D) (b : 
         (ap (entries_at k o.index) (sym (given_list m.index.entries version e index at false keeps_none)) ∙ none_left state m kp.ready up k old lane version e index at few lane_is r rec given fits bits i o there index_is new is_lane same untaken held gave.fewer)
 
     abbrev s' : Held (Spun D)
-    s' = with_records tells state m b notes kp.logs kp.ready (upholds_up tells state m b notes kp up) up k old lane i o there version e at lane_is index_is r rec less.front less.records less.back less.is less.here (p'.fs ++ p'.it ∷ p'.gs)
+    s' = with_records tells state m b notes kp.logs kp.ready (upholds_up tells state m b notes kp up) up k old lane i o there version e at lane_is index_is r rec split.front split.records split.back split.is split.here (p.fs ++ p.it ∷ p.gs)
 
-    elsewhere : AllByRecursion (IsPlaced (parts_of tells state) (less.front ++ less.back)) (at.front ++ at.back)
+    elsewhere : AllByRecursion (IsPlaced (parts_of tells state) (split.front ++ split.back)) (at.front ++ at.back)
     elsewhere =
-        let all = subst (AllByRecursion (IsPlaced (parts_of tells state) (less.front ++ s' ∷ less.back))) at.is (p'.upheld.calm refl).placed in
-        all_both (IsPlaced (parts_of tells state) (less.front ++ s' ∷ less.back)) (λ (d : Indexed). (eqb d.listed.lane k && eqb d.index o.index) ≡ false) (IsPlaced (parts_of tells state) (less.front ++ less.back)) moved (at.front ++ at.back)
-        (all_joined (IsPlaced (parts_of tells state) (less.front ++ s' ∷ less.back)) at.front at.back (all_front (IsPlaced (parts_of tells state) (less.front ++ s' ∷ less.back)) at.front (e ∷ at.back) all) (all_back (IsPlaced (parts_of tells state) (less.front ++ s' ∷ less.back)) at.front (e ∷ at.back) all).1)
+        let all = subst (AllByRecursion (IsPlaced (parts_of tells state) (split.front ++ s' ∷ split.back))) at.is (p.upheld.calm refl).placed in
+        all_both (IsPlaced (parts_of tells state) (split.front ++ s' ∷ split.back)) (λ (d : Indexed). (eqb d.listed.lane k && eqb d.index o.index) ≡ false) (IsPlaced (parts_of tells state) (split.front ++ split.back)) moved (at.front ++ at.back)
+        (all_joined (IsPlaced (parts_of tells state) (split.front ++ s' ∷ split.back)) at.front at.back (all_front (IsPlaced (parts_of tells state) (split.front ++ s' ∷ split.back)) at.front (e ∷ at.back) all) (all_back (IsPlaced (parts_of tells state) (split.front ++ s' ∷ split.back)) at.front (e ∷ at.back) all).1)
         each_else
       where
-        moved : (d : Indexed) → IsPlaced (parts_of tells state) (less.front ++ s' ∷ less.back) d → (eqb d.listed.lane k && eqb d.index o.index) ≡ false → IsPlaced (parts_of tells state) (less.front ++ less.back) d
+        moved : (d : Indexed) → IsPlaced (parts_of tells state) (split.front ++ s' ∷ split.back) d → (eqb d.listed.lane k && eqb d.index o.index) ≡ false → IsPlaced (parts_of tells state) (split.front ++ split.back) d
         moved d is other = ⊎_elim
             (λ has. record { segment = is.segment; is_held = has; lane = is.lane; index = is.index; behind = is.behind; within = is.within })
             (λ here. absurd (false≢true (sym other ∙ lies_there k o.index d (is.lane ∙ ap (λ (v : Held (Spun D)). v.lane) (sym here)) (is.index ∙ ap (λ (v : Held (Spun D)). v.index) (sym here)))))
-            (member_without less.front s' less.back is.segment is.is_held)
+            (member_without split.front s' split.back is.segment is.is_held)
 
-    pub empty_after : IsTrue tells → AreEmpty (p'.fs ++ trimmed p'.it (bit_and r.keep (bit_not w128 given)) ∷ p'.gs)
-    empty_after told = none_valid (owner_of o.segment) (p'.fs ++ trimmed p'.it keep ∷ p'.gs)
-        (named_trimmed (owner_of o.segment) keep p'.fs p'.it p'.gs (subst (λ (n : ℕ). keep < 2 ^ n) (sym p'.count_is) (keep_within m.index.entries e r rec few given fits bits)) (p'.holds told).disk.log.named)
-        (ap count_valid (sym (set_mid p'.fs p'.it (trimmed p'.it keep) p'.gs)) ∙ gave.bare (p'.fs ++ p'.it ∷ p'.gs) (length p'.fs) p'.it (p'.holds told) (p'.head_at told))
+    pub empty_after : IsTrue tells → AreEmpty (p.fs ++ trimmed p.it (bit_and r.keep (bit_not w128 given)) ∷ p.gs)
+    empty_after told = none_valid (owner_of o.segment) (p.fs ++ trimmed p.it keep ∷ p.gs)
+        (named_trimmed (owner_of o.segment) keep p.fs p.it p.gs (subst (λ (n : ℕ). keep < 2 ^ n) (sym p.count_is) (keep_within m.index.entries e r rec few given fits bits)) (p.holds told).disk.log.named)
+        (ap count_valid (sym (set_mid p.fs p.it (trimmed p.it keep) p.gs)) ∙ gave.bare (p.fs ++ p.it ∷ p.gs) (length p.fs) p.it (p.holds told) (p.head_at told))
 
-    kept_less : (keeping (listed_in (at.front ++ e ∷ at.back)) e.listed).keep ≡ marks_of p'.it.head.count (bit_and r.keep (bit_not w128 given))
-    kept_less = subst (λ (l : List Indexed). (keeping (listed_in l) e.listed).keep ≡ marks_of p'.it.head.count keep) at.is (marks p'.it.head.count p'.count_is)
+    kept_less : (keeping (listed_in (at.front ++ e ∷ at.back)) e.listed).keep ≡ marks_of p.it.head.count (bit_and r.keep (bit_not w128 given))
+    kept_less = subst (λ (l : List Indexed). (keeping (listed_in l) e.listed).keep ≡ marks_of p.it.head.count keep) at.is (marks p.it.head.count p.count_is)
 
-    upheld_less : Upholds (parts_of tells state) b.volume.began (record (seen m kp.logs) { held = less.front ++ less.back; indexed = given_of version m.index.entries }) notes (writes (entries_of notes)) None
-    upheld_less = subst (λ (l : List Indexed). Upholds (parts_of tells state) b.volume.began (record (seen m kp.logs) { held = less.front ++ less.back; indexed = l }) notes (writes (entries_of notes)) None) (sym (given_list m.index.entries version e index at false keeps_none))
-        (vanishes (parts_of tells state) b.volume.began (record (seen m kp.logs) { held = less.front ++ s' ∷ less.back }) notes (writes (entries_of notes)) p'.upheld (ap down_of up) less.front (part_of o.segment) k o.index less.back p'.fs p'.it p'.gs keep at.front e at.back refl at.is p'.its kept_less
-        empty_after (gone_where m.index.entries s' (length p'.fs) p'.it e p'.its keep (marks p'.it.head.count p'.count_is) keeps_none) elsewhere)
+    upheld_less : Upholds (parts_of tells state) b.volume.began (record (seen m kp.logs) { held = split.front ++ split.back; indexed = given_of version m.index.entries }) notes (writes (entries_of notes)) None
+    upheld_less = subst (λ (l : List Indexed). Upholds (parts_of tells state) b.volume.began (record (seen m kp.logs) { held = split.front ++ split.back; indexed = l }) notes (writes (entries_of notes)) None) (sym (given_list m.index.entries version e index at false keeps_none))
+        (vanishes (parts_of tells state) b.volume.began (record (seen m kp.logs) { held = split.front ++ s' ∷ split.back }) notes (writes (entries_of notes)) p.upheld (ap down_of up) split.front (part_of o.segment) k o.index split.back p.fs p.it p.gs keep at.front e at.back refl at.is p.its kept_less
+        empty_after (gone_where m.index.entries s' (length p.fs) p.it e p.its keep (marks p.it.head.count p.count_is) keeps_none) elsewhere)
 
-    held_less : all_held 0 (slice_set m.lanes.items k new) less.lists ≡ less.front ++ less.back
-    held_less = less.then_is new held
+    held_less : all_held 0 (slice_set m.lanes.items k new) split.rest ≡ split.front ++ split.back
+    held_less = split.rest_is new held
 
     abbrev Used' : Held (Spun D) → Type 0
     Used' v = (q : Record) × Contains v.records q × IsValid (extent_of q).cover
 
     pub leaves : Pieces tells state m b notes (slice_set m.lanes.items k new) (given_of version m.index.entries) m.next (slice_set m.ups.items k true) m.down
     leaves = record {
-      logs = less.lists;
-      held = less.then_all R (λ h rs holds. holds) new held;
+      logs = split.rest;
+      held = split.rest_all R (λ h rs holds. holds) new held;
       upholds = subst (λ (q : ManagerSeen (Spun D)). Upholds (parts_of tells state) b.volume.began q notes (writes (entries_of notes)) (flight_of (entries_of notes))) seen_is
-          (subst (Upholds (parts_of tells state) b.volume.began (record (seen m kp.logs) { held = less.front ++ less.back; indexed = given_of version m.index.entries; ups = slice_set m.ups.items k true }) notes (writes (entries_of notes))) (sym (unbroken tells state m b notes kp up))
-          (other_flags (parts_of tells state) b.volume.began (record (seen m kp.logs) { held = less.front ++ less.back; indexed = given_of version m.index.entries }) m.home_up (slice_set m.ups.items k true) notes (writes (entries_of notes)) None upheld_less (length-set m.ups.items k true)));
-      in_use = λ told is. subst AreInUse (sym held_less) (let all = subst AreInUse less.is (kp.in_use told up) in
-          all_joined Used' less.front less.back (all_front Used' less.front (held_as k o less.records ∷ less.back) all) (all_back Used' less.front (held_as k o less.records ∷ less.back) all).1);
+          (subst (Upholds (parts_of tells state) b.volume.began (record (seen m kp.logs) { held = split.front ++ split.back; indexed = given_of version m.index.entries; ups = slice_set m.ups.items k true }) notes (writes (entries_of notes))) (sym (unbroken tells state m b notes kp up))
+          (other_flags (parts_of tells state) b.volume.began (record (seen m kp.logs) { held = split.front ++ split.back; indexed = given_of version m.index.entries }) m.home_up (slice_set m.ups.items k true) notes (writes (entries_of notes)) None upheld_less (length-set m.ups.items k true)));
+      in_use = λ told is. subst AreInUse (sym held_less) (let all = subst AreInUse split.is (kp.in_use told up) in
+          all_joined Used' split.front split.back (all_front Used' split.front (held_as k o split.records ∷ split.back) all) (all_back Used' split.front (held_as k o split.records ∷ split.back) all).1);
     }
       where
-        seen_is : record (seen m kp.logs) { held = less.front ++ less.back; indexed = given_of version m.index.entries; ups = slice_set m.ups.items k true }
-            ≡ record { home = m.home; held = all_held 0 (slice_set m.lanes.items k new) less.lists; taken = all_taken 0 (slice_set m.lanes.items k new); indexed = given_of version m.index.entries; next = m.next; home_up = m.home_up; ups = slice_set m.ups.items k true; down = down_of m.down }
+        seen_is : record (seen m kp.logs) { held = split.front ++ split.back; indexed = given_of version m.index.entries; ups = slice_set m.ups.items k true }
+            ≡ record { home = m.home; held = all_held 0 (slice_set m.lanes.items k new) split.rest; taken = all_taken 0 (slice_set m.lanes.items k new); indexed = given_of version m.index.entries; next = m.next; home_up = m.home_up; ups = slice_set m.ups.items k true; down = down_of m.down }
         seen_is = λ j. record { home = m.home; held = sym held_less j; taken = untaken_set state m.id m.most m.lanes.items k new kp.ready.ready.each untaken j; indexed = given_of version m.index.entries; next = m.next; home_up = m.home_up; ups = slice_set m.ups.items k true; down = down_of m.down }

@@ -1,6 +1,6 @@
 -- A record of a held segment that gives up blocks, among all segments: as the disk tells it, or as it may be where nothing is told.
-use Rattle.std.proofs.Common.{◌≡◌, ◌<◌, ◌≤◌, ◌+◌, ◌^◌, ℕ, zero, suc, Bool, true, false, List, [], ◌∷◌, ◌++◌, length, take, None, Some, refl, sym, ap, subst, ◌∙◌, arith, append_assoc, replicate}
-use Rattle.std.specs.Prelude.{IsTrue, slice_get, slice_set, remove}
+use Rattle.std.proofs.Common.{◌≡◌, ◌<◌, ◌≤◌, ◌+◌, ◌^◌, ℕ, zero, suc, Bool, true, false, List, [], ◌∷◌, ◌++◌, length, take, None, Some, refl, sym, ap, subst, ◌∙◌, arith, replicate}
+use Rattle.std.specs.Prelude.{IsTrue, slice_get, slice_set}
 use Rattle.std.specs.List.{flat_map}
 use Rattle.std.proofs.lemmas.Option.{same_Some, none-some}
 use Rattle.std.proofs.lemmas.List.{append-nil, length-replicate}
@@ -23,79 +23,14 @@ use Rattle.redirect_map.specs.Index.{IsRecordOf}
 use Rattle.logger.specs.Lanes.{IsHeld, AreWhole, IsHeadAt, held_in, lane_owner, logger_of, segments_in, pool_of}
 use Rattle.logger.specs.declared.lane.HeldSegment.{HeldSegment}
 use Rattle.logger.specs.declared.lane.Lane.{Lane}
-use Rattle.manager.specs.Seen.{Logs, AllHold, AllLanesHold, parts_of, seen, held_with, all_held, down_of}
+use Rattle.manager.specs.Seen.{Logs, parts_of, seen, all_held, down_of}
 use Rattle.manager.specs.Stands.{IsReady, IsReadyLane, IsPlacedIn}
 use Rattle.manager.specs.declared.base.ManagerBase.{ManagerBase}
 use Rattle.manager.specs.declared.manager.Manager.{Manager}
 use Rattle.listed_records.proofs.Groups.{other_records}
 use Rattle.listed_records.proofs.Entries.{At, among, same_mask}
 use Rattle.listed_records.proofs.Elements.{all_at}
-use Rattle.volume_parts.proofs.Lanes.{held_as, hold_map, lane_among, same_place}
-
--- ---- one segment less
-
-module _ {D : Type 0} (R : HeldSegment D → List Record → Type 0) where
-  -- the segment at place i of those of a lane, with the segments around it; and how it is without it
-  pub record GoneLane (k : ℕ) (hs : List (HeldSegment D)) (ls : List (List Record)) (i : ℕ) (h : HeldSegment D) : Type 1 where
-    pub front : List (Held (Spun D))
-    pub back : List (Held (Spun D))
-    pub records : List Record
-    pub is : held_with k hs ls ≡ front ++ held_as k h records ∷ back
-    pub here : R h records
-    pub lists : List (List Record)
-    pub then_is : held_with k (remove hs i) lists ≡ front ++ back
-    pub then_all : (S : HeldSegment D → List Record → Type 0) → ((s : HeldSegment D) (rs : List Record) → R s rs → S s rs) → AllHold S (remove hs i) lists
-
-  gone_lane : (k : ℕ) (hs : List (HeldSegment D)) (ls : List (List Record)) (i : ℕ) (h : HeldSegment D) → slice_get hs i ≡ Some h → AllHold R hs ls → GoneLane k hs ls i h
-  gone_lane k [] ls i h at all = absurd (none-some h at)
-  gone_lane k (x ∷ hs) [] i h at all = absurd all
-  gone_lane k (x ∷ hs) (l ∷ ls) zero h at all = record {
-    front = [];
-    back = held_with k hs ls;
-    records = l;
-    is = λ j. held_as k (same_Some x h at j) l ∷ held_with k hs ls;
-    here = let Q : HeldSegment D → Type 0 = λ t. R t l in subst Q (same_Some x h at) all.0;
-    lists = ls;
-    then_is = refl;
-    then_all = λ S so. hold_map R S so hs ls all.1;
-  }
-  gone_lane k (x ∷ hs) (l ∷ ls) (suc i) h at all = let r = gone_lane k hs ls i h at all.1 in record {
-    front = held_as k x l ∷ r.front;
-    back = r.back;
-    records = r.records;
-    is = λ j. held_as k x l ∷ r.is j;
-    here = r.here;
-    lists = l ∷ r.lists;
-    then_is = λ j. held_as k x l ∷ r.then_is j;
-    then_all = λ S so. (so x l all.0, r.then_all S so);
-  }
-
-  -- the same of all lanes, numbered from j on
-  pub record GoneLanes (place j : ℕ) (lanes : List (Lane D)) (logs : Logs) (k i : ℕ) (old : Lane D) (h : HeldSegment D) : Type 1 where
-    pub front : List (Held (Spun D))
-    pub back : List (Held (Spun D))
-    pub records : List Record
-    pub is : all_held j lanes logs ≡ front ++ held_as place h records ∷ back
-    pub here : R h records
-    pub lists : Logs
-    pub then_is : (new : Lane D) → held_in new ≡ remove (held_in old) i → all_held j (slice_set lanes k new) lists ≡ front ++ back
-    pub then_all : (S : HeldSegment D → List Record → Type 0) → ((s : HeldSegment D) (rs : List Record) → R s rs → S s rs) → (new : Lane D) → held_in new ≡ remove (held_in old) i → AllLanesHold S (slice_set lanes k new) lists
-
-  pub gone_lanes : (place j : ℕ) (lanes : List (Lane D)) (logs : Logs) (k i : ℕ) (old : Lane D) (h : HeldSegment D) → place ≡ j + k → slice_get lanes k ≡ Some old → slice_get (held_in old) i ≡ Some h → AllLanesHold R lanes logs → GoneLanes place j lanes logs k i old h
-  gone_lanes place j lanes logs k i old h sum lane at all =
-      let a = lane_among R place j lanes logs k old sum lane all in let r = gone_lane place (held_in old) a.own i h at a.here in
-      let apart : (xs ys : List (Held (Spun D))) → a.before ++ ((xs ++ ys) ++ a.after) ≡ (a.before ++ xs) ++ (ys ++ a.after) =
-      λ xs ys. ap (λ (l : List (Held (Spun D))). a.before ++ l) (append_assoc xs ys a.after) ∙ sym (append_assoc a.before xs (ys ++ a.after)) in record {
-        front = a.before ++ r.front;
-        back = r.back ++ a.after;
-        records = r.records;
-        is = a.is ∙ ap (λ (l : List (Held (Spun D))). a.before ++ (l ++ a.after)) r.is ∙ apart r.front (held_as place h r.records ∷ r.back);
-        here = r.here;
-        lists = a.lists r.lists;
-        then_is = λ new is. a.then_is new r.lists ∙ ap (λ (hs : List (HeldSegment D)). a.before ++ (held_with place hs r.lists ++ a.after)) is
-            ∙ ap (λ (l : List (Held (Spun D))). a.before ++ (l ++ a.after)) r.then_is ∙ apart r.front r.back;
-        then_all = λ S so new is. a.then_all S so new r.lists (subst (λ (hs : List (HeldSegment D)). AllHold S hs r.lists) (sym is) (r.then_all S so));
-      }
+use Rattle.volume_parts.proofs.Lanes.{held_as, same_place}
 
 -- ---- records in front of a place
 

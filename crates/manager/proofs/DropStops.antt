@@ -42,7 +42,7 @@ use Rattle.manager.specs.Stops.{ImageSince, HeldSince}
 use Rattle.manager.specs.declared.base.ManagerBase.{ManagerBase}
 use Rattle.manager.specs.declared.manager.Manager.{Manager}
 use Rattle.manager.proofs.DropKeeps.{none_valid, named_trimmed}
-use Rattle.manager.proofs.DropPiece.{Piece, piece, was_held as its_held, was_lane as its_lane, set_mid, GoneLanes, gone_lanes}
+use Rattle.manager.proofs.DropPiece.{Piece, piece, was_held as its_held, was_lane as its_lane, set_mid}
 use Rattle.listed_records.proofs.Entries.{At, among, kept_marks, keep_within}
 use Rattle.listed_records.proofs.Elements.{all_at, get_set}
 use Rattle.volume_parts.proofs.Lanes.{held_as, InLanes, in_lanes}
@@ -290,13 +290,10 @@ module _ {D : Type 0} (tells : Bool) (state : D → State) (sound : (d : D) → 
 
   module _ (held : held_in new ≡ remove (held_in old) i)
       (bare : IsBareAfter state o.segment r.pos (record { form = 2; owner = m.id; version = version; first = r.lbn; count = r.count; mask = r.keep }) (bit_and r.keep (bit_not w128 given))) where
-    less : GoneLanes RThen k 0 m.lanes.items kw.logs k i old o
-    less = gone_lanes RThen k 0 m.lanes.items kw.logs k i old o (omega arith) lane there (held_read tells state was m b notes read ready was_up kw)
-
     pub less_stops_so : StopsHere tells state sound told was m read ready was_up b notes kw (slice_set m.lanes.items k new)
     less_stops_so =
-        let around = logs_around tells state sound told was m read ready was_up b notes kw less.front (held_as k o less.records) less.back less.is in
-        stops_with tells state sound told was m read ready was_up b notes kw (slice_set m.lanes.items k new) less.lists (less.then_all (λ h rs. ⊤) (λ h rs holds. tt) new held) (less.front ++ less.back) (less.then_is new held)
-        (less_stops tells state m b notes kw.logs ready u_then up k old lane i o there version e at lane_is index_is r rec less.front less.records less.back less.is less.here few given fits bits owned_then told
+        let around = logs_around tells state sound told was m read ready was_up b notes kw split_then.front (held_as k o split_then.records) split_then.back split_then.is in
+        stops_with tells state sound told was m read ready was_up b notes kw (slice_set m.lanes.items k new) split_then.rest (split_then.rest_all (λ h rs. ⊤) (λ h rs holds. tt) new held) (split_then.front ++ split_then.back) (split_then.rest_is new held)
+        (less_stops tells state m b notes kw.logs ready u_then up k old lane i o there version e at lane_is index_is r rec split_then.front split_then.records split_then.back split_then.is split_then.here few given fits bits owned_then told
         (ImageSince state was.home m.home) (HeldSince state (all_held 0 was.lanes.items kw.logs) None) (home_since state was m read) around.0 around.1
-        (empty_then tells state m b notes kw.logs ready u_then up k old lane i o there version e at lane_is index_is r rec less.front less.records less.back less.is less.here few given fits bits owned_then told bare))
+        (empty_then tells state m b notes kw.logs ready u_then up k old lane i o there version e at lane_is index_is r rec split_then.front split_then.records split_then.back split_then.is split_then.here few given fits bits owned_then told bare))

@@ -21,7 +21,7 @@ use Rattle.logger.specs.declared.lane.HeldSegment.{HeldSegment}
 use Rattle.logger.specs.declared.lane.Lane.{Lane}
 use Rattle.manager.specs.Causes.{PartRose}
 use Rattle.manager.specs.Reading.{SegmentRead, LaneRead, IsReadThrough}
-use Rattle.manager.specs.Seen.{Logs, AllHold, AllLanesHold, held_with, all_held, all_taken, parts_of, seen, down_of, name_of, look_of_manager}
+use Rattle.manager.specs.Seen.{Logs, AllHold, AllLanesHold, all_held, all_taken, parts_of, seen, down_of, name_of, look_of_manager}
 use Rattle.manager.specs.Stands.{Keeps, Stands, IsNote, IsReady, IsReadyLane, AreNamed, Locks, nones_in, nones_at, HasTakenFew, takes_in, takes_of, AreStill}
 use Rattle.manager.specs.declared.base.LaneBase.{LaneBase}
 use Rattle.manager.specs.declared.base.ManagerBase.{ManagerBase}
@@ -31,6 +31,7 @@ use Rattle.manager.specs.declared.part.Part.TheVariants.{Home, Segment}
 use Rattle.wol_promise.proofs.Kept.{read_more}
 use Rattle.wol_promise.proofs.OneMore.{last_more}
 use Rattle.manager.proofs.Frames.{none_passed}
+use Rattle.volume_parts.proofs.Held.{read_lanes}
 use Rattle.volume_parts.proofs.Lanes.{held_as, standing}
 use Rattle.manager.proofs.ReadContent.{unbroken, upholds_up}
 use Rattle.listed_records.proofs.Elements.{zip_length, zip_at}
@@ -119,38 +120,17 @@ module _ {D : Type 0} (state : D → State) where
         let k = holds.disk in
         subst (λ (o : ℕ). IsLog bs o rs) owned (subst (λ (c : List Block). IsLog c (owner_of h.segment) rs) (sym (only_image k.bs bs (subst (λ (o : Option (List (Values Block))). IsImageOf o bs) k.settled is))) k.log)
 
-    touched_hold : (k : ℕ) (hs is : List (HeldSegment D)) (logs : List (List Record)) → AllZip (SegmentRead state) hs is → AllByRecursion Owned hs → AllHold Kept hs logs → AllZip (IsTouched (parts_of tells state) owner) (held_with k hs logs) (held_with k is logs)
-    touched_hold k [] [] logs zip owned all = tt
-    touched_hold k [] (i ∷ is) logs zip owned all = absurd zip
-    touched_hold k (h ∷ hs) [] logs zip owned all = absurd zip
-    touched_hold k (h ∷ hs) (i ∷ is) [] zip owned all = tt
-    touched_hold k (h ∷ hs) (i ∷ is) (rs ∷ logs) zip owned all = let r = zip.0 in (
-      record {
-        lane = refl;
-        index = r.index;
-        broken = r.broken;
-        records = refl;
-        size = r.size;
-        volume = r.same.volume;
-        images = λ bs is_image. images_of i rs (r.keeps rs (all.0 is_image.0 told)) (r.same.owner ∙ owned.0) bs is_image.1;
-      },
-      touched_hold k hs is logs zip.1 owned.1 all.1,
-    )
-
-    zip_append : {X Y : Type 0} (R : X → Y → Type 0) (xs us : List X) (ys vs : List Y) → AllZip R xs ys → AllZip R us vs → AllZip R (xs ++ us) (ys ++ vs)
-    zip_append R [] us [] vs p q = q
-    zip_append R [] us (y ∷ ys) vs p q = absurd p
-    zip_append R (x ∷ xs) us [] vs p q = absurd p
-    zip_append R (x ∷ xs) us (y ∷ ys) vs p q = (p.0, zip_append R xs us ys vs p.1 q)
-
     pub touched_lanes : (k : ℕ) (ls ms : List (Lane D)) (logs : Logs) → AllZip (LaneRead state) ls ms → AllByRecursion (λ (l : Lane D). AllByRecursion Owned (held_in l)) ls → AllLanesHold Kept ls logs
         → AllZip (IsTouched (parts_of tells state) owner) (all_held k ls logs) (all_held k ms logs)
-    touched_lanes k [] [] logs zip owned all = tt
-    touched_lanes k [] (m ∷ ms) logs zip owned all = absurd zip
-    touched_lanes k (l ∷ ls) [] logs zip owned all = absurd zip
-    touched_lanes k (l ∷ ls) (m ∷ ms) [] zip owned all = tt
-    touched_lanes k (l ∷ ls) (m ∷ ms) (rs ∷ logs) zip owned all = zip_append (IsTouched (parts_of tells state) owner) (held_with k (held_in l) rs) (all_held (k + 1) ls logs) (held_with k (held_in m) rs) (all_held (k + 1) ms logs)
-        (touched_hold k (held_in l) (held_in m) rs zip.0.held owned.0 all.0) (touched_lanes (k + 1) ls ms logs zip.1 owned.1 all.1)
+    touched_lanes = read_lanes state Owned Kept (IsTouched (parts_of tells state) owner) (λ k h i rs r owned all. record {
+      lane = refl;
+      index = r.index;
+      broken = r.broken;
+      records = refl;
+      size = r.size;
+      volume = r.same.volume;
+      images = λ bs is_image. images_of i rs (r.keeps rs (all is_image.0 told)) (r.same.owner ∙ owned) bs is_image.1;
+    })
 
 -- ---- the manager
 
@@ -260,18 +240,18 @@ module _ {D : Type 0} (tells : Bool) (state : D → State) (old new : Manager D)
     is_part : (q : Part) → PartRose state old new q → (s : Spun D) × IsPartOf b.volume.began.view (reached (Some (name_of q))) (name_of q) s × (0 < (state_of state s).faults)
     is_part (Home volume) r = (new.home, refl, above_none (state_of state old.home).faults (state_of state new.home).faults r.1)
     is_part (Segment volume index) r =
-        let there = standing (λ h rs. IsTrue tells → new.down ≡ None → Holds state h.segment rs) 0 r.lane r.lane new.lanes.items k.logs r.new_lane r.place r.new_segment (omega arith) held_read r.is_lane r.is_there in (
+        let l = r.lane in let there = standing (λ h rs. IsTrue tells → new.down ≡ None → Holds state h.segment rs) 0 l.place l.place new.lanes.items k.logs l.after r.place r.new_segment (omega arith) held_read l.is r.is_there in (
           part_of r.new_segment.segment,
-          (held_as r.lane r.new_segment there.records, there.among, named, same.index ∙ sym r.named.1, refl),
+          (held_as l.place r.new_segment there.records, there.among, named, same.index ∙ sym r.named, refl),
           above_none (disk_of state r.old_segment.segment).faults (disk_of state r.new_segment.segment).faults r.rose,
         )
       where
-        named : slice_get b.volume.began.view r.lane ≡ Some volume
-        named = ap (λ (v : List ℕ). slice_get v r.lane) (sym k.locks.view) ∙ slice_get-map logger_of old.lanes.items r.lane ∙ ap (option_map logger_of) r.was_lane ∙ ap Some (sym r.named.0)
+        named : slice_get b.volume.began.view r.lane.place ≡ Some volume
+        named = ap (λ (v : List ℕ). slice_get v r.lane.place) (sym k.locks.view) ∙ slice_get-map logger_of old.lanes.items r.lane.place ∙ ap (option_map logger_of) r.lane.was ∙ ap Some (sym r.lane.named)
 
         same : SegmentRead state r.old_segment r.new_segment
-        same = zip_at (SegmentRead state) (held_in r.old_lane) (held_in r.new_lane) r.place r.old_segment r.new_segment
-            (zip_at (LaneRead state) old.lanes.items new.lanes.items r.lane r.old_lane r.new_lane read.lanes r.was_lane r.is_lane).held r.was_there r.is_there
+        same = zip_at (SegmentRead state) (held_in r.lane.before) (held_in r.lane.after) r.place r.old_segment r.new_segment
+            (zip_at (LaneRead state) old.lanes.items new.lanes.items r.lane.place r.lane.before r.lane.after read.lanes r.lane.was r.lane.is).held r.was_there r.is_there
 
     ready_failed : IsReady state failed
     ready_failed = record { ready = ready.ready; next = ready.next; below = ready.below; ranges = ready.ranges; up = λ no. absurd (let wrong : Some p ≡ None = no in cc) }

@@ -146,7 +146,11 @@ module _ {D : Type 0} {state : D → State} {m : Manager D} {version : ℕ} {r :
       -- ---- a call of the disk failed
 
       module _ {T E : Type 0} (x : E) (moved : Retired {T = T} {E = E} state old new r.segment (Err x)) (volume : ℕ) (volume_is : volume ≡ logger_of old) (ups : List Bool) (flags : ups ≡ slice_set m.ups.items r.lane true) where
-        pub ready_broke : IsReady state (record m { lanes = with_item m.lanes r.lane new; ups = record { items = ups }; down = Some (part.Segment volume r.segment) })
+        -- the manager after it
+        abbrev broken : Manager D
+        broken = record m { lanes = with_item m.lanes r.lane new; ups = record { items = ups }; down = Some (part.Segment volume r.segment) }
+
+        pub ready_broke : IsReady state broken
         ready_broke = ready_broken state m call.ready r.lane old new lane turn.is_lane turn.same turn.all untaken ups flags (part.Segment volume r.segment)
 
         lane_broke : (given : Type 0) → (given → ⊥) → ChangesLane (IsTrimmedLane call.its.entry.index given) call.its.entry.listed.lane m.lanes.items (slice_set m.lanes.items r.lane new)
@@ -163,35 +167,34 @@ module _ {D : Type 0} {state : D → State} {m : Manager D} {version : ℕ} {r :
             by (held_still i o n there named held pool err stayed) = (pool, ap (map (λ (h : HeldSegment D). h.index)) held ∙ map_set (λ (h : HeldSegment D). h.index) (held_in old) i o n there stayed.index)
 
         -- of the manager nothing else changed
+        rest_broke : broken ≡ record m { lanes = with_item m.lanes r.lane new; ups = record { items = slice_set m.ups.items call.its.entry.listed.lane true }; down = Some (part.Segment volume r.segment) }
+        rest_broke = ap (λ (u : List Bool). record m { lanes = with_item m.lanes r.lane new; ups = record { items = u }; down = Some (part.Segment volume r.segment) }) (flags ∙ ap (λ (k : ℕ). slice_set m.ups.items k true) call.its.record_.lane)
+
         pub dropped_broke : (G : Type 0) (fault : StepFault) (d : Indexed) → entry_at m.index.entries version ≡ Some d
-            → HasDroppedSegment {T = G} d.listed.lane d.index m (record m { lanes = with_item m.lanes r.lane new; ups = record { items = ups }; down = Some (part.Segment volume r.segment) }) (Err fault)
+            → HasDroppedSegment {T = G} d.listed.lane d.index m broken (Err fault)
         dropped_broke G fault d is =
-            subst (λ (c : Indexed). HasDroppedSegment {T = G} c.listed.lane c.index m (record m { lanes = with_item m.lanes r.lane new; ups = record { items = ups }; down = Some (part.Segment volume r.segment) }) (Err fault)) (same_Some call.its.entry d (sym call.its.is ∙ is)) (record {
-              rest = ap (λ (u : List Bool). record m { lanes = with_item m.lanes r.lane new; ups = record { items = u }; down = Some (part.Segment volume r.segment) }) (flags ∙ ap (λ (k : ℕ). slice_set m.ups.items k true) call.its.record_.lane);
-              lanes = lane_broke (false ≡ true) (λ is. false≢true is);
-              ok = tt;
-              err = refl;
-            })
+            subst (λ (c : Indexed). HasDroppedSegment {T = G} c.listed.lane c.index m broken (Err fault)) (same_Some call.its.entry d (sym call.its.is ∙ is))
+            (record { rest = rest_broke; lanes = lane_broke (false ≡ true) (λ is. false≢true is); ok = tt; err = refl })
 
         -- its segment's count rose
-        pub cause_broke : PartRose state m (record m { lanes = with_item m.lanes r.lane new; ups = record { items = ups }; down = Some (part.Segment volume r.segment) }) (part.Segment volume r.segment)
+        pub cause_broke : PartRose state m broken (part.Segment volume r.segment)
         cause_broke = by moved
           where
-            by : Retired {T = T} {E = E} state old new r.segment (Err x) → PartRose state m (record m { lanes = with_item m.lanes r.lane new; ups = record { items = ups }; down = Some (part.Segment volume r.segment) }) (part.Segment volume r.segment)
+            by : Retired {T = T} {E = E} state old new r.segment (Err x) → PartRose state m broken (part.Segment volume r.segment)
             by (gone i o free there named held pool ok freed) = absurd (false≢true ok)
-            by (held_still i o n there named held pool err stayed) = segment_rose state m _ r.lane i old new o n lane refl there held _ _ volume_is (sym named) stayed.cause
+            by (held_still i o n there named held pool err stayed) = segment_rose state m.lanes.items _ r.lane i old new o n lane refl there held _ _ volume_is (sym named) stayed.cause
 
         module _ (none : NoneLiveIn r.lane r.segment m.index.entries) where
           none_still : (o : HeldSegment D) → o.index ≡ r.segment → NoneLiveIn r.lane o.index m.index.entries
           none_still o named = subst (λ (s : ℕ). NoneLiveIn r.lane s m.index.entries) (sym named) none
 
-          pub stands_broke : (tells : Bool) (sound : (d : D) → IsDisk (state d)) → BreaksOff tells state m (record m { lanes = with_item m.lanes r.lane new; ups = record { items = ups }; down = Some (part.Segment volume r.segment) }) Always
+          pub stands_broke : (tells : Bool) (sound : (d : D) → IsDisk (state d)) → BreaksOff tells state m broken Always
           stands_broke tells sound b notes nt any note kp = record {
             keeps = by moved;
             look = last_more b.volume.began.look notes nt ∙ note.look_is;
           }
             where
-              by : Retired {T = T} {E = E} state old new r.segment (Err x) → Keeps tells state (record m { lanes = with_item m.lanes r.lane new; ups = record { items = ups }; down = Some (part.Segment volume r.segment) }) b (notes ++ nt ∷ [])
+              by : Retired {T = T} {E = E} state old new r.segment (Err x) → Keeps tells state broken b (notes ++ nt ∷ [])
               by (gone i o free there named held pool ok freed) = absurd (false≢true ok)
               by (held_still i o n there named held pool err stayed) =
                   let more : nones_in (pass_mine (pool_of old)) ≤ nones_in (pass_mine (pool_of new)) = (let e = ap nones_in pool in omega (arith, e)) in
@@ -201,9 +204,9 @@ module _ {D : Type 0} {state : D → State} {m : Manager D} {version : ℕ} {r :
                   ready_broke (none_passed (nones_at (slice_set m.lanes.items r.lane new) b.lanes) notes nt note.passed_is (passed_still tells state m b notes kp r.lane old new lane turn.same more)) (ap takes_in pool) (down_counts m.down) kp.still
 
           pub stops_broke : (tells : Bool) (sound : (d : D) → IsDisk (state d)) → IsTrue tells
-              → StopsSince tells state m (record m { lanes = with_item m.lanes r.lane new; ups = record { items = ups }; down = Some (part.Segment volume r.segment) }) Always
+              → StopsSince tells state m broken Always
           stops_broke tells sound told was read b notes any kw = by moved
             where
-              by : Retired {T = T} {E = E} state old new r.segment (Err x) → Stops state was (record m { lanes = with_item m.lanes r.lane new; ups = record { items = ups }; down = Some (part.Segment volume r.segment) }) None b notes []
+              by : Retired {T = T} {E = E} state old new r.segment (Err x) → Stops state was broken None b notes []
               by (gone i o free there named held pool ok freed) = absurd (false≢true ok)
               by (held_still i o n there named held pool err stayed) = in_place_stops tells state sound told was m read call.ready (sym read.down ∙ call.up) call.up b notes kw r.lane old new lane i o there (none_still o named) n held stayed

@@ -39,7 +39,6 @@ use Rattle.manager.specs.Stands.{Keeps, IsReady, IsReadyLane}
 use Rattle.manager.specs.Stops.{ImageSince, HeldSince}
 use Rattle.manager.specs.declared.base.ManagerBase.{ManagerBase}
 use Rattle.manager.specs.declared.manager.Manager.{Manager}
-use Rattle.manager.proofs.DropPiece.{GoneLanes, gone_lanes}
 use Rattle.manager.proofs.DropStops.{says_free}
 use Rattle.listed_records.proofs.Elements.{all_at, get_set}
 use Rattle.volume_parts.proofs.Lanes.{held_as, InLanes, in_lanes}
@@ -204,12 +203,12 @@ module _ {D : Type 0} (tells : Bool) (state : D → State) (sound : (d : D) → 
   owner_then : owner_of o.segment ≡ b.volume.began.owner
   owner_then = (all_at (IsHeld state (logger_of old) (lane_owner old) (segments_in old) (pool_of old)) (held_in old) i o there wl_then.lane.each).owned ∙ wl_then.owner ∙ read.same.id ∙ kw.locks.owner
 
+  split_then : InLanes RThen k 0 m.lanes.items kw.logs k i old o
+  split_then = in_lanes RThen k 0 m.lanes.items kw.logs k i old o (omega arith) lane there (held_read tells state was m b notes read ready was_up kw)
+
   -- ---- the segment stays in the lane
 
   module _ (n : HeldSegment D) (held : held_in new ≡ slice_set (held_in old) i n) (not_freed : NotFreed state o n) where
-    split_then : InLanes RThen k 0 m.lanes.items kw.logs k i old o
-    split_then = in_lanes RThen k 0 m.lanes.items kw.logs k i old o (omega arith) lane there (held_read tells state was m b notes read ready was_up kw)
-
     abbrev LeftThen : List Block → Type 0
     LeftThen c = IsLog c b.volume.began.owner split_then.records ⊎ IsIdle c
 
@@ -229,12 +228,9 @@ module _ {D : Type 0} (tells : Bool) (state : D → State) (sound : (d : D) → 
   -- ---- the segment went to the pool
 
   module _ (held : held_in new ≡ remove (held_in old) i) where
-    gone : GoneLanes RThen k 0 m.lanes.items kw.logs k i old o
-    gone = gone_lanes RThen k 0 m.lanes.items kw.logs k i old o (omega arith) lane there (held_read tells state was m b notes read ready was_up kw)
-
     pub gone_stops : StopsHere tells state sound told was m read ready was_up b notes kw (slice_set m.lanes.items k new)
     gone_stops =
-        let around = logs_around tells state sound told was m read ready was_up b notes kw gone.front (held_as k o gone.records) gone.back gone.is in
-        stops_with tells state sound told was m read ready was_up b notes kw (slice_set m.lanes.items k new) gone.lists (gone.then_all (λ h rs. ⊤) (λ h rs holds. tt) new held) (gone.front ++ gone.back) (gone.then_is new held)
-        (less_stops tells state m b notes kw.logs u_then up k o none gone.front gone.records gone.back gone.is gone.here owner_then told
+        let around = logs_around tells state sound told was m read ready was_up b notes kw split_then.front (held_as k o split_then.records) split_then.back split_then.is in
+        stops_with tells state sound told was m read ready was_up b notes kw (slice_set m.lanes.items k new) split_then.rest (split_then.rest_all (λ h rs. ⊤) (λ h rs holds. tt) new held) (split_then.front ++ split_then.back) (split_then.rest_is new held)
+        (less_stops tells state m b notes kw.logs u_then up k o none split_then.front split_then.records split_then.back split_then.is split_then.here owner_then told
         (ImageSince state was.home m.home) (HeldSince state (all_held 0 was.lanes.items kw.logs) None) (home_since state was m read) around.0 around.1)

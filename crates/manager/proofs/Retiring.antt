@@ -20,7 +20,7 @@ use Rattle.manager.specs.Seen.{Logs, parts_of, seen, all_held, down_of, all_take
 use Rattle.manager.specs.declared.base.ManagerBase.{ManagerBase}
 use Rattle.manager.specs.declared.manager.Manager.{Manager}
 use Rattle.listed_records.proofs.Entries.{lies_there, is_false, both_hold, covered_where, counts_elsewhere}
-use Rattle.volume_parts.proofs.Lanes.{held_as, untaken_set, ready_set}
+use Rattle.volume_parts.proofs.Lanes.{held_as, InLanes, in_lanes, untaken_set, ready_set}
 use Rattle.std.proofs.Math.ListN.{length-set}
 use Rattle.wol_model.specs.Extents.{IsValid}
 use Rattle.log_segment.specs.Segment.{Holds}
@@ -28,7 +28,6 @@ use Rattle.logger.specs.Lanes.{held_in, taken_in, IsLane, HoldsAll, IsSameLane}
 use Rattle.logger.specs.declared.lane.Lane.{Lane}
 use Rattle.wol_promise.proofs.Kept.{other_flags}
 use Rattle.manager.specs.Stands.{Keeps, IsReady, IsUp, IsPlacedIn, IsInVolume}
-use Rattle.manager.proofs.DropPiece.{GoneLanes, gone_lanes}
 use Rattle.manager.proofs.GoneSegment.{up_without}
 use Rattle.manager.proofs.Putting.{Pieces}
 use Rattle.manager.proofs.ReadContent.{unbroken, upholds_up}
@@ -90,22 +89,22 @@ module _ {D : Type 0} (tells : Bool) (state : D → State) (m : Manager D) (b : 
   abbrev R : HeldSegment D → List Record → Type 0
   R h rs = IsTrue tells → m.down ≡ None → Holds state h.segment rs
 
-  less : GoneLanes R k 0 m.lanes.items kp.logs k i old o
-  less = gone_lanes R k 0 m.lanes.items kp.logs k i old o (omega arith) lane there kp.held
+  less : InLanes R k 0 m.lanes.items kp.logs k i old o
+  less = in_lanes R k 0 m.lanes.items kp.logs k i old o (omega arith) lane there kp.held
 
   upheld_less : Upholds (parts_of tells state) b.volume.began (record (seen m kp.logs) { held = less.front ++ less.back; indexed = filter (lies_elsewhere k o.index) m.index.entries }) notes (writes (entries_of notes)) None
   upheld_less = upheld tells state m b notes kp.logs (upholds_up tells state m b notes kp up) up k o none less.front less.records less.back less.is
 
-  held_less : all_held 0 (slice_set m.lanes.items k new) less.lists ≡ less.front ++ less.back
-  held_less = less.then_is new held
+  held_less : all_held 0 (slice_set m.lanes.items k new) less.rest ≡ less.front ++ less.back
+  held_less = less.rest_is new held
 
   abbrev Used : Held (Spun D) → Type 0
   Used v = (q : Record) × Contains v.records q × IsValid (extent_of q).cover
 
   pub leaves : Pieces tells state m b notes (slice_set m.lanes.items k new) (filter (lies_elsewhere k o.index) m.index.entries) m.next (slice_set m.ups.items k true) m.down
   leaves = record {
-    logs = less.lists;
-    held = less.then_all R (λ h rs holds. holds) new held;
+    logs = less.rest;
+    held = less.rest_all R (λ h rs holds. holds) new held;
     upholds = subst (λ (q : ManagerSeen (Spun D)). Upholds (parts_of tells state) b.volume.began q notes (writes (entries_of notes)) (flight_of (entries_of notes))) seen_is
         (subst (Upholds (parts_of tells state) b.volume.began (record (seen m kp.logs) { held = less.front ++ less.back; indexed = filter (lies_elsewhere k o.index) m.index.entries; ups = slice_set m.ups.items k true }) notes (writes (entries_of notes))) (sym (unbroken tells state m b notes kp up))
         (other_flags (parts_of tells state) b.volume.began (record (seen m kp.logs) { held = less.front ++ less.back; indexed = filter (lies_elsewhere k o.index) m.index.entries }) m.home_up (slice_set m.ups.items k true) notes (writes (entries_of notes)) None upheld_less (length-set m.ups.items k true)));
@@ -114,7 +113,7 @@ module _ {D : Type 0} (tells : Bool) (state : D → State) (m : Manager D) (b : 
   }
     where
       seen_is : record (seen m kp.logs) { held = less.front ++ less.back; indexed = filter (lies_elsewhere k o.index) m.index.entries; ups = slice_set m.ups.items k true }
-          ≡ record { home = m.home; held = all_held 0 (slice_set m.lanes.items k new) less.lists; taken = all_taken 0 (slice_set m.lanes.items k new); indexed = filter (lies_elsewhere k o.index) m.index.entries; next = m.next; home_up = m.home_up; ups = slice_set m.ups.items k true; down = down_of m.down }
+          ≡ record { home = m.home; held = all_held 0 (slice_set m.lanes.items k new) less.rest; taken = all_taken 0 (slice_set m.lanes.items k new); indexed = filter (lies_elsewhere k o.index) m.index.entries; next = m.next; home_up = m.home_up; ups = slice_set m.ups.items k true; down = down_of m.down }
       seen_is = λ j. record { home = m.home; held = sym held_less j; taken = untaken_set state m.id m.most m.lanes.items k new kp.ready.ready.each untaken j; indexed = filter (lies_elsewhere k o.index) m.index.entries; next = m.next; home_up = m.home_up; ups = slice_set m.ups.items k true; down = down_of m.down }
 
 module _ {D : Type 0} (state : D → State) (m : Manager D) (ready : IsReady state m) (up : m.down ≡ None) (k : ℕ) (old new : Lane D) (lane : slice_get m.lanes.items k ≡ Some old)
