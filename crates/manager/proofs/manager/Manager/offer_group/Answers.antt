@@ -1,4 +1,4 @@
-use Rattle.std.proofs.Common.{◌≡◌, ℕ, true, false, [], ◌∷◌, ◌++◌, length, take, Some, refl, sym, ap, subst, ◌∙◌, arith}
+use Rattle.std.proofs.Common.{◌≡◌, ℕ, Bool, List, true, false, [], ◌∷◌, ◌++◌, length, take, Some, refl, sym, ap, subst, ◌∙◌, arith}
 use Rattle.std.specs.Prelude.{slice_get, slice_set, Result, Ok, Err}
 use Rattle.std.specs.Option.{option_map}
 use Rattle.std.specs.Vec.{with_item}
@@ -12,7 +12,14 @@ use Rattle.manager.specs.Causes.{PartRoseOrClaimed}
 use Rattle.manager.specs.Joining.{room_for}
 use Rattle.manager.specs.Puts.{PutIn}
 use Rattle.manager.specs.Seen.{look_of_manager}
-use Rattle.manager.specs.Stands.{Stands, IsReadyLane}
+use Rattle.manager.specs.Stands.{Stands, IsHome, IsReady, IsReadyLane}
+use Rattle.manager.specs.Groups.{HasOffered, HasTakenRun}
+use Rattle.manager.specs.declared.manager.Manager.{Manager}
+use Rattle.manager.specs.declared.run.Ran.{Ran}
+use Rattle.logger.specs.declared.shared.Shared.{Shared}
+use Rattle.log_segment.specs.declared.item.Item.{Item}
+use Rattle.offload_policy.specs.declared.Room.{Room}
+use Rattle.wol_disk.specs.Disk.{State, Block}
 use Rattle.manager.specs.declared.part.Part.TheVariants as part
 use Rattle.manager.proofs.Bounds.{take_below, take_room, few_room, two_more}
 use Rattle.volume_parts.proofs.Calm.{calm_put}
@@ -48,6 +55,11 @@ put_group-requires-clause-first g c =
     let m = c.args.self.now in let old = c.index_mut-reached.result.now in
     let l = (all_at (IsReadyLane g.D.Disk.state m.id m.most) m.lanes.items c.args.lane old (there g (goal.at.put_group-requires-clause-first g c).After-index_mut-reached) c.requires.run.serves.ready.ready.each).long in
     let f = first_few m.most (state_of g.D.Disk.state m.home).size c.args.items.now c.requires.run.each in two_more _ _ _ f l
+
+-- an offer that was taken
+offered : {D : Type 0} (tells : Bool) (state : D → State) (shared : Shared D) (lane : ℕ) (items : List Item) (from : List Block) (noted : List Room) (r : Ran) (old new : Manager D)
+    → IsReady state new → IsHome shared new → HasTakenRun tells state lane items from r old new → HasOffered tells state shared lane items from noted (Some r) old new
+offered tells state shared lane items from noted r old new ready home taken = record { ready = ready; at = home; turned_away = λ none. let no : true ≡ false = none in absurd (cc); taken = taken }
 
 -- ---- It had no room
 
@@ -94,30 +106,26 @@ returns-in-Ok g c =
     let at = goal.at.returns-in-Ok g c in let lane = there g at.After-index_mut-reached in
     let put = put_as g at.In-Some (Ok c.in-Ok.spot) c.in-Ok.is in
     let room = few_room n (length items) m.next _ s.count.1 c.requires.run.next in
-    record {
-      ready = offered_ready state m c.args.lane old new lane e.lane s.turn.same e.all e.none c.requires.run.serves.ready items n s.count.0 s.count.1 c.args.from.now c.requires.run.each c.requires.run.blocks s.fits c.requires.run.serves.up c.in-Ok.spot put (with_item m.lanes c.args.lane new) c.list_group.new.index _ refl c.list_group.ensures (refill_set m.ups.items c.deref_mut.result.now c.args.lane true c.deref_mut.ensures.value) (few_room c.in-Some.count (length c.args.items.now) m.next _ s.count.1 c.requires.run.next);
-      at = at_lane m c.args.lane new c.requires.run.serves.at e.at;
-      turned_away = λ none. let no : true ≡ false = none in absurd (cc);
-      taken = record {
-        tried = s.count;
-        answer = slice_get-map logger_of m.lanes.items c.args.lane ∙ ap (option_map logger_of) lane ∙ ap Some (sym c.logger-logger.ensures);
-        rest = refl;
-        lanes = record { before = old; after = new; there = lane; set = refl; change = s.turn };
-        stands = λ b notes passed nt client note has kp.
-            offered_stands state m c.args.lane old new lane e.lane s.turn.same e.all e.none c.requires.run.serves.ready items n s.count.0 s.count.1 c.args.from.now c.requires.run.each c.requires.run.blocks s.fits c.requires.run.serves.up c.in-Ok.spot put
-            v c.list_group.new.index _ refl c.list_group.ensures (refill_set m.ups.items c.deref_mut.result.now c.args.lane true c.deref_mut.ensures.value) room
-            tells g.met.D.Disk.told g.met.D.Disk.sound s.turn b notes nt client kp note.operation_is note.follows note.look_is has;
-        look = offered_look state m c.args.lane old new lane e.lane s.turn.same e.all e.none c.requires.run.serves.ready items n s.count.0 s.count.1 c.args.from.now c.requires.run.each c.requires.run.blocks s.fits c.requires.run.serves.up c.in-Ok.spot put v c.list_group.new.index _ refl c.list_group.ensures (refill_set m.ups.items c.deref_mut.result.now c.args.lane true c.deref_mut.ensures.value) room;
-        next = refl;
-        fault = refl;
-        calm = none_lane state m _ c.requires.run.serves.ready refl c.args.lane old new lane refl (calm_put state old new _ _ c.in-Ok.spot (lane_at state m c.requires.run.serves.ready c.args.lane old lane) e.lane put);
-        any_moment = (
-          put_claimed put,
-          put_tells tells state g.met.D.Disk.told m.lanes.items c.args.lane old new lane _ _ _ put (slice_set m.lanes.items c.args.lane new) refl,
-          offered_stops state m c.args.lane old new lane e.lane s.turn.same e.all e.none c.requires.run.serves.ready items n s.count.0 s.count.1 c.args.from.now c.requires.run.each c.requires.run.blocks s.fits c.requires.run.serves.up tells g.met.D.Disk.told g.met.D.Disk.sound put (record m { lanes = v }) refl refl,
-        );
-      };
-    }
+    offered tells state c.args.shared.now c.args.lane items c.args.from.now _ _ m _
+    (offered_ready state m c.args.lane old new lane e.lane s.turn.same e.all e.none c.requires.run.serves.ready items n s.count.0 s.count.1 c.args.from.now c.requires.run.each c.requires.run.blocks s.fits c.requires.run.serves.up c.in-Ok.spot put (with_item m.lanes c.args.lane new) c.list_group.new.index _ refl c.list_group.ensures (refill_set m.ups.items c.deref_mut.result.now c.args.lane true c.deref_mut.ensures.value) (few_room c.in-Some.count (length c.args.items.now) m.next _ s.count.1 c.requires.run.next)) (at_lane m c.args.lane new c.requires.run.serves.at e.at) (record {
+      tried = s.count;
+      answer = slice_get-map logger_of m.lanes.items c.args.lane ∙ ap (option_map logger_of) lane ∙ ap Some (sym c.logger-logger.ensures);
+      rest = refl;
+      lanes = record { before = old; after = new; there = lane; set = refl; change = s.turn };
+      stands = λ b notes passed nt client note has kp.
+          offered_stands state m c.args.lane old new lane e.lane s.turn.same e.all e.none c.requires.run.serves.ready items n s.count.0 s.count.1 c.args.from.now c.requires.run.each c.requires.run.blocks s.fits c.requires.run.serves.up c.in-Ok.spot put
+          v c.list_group.new.index _ refl c.list_group.ensures (refill_set m.ups.items c.deref_mut.result.now c.args.lane true c.deref_mut.ensures.value) room
+          tells g.met.D.Disk.told g.met.D.Disk.sound s.turn b notes nt client kp note.operation_is note.follows note.look_is has;
+      look = offered_look state m c.args.lane old new lane e.lane s.turn.same e.all e.none c.requires.run.serves.ready items n s.count.0 s.count.1 c.args.from.now c.requires.run.each c.requires.run.blocks s.fits c.requires.run.serves.up c.in-Ok.spot put v c.list_group.new.index _ refl c.list_group.ensures (refill_set m.ups.items c.deref_mut.result.now c.args.lane true c.deref_mut.ensures.value) room;
+      next = refl;
+      fault = refl;
+      calm = none_lane state m _ c.requires.run.serves.ready refl c.args.lane old new lane refl (calm_put state old new _ _ c.in-Ok.spot (lane_at state m c.requires.run.serves.ready c.args.lane old lane) e.lane put);
+      any_moment = (
+        put_claimed put,
+        put_tells tells state g.met.D.Disk.told m.lanes.items c.args.lane old new lane _ _ _ put (slice_set m.lanes.items c.args.lane new) refl,
+        offered_stops state m c.args.lane old new lane e.lane s.turn.same e.all e.none c.requires.run.serves.ready items n s.count.0 s.count.1 c.args.from.now c.requires.run.each c.requires.run.blocks s.fits c.requires.run.serves.up tells g.met.D.Disk.told g.met.D.Disk.sound put (record m { lanes = v }) refl refl,
+      );
+    })
 
 -- ---- A call failed
 
@@ -128,32 +136,28 @@ returns-in-Err g c =
     let put = put_as g at.In-Some (Err (c.in-Err.index, c.in-Err.field-0-1)) c.in-Err.is in
     let room = few_room n (length items) m.next _ s.count.1 c.requires.run.next in
     let p = part.Segment c.logger-logger.result c.in-Err.index in let m' = record m { lanes = v; down = Some p } in
-    record {
-      ready = offered_unready state m c.args.lane old new lane e.lane s.turn.same e.all e.none c.requires.run.serves.ready v refl p;
-      at = at_lane m c.args.lane new c.requires.run.serves.at e.at;
-      turned_away = λ none. let no : true ≡ false = none in absurd (cc);
-      taken = record {
-        tried = s.count;
-        answer = slice_get-map logger_of m.lanes.items c.args.lane ∙ ap (option_map logger_of) lane ∙ ap Some (sym c.logger-logger.ensures);
-        rest = refl;
-        lanes = record { before = old; after = new; there = lane; set = refl; change = s.turn };
-        stands = λ b notes passed nt client note has kp.
-            subst (λ (x : ℕ). Stands tells state (record m { lanes = v; down = Some (part.Segment x c.in-Err.index) }) b (notes ++ nt ∷ [])) (sym c.logger-logger.ensures)
-            (offered_failed state m c.args.lane old new lane e.lane s.turn.same e.all e.none c.requires.run.serves.ready items n s.count.0 s.count.1 c.args.from.now c.requires.run.each c.requires.run.blocks s.fits c.requires.run.serves.up
-            tells g.met.D.Disk.told g.met.D.Disk.sound room s.turn b notes nt client kp (c.in-Err.index, c.in-Err.field-0-1) note.operation_is note.drain put v refl has
-            (note.look_is ∙ ap (λ (x : ℕ). look_of_manager (record m { down = Some (part.Segment x c.in-Err.index) })) c.logger-logger.ensures));
-        look = tt;
-        next = omega arith;
-        fault = (
-          refl,
-          subst (PartRoseOrClaimed state m m') (ap (λ (x : ℕ). part.Segment x c.in-Err.index) (sym c.logger-logger.ensures))
-              (offered_cause state m c.args.lane old new lane e.lane s.turn.same e.all e.none c.requires.run.serves.ready items n s.count.0 s.count.1 c.args.from.now c.requires.run.each c.requires.run.blocks s.fits c.requires.run.serves.up (c.in-Err.index, c.in-Err.field-0-1) put m' refl),
-        );
-        calm = tt;
-        any_moment = (
-          put_claimed put,
-          put_tells tells state g.met.D.Disk.told m.lanes.items c.args.lane old new lane _ _ _ put (slice_set m.lanes.items c.args.lane new) refl,
-          offered_stops state m c.args.lane old new lane e.lane s.turn.same e.all e.none c.requires.run.serves.ready items n s.count.0 s.count.1 c.args.from.now c.requires.run.each c.requires.run.blocks s.fits c.requires.run.serves.up tells g.met.D.Disk.told g.met.D.Disk.sound put (record m { lanes = v }) refl refl,
-        );
-      };
-    }
+    offered tells state c.args.shared.now c.args.lane items c.args.from.now _ _ m _
+    (offered_unready state m c.args.lane old new lane e.lane s.turn.same e.all e.none c.requires.run.serves.ready v refl p) (at_lane m c.args.lane new c.requires.run.serves.at e.at) (record {
+      tried = s.count;
+      answer = slice_get-map logger_of m.lanes.items c.args.lane ∙ ap (option_map logger_of) lane ∙ ap Some (sym c.logger-logger.ensures);
+      rest = refl;
+      lanes = record { before = old; after = new; there = lane; set = refl; change = s.turn };
+      stands = λ b notes passed nt client note has kp.
+          subst (λ (x : ℕ). Stands tells state (record m { lanes = v; down = Some (part.Segment x c.in-Err.index) }) b (notes ++ nt ∷ [])) (sym c.logger-logger.ensures)
+          (offered_failed state m c.args.lane old new lane e.lane s.turn.same e.all e.none c.requires.run.serves.ready items n s.count.0 s.count.1 c.args.from.now c.requires.run.each c.requires.run.blocks s.fits c.requires.run.serves.up
+          tells g.met.D.Disk.told g.met.D.Disk.sound room s.turn b notes nt client kp (c.in-Err.index, c.in-Err.field-0-1) note.operation_is note.drain put v refl has
+          (note.look_is ∙ ap (λ (x : ℕ). look_of_manager (record m { down = Some (part.Segment x c.in-Err.index) })) c.logger-logger.ensures));
+      look = tt;
+      next = omega arith;
+      fault = (
+        refl,
+        subst (PartRoseOrClaimed state m m') (ap (λ (x : ℕ). part.Segment x c.in-Err.index) (sym c.logger-logger.ensures))
+            (offered_cause state m c.args.lane old new lane e.lane s.turn.same e.all e.none c.requires.run.serves.ready items n s.count.0 s.count.1 c.args.from.now c.requires.run.each c.requires.run.blocks s.fits c.requires.run.serves.up (c.in-Err.index, c.in-Err.field-0-1) put m' refl),
+      );
+      calm = tt;
+      any_moment = (
+        put_claimed put,
+        put_tells tells state g.met.D.Disk.told m.lanes.items c.args.lane old new lane _ _ _ put (slice_set m.lanes.items c.args.lane new) refl,
+        offered_stops state m c.args.lane old new lane e.lane s.turn.same e.all e.none c.requires.run.serves.ready items n s.count.0 s.count.1 c.args.from.now c.requires.run.each c.requires.run.blocks s.fits c.requires.run.serves.up tells g.met.D.Disk.told g.met.D.Disk.sound put (record m { lanes = v }) refl refl,
+      );
+    })
