@@ -36,7 +36,7 @@ use Rattle.volume_images.proofs.Stored.{rose_above}
 use Rattle.volume_images.proofs.WholeReads.{accepted, refused}
 
 -- the parts of an image have all of its blocks
-all_sizes : (s : Shape) → sum (part_sizes s) ≡ image_size s
+pub all_sizes : (s : Shape) → sum (part_sizes s) ≡ image_size s
 all_sizes s =
     let one = sum_by-cons (λ x. x) 2 (s.home ∷ replicate s.segments s.segment_blocks) in
     let two = sum_by-cons (λ x. x) s.home (replicate s.segments s.segment_blocks) in

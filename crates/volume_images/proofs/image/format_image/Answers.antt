@@ -1,13 +1,16 @@
-use Rattle.std.proofs.Common.{◌≡◌, refl, [], option_map, Err, ap, sym, ◌∙◌}
-use Rattle.wol_bay.specs.Bay.{Told}
+use Rattle.std.proofs.Common.{◌≡◌, List, Some, refl, [], option_map, Err, ap, sym, ◌∙◌}
+use Rattle.wol_bay.specs.Bay.{Told, AreNamedApart, came_back, sent_out}
+use Rattle.wol_disk.specs.Disk.{Block, Values}
 use Rattle.wol_bay.specs.Parts.{blocks_of, faulty_places, sizes_of}
 use Rattle.wol_bay.proofs.OneImage.{goes_out, comes_home}
 use Rattle.log_layout.specs.Values.{shape_of}
-use Rattle.volume_images.specs.Left.{LeavesImage, LeavesFailed, CameBack, settled_image, fault_of_bay}
+use Rattle.volume_images.specs.Left.{IsTold, LeavesImage, LeavesFailed, CameBack, settled_image, fault_of_bay}
 use Rattle.volume_images.specs.Formatted.{formatted, formatted_parts}
 use Rattle.volume_images.proofs.SettledParts.{settled_quiet}
 use Rattle.volume_images.proofs.Bays.{went_out, sizes_out, brought_back, nothing_told, whole_back, failed_back}
 use Rattle.volume_images.proofs.Refused.{leaves_all, names_volume, bay_rose, bay_calm, rose_since, some_fault, blank_tells, same_error}
+use Rattle.volume_images.proofs.image.format_image.Given as given
+use Rattle.volume_images.proofs.image.format_image.Goals.{After-detach}
 use Rattle.volume_images.proofs.image.format_image.Goals as goal
 
 pub returns-in-Err : goal.returns-in-Err
@@ -47,33 +50,30 @@ returns-clause-home g c =
     comes_home c.args.volume.now.name c.deref.result.now (blocks_of g.B.Part.Disk.state parts) (faulty_places g.B.Part.Disk.state parts) (g.B.Bay.state c.args.bay.now) (g.B.Bay.state c.create.new.self) (g.B.Bay.state c.detach.new.self)
     c.requires.home (rw c.as_str-name.ensures at c.in-Ok.ensures.ok) (rw c.as_str-name.ensures at c.detach.ensures.back)
 
-pub returns-in-Ok-formatted-clause-left : goal.returns-in-Ok-formatted-clause-left
-returns-in-Ok-formatted-clause-left g c =
+-- what is left of the image, where that holds of its blocks whatever is told
+left : (g : given.Over) (c : After-detach g) (holds : Told → Told → Type 0)
+    → ((t : Told) (vs : List (Values Block)) → blocks_of g.B.Part.Disk.state c.format_parts-formatted.new.parts.items ≡ Some vs → AreNamedApart t
+    → holds t (came_back c.args.volume.now.name (Some vs) (faulty_places g.B.Part.Disk.state c.format_parts-formatted.new.parts.items) (sent_out c.args.volume.now.name c.deref.result.now t)))
+    → IsTold holds (g.B.Bay.state c.args.bay.now).told (g.B.Bay.state c.detach.new.self).told
+left g c holds back =
     let state = g.B.Part.Disk.state in
     let parts = c.format_parts-formatted.new.parts.items in
-    let name = c.args.volume.now.name in
-    let id = c.args.label.now.id in
-    let s = shape_of c.args.label.now in
-    let ids = c.args.volume.now.view in
-    brought_back (CameBack name (settled_image (formatted id s ids)) []) name c.deref.result.now (faulty_places state parts) (blocks_of state parts)
+    brought_back holds c.args.volume.now.name c.deref.result.now (faulty_places state parts) (blocks_of state parts)
     (g.B.Bay.state c.args.bay.now).told (g.B.Bay.state c.create.new.self).told (g.B.Bay.state c.detach.new.self).told (g.B.Bay.apart c.args.bay.now)
     (λ t e. c.format_parts-formatted.ensures.told (blank_tells state (g.B.Bay.state c.args.bay.now).told c.deref.result.now c.in-Ok.parts.items c.in-Ok.ensures.parts t e))
-    (λ t vs e apart. whole_back state name id s ids parts c.in-Ok-formatted.ensures.ok c.deref.result.now t vs e apart)
-    (rw c.as_str-name.ensures at c.in-Ok.ensures.ok) (rw c.as_str-name.ensures at c.detach.ensures.back)
+    back (rw c.as_str-name.ensures at c.in-Ok.ensures.ok) (rw c.as_str-name.ensures at c.detach.ensures.back)
+
+pub returns-in-Ok-formatted-clause-left : goal.returns-in-Ok-formatted-clause-left
+returns-in-Ok-formatted-clause-left g c =
+    let name = c.args.volume.now.name in let id = c.args.label.now.id in let s = shape_of c.args.label.now in let ids = c.args.volume.now.view in
+    left g (goal.at.returns-in-Ok-formatted-clause-left g c).After-detach (CameBack name (settled_image (formatted id s ids)) [])
+    (λ t vs e apart. whole_back g.B.Part.Disk.state name id s ids c.format_parts-formatted.new.parts.items c.in-Ok-formatted.ensures.ok c.deref.result.now t vs e apart)
 
 pub returns-clause-left : goal.returns-clause-left
 returns-clause-left g c =
-    let state = g.B.Part.Disk.state in
-    let parts = c.format_parts-formatted.new.parts.items in
-    let name = c.args.volume.now.name in
-    let id = c.args.label.now.id in
-    let s = shape_of c.args.label.now in
-    let ids = c.args.volume.now.view in
-    brought_back (LeavesFailed c.in-Err-formatted.part name id s ids) name c.deref.result.now (faulty_places state parts) (blocks_of state parts)
-    (g.B.Bay.state c.args.bay.now).told (g.B.Bay.state c.create.new.self).told (g.B.Bay.state c.detach.new.self).told (g.B.Bay.apart c.args.bay.now)
-    (λ t e. c.format_parts-formatted.ensures.told (blank_tells state (g.B.Bay.state c.args.bay.now).told c.deref.result.now c.in-Ok.parts.items c.in-Ok.ensures.parts t e))
-    (λ t vs e apart. failed_back state name id s ids parts c.in-Err-formatted.part c.format_parts-formatted.ensures.images c.in-Err-formatted.ensures.cause c.deref.result.now t vs e apart)
-    (rw c.as_str-name.ensures at c.in-Ok.ensures.ok) (rw c.as_str-name.ensures at c.detach.ensures.back)
+    let name = c.args.volume.now.name in let id = c.args.label.now.id in let s = shape_of c.args.label.now in let ids = c.args.volume.now.view in
+    left g (goal.at.returns-clause-left g c).After-detach (LeavesFailed c.in-Err-formatted.part name id s ids)
+    (λ t vs e apart. failed_back g.B.Part.Disk.state name id s ids c.format_parts-formatted.new.parts.items c.in-Err-formatted.part c.format_parts-formatted.ensures.images c.in-Err-formatted.ensures.cause c.deref.result.now t vs e apart)
 
 pub returns-in-Ok-formatted-clause-calm : goal.returns-in-Ok-formatted-clause-calm
 returns-in-Ok-formatted-clause-calm g c = λ none.
