@@ -1,10 +1,11 @@
-// The image of one volume is made anew and formatted.
+// The image of one volume is made anew and formatted, and so are those of a configuration.
 ghost use Rattle.log_layout.specs.Values.{shape_of};
 ghost use Rattle.std.specs.Prelude.{ℕ, ◌≡◌, ◌≤◌, ◌<◌, length, slice_index_or, ◌∷◌, ◌++◌, replicate, List, IfOk, OnOk, IfErr, IsErrOf, IsSome};
 ghost use Rattle.volume_images.specs.Formatted.{part_sizes, blank_parts, formatted_parts, free_segment, IsUnlabelledOrFormatted};
+ghost use Rattle.volume_images.specs.Formats.{LeavesImages, LeavesSound, LeavesZeros, LosesNone};
 ghost use Rattle.volume_images.specs.Left.{IsTold, LeavesImage, HasFailed, fault_of_bay};
 ghost use Rattle.volume_images.specs.Settled.{AreSettled};
-ghost use Rattle.volume_images.specs.Volumes.{shape_in};
+ghost use Rattle.volume_images.specs.Volumes.{shape_in, NoneOut};
 ghost use Rattle.volume_images.specs.declared.fault.PartName.{PartName};
 ghost use Rattle.wol_bay.specs.Bay.{IsHome, outs};
 ghost use Rattle.wol_bay.specs.Parts.{sizes_of, blocks_of};
@@ -119,7 +120,7 @@ fn format_parts<D: Disk>(
 }
 
 /// Makes the image of a volume anew and formats it. It is back in the bay at each exit.
-pub(crate) fn format_image<B: Bay>(
+fn format_image<B: Bay>(
     alloc: Global,
     bay: &mut B,
     volume: &VolumeConf,
@@ -170,4 +171,41 @@ fn fault_of_bay(label: &Label, fault: BayFault) -> RackFault
             part: PartName::Bay,
         },
     }
+}
+
+/// Makes the image of each volume anew, in the order of the configuration: the view, a home of zeros and free segments,
+/// and last the label. Each image is back in the bay at each exit.
+///
+/// `Failed` names the first volume and part a call of which failed; it ends the format. After a stop within, an image
+/// that isn't whole has no label.
+pub fn format<B: Bay>(alloc: Global, bay: &mut B, config: &Config) -> Result<(), RackFault>
+    requires config { IsValid config.now }
+    requires home { NoneOut config.now (B.state bay.old) }
+    ensures home { outs (B.state bay.new) ≡ outs (B.state bay.old) }
+    ensures left { IsTold (LeavesImages config.now result) (B.state bay.old).told
+        (B.state bay.new).told }
+    // also after a stop within
+    ensures any_exit { IsTold (LosesNone config.now) (B.state bay.old).told (B.state bay.new).told }
+    ensures sound { OnOk result
+        (IsTold (LeavesSound config.now) (B.state bay.old).told (B.state bay.new).told) }
+    ensures zeros { OnOk result
+        (IsTold (LeavesZeros config.now) (B.state bay.old).told (B.state bay.new).told) }
+    ensures volume { (n : ℕ) (part : PartName) → IsErrOf result (RackFault.Failed n part)
+        → n < length config.now.volumes.items }
+    ensures cause { (n : ℕ) (part : PartName) → IsErrOf result (RackFault.Failed n part)
+        → Rose (B.state bay.old).faults (B.state bay.new).faults }
+    ensures calm { ((n : ℕ) (part : PartName) → IsErrOf result (RackFault.Failed n part) → ⊥)
+        → (B.state bay.new).faults ≡ (B.state bay.old).faults }
+    ensures counts { (B.state bay.old).faults ≤ (B.state bay.new).faults }
+{
+    for (id, volume) in config.volumes.iter().enumerate() {
+        let label = Label {
+            id: id as u32,
+            home: volume.home,
+            segments: volume.segments,
+            segment_blocks: config.segment_blocks,
+        };
+        format_image(alloc, bay, volume, &label, config.timeout)?;
+    }
+    Ok(())
 }

@@ -1,6 +1,6 @@
 //! The images of volumes in a bay: they are formatted, and taken out one by one.
 //!
-//! `formatting.rt` formats all images in order, `image.rt` one, `content.rt` and `part.rt` one of its parts;
+//! `image.rt` formats all images in order (`format`), and one (`format_image`), `content.rt` and `part.rt` one of its parts;
 //! `specs/Formatted` is a formatted image, `Left` what is left of one after a stop, `Formats` what is left of all.
 //! `attach.rt`, `parts.rt`, `reading.rt` and `heads.rt` read what an image says, or give it back with the first
 //! fault.
@@ -9,7 +9,6 @@
 mod attach;
 mod content;
 mod fault;
-mod formatting;
 mod heads;
 mod image;
 mod laws;
@@ -20,8 +19,7 @@ mod reading;
 
 pub use attach::{OutImage, OutParts};
 pub use fault::{PartName, RackFault};
-pub use formatting::format;
-pub use image::label_of;
+pub use image::{format, label_of};
 pub use laws::opening_laws;
 pub use opening::{ImageRefusal, open_image};
 pub use parts::ImageParts;

@@ -9,7 +9,7 @@ use Rattle.volume_images.specs.Volumes.{shape_in, shapes_of}
 use Rattle.volume_images.specs.Formats.{FormatsFirst, LeavesImages, LosesNone, LeavesSound, LeavesZeros}
 use Rattle.volume_images.proofs.InOrder.{home_kept, told_then, told_weaker, formats_more, ends_with, loses_none}
 use Rattle.volume_images.proofs.SoundImages.{one_choice, are_sound, are_zeros}
-use Rattle.volume_images.proofs.formatting.format.Goals as goal
+use Rattle.volume_images.proofs.image.format.Goals as goal
 
 pub format_image-requires-clause-home : goal.format_image-requires-clause-home
 format_image-requires-clause-home g c =

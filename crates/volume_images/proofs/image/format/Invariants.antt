@@ -2,7 +2,7 @@ use Rattle.std.proofs.Common.{◌≡◌}
 use Rattle.wol_bay.specs.Bay.{outs}
 use Rattle.volume_images.specs.Left.{IsTold}
 use Rattle.volume_images.specs.Formats.{FormatsFirst}
-use Rattle.volume_images.proofs.formatting.format.Given as goal
+use Rattle.volume_images.proofs.image.format.Given as goal
 
 -- the volumes before the one at hand are formatted
 abbrev pub invariant-loop-id : goal.invariant-loop-id
