@@ -7,9 +7,7 @@ use Rattle.reclaimer.proofs.Empty.{none_of_none}
 use Rattle.reclaimer.proofs.next.due_next.Goals as goal
 
 pub returns-clause-answer : goal.returns-clause-answer
-returns-clause-answer c =
-    let es = c.args.index.now.entries in
-    answer_of_first (λ d. slice_index_or c.args.lanes.now d.lane false && has_due (listed_in es) d) es c.in_ok-version.version c.find.result c.find.ensures.index.rising (sym c.in_ok-version.ensures.value) c.find.ensures.value
+returns-clause-answer c = answer_of_first (λ d. slice_index_or c.args.lanes.now d.lane false && has_due (listed_in c.args.index.now.entries) d) c.args.index.now.entries c.in_ok-version.version c.find.result c.find.ensures.index.rising (sym c.in_ok-version.ensures.value) c.find.ensures.value
 
 pub returns-then-is_empty-clause-answer : goal.returns-then-is_empty-clause-answer
 returns-then-is_empty-clause-answer c = none_of_none (can_go_home c.args.lanes.now c.args.index.now.entries) c.args.index.now.entries (sym c.is_empty.ensures ∙ c.if-is_empty.true)
