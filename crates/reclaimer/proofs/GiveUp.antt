@@ -1,5 +1,5 @@
 -- What a record gives up, as a step of reclaim.
-use Rattle.std.proofs.Common.{◌≡◌, ℕ, zero, suc, Bool, true, false, cond, ◌&&◌, List, [], ◌∷◌, Option, None, Some, Result, Ok, Err, OnOk, OnErr, is_ok, refl, sym, ap, subst, ◌∙◌}
+use Rattle.std.proofs.Common.{◌≡◌, ℕ, zero, suc, Bool, true, false, ◌&&◌, List, [], ◌∷◌, Option, None, Some, Result, Ok, Err, OnOk, OnErr, is_ok, refl, sym, ap, subst, ◌∙◌}
 use Rattle.std.specs.Prelude.{filter, find, IsSome, IsNone, IsSomeAnd, is_none, is_some, slice_set, slice_index_or}
 use Rattle.std.proofs.lemmas.Bool.{and_parts}
 use Rattle.std.proofs.lemmas.Option.{same_Some}
@@ -78,8 +78,8 @@ going_of m r index ups same same_ups sound is =
     let f = first_of_all (λ d. slice_index_or m.ups.items d.lane false && has_going (listed_in m.index.entries) d) m.index.entries a.entry (subst (λ (i : Contents). IsIndex i.entries) same sound).rising a.is in
     record { entry = a.entry; next = a.is; version = a.record_.version; is = ap (entry_at m.index.entries) a.record_.version ∙ f.entry; first = f }
 
-pub there_of : {D : Type 0} (m : Manager D) (r : Rec) → Going m r → HasVersion m.index.entries r.version
-there_of m r g = subst (λ (o : Option Indexed). is_some o ≡ true) (sym g.is) refl
+pub there_of : {D : Type 0} {m : Manager D} {r : Rec} → Going m r → HasVersion m.index.entries r.version
+there_of g = subst (λ (o : Option Indexed). is_some o ≡ true) (sym g.is) refl
 
 -- the record has a block that goes
 pub goes_of : {D : Type 0} (m : Manager D) (r : Rec) → Going m r → (e : Indexed) → entry_at m.index.entries r.version ≡ Some e → has_going (listed_in m.index.entries) e.listed ≡ true

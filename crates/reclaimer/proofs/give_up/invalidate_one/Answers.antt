@@ -1,5 +1,5 @@
 -- A step in which blocks are given up, or none may go.
-use Rattle.std.proofs.Common.{◌≡◌, Bool, true, false, rules, length, refl, sym, ap, subst, arith, ◌∙◌}
+use Rattle.std.proofs.Common.{◌≡◌, Bool, true, false, rules, refl, sym, subst, ◌∙◌}
 use Rattle.redirect_map.specs.Index.{Contents, IsIndex}
 use Rattle.manager.proofs.Calm.{none_home}
 use Rattle.manager.specs.Reclaim.{Always}
@@ -8,7 +8,7 @@ use Rattle.manager.proofs.ReadThrough.{never_some}
 use Rattle.reclaimer.proofs.CountedGone.{whole_counts, part_counts, less_left, fails_counts}
 use Rattle.reclaimer.proofs.GiveUp.{Going, going_of, goes_of, there_of, given_whole, given_part, given_fails, reclaims}
 use Rattle.reclaimer.proofs.Moments.{within, at_rest, tried_within}
-use Rattle.reclaimer.proofs.Reach.{within_reach}
+use Rattle.reclaimer.proofs.Reach.{within_own}
 use Rattle.reclaimer.proofs.TakenOff.{nothing_taken}
 use Rattle.reclaimer.proofs.give_up.invalidate_one.Given as given
 use Rattle.reclaimer.proofs.give_up.invalidate_one.Goals.{In-Some-going}
@@ -25,15 +25,13 @@ pub returns-in-Some-clause-any_moment : goal.returns-in-Some-clause-any_moment
 returns-in-Some-clause-any_moment g c told = at_rest g.D.Disk.tells g.D.Disk.state g.met.D.Disk.sound Always told c.args.m.now
 
 pub going-requires : goal.going-requires
-going-requires g c =
-    within_reach g.D.Disk.state c.args.m.now c.requires.ready (sym c.down.ensures ∙ never_some c.down.result c.in_default.not-Some) c.index.result.now c.index.ensures c.ups.result.now
-    (let e = c.requires.ready.ready.flags in let f = ap length c.ups.ensures in omega arith)
+going-requires g c = within_own g.D.Disk.state c.args.m.now c.requires.ready (sym c.down.ensures ∙ never_some c.down.result c.in_default.not-Some) c.index.result.now c.index.ensures c.ups.result.now c.ups.ensures
 
 pub returns-in_default-going-clause-any_moment : goal.returns-in_default-going-clause-any_moment
 returns-in_default-going-clause-any_moment g c told = at_rest g.D.Disk.tells g.D.Disk.state g.met.D.Disk.sound Always told c.args.m.now
 
 pub drop_rec-requires-clause-there : goal.drop_rec-requires-clause-there
-drop_rec-requires-clause-there g c = there_of c.args.m.now c.in-Some-going.record (next g (goal.at.drop_rec-requires-clause-there g c).In-Some-going)
+drop_rec-requires-clause-there g c = there_of (next g (goal.at.drop_rec-requires-clause-there g c).In-Some-going)
 
 pub drop_rec-requires-clause-goes : goal.drop_rec-requires-clause-goes
 drop_rec-requires-clause-goes g c = goes_of c.args.m.now c.in-Some-going.record (next g (goal.at.drop_rec-requires-clause-goes g c).In-Some-going)

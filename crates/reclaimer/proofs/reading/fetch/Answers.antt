@@ -11,7 +11,7 @@ use Rattle.reclaimer.specs.declared.answers.Fetched.{Fetched}
 use Rattle.reclaimer.specs.declared.room.Filled.{Filled}
 use Rattle.reclaimer.proofs.Fetching.{DueNext, due_of, due_there, stays_empty, lent_back, fetched_look, next_fetched, finds_due, not_fetched, look_of_fault}
 use Rattle.reclaimer.proofs.Moments.{within, at_rest, tried_within}
-use Rattle.reclaimer.proofs.Reach.{within_reach}
+use Rattle.reclaimer.proofs.Reach.{within_own}
 use Rattle.reclaimer.specs.declared.answers.Fetched.TheVariants as fetched
 use Rattle.reclaimer.proofs.reading.fetch.Given as given
 use Rattle.reclaimer.proofs.reading.fetch.Goals.{In-Ok, In-Some-due_next}
@@ -41,9 +41,7 @@ pub returns-then-not-home_up-clause-any_moment : goal.returns-then-not-home_up-c
 returns-then-not-home_up-clause-any_moment g c told = at_rest g.D.Disk.tells g.D.Disk.state g.met.D.Disk.sound Always told c.args.m.now
 
 pub due_next-requires : goal.due_next-requires
-due_next-requires g c =
-    within_reach g.D.Disk.state c.args.m.now c.requires.ready (sym c.down.ensures ∙ never_some c.down.result c.in_default.not-Some) c.index.result.now c.index.ensures c.ups.result.now
-    (let e = c.requires.ready.ready.flags in let f = ap length c.ups.ensures in omega arith)
+due_next-requires g c = within_own g.D.Disk.state c.args.m.now c.requires.ready (sym c.down.ensures ∙ never_some c.down.result c.in_default.not-Some) c.index.result.now c.index.ensures c.ups.result.now c.ups.ensures
 
 pub returns-in_default-due_next-clause-any_moment : goal.returns-in_default-due_next-clause-any_moment
 returns-in_default-due_next-clause-any_moment g c told = at_rest g.D.Disk.tells g.D.Disk.state g.met.D.Disk.sound Always told c.args.m.now
