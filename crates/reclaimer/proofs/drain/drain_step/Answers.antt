@@ -15,39 +15,25 @@ pub returns-in-Some-clause-any_moment : goal.returns-in-Some-clause-any_moment
 returns-in-Some-clause-any_moment g c told = at_rest g.D.Disk.tells g.D.Disk.state g.met.D.Disk.sound Always told c.args.m.now
 
 pub returns-clause-fault : goal.returns-clause-fault
-returns-clause-fault g c =
-    let w = c.wake_home in let d = c.drain_awake in let up = sym c.down.ensures ∙ never_some c.down.result c.in_default.not-Some in
-    step_fault g.D.Disk.tells g.D.Disk.state g.met.D.Disk.sound c.args.m.now w.new.self d.new.m c.requires.ready up w.ensures.read w.ensures.ready d.result d.ensures.fault
+returns-clause-fault g c = step_fault g.D.Disk.tells g.D.Disk.state g.met.D.Disk.sound c.args.m.now c.wake_home.new.self c.drain_awake.new.m c.requires.ready (sym c.down.ensures ∙ never_some c.down.result c.in_default.not-Some) c.wake_home.ensures.read c.wake_home.ensures.ready c.drain_awake.result c.drain_awake.ensures.fault
 
 pub returns-clause-drained : goal.returns-clause-drained
-returns-clause-drained g c =
-    let w = c.wake_home in let d = c.drain_awake in let up = sym c.down.ensures ∙ never_some c.down.result c.in_default.not-Some in
-    step_drained g.D.Disk.tells g.D.Disk.state g.met.D.Disk.sound c.args.m.now w.new.self d.new.m c.requires.ready up w.ensures.read w.ensures.ready (record { rest = w.ensures.unchanged; used = w.ensures.waking }) d.result d.ensures.drains
+returns-clause-drained g c = step_drained g.D.Disk.tells g.D.Disk.state g.met.D.Disk.sound c.args.m.now c.wake_home.new.self c.drain_awake.new.m c.requires.ready (sym c.down.ensures ∙ never_some c.down.result c.in_default.not-Some) c.wake_home.ensures.read c.wake_home.ensures.ready (record { rest = c.wake_home.ensures.unchanged; used = c.wake_home.ensures.waking }) c.drain_awake.result c.drain_awake.ensures.drains
 
 pub returns-clause-look : goal.returns-clause-look
-returns-clause-look g c =
-    let w = c.wake_home in let d = c.drain_awake in let up = sym c.down.ensures ∙ never_some c.down.result c.in_default.not-Some in
-    step_look g.D.Disk.tells g.D.Disk.state g.met.D.Disk.sound c.args.m.now w.new.self d.new.m c.requires.ready up w.ensures.read w.ensures.ready (record { rest = w.ensures.unchanged; used = w.ensures.waking }) d.result d.ensures.look
+returns-clause-look g c = step_look g.D.Disk.tells g.D.Disk.state g.met.D.Disk.sound c.args.m.now c.wake_home.new.self c.drain_awake.new.m c.requires.ready (sym c.down.ensures ∙ never_some c.down.result c.in_default.not-Some) c.wake_home.ensures.read c.wake_home.ensures.ready (record { rest = c.wake_home.ensures.unchanged; used = c.wake_home.ensures.waking }) c.drain_awake.result c.drain_awake.ensures.look
 
 pub returns-clause-bare_look : goal.returns-clause-bare_look
-returns-clause-bare_look g c =
-    let w = c.wake_home in let d = c.drain_awake in let up = sym c.down.ensures ∙ never_some c.down.result c.in_default.not-Some in
-    step_bare g.D.Disk.tells g.D.Disk.state g.met.D.Disk.sound c.args.m.now w.new.self d.new.m c.requires.ready up w.ensures.read w.ensures.ready (record { rest = w.ensures.unchanged; used = w.ensures.waking }) d.result d.ensures.drains
+returns-clause-bare_look g c = step_bare g.D.Disk.tells g.D.Disk.state g.met.D.Disk.sound c.args.m.now c.wake_home.new.self c.drain_awake.new.m c.requires.ready (sym c.down.ensures ∙ never_some c.down.result c.in_default.not-Some) c.wake_home.ensures.read c.wake_home.ensures.ready (record { rest = c.wake_home.ensures.unchanged; used = c.wake_home.ensures.waking }) c.drain_awake.result c.drain_awake.ensures.drains
 
 pub returns-clause-keeps : goal.returns-clause-keeps
-returns-clause-keeps g c =
-    let w = c.wake_home in let d = c.drain_awake in let up = sym c.down.ensures ∙ never_some c.down.result c.in_default.not-Some in
-    step_keeps g.D.Disk.tells g.D.Disk.state g.met.D.Disk.sound c.args.m.now w.new.self d.new.m c.requires.ready up w.ensures.read w.ensures.ready d.result d.ensures.keeps
+returns-clause-keeps g c = step_keeps g.D.Disk.tells g.D.Disk.state g.met.D.Disk.sound c.args.m.now c.wake_home.new.self c.drain_awake.new.m c.requires.ready (sym c.down.ensures ∙ never_some c.down.result c.in_default.not-Some) c.wake_home.ensures.read c.wake_home.ensures.ready c.drain_awake.result c.drain_awake.ensures.keeps
 
 pub returns-clause-broke : goal.returns-clause-broke
-returns-clause-broke g c =
-    let w = c.wake_home in let d = c.drain_awake in let up = sym c.down.ensures ∙ never_some c.down.result c.in_default.not-Some in
-    step_broke g.D.Disk.tells g.D.Disk.state g.met.D.Disk.sound c.args.m.now w.new.self d.new.m c.requires.ready up w.ensures.read w.ensures.ready d.result d.ensures.broke
+returns-clause-broke g c = step_broke g.D.Disk.tells g.D.Disk.state g.met.D.Disk.sound c.args.m.now c.wake_home.new.self c.drain_awake.new.m c.requires.ready (sym c.down.ensures ∙ never_some c.down.result c.in_default.not-Some) c.wake_home.ensures.read c.wake_home.ensures.ready c.drain_awake.result c.drain_awake.ensures.broke
 
 pub returns-clause-any_moment : goal.returns-clause-any_moment
-returns-clause-any_moment g c =
-    let w = c.wake_home in let d = c.drain_awake in let up = sym c.down.ensures ∙ never_some c.down.result c.in_default.not-Some in
-    step_stops g.D.Disk.tells g.D.Disk.state g.met.D.Disk.sound c.args.m.now w.new.self d.new.m c.requires.ready up w.ensures.read w.ensures.ready d.result d.ensures.fault d.ensures.any_moment
+returns-clause-any_moment g c = step_stops g.D.Disk.tells g.D.Disk.state g.met.D.Disk.sound c.args.m.now c.wake_home.new.self c.drain_awake.new.m c.requires.ready (sym c.down.ensures ∙ never_some c.down.result c.in_default.not-Some) c.wake_home.ensures.read c.wake_home.ensures.ready c.drain_awake.result c.drain_awake.ensures.fault c.drain_awake.ensures.any_moment
 
 pub returns-clause-passed : goal.returns-clause-passed
 returns-clause-passed g c lanes k =

@@ -1,5 +1,5 @@
 -- What is still due goes home, or nothing does.
-use Rattle.std.proofs.Common.{◌≡◌, ◌<◌, ◌≤◌, ◌≢◌, ℕ, true, Some, Ok, Err, length, refl, sym, ap, subst, rules, ◌∙◌}
+use Rattle.std.proofs.Common.{◌≡◌, ◌<◌, true, Some, Ok, Err, length, refl, sym, ap, subst, rules, ◌∙◌}
 use Rattle.std.specs.Int.RustNames.{count_ones}
 use Rattle.std.proofs.lemmas.Nat.{zero_from_ones}
 use Rattle.wol_model.specs.Index.{Indexed}
@@ -128,14 +128,10 @@ pub returns-then-put-eq0-clause-counted : goal.returns-then-put-eq0-clause-count
 returns-then-put-eq0-clause-counted g c = nothing_taken (look_of_manager c.args.m.now) (look_of_manager c.args.m.now) refl
 
 pub returns-in-Ok-clause-counted : goal.returns-in-Ok-clause-counted
-returns-in-Ok-clause-counted g c =
-    let p = goal.at.returns-in-Ok-clause-counted g c in
-    was_counted (asked g p.After-still_due-put) g.D.Disk.state (going g p.After-store_home) c.store_home.new.self c.deref.result.now c.deref.ensures.value (Ok tt) refl c.in-Ok.ensures.stored
+returns-in-Ok-clause-counted g c = was_counted (asked g (goal.at.returns-in-Ok-clause-counted g c).After-still_due-put) g.D.Disk.state (going g (goal.at.returns-in-Ok-clause-counted g c).After-store_home) c.store_home.new.self c.deref.result.now c.deref.ensures.value (Ok tt) refl c.in-Ok.ensures.stored
 
 pub returns-in-Ok-clause-lowers : goal.returns-in-Ok-clause-lowers
-returns-in-Ok-clause-lowers g c =
-    let p = goal.at.returns-in-Ok-clause-lowers g c in
-    was_lowered (asked g p.After-still_due-put) g.D.Disk.state (going g p.After-store_home) c.store_home.new.self c.deref.result.now c.deref.ensures.value (Ok tt) refl c.in-Ok.ensures.stored
+returns-in-Ok-clause-lowers g c = was_lowered (asked g (goal.at.returns-in-Ok-clause-lowers g c).After-still_due-put) g.D.Disk.state (going g (goal.at.returns-in-Ok-clause-lowers g c).After-store_home) c.store_home.new.self c.deref.result.now c.deref.ensures.value (Ok tt) refl c.in-Ok.ensures.stored
 
 pub returns-in-Err-clause-counted : goal.returns-in-Err-clause-counted
 returns-in-Err-clause-counted g c = refused_counted (Unit {0}) g.D.Disk.state c.in-Some-filled.filled.version c.still_due-put.result _ c.args.m.now c.store_home.new.self c.in-Err.fault c.in-Err.ensures.fault c.in-Err.ensures.stored
