@@ -173,9 +173,6 @@ module _ (front back : List Listed) (e : Listed) where
   abbrev es : List Listed
   es = front ++ e ∷ back
 
-  abbrev all : List Cover
-  all = listed_covers es
-
   abbrev f' : Listed
   f' = keeping es e
 
@@ -194,22 +191,22 @@ module _ (front back : List Listed) (e : Listed) where
   newer_around : (d : Listed) (v b : ℕ) → has_newer (listed_covers (front ++ d ∷ back)) v b ≡ (has_newer (listed_covers front) v b || (((cover_of d).covers b && ltb v d.version) || has_newer (listed_covers back) v b))
   newer_around d v b = any_parts cover_of (λ c. c.covers b && ltb v c.version) front (d ∷ back)
 
-  own_newer : (b : ℕ) → has_newer then_all e.version b ≡ has_newer all e.version b
+  own_newer : (b : ℕ) → has_newer then_all e.version b ≡ has_newer (listed_covers es) e.version b
   own_newer b = newer_around f' e.version b
       ∙ (λ i. has_newer (listed_covers front) e.version b || ((none_newer ((cover_of f').covers b) e.version ∙ sym (none_newer ((cover_of e).covers b) e.version)) i || has_newer (listed_covers back) e.version b))
       ∙ sym (newer_around e e.version b)
 
   -- the record is newer than this one wherever this one covers a block and is older
   abbrev SeesOlder : Listed → Type 0
-  SeesOlder d = (b : ℕ) → (cover_of d).covers b ≡ true → d.version < e.version → has_older all e.version b ≡ true
+  SeesOlder d = (b : ℕ) → (cover_of d).covers b ≡ true → d.version < e.version → has_older (listed_covers es) e.version b ≡ true
 
   -- where a block goes that an older record covers, a newer record covers it
-  newer_there : (b : ℕ) → goes es e b ≡ true → has_older all e.version b ≡ true → has_newer all e.version b ≡ true
+  newer_there : (b : ℕ) → goes es e b ≡ true → has_older (listed_covers es) e.version b ≡ true → has_newer (listed_covers es) e.version b ≡ true
   newer_there b is older = ⊎_elim (λ newer. newer)
-      (λ homed. absurd (let no : true ≡ false = sym older ∙ not_true (has_older all e.version b) (both (is_homed e b) (not (has_older all e.version b)) homed).1 in cc))
-      (either (has_newer all e.version b) (is_homed e b && not (has_older all e.version b)) (both ((cover_of e).covers b) (has_newer all e.version b || (is_homed e b && not (has_older all e.version b))) is).1)
+      (λ homed. absurd (let no : true ≡ false = sym older ∙ not_true (has_older (listed_covers es) e.version b) (both (is_homed e b) (not (has_older (listed_covers es) e.version b)) homed).1 in cc))
+      (either (has_newer (listed_covers es) e.version b) (is_homed e b && not (has_older (listed_covers es) e.version b)) (both ((cover_of e).covers b) (has_newer (listed_covers es) e.version b || (is_homed e b && not (has_older (listed_covers es) e.version b))) is).1)
 
-  beside : (v b : ℕ) → v ≤ e.version → has_newer all e.version b ≡ true → (x : Bool) → (has_newer (listed_covers front) v b || (x || has_newer (listed_covers back) v b)) ≡ true
+  beside : (v b : ℕ) → v ≤ e.version → has_newer (listed_covers es) e.version b ≡ true → (x : Bool) → (has_newer (listed_covers front) v b || (x || has_newer (listed_covers back) v b)) ≡ true
   beside v b le newer x = ⊎_elim
       (λ in_front. λ i. newer_than_older front v e.version b le in_front i || (x || has_newer (listed_covers back) v b))
       (λ rest. ⊎_elim
@@ -218,7 +215,7 @@ module _ (front back : List Listed) (e : Listed) where
       (either ((cover_of e).covers b && ltb e.version e.version) (has_newer (listed_covers back) e.version b) rest))
       (either (has_newer (listed_covers front) e.version b) (((cover_of e).covers b && ltb e.version e.version) || has_newer (listed_covers back) e.version b) (sym (newer_around e e.version b) ∙ newer))
 
-  newer_same : (d : Listed) → SeesOlder d → (b : ℕ) → (cover_of d).covers b ≡ true → has_newer then_all d.version b ≡ has_newer all d.version b
+  newer_same : (d : Listed) → SeesOlder d → (b : ℕ) → (cover_of d).covers b ≡ true → has_newer then_all d.version b ≡ has_newer (listed_covers es) d.version b
   newer_same d older b covers = newer_around f' d.version b ∙ at (goes es e b) (ltb d.version e.version) refl refl ∙ sym (newer_around e d.version b)
     where
       with_e : Bool → Bool
@@ -234,38 +231,38 @@ module _ (front back : List Listed) (e : Listed) where
           let newer = newer_there b goes_ (older b covers lt) in
           beside d.version b (omega arith) newer ((cover_of f').covers b && ltb d.version e.version) ∙ sym (beside d.version b (omega arith) newer ((cover_of e).covers b && ltb d.version e.version))
 
-  dues_same : (d : Listed) → SeesOlder d → dues_by then_all d ≡ dues_by all d
-  dues_same d older = ap (map (λ b. (d.version, b))) (filter_agree (due_by then_all d) (due_by all d) (λ b. at b ((cover_of d).covers b) refl) (block_numbers d))
+  dues_same : (d : Listed) → SeesOlder d → dues_by then_all d ≡ dues_by (listed_covers es) d
+  dues_same d older = ap (map (λ b. (d.version, b))) (filter_agree (due_by then_all d) (due_by (listed_covers es) d) (λ b. at b ((cover_of d).covers b) refl) (block_numbers d))
     where
-      at : (b : ℕ) (t : Bool) → (cover_of d).covers b ≡ t → due_by then_all d b ≡ due_by all d b
+      at : (b : ℕ) (t : Bool) → (cover_of d).covers b ≡ t → due_by then_all d b ≡ due_by (listed_covers es) d b
       at b true is = λ i. ((cover_of d).covers b && not (newer_same d older b is i)) && not (is_homed d b)
-      at b false is = (λ i. (is i && not (has_newer then_all d.version b)) && not (is_homed d b)) ∙ sym (λ i. (is i && not (has_newer all d.version b)) && not (is_homed d b))
+      at b false is = (λ i. (is i && not (has_newer then_all d.version b)) && not (is_homed d b)) ∙ sym (λ i. (is i && not (has_newer (listed_covers es) d.version b)) && not (is_homed d b))
 
-  own_due : (b : ℕ) → due_by then_all f' b ≡ due_by all e b
+  own_due : (b : ℕ) → due_by then_all f' b ≡ due_by (listed_covers es) e b
   own_due b = at (goes es e b) refl
     where
-      at : (g : Bool) → goes es e b ≡ g → due_by then_all f' b ≡ due_by all e b
+      at : (g : Bool) → goes es e b ≡ g → due_by then_all f' b ≡ due_by (listed_covers es) e b
       at false stays = λ i. ((keeps_then b ∙ (λ j. (cover_of e).covers b && not (stays j)) ∙ and-true ((cover_of e).covers b)) i && not (own_newer b i)) && not ((homed_then b ∙ (λ j. is_homed e b && not (stays j)) ∙ and-true (is_homed e b)) i)
       at true is = (λ i. ((keeps_then b ∙ (λ j. (cover_of e).covers b && not (is j)) ∙ and-false ((cover_of e).covers b)) i && not (has_newer then_all e.version b)) && not (is_homed f' b))
           ∙ sym (⊎_elim
           (λ newer. (λ i. ((cover_of e).covers b && not (newer i)) && not (is_homed e b)) ∙ (λ i. and-false ((cover_of e).covers b) i && not (is_homed e b)))
-          (λ homed. (λ i. ((cover_of e).covers b && not (has_newer all e.version b)) && not ((both (is_homed e b) (not (has_older all e.version b)) homed).0 i)) ∙ and-false ((cover_of e).covers b && not (has_newer all e.version b)))
-          (either (has_newer all e.version b) (is_homed e b && not (has_older all e.version b)) (both ((cover_of e).covers b) (has_newer all e.version b || (is_homed e b && not (has_older all e.version b))) is).1))
+          (λ homed. (λ i. ((cover_of e).covers b && not (has_newer (listed_covers es) e.version b)) && not ((both (is_homed e b) (not (has_older (listed_covers es) e.version b)) homed).0 i)) ∙ and-false ((cover_of e).covers b && not (has_newer (listed_covers es) e.version b)))
+          (either (has_newer (listed_covers es) e.version b) (is_homed e b && not (has_older (listed_covers es) e.version b)) (both ((cover_of e).covers b) (has_newer (listed_covers es) e.version b || (is_homed e b && not (has_older (listed_covers es) e.version b))) is).1))
 
-  own_dues : dues_by then_all f' ≡ dues_by all e
-  own_dues = ap (map (λ b. (e.version, b))) (ap (λ (n : ℕ). filter (due_by then_all f') (range_with_len e.first n)) (length_remarked e.first e.keep (λ c m. m && not (goes es e c))) ∙ filter_agree (due_by then_all f') (due_by all e) own_due (block_numbers e))
+  own_dues : dues_by then_all f' ≡ dues_by (listed_covers es) e
+  own_dues = ap (map (λ b. (e.version, b))) (ap (λ (n : ℕ). filter (due_by then_all f') (range_with_len e.first n)) (length_remarked e.first e.keep (λ c m. m && not (goes es e c))) ∙ filter_agree (due_by then_all f') (due_by (listed_covers es) e) own_due (block_numbers e))
 
-  flat_same : (ds : List Listed) → AllByRecursion SeesOlder ds → flat_map (dues_by then_all) ds ≡ flat_map (dues_by all) ds
+  flat_same : (ds : List Listed) → AllByRecursion SeesOlder ds → flat_map (dues_by then_all) ds ≡ flat_map (dues_by (listed_covers es)) ds
   flat_same [] older = refl
   flat_same (d ∷ ds) older = λ i. dues_same d older.0 i ++ flat_same ds older.1 i
 
   -- the same blocks are due
   pub given_dues : dues_in (filter keeps_a_block given) ≡ dues_in es
   given_dues =
-      let older = all_parts SeesOlder front e back (each_member SeesOlder es (λ d has b covers lt. any_member (λ c. c.covers b && ltb c.version e.version) all (cover_of d) (member_map cover_of es d has) (λ i. covers i && lt-ltb d.version e.version lt i))) in
+      let older = all_parts SeesOlder front e back (each_member SeesOlder es (λ d has b covers lt. any_member (λ c. c.covers b && ltb c.version e.version) (listed_covers es) (cover_of d) (member_map cover_of es d has) (λ i. covers i && lt-ltb d.version e.version lt i))) in
       dues_of_kept given ∙ dues_around then_all front f' back
       ∙ (λ i. flat_same front older.0 i ++ (own_dues i ++ flat_same back older.1 i))
-      ∙ sym (dues_around all front e back)
+      ∙ sym (dues_around (listed_covers es) front e back)
 
   module _ (front_keeps : AllByRecursion (λ (d : Listed). keeps_a_block d ≡ true) front) (back_keeps : AllByRecursion (λ (d : Listed). keeps_a_block d ≡ true) back) where
     kept_given : filter keeps_a_block given ≡ front ++ cond (keeps_a_block f') (f' ∷ back) back
