@@ -1,13 +1,13 @@
 -- Copies one after another, in a history and at each moment.
 use Rattle.std.proofs.Common.{◌≡◌, ◌≤◌, ◌+◌, ◌-◌, inl, ℕ, zero, suc, Bool, true, false, List, [], ◌∷◌, ◌++◌, length, take, drop, Option, None, Some, refl, sym, ap, subst, ◌∙◌, arith, append_assoc}
-use Rattle.std.specs.Prelude.{IsTrue, is_some, IsSome, slice_range}
-use Rattle.std.specs.List.{AllByRecursion, AllZip}
+use Rattle.std.specs.Prelude.{IsTrue, IsSome, slice_range}
+use Rattle.std.specs.List.{AllByRecursion}
 use Rattle.std.specs.Option.{option_or}
 use Rattle.std.proofs.lemmas.List.{append-nil}
 use Rattle.wol_disk.specs.Disk.{Block, State, put}
 use Rattle.spin_model.specs.declared.spun.Spun.{Spun}
 use Rattle.wol_model.specs.Blocks.{Write, after}
-use Rattle.wol_model.specs.History.{Entry, Operation, Wrote, Read, Kept, Broke, worker, written_by, writes, flight_of, flight_from, IsLegalNext, IsKept, IsHelp, IsCut, whole, torn}
+use Rattle.wol_model.specs.History.{Operation, Wrote, Read, Broke, worker, written_by, writes, flight_of, flight_from, IsLegalNext, IsCut, whole, torn}
 use Rattle.wol_model.specs.Recovered.{recovered}
 use Rattle.wol_model.proofs.Arrays.{after_put}
 use Rattle.wol_model.proofs.Overlay.{after_more, after_none}
@@ -15,9 +15,9 @@ use Rattle.wol_promise.specs.Manager.{Base}
 use Rattle.wol_promise.specs.Policy.{Look}
 use Rattle.wol_promise.specs.Ruled.{Noted, entries_of, HasPassed, IsStep, last_look}
 use Rattle.wol_promise.specs.Stands.{HasHistory, Upholds}
-use Rattle.wol_promise.proofs.Kept.{not_broken}
+use Rattle.wol_promise.proofs.Kept.{not_broken, renoted as upheld_with}
 use Rattle.wol_promise.proofs.Lists.{all_joined}
-use Rattle.wol_promise.proofs.OneMore.{MayFollow, history_more, writes_then, flight_then, or_none, last_more}
+use Rattle.wol_promise.proofs.OneMore.{history_more, writes_then, flight_then, or_none, last_more}
 use Rattle.manager.specs.Seen.{parts_of, seen, down_of, look_of_manager}
 use Rattle.manager.specs.Stands.{Keeps, Stands, IsNote, Leaves, nones_at}
 use Rattle.manager.specs.Stops.{Stops}
@@ -105,33 +105,17 @@ module _ (notes : List Noted) (look : Look) where
 -- ---- Other entries
 
 module _ {D : Type 0} (tells : Bool) (state : D → State) (m : Manager D) (b : ManagerBase) where
-  -- what is kept up with some entries is kept up with others that have the same writes
+  -- what is kept up with some entries, with others: by what is upheld and passed with these
+  kept_with : {A B : List Noted} (k : Keeps tells state m b A) → Upholds (parts_of tells state) b.volume.began (seen m k.logs) B (writes (entries_of B)) (flight_of (entries_of B)) → HasPassed (nones_at m.lanes.items b.lanes) B
+      → Keeps tells state m b B
+  kept_with k upholds passed = record { logs = k.logs; held = k.held; upholds = upholds; in_use = k.in_use; passed = passed; taken = k.taken; still = k.still; ready = k.ready; locks = k.locks }
+
+  -- so it is with others that have the same writes
   pub renoted : (A B : List Noted) → writes (entries_of B) ≡ writes (entries_of A) → flight_of (entries_of B) ≡ flight_of (entries_of A) → HasHistory (IsTrue tells) b.volume.began B → HasPassed (nones_at m.lanes.items b.lanes) B
       → Keeps tells state m b A → Keeps tells state m b B
-  renoted A B ws fl history passed k = record {
-    logs = k.logs;
-    held = k.held;
-    upholds = subst (λ (v : List Write). Upholds (parts_of tells state) b.volume.began (seen m k.logs) B v (flight_of (entries_of B))) (sym ws)
-        (subst (λ (f : Option (List Write)). Upholds (parts_of tells state) b.volume.began (seen m k.logs) B (writes (entries_of A)) f) (sym fl) (let u = k.upholds in record {
-          began = u.began;
-          history = history;
-          lie = u.lie;
-          versioned = u.versioned;
-          known = u.known;
-          places = u.places;
-          is_down = u.is_down;
-          failed = u.failed;
-          calm = u.calm;
-          sound = u.sound;
-          cut = u.cut;
-        }));
-    in_use = k.in_use;
-    passed = passed;
-    taken = k.taken;
-    still = k.still;
-    ready = k.ready;
-    locks = k.locks;
-  }
+  renoted A B ws fl history passed k = kept_with k
+      (subst (λ (v : List Write). Upholds (parts_of tells state) b.volume.began (seen m k.logs) B v (flight_of (entries_of B))) (sym ws)
+      (subst (λ (f : Option (List Write)). Upholds (parts_of tells state) b.volume.began (seen m k.logs) B (writes (entries_of A)) f) (sym fl) (upheld_with k.upholds history))) passed
 
   pub unbroken : (notes : List Noted) → Keeps tells state m b notes → m.down ≡ None → flight_of (entries_of notes) ≡ None
   unbroken notes k up = not_broken (parts_of tells state) b.volume.began (seen m k.logs) notes (writes (entries_of notes)) (flight_of (entries_of notes)) k.upholds (ap down_of up)
@@ -185,21 +169,13 @@ module _ {D : Type 0} (tells : Bool) (state : D → State) (m : Manager D) (b : 
   pub stands_broken : (notes : List Noted) (l : Look) (cs fs : List Write) (p n : Noted) → flight_of (entries_of notes) ≡ None → AreLogged fs → n.entry.pass ≡ worker → IsNote (last_look b.volume.began.look notes) (Broke (cs ++ fs)) [] (look_of_manager m) n
       → p.entry.operation ≡ Broke fs → Keeps tells state m b ((notes ++ copy_notes l cs) ++ p ∷ []) → Stands tells state m b (notes ++ n ∷ [])
   stands_broken notes l cs fs p n none logged client note does k = record {
-    keeps = record {
-      logs = k.logs;
-      held = k.held;
-      upholds = subst (λ (v : List Write). Upholds (parts_of tells state) b.volume.began (seen m k.logs) (notes ++ n ∷ []) v (flight_of (entries_of (notes ++ n ∷ []))))
-          (sym (writes_then notes n (Broke (cs ++ fs)) note.operation_is ∙ append-nil (writes (entries_of notes))))
-          (subst (λ (f : Option (List Write)). Upholds (parts_of tells state) b.volume.began (seen m k.logs) (notes ++ n ∷ []) (writes (entries_of notes)) f)
-          (sym (flight_then notes n (Broke (cs ++ fs)) note.operation_is ∙ ap (λ (o : Option (List Write)). option_or o (Some (cs ++ fs))) none))
-          (upholds_sooner (parts_of tells state) b.volume.began (seen m k.logs) ((notes ++ copy_notes l cs) ++ p ∷ []) (notes ++ n ∷ []) (writes (entries_of notes)) cs fs was history logged));
-      in_use = k.in_use;
-      passed = none_passed (nones_at m.lanes.items b.lanes) notes n note.passed_is (passed_before notes l (nones_at m.lanes.items b.lanes) cs (passed_front (nones_at m.lanes.items b.lanes) (notes ++ copy_notes l cs) p k.passed));
-      taken = k.taken;
-      still = k.still;
-      ready = k.ready;
-      locks = k.locks;
-    };
+    keeps = kept_with k
+        (subst (λ (v : List Write). Upholds (parts_of tells state) b.volume.began (seen m k.logs) (notes ++ n ∷ []) v (flight_of (entries_of (notes ++ n ∷ []))))
+        (sym (writes_then notes n (Broke (cs ++ fs)) note.operation_is ∙ append-nil (writes (entries_of notes))))
+        (subst (λ (f : Option (List Write)). Upholds (parts_of tells state) b.volume.began (seen m k.logs) (notes ++ n ∷ []) (writes (entries_of notes)) f)
+        (sym (flight_then notes n (Broke (cs ++ fs)) note.operation_is ∙ ap (λ (o : Option (List Write)). option_or o (Some (cs ++ fs))) none))
+        (upholds_sooner (parts_of tells state) b.volume.began (seen m k.logs) ((notes ++ copy_notes l cs) ++ p ∷ []) (notes ++ n ∷ []) (writes (entries_of notes)) cs fs was history logged)))
+        (none_passed (nones_at m.lanes.items b.lanes) notes n note.passed_is (passed_before notes l (nones_at m.lanes.items b.lanes) cs (passed_front (nones_at m.lanes.items b.lanes) (notes ++ copy_notes l cs) p k.passed)));
     look = last_more b.volume.began.look notes n ∙ note.look_is;
   }
     where
