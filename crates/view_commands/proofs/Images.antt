@@ -3,7 +3,7 @@ use Rattle.std.proofs.Common.{◌≡◌, ◌≢◌, ◌⊎◌, inl, inr, ◌<◌
 use Rattle.std.specs.Prelude.{sum, IfSome, IsSome, is_some}
 use Rattle.std.proofs.lemmas.Bool.Decides.{nat_tests}
 use Rattle.std.proofs.lemmas.List.{length-map, take-map}
-use Rattle.wol_disk.specs.Disk.{Block, State, TellsContent, Values, IsDisk, IsImage, IsImageOf, Rose, only, put, reads, settled}
+use Rattle.wol_disk.specs.Disk.{Block, State, TellsContent, Values, IsDisk, IsImageOf, Rose, only, put, reads, settled}
 use Rattle.wol_disk.proofs.Images.{image_reads, settled_image}
 use Rattle.wol_bay.specs.Bay.{AreNamedApart, BayState, Image, Name, Told, at_name, bytes_of, came_back, sent_out}
 use Rattle.wol_bay.specs.Parts.{AreCut, blocks_of, faulty_places, joined}
@@ -20,6 +20,7 @@ use Rattle.logger_view.proofs.Callers.{label_in_front, view_in_front}
 use Rattle.volume_images.specs.Left.{IsTold}
 use Rattle.volume_images.specs.Volumes.{MayLeave, shape_in}
 use Rattle.volume_images.proofs.Bays.{came}
+use Rattle.volume_images.proofs.GivenBack.{joined_image}
 use Rattle.volume_images.proofs.SentOut.{IsCutWhole, answered_ok, cut_whole}
 use Rattle.volume_images.proofs.SettledParts.{cut_image}
 use Rattle.view_change.specs.Changes.{Answers, IsAsked, IsLoaded, MayShow, RefusesView, ShowsChange, changed, id_of}
@@ -32,17 +33,6 @@ use Rattle.view_commands.specs.Images.{AnswersFront, ChangesImage, ChangesInBay,
 use Rattle.view_commands.specs.declared.order.Stop.TheVariants as stop
 
 -- ---- Two parts
-
-image_both : (vs ws : List (Values Block)) (c d : List Block) → IsImage vs c → IsImage ws d → IsImage (vs ++ ws) (c ++ d)
-image_both [] ws [] d i j = j
-image_both [] ws (x ∷ c) d i j = absurd i
-image_both (v ∷ vs) ws [] d i j = absurd i
-image_both (v ∷ vs) ws (x ∷ c) d i j = (i.0, image_both vs ws c d i.1 j)
-
-joined_image : (a b : Option (List (Values Block))) (c d : List Block) → IsImageOf a c → IsImageOf b d → IsImageOf (joined a b) (c ++ d)
-joined_image None b c d i j = absurd i
-joined_image (Some vs) None c d i j = absurd j
-joined_image (Some vs) (Some ws) c d i j = image_both vs ws c d i j
 
 nothing_put : (l : List Block) → put zero [] l ≡ l
 nothing_put [] = refl
