@@ -1,11 +1,20 @@
-use Rattle.std.proofs.Common.{◌≡◌, ◌∷◌, [], ℕ, List, Err, refl, ap, sym, subst, ◌∙◌, arith}
+use Rattle.std.proofs.Common.{◌≡◌, ◌∷◌, [], ℕ, List, length, Err, refl, ap, sym, subst, ◌∙◌, arith}
 use Rattle.std.proofs.lemmas.Option.{same_Some, slice_get_read}
 use Rattle.wol_bay.specs.Bay.{IsHome, IsOut}
 use Rattle.wol_bay.proofs.OneImage.{comes_home, goes_out}
 use Rattle.inspection.proofs.Unhelped.{there_is}
 use Rattle.view_commands.proofs.Images.{handed_none}
 use Rattle.view_commands.proofs.InBay.{final_is, in_bay, known_as, label_size, part_changed, sizes_back, told_no_sink, two_cut, two_long}
+use Rattle.view_commands.proofs.image.change_image.Given as given
+use Rattle.view_commands.proofs.image.change_image.Goals.{In-Ok}
 use Rattle.view_commands.proofs.image.change_image.Goals as goal
+
+-- the image came in two parts
+in_two : (g : given.Over) (c : In-Ok g) → length c.in-Ok.parts.items ≡ 2
+in_two g c =
+    let x = there_is c.args.config.now.volumes.items c.args.volume c.requires.volume in
+    let s = c.two_sizes.ensures x.0 x.1 in
+    two_long g.B.Part.Disk.state _ s.0 c.in-Ok.parts.items (rw s.1 at c.in-Ok.ensures.parts)
 
 pub returns-in-Err-clause-changes : goal.returns-in-Err-clause-changes
 returns-in-Err-clause-changes g c = λ v conf.
@@ -18,18 +27,10 @@ returns-in-Err-clause-changes g c = λ v conf.
     (handed_none g.B.Part.Disk.tells c.args.config.now c.args.volume v c.args.asked.now (g.B.Bay.state c.args.bay.now) (g.B.Bay.state c.attach.new.self) c.in-Err.fault s.0 _ s.2 c.in-Err.ensures.err answered (λ is. c.in-Err.ensures.cause (ap Err is)))
 
 pub take_apart-image-requires-clause-two : goal.take_apart-image-requires-clause-two
-take_apart-image-requires-clause-two g c =
-    let x = there_is c.args.config.now.volumes.items c.args.volume c.requires.volume in
-    let s = c.two_sizes.ensures x.0 x.1 in
-    let two = two_long g.B.Part.Disk.state _ s.0 c.in-Ok.parts.items (rw s.1 at c.in-Ok.ensures.parts) in
-    omega (arith, two)
+take_apart-image-requires-clause-two g c = let two = in_two g (goal.at.take_apart-image-requires-clause-two g c).In-Ok in omega (arith, two)
 
 pub take_apart-image-requires-clause-room : goal.take_apart-image-requires-clause-room
-take_apart-image-requires-clause-room g c =
-    let x = there_is c.args.config.now.volumes.items c.args.volume c.requires.volume in
-    let s = c.two_sizes.ensures x.0 x.1 in
-    let two = two_long g.B.Part.Disk.state _ s.0 c.in-Ok.parts.items (rw s.1 at c.in-Ok.ensures.parts) in
-    omega (arith, two)
+take_apart-image-requires-clause-room g c = let two = in_two g (goal.at.take_apart-image-requires-clause-room g c).In-Ok in omega (arith, two)
 
 pub change-answer-requires-clause-size : goal.change-answer-requires-clause-size
 change-answer-requires-clause-size g c =
