@@ -6,7 +6,13 @@ use Rattle.inspection.proofs.Unhelped.{all_at}
 use Rattle.open_rack.proofs.Since.{none_out_still}
 use Rattle.view_commands.specs.Runs as runs
 use Rattle.view_commands.proofs.Answered.{done_complete, done_content, done_left, done_others, done_sound, refused_complete, refused_content, refused_left}
+use Rattle.view_commands.proofs.calls.change_volume.Given as given
+use Rattle.view_commands.proofs.calls.change_volume.Goals.{In-Ok}
 use Rattle.view_commands.proofs.calls.change_volume.Goals as goal
+
+-- the volume was drained, where that was asked for
+was_done : (g : given.Over) (c : In-Ok g) → c.in_ok-answer.field-0.answer ≡ Ok c.in-Ok.field-0
+was_done g c = cc
 
 pub returns-in_err-answer-clause-content : goal.returns-in_err-answer-clause-content
 returns-in_err-answer-clause-content g c =
@@ -22,21 +28,19 @@ returns-in-Ok-clause-none_out g c = none_out_still c.args.config.now (g.B.Bay.st
 
 pub returns-in-Ok-clause-content : goal.returns-in-Ok-clause-content
 returns-in-Ok-clause-content g c =
-    let is : c.in_ok-answer.field-0.answer ≡ Ok c.in-Ok.field-0 = cc in
     done_content c.args.config.now c.requires.config c.args.volume c.requires.volume c.args.change c.requires.logger g.B.Part.Disk.tells g.B.Part.Disk.state (g.B.Bay.state c.args.bay.now) (g.B.Bay.state c.with_open.new.bay) _
-    c.in_ok-answer.field-0.answer c.in_ok-answer.ensures.did is (g.B.Bay.state c.change_image.new.bay) c.change_image.result c.change_image.ensures.changes c.change_image.ensures.known
+    c.in_ok-answer.field-0.answer c.in_ok-answer.ensures.did (was_done g (goal.at.returns-in-Ok-clause-content g c).In-Ok) (g.B.Bay.state c.change_image.new.bay) c.change_image.result c.change_image.ensures.changes c.change_image.ensures.known
 
 pub returns-in_err-answer-clause-leaves : goal.returns-in_err-answer-clause-leaves
 returns-in_err-answer-clause-leaves g c = record { left = c.in_err-answer.ensures.left; sound = c.with_open.ensures.sound }
 
 pub returns-in-Ok-clause-leaves : goal.returns-in-Ok-clause-leaves
 returns-in-Ok-clause-leaves g c =
-    let is : c.in_ok-answer.field-0.answer ≡ Ok c.in-Ok.field-0 = cc in
     record {
       left = done_left c.args.config.now c.requires.config c.args.volume c.requires.volume c.args.change c.requires.logger g.B.Part.Disk.tells g.B.Part.Disk.state (g.B.Bay.state c.args.bay.now) (g.B.Bay.state c.with_open.new.bay) _
-          c.in_ok-answer.field-0.answer c.in_ok-answer.ensures.did is (g.B.Bay.state c.change_image.new.bay) c.change_image.result c.change_image.ensures.changes;
+          c.in_ok-answer.field-0.answer c.in_ok-answer.ensures.did (was_done g (goal.at.returns-in-Ok-clause-leaves g c).In-Ok) (g.B.Bay.state c.change_image.new.bay) c.change_image.result c.change_image.ensures.changes;
       sound = done_sound c.args.config.now c.requires.config c.args.volume c.requires.volume c.args.change c.requires.logger g.B.Part.Disk.tells g.B.Part.Disk.state (g.B.Bay.state c.args.bay.now) (g.B.Bay.state c.with_open.new.bay) _
-          c.in_ok-answer.field-0.answer c.in_ok-answer.ensures.did is (g.B.Bay.state c.change_image.new.bay) c.change_image.result c.change_image.ensures.changes c.with_open.ensures.sound;
+          c.in_ok-answer.field-0.answer c.in_ok-answer.ensures.did (was_done g (goal.at.returns-in-Ok-clause-leaves g c).In-Ok) (g.B.Bay.state c.change_image.new.bay) c.change_image.result c.change_image.ensures.changes c.with_open.ensures.sound;
     }
 
 pub returns-in_err-answer-clause-others : goal.returns-in_err-answer-clause-others
@@ -47,15 +51,13 @@ returns-clause-others g c = λ telling. c.with_open.ensures.others
 
 pub returns-in-Ok-clause-others : goal.returns-in-Ok-clause-others
 returns-in-Ok-clause-others g c =
-    let is : c.in_ok-answer.field-0.answer ≡ Ok c.in-Ok.field-0 = cc in
     done_others c.args.config.now c.requires.config c.args.volume c.requires.volume c.args.change c.requires.logger g.B.Part.Disk.tells g.B.Part.Disk.state (g.B.Bay.state c.args.bay.now) (g.B.Bay.state c.with_open.new.bay) _
-    c.in_ok-answer.field-0.answer c.in_ok-answer.ensures.did is (g.B.Bay.state c.change_image.new.bay) c.change_image.result c.change_image.ensures.changes c.with_open.ensures.others
+    c.in_ok-answer.field-0.answer c.in_ok-answer.ensures.did (was_done g (goal.at.returns-in-Ok-clause-others g c).In-Ok) (g.B.Bay.state c.change_image.new.bay) c.change_image.result c.change_image.ensures.changes c.with_open.ensures.others
 
 pub returns-in-Ok-clause-complete : goal.returns-in-Ok-clause-complete
 returns-in-Ok-clause-complete g c =
-    let is : c.in_ok-answer.field-0.answer ≡ Ok c.in-Ok.field-0 = cc in
     done_complete c.args.config.now c.requires.config c.args.volume c.requires.volume c.args.change c.requires.logger g.B.Part.Disk.tells g.B.Part.Disk.state (g.B.Bay.state c.args.bay.now) (g.B.Bay.state c.with_open.new.bay) _
-    c.in_ok-answer.field-0.answer c.in_ok-answer.ensures.did is (g.B.Bay.state c.change_image.new.bay) c.change_image.result c.change_image.ensures.changes c.change_image.ensures.no_sink c.change_image.ensures.counts
+    c.in_ok-answer.field-0.answer c.in_ok-answer.ensures.did (was_done g (goal.at.returns-in-Ok-clause-complete g c).In-Ok) (g.B.Bay.state c.change_image.new.bay) c.change_image.result c.change_image.ensures.changes c.change_image.ensures.no_sink c.change_image.ensures.counts
 
 pub returns-clause-content : goal.returns-clause-content
 returns-clause-content g c =
