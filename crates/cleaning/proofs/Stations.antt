@@ -37,10 +37,7 @@ module _ {D : Type 0} where
   worked_self r = record { same = refl; each = zip_self IsSameButWorked station_self r.stations.items }
 
   pub worked_then : (r q p : Rack D) → IsWorked r q → IsWorked q p → IsWorked r p
-  worked_then r q p a b = record {
-    same = b.same ∙ ap (λ (w : Rack D). record w { stations = p.stations }) a.same;
-    each = zip_then IsSameButWorked station_then r.stations.items q.stations.items p.stations.items a.each b.each;
-  }
+  worked_then r q p a b = record { same = b.same ∙ ap (λ (w : Rack D). record w { stations = p.stations }) a.same; each = zip_then IsSameButWorked station_then r.stations.items q.stations.items p.stations.items a.each b.each }
 
   only : (s t : Station D) → IsSameButWorked s t → (t ≡ record s { worker = t.worker }) × IsSamePass s.worker t.worker × (IsFree s.worker → IsFree t.worker)
   only s t is = (is.same, is.pass, is.free)

@@ -15,9 +15,7 @@ pub clean_volume-requires-clause-can : goal.clean_volume-requires-clause-can
 clean_volume-requires-clause-can g c = can_still _ _ _ c.loop-volume.invariant.underway.worked c.requires.can
 
 pub returns-in-Err-clause-worked : goal.returns-in-Err-clause-worked
-returns-in-Err-clause-worked g c =
-    let a = c.clean_volume.ensures in
-    worked_more _ _ _ _ _ _ _ _ _ c.loop-volume.invariant.underway (omega arith) a.worked a.others
+returns-in-Err-clause-worked g c = worked_more _ _ _ _ _ _ _ _ _ c.loop-volume.invariant.underway (omega arith) c.clean_volume.ensures.worked c.clean_volume.ensures.others
 
 pub returns-in-Err-clause-cleans : goal.returns-in-Err-clause-cleans
 returns-in-Err-clause-cleans g c =
@@ -25,9 +23,7 @@ returns-in-Err-clause-cleans g c =
     rw c.stop_of.ensures (refused_next _ _ _ _ _ _ _ _ _ c.loop-volume.invariant.underway (omega arith) a.worked a.others _ _ _ a.cleans c.loop-volume.invariant.calm)
 
 pub returns-in_err-append_cleaned-clause-worked : goal.returns-in_err-append_cleaned-clause-worked
-returns-in_err-append_cleaned-clause-worked g c =
-    let a = c.clean_volume.ensures in
-    worked_more _ _ _ _ _ _ _ _ _ c.loop-volume.invariant.underway (omega arith) a.worked a.others
+returns-in_err-append_cleaned-clause-worked g c = worked_more _ _ _ _ _ _ _ _ _ c.loop-volume.invariant.underway (omega arith) c.clean_volume.ensures.worked c.clean_volume.ensures.others
 
 pub returns-in_err-append_cleaned-clause-cleans : goal.returns-in_err-append_cleaned-clause-cleans
 returns-in_err-append_cleaned-clause-cleans g c =
@@ -36,9 +32,7 @@ returns-in_err-append_cleaned-clause-cleans g c =
     rw (p.1, p.2) (no_line _ _ _ _ _ _ _ _ _ c.loop-volume.invariant.underway (omega arith) a.worked a.others _ a.cleans _ _ c.loop-volume.invariant.calm)
 
 pub returns-in_err-write-clause-worked : goal.returns-in_err-write-clause-worked
-returns-in_err-write-clause-worked g c =
-    let a = c.clean_volume.ensures in
-    worked_more _ _ _ _ _ _ _ _ _ c.loop-volume.invariant.underway (omega arith) a.worked a.others
+returns-in_err-write-clause-worked g c = worked_more _ _ _ _ _ _ _ _ _ c.loop-volume.invariant.underway (omega arith) c.clean_volume.ensures.worked c.clean_volume.ensures.others
 
 -- the text is the line of the volume
 pub returns-in_err-write-clause-cleans : goal.returns-in_err-write-clause-cleans
