@@ -6,7 +6,7 @@ use Rattle.std.proofs.lemmas.Option.{slice_get_within, slice_get-map, get_or_fro
 use Rattle.wol_disk.specs.Disk.{Block, Rose, State, reads}
 use Rattle.wol_disk.proofs.Images.{image_reads}
 use Rattle.wol_bay.specs.Bay.{BayState, Image, Told, at_name}
-use Rattle.wol_model.specs.Images.{Images, image_of}
+use Rattle.wol_model.specs.Images.{Images, image_of, recovered_from}
 use Rattle.wol_config.specs.declared.config.Config.{Config}
 use Rattle.wol_config.specs.declared.config.VolumeConf.{VolumeConf}
 use Rattle.manager.specs.declared.station.Station.{Station}
@@ -15,7 +15,7 @@ use Rattle.volume_images.specs.Left.{IsTold}
 use Rattle.volume_images.specs.Volumes.{AreLeft, MayLeave, image_read, images_read, shape_in, shapes_of}
 use Rattle.rack.specs.Closes.{AreLeftOfParts, IsQuiet, is_kept_home}
 use Rattle.rack.specs.Opens.{LeavesAll, WereThere}
-use Rattle.rack.specs.Owners.{HadRefused}
+use Rattle.rack.specs.Owners.{HadRefused, RecoversSame}
 use Rattle.rack.specs.Racks.{IsRack}
 use Rattle.rack.specs.Rests.{IsImageOut}
 use Rattle.rack_parts.specs.declared.rack.Rack.{Rack}
@@ -28,7 +28,7 @@ use Rattle.replay.specs.declared.stop.Stop.TheVariants as stop
 use Rattle.open_rack.proofs.AllOut.{recovered_all}
 use Rattle.replay.proofs.RacksServed.{a_member, station_count}
 use Rattle.replay.proofs.RunClosed.{quiet_all}
-use Rattle.cleaning.specs.Racks.{CanCleanAll, CleansAll, CleansRack, IsWorked}
+use Rattle.cleaning.specs.Racks.{CanCleanAll, CleansRack}
 use Rattle.cleaning.specs.Racks as racks
 use Rattle.cleaning.specs.Runs.{CleansBay, Completes, KeepsArrays, MayComplete}
 use Rattle.cleaning.specs.Runs as runs
@@ -76,6 +76,11 @@ module _ {D : Type 0} (tells : Bool) (state : D → State) (config : Config) (di
     none_kept : (t y : Told) → HadRefused config session.after.rest.images.items t y
     none_kept t y k v conf none c may = let no : false ≡ true = sym (ap is_some none) ∙ all_out_after tells state config did old new spindles session open_ k (within k v conf) in absurd (cc no)
 
+    -- an array is the same without the images that were refused, since none was
+    same_but : (t : Told) → WereThere config out t → (images : Images) → length images ≡ length config.volumes.items → (v : ℕ) → recovered_from (shapes_of config) images v ≡ recovered_from (shapes_of config) (images_read config t) v
+        → RecoversSame config (is_kept_home out) false images (images_read config t) v
+    same_but t there images count v same = record { but = recovered_all config out outs images count v ∙ same ∙ sym (recovered_all config out outs (images_read config t) (read_left t there).count v); all = λ or. same }
+
     leaves_all : (t y : Told) → WereThere config out t → AreLeftOfParts state config session.after y → KeepsArrays config t y → LeavesAll tells state config old new t y
     leaves_all t y there parts kept = record {
       refused = is_kept_home out;
@@ -83,12 +88,7 @@ module _ {D : Type 0} (tells : Bool) (state : D → State) (config : Config) (di
       kept = λ k v conf home. absurd (not_home k v conf home);
       opened = λ v. false;
       are_opened = λ v no. absurd (cc no);
-      left = λ images left_ v is_there.
-          let same = kept images left_ v (slice_get_within (shapes_of config) v is_there.0 is_there.2) in (
-            images_read config t,
-            read_left t there,
-            record { but = recovered_all config out outs images left_.count v ∙ same ∙ sym (recovered_all config out outs (images_read config t) (read_left t there).count v); all = λ or. same },
-          );
+      left = λ images left_ v is_there. (images_read config t, read_left t there, same_but t there images left_.count v (kept images left_ v (slice_get_within (shapes_of config) v is_there.0 is_there.2)));
       there = λ images left_ v was. there_left state config session.after t y (none_kept t y) parts images left_ v was;
     }
 
