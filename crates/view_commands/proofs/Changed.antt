@@ -100,8 +100,8 @@ module _ (config : Config) (valid : IsValid config) (volume : ℕ) (v : VolumeCo
       let f = fronts images left volume v conf in
       let then = view_then config entry images volume v conf f others has in
       let reads_are = entry_reads config entry images volume v conf f in
-      let same : at_entry.0 ≡ reads f.image.blocks = same_Some at_entry.0 (reads f.image.blocks) (sym at_entry.1 ∙ reads_are) in
-      same_view (reads f.image.blocks) others ids then (subst (λ (c : List Block). HasView c ids) same at_entry.2)
+      let same : at_entry.0 ≡ reads f.was.0.blocks = same_Some at_entry.0 (reads f.was.0.blocks) (sym at_entry.1 ∙ reads_are) in
+      same_view (reads f.was.0.blocks) others ids then (subst (λ (c : List Block). HasView c ids) same at_entry.2)
 
   is_view : IsViewList ids
   is_view = at_entry.2.spelled.in_range

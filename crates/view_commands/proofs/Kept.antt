@@ -13,21 +13,20 @@ use Rattle.wol_model.specs.Heads.{Shape}
 use Rattle.wol_model.specs.Images.{Images, image_of, image_size}
 use Rattle.logger_view.specs.Stored.{HasLabel, HasView, IsFirstFault}
 use Rattle.volume_images.specs.Volumes.{AreLeft, MayLeave, image_read, images_read, shape_in}
+use Rattle.rack.specs.Opens.{WasAccepted}
 use Rattle.rack_closing.proofs.SoundBefore.{at_front}
 use Rattle.view_commands.specs.Views.{HasViewIn}
 
 -- The image of volume k that is left: it has its length, and its label and view read as those at entry. `ids` is its view.
 pub record HasFront (config : Config) (entry : Told) (images : Images) (k : ℕ) (v : VolumeConf) : Type 0 where
-  pub image : Image
-  pub there : at_name v.name entry.images ≡ Some image
-  pub whole : image.rest ≡ []
-  pub size : length image.blocks ≡ image_size (shape_in config v)
+  -- the one at entry
+  pub was : WasAccepted config entry k v
   pub blocks : List Block
   pub here : image_of images k ≡ Some blocks
   pub sized : length blocks ≡ image_size (shape_in config v)
-  pub front : slice_range blocks 0 2 ≡ slice_range (reads image.blocks) 0 2
+  pub front : slice_range blocks 0 2 ≡ slice_range (reads was.0.blocks) 0 2
   pub ids : List ℕ
-  pub view : HasView (reads image.blocks) ids
+  pub view : HasView (reads was.0.blocks) ids
 
 -- that of each volume
 abbrev pub KeepsFronts : Config → (entry left : Told) → Type 0
@@ -118,20 +117,20 @@ module _ (c d : List Block) (same : slice_range c 0 2 ≡ slice_range d 0 2) whe
 
 module _ (config : Config) (entry : Told) (images : Images) (k : ℕ) (v : VolumeConf) (at : slice_get config.volumes.items k ≡ Some v) (f : HasFront config entry images k v) where
   -- the image at entry as it reads
-  pub entry_reads : image_of (images_read config entry) k ≡ Some (reads f.image.blocks)
-  entry_reads = read_at config entry k v at ∙ ap image_read f.there ∙ read_whole f.image f.whole
+  pub entry_reads : image_of (images_read config entry) k ≡ Some (reads f.was.0.blocks)
+  entry_reads = read_at config entry k v at ∙ ap image_read f.was.1 ∙ read_whole f.was.0 f.was.2
 
   pub view_at_entry : HasViewIn (images_read config entry) k f.ids
-  view_at_entry = (reads f.image.blocks, entry_reads, f.view)
+  view_at_entry = (reads f.was.0.blocks, entry_reads, f.view)
 
   -- a view at entry is left
   pub view_now : (ids : List ℕ) → HasViewIn (images_read config entry) k ids → HasViewIn images k ids
   view_now ids (image, is, view) =
-      let same : image ≡ reads f.image.blocks = same_Some image (reads f.image.blocks) (sym is ∙ entry_reads) in
-      (f.blocks, f.here, front_view (reads f.image.blocks) f.blocks ids (sym f.front) (subst (λ (c : List Block). HasView c ids) same view))
+      let same : image ≡ reads f.was.0.blocks = same_Some image (reads f.was.0.blocks) (sym is ∙ entry_reads) in
+      (f.blocks, f.here, front_view (reads f.was.0.blocks) f.blocks ids (sym f.front) (subst (λ (c : List Block). HasView c ids) same view))
 
   -- and one that is left was there at entry
-  pub view_then : (ids : List ℕ) → HasViewIn images k ids → HasView (reads f.image.blocks) ids
+  pub view_then : (ids : List ℕ) → HasViewIn images k ids → HasView (reads f.was.0.blocks) ids
   view_then ids (image, is, view) =
       let same : image ≡ f.blocks = same_Some image f.blocks (sym is ∙ f.here) in
-      front_view f.blocks (reads f.image.blocks) ids f.front (subst (λ (c : List Block). HasView c ids) same view)
+      front_view f.blocks (reads f.was.0.blocks) ids f.front (subst (λ (c : List Block). HasView c ids) same view)

@@ -141,10 +141,7 @@ module _ {D : Type 0} (tells : Bool) (state : D → State) (config : Config) (di
         let reads_are : image_of (images_read config entry) k ≡ Some (reads was.0.blocks) =
         Rattle.view_commands.proofs.Kept.read_at config entry k v conf ∙ ap Rattle.volume_images.specs.Volumes.image_read was.1 ∙ Rattle.view_commands.proofs.Kept.read_whole was.0 was.2 in
         record {
-          image = was.0;
-          there = was.1;
-          whole = was.2;
-          size = was.3;
+          was = was;
           blocks = c.0;
           here = c.1;
           sized = c.2.sized;

@@ -123,7 +123,7 @@ module _ (config : Config) (valid : IsValid config) (volume : ℕ) (v : VolumeCo
       let f = front_at entry mid is in
       let found = read_some (at_name v.name mid.images) f.blocks (sym (read_at config mid volume v conf) ∙ f.here) in
       let fault = subst (λ (c : List Block). IsFirstFault volume (take 2 c) block) found.3 (damaged found.0 found.1) in
-      (reads f.image.blocks, entry_reads config entry (images_read config mid) volume v conf f, front_fault f.blocks (reads f.image.blocks) f.front volume block fault)
+      (reads f.was.0.blocks, entry_reads config entry (images_read config mid) volume v conf f, front_fault f.blocks (reads f.was.0.blocks) f.front volume block fault)
 
   -- sound images have none
   sound_whole : (entry : Told) → AreSound (shapes_of config) (images_read config entry) → (block : ℕ) → IsDamagedIn (images_read config entry) volume block → ⊥
