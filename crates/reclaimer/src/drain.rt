@@ -17,39 +17,40 @@ use crate::room::read_record;
 use crate::{Drain, Fetch};
 use logger::Shared;
 use manager::{Manager, StepFault};
+use redirect_map::Rec;
 use std::sync::Wait;
 use wol_disk::{Block, Disk};
 
 /// A view has at most so many loggers, all of which a drain counts as awake.
 const ALL: [bool; 16] = [true; 16];
 
-// Reads the record of this version, which has due blocks, and puts them home.
+// Reads the record that is next, which has due blocks, and puts them home.
 fn move_home<R: Wait, D: Disk>(
     rt: &R,
     m: &mut Manager<D>,
     shared: &Shared<D>,
-    version: u64,
+    next: &Rec,
     room: &mut [Block],
 ) -> Result<Drain, StepFault>
     requires ready { IsReady D.state m.old }
     requires at { IsHome shared.now m.old }
     requires room { length room.old ≡ 128 }
-    requires due { IsSomeAnd (entry_at m.old.index.entries version)
+    requires due { IsSomeAnd (entry_at m.old.index.entries next.now.version)
         (λ e. has_due (listed_in m.old.index.entries) e.listed ≡ true) }
     ensures ready { IsReady D.state m.new }
     ensures at { IsHome shared.now m.new }
     ensures fault { TellsStep D.state result m.old m.new }
     ensures calm { OnOk result (NoneRose D.state m.old m.new) }
-    ensures moved { OnTried result (IsSomeAnd (entry_at m.old.index.entries version)
+    ensures moved { OnTried result (IsSomeAnd (entry_at m.old.index.entries next.now.version)
         (λ e. HasMoved D.state e m.old m.new result)) }
     ensures keeps { OnKept result (KeepsOn D.tells D.state m.old m.new Always) }
     ensures broke { OnFailed result (BreaksOff D.tells D.state m.old m.new Always) }
     ensures any_moment { OnTried result
         (IsTrue D.tells → StopsSince D.tells D.state m.old m.new Always) }
 {
-    let filled = read_record(rt, m, shared, version, room)?;
+    let filled = read_record(rt, m, shared, next.version, room)?;
     let blocks = &room[..filled.count as usize];
-    match m.store_home(rt, shared, version, filled.due, blocks) {
+    match m.store_home(rt, shared, next.version, filled.due, blocks) {
         Ok(()) => Ok(Drain::Moved {
             blocks: filled.due.count_ones(),
             records: 0,
@@ -99,7 +100,7 @@ fn drain_awake<R: Wait, D: Disk>(
         // Each kept block of the record of least version may go or is due.
         unreachable!()
     };
-    move_home(rt, m, shared, record.version, room)
+    move_home(rt, m, shared, &record, room)
 }
 
 /// Wakes home, and then gives up what may go of the record of least version of which something may go; or, where nothing may
