@@ -1,10 +1,9 @@
 -- Steps of a cleaning, one after another.
 use Rattle.std.proofs.Common.{◌≡◌, ◌⊎◌, inl, inr, ⊎_elim, ◌<◌, ◌≤◌, ℕ, zero, suc, Bool, true, false, List, [], ◌∷◌, ◌++◌, length, Option, None, Some, Result, Ok, Err, refl, sym, ap, subst, ◌∙◌, arith, append_assoc, length-append}
 use Rattle.std.specs.Prelude.{◌↔◌, Contains, IfSome, IsTrue, slice_get, slice_set, slice_index_or}
-use Rattle.std.specs.List.{AllByRecursion, AllZip, list_any, range_with_len}
+use Rattle.std.specs.List.{AllByRecursion}
 use Rattle.std.specs.Option.{ForSome}
 use Rattle.std.proofs.Math.ListN.{length-set}
-use Rattle.std.proofs.lemmas.Bool.{cases_lt}
 use Rattle.std.proofs.lemmas.Option.{same_Some, slice_get_within}
 use Rattle.std.proofs.lemmas.List.{append-nil}
 use Rattle.wol_disk.specs.Disk.{State}
@@ -39,9 +38,7 @@ use Rattle.reclaimer.specs.declared.answers.Gone.TheVariants as gone
 use Rattle.reclaimer.proofs.Idle.{idle}
 use Rattle.log_cleaner.specs.Chunks.{IsTidy, IsUppermost, NoneHomed}
 use Rattle.log_cleaner.specs.Cleans.{AllAwake, CanClean, FindsAllEmpty, GoesOn}
-use Rattle.log_cleaner.specs.Steps.{GivesAll, GivesSome, GivesUp, HasBroken, HasCopied, KeepsTidy, Settles, TidiesUp}
-use Rattle.log_cleaner.specs.declared.answer.CleanFault.{CleanFault}
-use Rattle.log_cleaner.specs.declared.answer.CleanFault.TheVariants.{DiskFault}
+use Rattle.log_cleaner.specs.Steps.{GivesAll, GivesSome, HasBroken, HasCopied, KeepsTidy, Settles, TidiesUp, step_fault}
 use Rattle.log_cleaner.specs.Copies.{HoldFewer, indexes_of}
 use Rattle.log_cleaner.proofs.Claiming.{members}
 use Rattle.log_cleaner.proofs.Copying.{copies_none, copies_plain, copies_then, keeps_none, keeps_then, leaves_then}
@@ -275,14 +272,17 @@ module _ {D : Type 0} (tells : Bool) (state : D → State) (old mid new : Manage
   gave_then (Err (step.Down p)) given = absurd given
 
   -- or others gave up all
-  pub gave_all_then : (all : Bool) (res : Result (Unit {0}) StepFault) → GivesAll tells state mid new res → GivesUp tells state all old new res
-  gave_all_then all (Ok done) given = (
+  pub gave_all_then : (all : Bool) (done : Unit {0}) → GivesAll tells state mid new (Ok done) → Settles tells state all old new (Ok done)
+  gave_all_then all done given = (
     copied_then tells state old mid new [] [] can copied given.0,
     tidy_then old mid new keeps given.1,
     λ is first count some version x. given.2 first count some version (keeps.upper version first count some x),
   )
-  gave_all_then all (Err (step.DiskFault p)) given = broken_then tells state old mid new p [] [] can copied given
-  gave_all_then all (Err (step.Down p)) given = absurd given
+
+  -- or one failed
+  pub gave_all_failing : (all : Bool) (fault : StepFault) → GivesAll tells state mid new (Err fault) → Settles tells state all old new (Err (step_fault fault))
+  gave_all_failing all (step.DiskFault p) given = broken_then tells state old mid new p [] [] can copied given
+  gave_all_failing all (step.Down p) given = absurd given
 
 module _ {D : Type 0} (tells : Bool) (state : D → State) (old new : Manager D) where
   -- a step that failed, where all was to be given up
@@ -290,15 +290,10 @@ module _ {D : Type 0} (tells : Bool) (state : D → State) (old new : Manager D)
   gives_all_failing (step.DiskFault p) given = given
   gives_all_failing (step.Down p) given = given
 
-  -- or more than segments
-  pub gives_up_failing : (all : Bool) (fault : StepFault) → GivesSome tells state old new (Err fault) → GivesUp tells state all old new (Err fault)
-  gives_up_failing all (step.DiskFault p) given = given
-  gives_up_failing all (step.Down p) given = given
-
   -- as cleaning tells it
-  pub settles_failing : (all : Bool) (fault : StepFault) (result : CleanFault) → ((p : Part) → fault ≡ step.DiskFault p → result ≡ DiskFault p) → GivesUp tells state all old new (Err fault) → Settles tells state all old new (Err result)
-  settles_failing all (step.DiskFault p) result is given = subst (λ (x : CleanFault). Settles tells state all old new (Err x)) (sym (is p refl)) given
-  settles_failing all (step.Down p) result is given = absurd given
+  pub settles_failing : (all : Bool) (fault : StepFault) → GivesSome tells state old new (Err fault) → Settles tells state all old new (Err (step_fault fault))
+  settles_failing all (step.DiskFault p) given = given
+  settles_failing all (step.Down p) given = absurd given
 
 -- ---- Where nothing more may go
 

@@ -31,6 +31,11 @@ use Rattle.log_cleaner.specs.Cleans.{FindsAllEmpty, GoesOn, NoneHasRoom, RoseSin
 use Rattle.log_cleaner.specs.declared.answer.CleanFault.{CleanFault}
 use Rattle.log_cleaner.specs.declared.answer.CleanFault.TheVariants.{DiskFault, VersionsSpent, NoMemory}
 
+-- what is told of a step that was refused, of a manager that wasn't down
+abbrev pub step_fault : StepFault → CleanFault
+step_fault (step.DiskFault p) = DiskFault p
+step_fault (step.Down p) = DiskFault p
+
 -- what is told of a read that was refused, and of a run of writes
 abbrev pub fault_of : ReadRefusal → CleanFault
 fault_of (refused_read.DiskFault p) = DiskFault p
@@ -112,18 +117,11 @@ GivesAll tells state old new (Ok done) =
 GivesAll tells state old new (Err (step.DiskFault p)) = HasBroken tells state old new p []
 GivesAll tells state old new (Err (step.Down p)) = ⊥
 
--- giving up some of it, or all
-abbrev pub GivesUp : {D : Type 0} → (tells : Bool) → (D → State) → (all : Bool)
-    → (old new : Manager D) → Result (Unit {0}) StepFault → Type 0
-GivesUp tells state all old new (Ok done) =
-    HasCopied tells state old new [] × KeepsTidy old new × (all ≡ true → TidiesAll old new)
-GivesUp tells state all old new (Err (step.DiskFault p)) = HasBroken tells state old new p []
-GivesUp tells state all old new (Err (step.Down p)) = ⊥
-
--- the same, by what cleaning tells
+-- giving up some of it, or all, by what cleaning tells
 abbrev pub Settles : {D : Type 0} → (tells : Bool) → (D → State) → (all : Bool)
     → (old new : Manager D) → Result (Unit {0}) CleanFault → Type 0
-Settles tells state all old new (Ok done) = GivesUp tells state all old new (Ok done)
+Settles tells state all old new (Ok done) =
+    HasCopied tells state old new [] × KeepsTidy old new × (all ≡ true → TidiesAll old new)
 Settles tells state all old new (Err (DiskFault p)) = HasBroken tells state old new p []
 Settles tells state all old new (Err VersionsSpent) = ⊥
 Settles tells state all old new (Err NoMemory) = ⊥

@@ -1,5 +1,8 @@
 // What cleaning answers.
-use manager::Part;
+ghost use Rattle.log_cleaner.specs.Steps.{step_fault};
+ghost use Rattle.std.specs.Prelude.{◌≡◌};
+
+use manager::{Part, StepFault};
 
 /// What cleaning did.
 #[derive(Clone, Copy, Debug, PartialEq, Eq)]
@@ -23,4 +26,15 @@ pub enum CleanFault {
     VersionsSpent,
     /// There was no memory.
     NoMemory,
+}
+
+impl From<StepFault> for CleanFault {
+    ghost from_gives = { λ fault e. e ≡ step_fault fault };
+
+    fn from(fault: StepFault) -> CleanFault {
+        match fault {
+            StepFault::DiskFault(part) => CleanFault::DiskFault(part),
+            StepFault::Down(part) => CleanFault::DiskFault(part),
+        }
+    }
 }

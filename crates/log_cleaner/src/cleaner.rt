@@ -1,6 +1,6 @@
 // Chunk after chunk is made tidy.
 ghost use Rattle.log_cleaner.specs.Cleans.{CanClean, HasCleaned};
-ghost use Rattle.log_cleaner.specs.Steps.{Settles, ended, is_broken, written_of};
+ghost use Rattle.log_cleaner.specs.Steps.{ended, is_broken, written_of};
 ghost use Rattle.log_cleaner.specs.Underway.{CleansBy};
 ghost use Rattle.log_segment.specs.Records.{count_of};
 ghost use Rattle.manager.specs.Stands.{IsReady, IsHome};
@@ -9,8 +9,8 @@ ghost use Rattle.std.specs.Prelude.{◌≡◌, ◌≤◌, [], length};
 
 use crate::chunks::{END, Gathered, TOGETHER, chunk_len, gather, is_tidy, next_covered};
 use crate::copies::{Copies, no_copies};
-use crate::copy::{rewrite, step_fault};
-use crate::giving::give_up;
+use crate::copy::rewrite;
+use crate::giving::settle;
 use crate::{CleanFault, Cleaned};
 use log_segment::Item;
 use logger::Shared;
@@ -92,26 +92,6 @@ fn next_width(index: &Index, gathered: &Gathered, written: usize, width: usize) 
         width
     } else {
         TOGETHER.min(width * 2)
-    }
-}
-
-// Gives up segments, and all else that may go where all is asked for.
-fn settle<R: Wait, D: Disk>(
-    rt: &R,
-    m: &mut Manager<D>,
-    shared: &Shared<D>,
-    all: bool,
-) -> Result<(), CleanFault>
-    requires ready { IsReady D.state m.old }
-    requires at { IsHome shared.now m.old }
-    requires can { CanClean m.old }
-    ensures ready { IsReady D.state m.new }
-    ensures at { IsHome shared.now m.new }
-    ensures settled { Settles D.tells D.state all m.old m.new result }
-{
-    match give_up(rt, m, shared, all) {
-        Ok(()) => Ok(()),
-        Err(fault) => Err(step_fault(fault)),
     }
 }
 

@@ -4,7 +4,6 @@ ghost use Rattle.log_cleaner.specs.Steps.{AreCoveredIn, ReadsAll, RewritesBehind
 ghost use Rattle.log_segment.specs.Records.{count_of};
 ghost use Rattle.manager.specs.Groups.{AreItemsOf};
 ghost use Rattle.manager.specs.Stands.{IsReady, IsHome};
-ghost use Rattle.manager.specs.declared.part.Part.{Part};
 ghost use Rattle.spin_model.specs.Spun.{state_of};
 ghost use Rattle.std.specs.Prelude.{◌≡◌, ◌≤◌, length};
 
@@ -12,19 +11,9 @@ use crate::CleanFault;
 use crate::copies::{Copies, next_copies, noted};
 use log_segment::Item;
 use logger::Shared;
-use manager::{Manager, Ran, ReadRefusal, StepFault, WriteRefusal};
+use manager::{Manager, Ran, ReadRefusal, WriteRefusal};
 use std::sync::Wait;
 use wol_disk::{Block, Disk};
-
-/// The fault of a step that was refused, of a manager that wasn't down.
-pub(crate) fn step_fault(fault: StepFault) -> CleanFault
-    ensures { (p : Part) → fault ≡ StepFault.DiskFault p → result ≡ CleanFault.DiskFault p }
-{
-    match fault {
-        StepFault::DiskFault(part) => CleanFault::DiskFault(part),
-        StepFault::Down(part) => CleanFault::DiskFault(part),
-    }
-}
 
 // The fault of a read that was refused.
 fn read_fault(refusal: ReadRefusal) -> CleanFault

@@ -2,7 +2,7 @@
 ghost use Rattle.log_cleaner.specs.Chunks.{NoneHomed};
 ghost use Rattle.log_cleaner.specs.Cleans.{CanClean};
 ghost use Rattle.log_cleaner.specs.Marks.{AreMarked};
-ghost use Rattle.log_cleaner.specs.Steps.{GivesSome, GivesAll, GivesUp, HasNoneLiveIn};
+ghost use Rattle.log_cleaner.specs.Steps.{GivesSome, GivesAll, HasNoneLiveIn, Settles};
 ghost use Rattle.manager.specs.Reclaim.{NoneLiveIn};
 ghost use Rattle.manager.specs.Stands.{IsReady, IsHome};
 ghost use Rattle.redirect_map.specs.Index.{entry_at, HasVersion};
@@ -11,6 +11,7 @@ ghost use Rattle.std.specs.Option.{ForSome};
 ghost use Rattle.std.specs.Prelude.{◌≡◌, ◌<◌, ◌≤◌, true, false, slice_index_or, IfSome, IfNone};
 ghost use Rattle.wol_model.specs.Index.{listed_in, has_due};
 
+use crate::CleanFault;
 use crate::marks::{MARKS, is_marked, marks_of};
 use logger::Shared;
 use manager::{Manager, StepFault};
@@ -155,22 +156,23 @@ fn give_up_each<R: Wait, D: Disk>(
 
 /// Gives up segments in which no record has a live block, with all their records, each by one write of its head; and then
 /// all else that may go, record by record, where all is asked for.
-pub(crate) fn give_up<R: Wait, D: Disk>(
+pub(crate) fn settle<R: Wait, D: Disk>(
     rt: &R,
     m: &mut Manager<D>,
     shared: &Shared<D>,
     all: bool,
-) -> Result<(), StepFault>
+) -> Result<(), CleanFault>
     requires ready { IsReady D.state m.old }
     requires at { IsHome shared.now m.old }
     requires can { CanClean m.old }
     ensures ready { IsReady D.state m.new }
     ensures at { IsHome shared.now m.new }
-    ensures given { GivesUp D.tells D.state all m.old m.new result }
+    ensures settled { Settles D.tells D.state all m.old m.new result }
 {
     give_up_segments(rt, m, shared)?;
     if !all {
         return Ok(());
     }
-    give_up_each(rt, m, shared)
+    give_up_each(rt, m, shared)?;
+    Ok(())
 }
