@@ -20,6 +20,7 @@ use Rattle.reclaimer.specs.Drains.{HasDrained}
 use Rattle.reclaimer.specs.declared.answers.Drain.{Drain}
 use Rattle.reclaimer.specs.declared.answers.Drain.TheVariants.{Bare, Moved}
 use Rattle.request_turns.specs.Counts.{IsTakenOff}
+use Rattle.request_turns.specs.Entries.{note_of}
 use Rattle.request_turns.specs.Turns.{ManagerPass, coded, notes_seen, WasDown, faulty_part}
 
 -- ---- Steps
@@ -66,13 +67,7 @@ drain_operation (Err (Down p)) = Kept
 
 -- with its look; it follows no rule of the policy, since it wakes disks that no request asked for
 abbrev pub drain_note : (pass : ℕ) → Operation → Look → Noted
-drain_note pass operation look = record {
-  entry = record { pass = pass; operation = operation };
-  look = look;
-  passed = [];
-  after_drain = false;
-  ruled = false;
-}
+drain_note pass operation look = record (note_of pass operation look [] false) { ruled = false }
 
 -- so many blocks were put home and so many records are gone; a count stands still at its type's end
 abbrev pub TakesAll : (l m : Look) → ℕ × ℕ → Type 0
