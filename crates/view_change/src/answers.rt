@@ -2,10 +2,8 @@
 ghost use Rattle.logger_view.specs.declared.loading.ViewFault.{ViewFault};
 ghost use Rattle.std.specs.Prelude.{◌≡◌};
 ghost use Rattle.view_change.specs.Changes.{id_of, refusal_of_load};
-ghost use Rattle.view_change.specs.declared.answers.ChangeRefusal.TheVariants as refusal;
 
 use logger_view::ViewFault;
-use wol_disk::Failed;
 
 /// A change of a view. Loggers go by their numbers as volumes.
 #[derive(Clone, Copy, Debug, PartialEq, Eq)]
@@ -45,14 +43,6 @@ pub enum ChangeRefusal {
     Damaged { block: u32 },
     /// A call of the part failed. If it was one of the store, the new view may be there or not.
     Failed,
-}
-
-impl From<Failed> for ChangeRefusal {
-    ghost from_gives = { λ _ e. e ≡ refusal.Failed };
-
-    fn from(_failed: Failed) -> ChangeRefusal {
-        ChangeRefusal::Failed
-    }
 }
 
 impl From<ViewFault> for ChangeRefusal {

@@ -131,6 +131,8 @@ pub fn change<D: Disk>(
     }
     let (_, view) = load(token, label, own)?;
     let new = changed_view(&view, change)?;
-    store_view(token, label, &new)?;
-    Ok(new)
+    match store_view(token, label, &new) {
+        Ok(()) => Ok(new),
+        Err(_) => Err(ChangeRefusal::Failed),
+    }
 }

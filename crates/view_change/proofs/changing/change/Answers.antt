@@ -21,24 +21,24 @@ returns-in_err-new-clause-answer g c vs is =
     rw (p.1, p.2) (refused c.args.own c.args.volumes c.args.change.now (reads vs) c.in_ok-view.view c.in_err-new.field-0.0 (less, other)
     (record { labelled = (_, _, v.label vs is); view = v.view vs is; others = v.others }) c.in_err-new.ensures.err)
 
-pub returns-in_err-store_view-clause-any_moment : goal.returns-in_err-store_view-clause-any_moment
-returns-in_err-store_view-clause-any_moment g c =
+pub returns-in-Err-clause-any_moment : goal.returns-in-Err-clause-any_moment
+returns-in-Err-clause-any_moment g c =
     let v = c.in_ok-view.ensures in let n = c.in_ok-new.ensures.ok in
     while_stored _ _ c.args.own c.args.change.now c.in_ok-view.view c.in_ok-new.new v.settled (λ vs is. record { labelled = (_, _, v.label vs is); view = v.view vs is; others = v.others }) n.0 n.1
-    v.any_moment c.in_err-store_view.ensures.any_moment
+    v.any_moment c.in-Err.ensures.any_moment
 
-pub returns-clause-answer : goal.returns-clause-answer
-returns-clause-answer g c vs is =
+pub returns-in-Ok-clause-answer : goal.returns-in-Ok-clause-answer
+returns-in-Ok-clause-answer g c vs is =
     let v = c.in_ok-view.ensures in let n = c.in_ok-new.ensures.ok in
     let less : id_of c.args.change.now < c.args.volumes = search rules in
     let other : id_of c.args.change.now ≢ c.args.own = search rules in
     ((less, other), c.in_ok-view.view, record { labelled = (_, _, v.label vs is); view = v.view vs is; others = v.others }, n.0, n.1)
 
-pub returns-clause-any_moment : goal.returns-clause-any_moment
-returns-clause-any_moment g c =
+pub returns-in-Ok-clause-any_moment : goal.returns-in-Ok-clause-any_moment
+returns-in-Ok-clause-any_moment g c =
     let v = c.in_ok-view.ensures in let n = c.in_ok-new.ensures.ok in
     while_stored _ _ c.args.own c.args.change.now c.in_ok-view.view c.in_ok-new.new v.settled (λ vs is. record { labelled = (_, _, v.label vs is); view = v.view vs is; others = v.others }) n.0 n.1
-    v.any_moment c.in_ok-store_view.ensures.any_moment
+    v.any_moment c.in-Ok.ensures.any_moment
 
-pub returns-clause-stored : goal.returns-clause-stored
-returns-clause-stored g c = now_stored _ _ _ c.in_ok-new.new c.in_ok-view.ensures.settled c.in_ok-store_view.ensures.settles
+pub returns-in-Ok-clause-stored : goal.returns-in-Ok-clause-stored
+returns-in-Ok-clause-stored g c = now_stored _ _ _ c.in_ok-new.new c.in_ok-view.ensures.settled c.in-Ok.ensures.settles
