@@ -19,31 +19,32 @@ use std::sync::Wait;
 use turn_lock::{Pass, Turn, TurnLock};
 use wol_disk::Disk;
 
-// Cleans a volume, and leaves one as it is that can't be cleaned.
+// Cleans a volume, and leaves one as it is that can't be cleaned. Answers the copies too.
 fn clean_within<D: Disk, R: Wait>(
     rt: &R,
     alloc: Global,
     m: &mut Manager<D>,
     shared: &Shared<D>,
     most: u32,
-    done: &mut Copies,
-) -> Result<Cleaned, CleanFault>
+) -> (Copies, Result<Cleaned, CleanFault>)
     requires ready { IsReady D.state m.old }
     requires at { IsHome shared.now m.old }
     requires most { most ≡ m.old.most }
-    ensures did { DoesClean D.tells D.state most m.old m.new done.new.value.items result }
+    ensures did { DoesClean D.tells D.state most m.old m.new result.0.value.items result.1 }
 {
+    let mut done = no_copies();
     if can_clean(m) {
-        return clean(rt, alloc, m, shared, most, done);
+        let answer = clean(rt, alloc, m, shared, most, &mut done);
+        return (done, answer);
     }
-    *done = no_copies();
     let records = m.index().len();
-    Ok(Cleaned {
+    let left = Cleaned {
         before: records,
         after: records,
         copied: 0,
         full: false,
-    })
+    };
+    (done, Ok(left))
 }
 
 // Ends a turn in which a volume was cleaned, with these copies and this answer.
@@ -86,8 +87,7 @@ pub(crate) fn clean_turn<D: Disk, R: Wait>(
     ensures cleans { CleansIn D.tells D.state most pass.old pass.new result }
 {
     let mut turn = lock.enter(rt, pass);
-    let mut done = no_copies();
-    let answer = clean_within(rt, alloc, &mut turn.value, shared, most, &mut done);
+    let (done, answer) = clean_within(rt, alloc, &mut turn.value, shared, most);
     leave_cleaned::<D, Brand>(lock, turn, pass, &done, &answer);
     answer
 }
