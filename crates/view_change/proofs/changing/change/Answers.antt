@@ -1,9 +1,19 @@
 use Rattle.std.proofs.Common.{◌≢◌, ◌<◌, rules}
 use Rattle.std.proofs.lemmas.Result.{err_from_is_err_and}
-use Rattle.wol_disk.specs.Disk.{reads}
-use Rattle.view_change.specs.Changes.{id_of}
+use Rattle.wol_disk.specs.Disk.{LeavesOnly, reads}
+use Rattle.spin_model.specs.Spun.{state_of}
+use Rattle.view_change.specs.Changes.{MayShow, id_of}
 use Rattle.view_change.proofs.LabelPart.{load_refused, refused, while_stored, now_stored}
+use Rattle.view_change.proofs.changing.change.Given as given
+use Rattle.view_change.proofs.changing.change.Goals.{After-store_view}
 use Rattle.view_change.proofs.changing.change.Goals as goal
+
+-- until it is stored each image is one at entry, or has the new view
+storing : (g : given.Over) (c : After-store_view g) → LeavesOnly (state_of g.D.Disk.state c.args.label.now) (state_of g.D.Disk.state c.store_view.new.part) (MayShow c.args.own c.args.change.now (state_of g.D.Disk.state c.args.label.now))
+storing g c =
+    let v = c.in_ok-view.ensures in let n = c.in_ok-new.ensures.ok in
+    while_stored _ _ c.args.own c.args.change.now c.in_ok-view.view c.in_ok-new.new v.settled (λ vs is. record { labelled = (_, _, v.label vs is); view = v.view vs is; others = v.others }) n.0 n.1
+    v.any_moment c.store_view.ensures.any_moment
 
 pub returns-in_err-view-clause-answer : goal.returns-in_err-view-clause-answer
 returns-in_err-view-clause-answer g c vs is =
@@ -22,10 +32,7 @@ returns-in_err-new-clause-answer g c vs is =
     (record { labelled = (_, _, v.label vs is); view = v.view vs is; others = v.others }) c.in_err-new.ensures.err)
 
 pub returns-in-Err-clause-any_moment : goal.returns-in-Err-clause-any_moment
-returns-in-Err-clause-any_moment g c =
-    let v = c.in_ok-view.ensures in let n = c.in_ok-new.ensures.ok in
-    while_stored _ _ c.args.own c.args.change.now c.in_ok-view.view c.in_ok-new.new v.settled (λ vs is. record { labelled = (_, _, v.label vs is); view = v.view vs is; others = v.others }) n.0 n.1
-    v.any_moment c.in-Err.ensures.any_moment
+returns-in-Err-clause-any_moment g c = storing g (goal.at.returns-in-Err-clause-any_moment g c).After-store_view
 
 pub returns-in-Ok-clause-answer : goal.returns-in-Ok-clause-answer
 returns-in-Ok-clause-answer g c vs is =
@@ -35,10 +42,7 @@ returns-in-Ok-clause-answer g c vs is =
     ((less, other), c.in_ok-view.view, record { labelled = (_, _, v.label vs is); view = v.view vs is; others = v.others }, n.0, n.1)
 
 pub returns-in-Ok-clause-any_moment : goal.returns-in-Ok-clause-any_moment
-returns-in-Ok-clause-any_moment g c =
-    let v = c.in_ok-view.ensures in let n = c.in_ok-new.ensures.ok in
-    while_stored _ _ c.args.own c.args.change.now c.in_ok-view.view c.in_ok-new.new v.settled (λ vs is. record { labelled = (_, _, v.label vs is); view = v.view vs is; others = v.others }) n.0 n.1
-    v.any_moment c.in-Ok.ensures.any_moment
+returns-in-Ok-clause-any_moment g c = storing g (goal.at.returns-in-Ok-clause-any_moment g c).After-store_view
 
 pub returns-in-Ok-clause-stored : goal.returns-in-Ok-clause-stored
 returns-in-Ok-clause-stored g c = now_stored _ _ _ c.in_ok-new.new c.in_ok-view.ensures.settled c.in-Ok.ensures.settles
