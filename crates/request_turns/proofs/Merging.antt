@@ -8,10 +8,11 @@ use Rattle.wol_disk.specs.Disk.{State, Block}
 use Rattle.wol_model.specs.Blocks.{Write, after}
 use Rattle.wol_model.specs.History.{Entry, Operation, Wrote, Read, Kept, Broke, worker, written_by, writes, flight_of, flight_from, AreLegalNext, IsLegalNext, BreaksOnce, IsKept, IsHelp}
 use Rattle.wol_model.proofs.Overlay.{after_none}
-use Rattle.wol_promise.specs.Manager.{Parts, ManagerSeen, Base}
+use Rattle.wol_promise.specs.Manager.{Base}
 use Rattle.wol_promise.specs.Policy.{Look}
 use Rattle.wol_promise.specs.Ruled.{Noted, HasPassed, IsStep, AreRuled, entries_of, last_look}
 use Rattle.wol_promise.specs.Stands.{HasHistory, Upholds}
+use Rattle.wol_promise.proofs.Kept.{renoted}
 use Rattle.wol_promise.proofs.OneMore.{entries_more, last_more, ruled_more, or_none, writes_then, flight_then}
 use Rattle.manager.proofs.Frames.{times_more}
 use Rattle.manager.specs.Seen.{parts_of, seen}
@@ -80,21 +81,6 @@ module _ (notes : List Noted) (n1 n2 n : Noted) (kept : n1.entry.operation ≡ K
     ruled = ruled_more base.look notes n (ruled_front base.look notes (n1 ∷ []) (ruled_front base.look (notes ++ n1 ∷ []) (n2 ∷ []) h.ruled)) step;
   }
 
-  renoted : {P : Type 0} (parts : Parts P) (base : Base) (m : ManagerSeen P) (ws : List Write) (fl : Option (List Write)) → (old new : List Noted) → HasHistory parts.told base new → Upholds parts base m old ws fl → Upholds parts base m new ws fl
-  renoted parts base m ws fl old new history u = record {
-    began = u.began;
-    history = history;
-    lie = u.lie;
-    versioned = u.versioned;
-    known = u.known;
-    places = u.places;
-    is_down = u.is_down;
-    failed = u.failed;
-    calm = u.calm;
-    sound = u.sound;
-    cut = u.cut;
-  }
-
   passed_one : (nones : ℕ → ℕ) → n.passed ≡ n1.passed → HasPassed nones ((notes ++ n1 ∷ []) ++ n2 ∷ []) → HasPassed nones (notes ++ n ∷ [])
   passed_one nones is has k =
       let a = times_more k (notes ++ n1 ∷ []) n2 in let b = times_more k notes n1 in let d = times_more k notes n in
@@ -111,8 +97,7 @@ module _ (notes : List Noted) (n1 n2 n : Noted) (kept : n1.entry.operation ≡ K
       held = s.keeps.held;
       upholds = subst (λ (ws : List Write). Upholds (parts_of tells state) b.volume.began (seen m s.keeps.logs) (notes ++ n ∷ []) ws (flight_of (entries_of (notes ++ n ∷ [])))) same_writes
           (subst (λ (fl : Option (List Write)). Upholds (parts_of tells state) b.volume.began (seen m s.keeps.logs) (notes ++ n ∷ []) (writes (entries_of ((notes ++ n1 ∷ []) ++ n2 ∷ []))) fl) same_flight
-          (renoted (parts_of tells state) b.volume.began (seen m s.keeps.logs) (writes (entries_of ((notes ++ n1 ∷ []) ++ n2 ∷ []))) (flight_of (entries_of ((notes ++ n1 ∷ []) ++ n2 ∷ []))) ((notes ++ n1 ∷ []) ++ n2 ∷ []) (notes ++ n ∷ [])
-          (history_one (IsTrue tells) b.volume.began step s.keeps.upholds.history) s.keeps.upholds));
+          (renoted s.keeps.upholds (history_one (IsTrue tells) b.volume.began step s.keeps.upholds.history)));
       in_use = s.keeps.in_use;
       passed = passed_one (nones_at m.lanes.items b.lanes) passed s.keeps.passed;
       taken = s.keeps.taken;
