@@ -155,20 +155,12 @@ write_fault state old new drained seen (Err NoMemory) told down broken spent = t
 -- ---- Why it came
 
 abbrev pub is_down : Result Place WriteRefusal → Bool
-is_down (Ok p) = false
-is_down (Err Full) = false
-is_down (Err (DiskFault p)) = false
 is_down (Err (Down p)) = true
-is_down (Err VersionsSpent) = false
-is_down (Err NoMemory) = false
+is_down answer = false
 
 abbrev pub is_spent : Result Place WriteRefusal → Bool
-is_spent (Ok p) = false
-is_spent (Err Full) = false
-is_spent (Err (DiskFault p)) = false
-is_spent (Err (Down p)) = false
 is_spent (Err VersionsSpent) = true
-is_spent (Err NoMemory) = false
+is_spent answer = false
 
 below_spent : (n : ℕ) → n ≤ 2 ^ 63 → (n ≡ 2 ^ 63 → ⊥) → n < 2 ^ 63
 below_spent n most not = omega (arith, most, not)

@@ -64,12 +64,8 @@ has_failed (Err (fault.Down p)) = false
 
 -- a write failed at a disk
 abbrev pub has_broken : Result Place WriteRefusal → Bool
-has_broken (Ok place) = false
-has_broken (Err refused.Full) = false
 has_broken (Err (refused.DiskFault p)) = true
-has_broken (Err (refused.Down p)) = false
-has_broken (Err refused.VersionsSpent) = false
-has_broken (Err refused.NoMemory) = false
+has_broken answer = false
 
 -- the refusal of a step that was refused
 abbrev pub refusal_in : {T : Type 0} → Result T StepFault → Option StepFault
@@ -95,12 +91,8 @@ written_outcome drained (Err refusal) = outcome.NoWrite refusal
 
 -- it was refused as full
 abbrev pub is_full : Result Place WriteRefusal → Bool
-is_full (Ok place) = false
 is_full (Err refused.Full) = true
-is_full (Err (refused.DiskFault p)) = false
-is_full (Err (refused.Down p)) = false
-is_full (Err refused.VersionsSpent) = false
-is_full (Err refused.NoMemory) = false
+is_full answer = false
 
 -- a write is refused as its drain was
 abbrev pub refused_as : StepFault → WriteRefusal
