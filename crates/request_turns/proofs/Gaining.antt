@@ -20,6 +20,7 @@ use Rattle.manager.specs.Stands.{notes_of}
 use Rattle.manager.specs.declared.base.ManagerBase.{ManagerBase}
 use Rattle.manager.specs.declared.part.Part.{Part}
 use Rattle.wol_promise.proofs.ReadCode.{noted_is_back}
+use Rattle.request_turns.specs.Entries.{WasSpent}
 use Rattle.request_turns.specs.Helped.{made_since, AreKept}
 use Rattle.request_turns.specs.Turns.{ManagerPass, coded, began, notes_seen, IsBroken, WasDown, IsHonest, HasTurned, Gains, Stays, KeptStay, LooksStay}
 use Rattle.request_turns.proofs.Noting.{notes_at}
@@ -158,16 +159,16 @@ pub broken_more : (notes more : List Noted) → IsBroken notes → IsBroken (not
 broken_more notes more is =
     ap (λ (es : _). is_some (flight_of es)) (map-append (λ (n : Noted). n.entry) notes more) ∙ ap is_some (flight_more (entries_of notes) (entries_of more)) ∙ some_first (flight_of (entries_of notes)) (flight_of (entries_of more)) is
 
+later_more : (notes more front : List Noted) (n : Noted) (later : List Noted) → notes ≡ front ++ n ∷ later → notes ++ more ≡ front ++ n ∷ (later ++ more)
+later_more notes more front n later is = ap (λ (ns : List Noted). ns ++ more) is ∙ append_assoc front (n ∷ later) more
+
 -- a part that was down is so behind more entries too
 pub down_more : (p : Part) (notes more : List Noted) → WasDown p notes → WasDown p (notes ++ more)
-down_more p notes more was = record {
-  front = was.front;
-  note = was.note;
-  later = was.later ++ more;
-  notes_are = ap (λ (ns : List Noted). ns ++ more) was.notes_are ∙ append_assoc was.front (was.note ∷ was.later) more;
-  broken = was.broken;
-  down = was.down;
-}
+down_more p notes more was = record { front = was.front; note = was.note; later = was.later ++ more; notes_are = later_more notes more was.front was.note was.later was.notes_are; broken = was.broken; down = was.down }
+
+-- so is a volume of which no version was left
+pub spent_more : (notes more : List Noted) → WasSpent notes → WasSpent (notes ++ more)
+spent_more notes more was = record { front = was.front; note = was.note; later = was.later ++ more; seen_is = later_more notes more was.front was.note was.later was.seen_is; unbroken = was.unbroken; spent = was.spent }
 
 pub down_breaks : (p : Part) (notes : List Noted) → WasDown p notes → IsBroken notes
 down_breaks p notes was = subst IsBroken (append_assoc was.front (was.note ∷ []) was.later ∙ sym was.notes_are) (broken_more (was.front ++ was.note ∷ []) was.later was.broken)

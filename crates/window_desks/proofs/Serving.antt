@@ -1,8 +1,8 @@
 -- Serving more requests.
-use Rattle.std.proofs.Common.{◌≡◌, ◌≤◌, ◌<◌, ◌+◌, ◌-◌, zero, suc, vec_len, vec_capacity, take, drop, ℕ, Bool, true, false, List, [], ◌∷◌, ◌++◌, length, replicate, refl, ap, ◌∙◌, sym, subst, append_assoc, arith}
+use Rattle.std.proofs.Common.{◌≡◌, ◌≤◌, ◌<◌, ◌+◌, ◌-◌, zero, suc, vec_capacity, take, drop, ℕ, Bool, true, false, List, [], ◌∷◌, ◌++◌, length, replicate, refl, ap, ◌∙◌, sym, subst, append_assoc, arith}
 use Rattle.std.specs.List.{AllByRecursion}
 use Rattle.std.specs.Prelude.{All}
-use Rattle.std.proofs.lemmas.List.{append-nil, length-append, take_rest, drop_all}
+use Rattle.std.proofs.lemmas.List.{append-nil, length-append, take_rest}
 use Rattle.turn_lock.specs.LockIds.{LockId}
 use Rattle.turn_lock.specs.Passes.{pass_lock, pass_number, IsFree}
 use Rattle.wol_model.specs.History.{worker}
@@ -17,14 +17,15 @@ use Rattle.manager.specs.declared.part.WriteRefusal.{WriteRefusal}
 use Rattle.manager.specs.declared.part.WriteRefusal.TheVariants as refused
 use Rattle.request_turns.specs.Answered.{HasAnsweredMany}
 use Rattle.request_turns.specs.Counts.{HasCounted}
-use Rattle.request_turns.specs.Entries.{AreMade, none, TellsFault, TellsOfRead, TellsOfWrite, WasSpent}
-use Rattle.request_turns.specs.Helped.{ManagerLock, IsPassAt}
+use Rattle.request_turns.specs.Entries.{AreMade, none, TellsFault, TellsOfRead, TellsOfWrite}
+use Rattle.request_turns.specs.Helped.{ManagerLock}
 use Rattle.request_turns.specs.Requests.{IsWithin}
 use Rattle.request_turns.specs.Turns.{began, notes_seen}
 use Rattle.request_turns.specs.declared.outcome.Outcome.{Outcome}
 use Rattle.request_turns.specs.declared.outcome.Outcome.TheVariants as outcome
 use Rattle.request_turns.proofs.Counting.{counted_both, counted_none}
 use Rattle.request_turns.proofs.Gaining.{gains_none, gains_both, gains_turn, stays_both, stays_turn, seen_more, down_more}
+pub use Rattle.request_turns.proofs.Gaining.{spent_more}
 use Rattle.request_turns.proofs.MadeLaws.{made_length, made_append}
 use Rattle.window_desks.specs.Desks.{IsReadyDesk, IsReadyAt}
 use Rattle.window_desks.specs.Requests.{was_answered, was_run, both, going_after, StopsAtRefusal}
@@ -80,17 +81,6 @@ all_same P (suc count) o is = (is, all_same P count o is)
 tells_read : (r : ReadRefusal) (seen more : List Noted) → TellsOfRead r seen → TellsOfRead r (seen ++ more)
 tells_read (refused_read.DiskFault p) seen more is = down_more p seen more is
 tells_read (refused_read.Down p) seen more is = down_more p seen more is
-
--- no version is left behind more entries too
-spent_more : (seen more : List Noted) → WasSpent seen → WasSpent (seen ++ more)
-spent_more seen more is = record {
-  front = is.front;
-  note = is.note;
-  later = is.later ++ more;
-  seen_is = ap (λ (notes : List Noted). notes ++ more) is.seen_is ∙ append_assoc is.front (is.note ∷ is.later) more;
-  unbroken = is.unbroken;
-  spent = is.spent;
-}
 
 tells_write : (r : WriteRefusal) (seen more : List Noted) → TellsOfWrite r seen → TellsOfWrite r (seen ++ more)
 tells_write refused.Full seen more is = tt
