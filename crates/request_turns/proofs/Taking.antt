@@ -1,5 +1,5 @@
 -- What a manager is known to be when its turn comes.
-use Rattle.std.proofs.Common.{◌≡◌, ◌≤◌, ◌+◌, ℕ, Bool, List, [], ◌∷◌, sym, subst, ap, ◌∙◌, arith}
+use Rattle.std.proofs.Common.{◌≡◌, ◌≤◌, ℕ, Bool, List, [], ◌∷◌, sym, subst, ap, ◌∙◌, arith}
 use Rattle.std.specs.List.{AllByRecursion}
 use Rattle.std.specs.Prelude.{slice_index_or}
 use Rattle.turn_lock.specs.LockIds.{LockId}
@@ -59,5 +59,5 @@ module _ {D : Type 0} (shared : Shared D) where
     can_be_asked first count fit = record { ready = is.ready; at = home_at fit.at; some = fit.some; few = few_at count fit.few; fits = fits_at _ fit.fits }
 
 -- they fit it, by what its lock is known to have
-pub fits_volume : {D : Type 0} (shared : Shared D) (first count : ℕ) (k l : LockId ManagerBase) → k ≡ l → IsShared shared l.base → (1 ≤ count) × (count ≤ l.base.volume.began.most) → first + count ≤ l.base.volume.began.home_blocks → FitsVolume shared first count k.base
-fits_volume shared first count k l same at many fits = subst (λ (i : LockId ManagerBase). FitsVolume shared first count i.base) (sym same) (record { at = at; some = many.0; few = many.1; fits = fits })
+pub fits_volume : {D : Type 0} (shared : Shared D) (first count : ℕ) (k l : LockId ManagerBase) → k ≡ l → FitsVolume shared first count l.base → FitsVolume shared first count k.base
+fits_volume shared first count k l same = subst (λ (i : LockId ManagerBase). FitsVolume shared first count i.base) (sym same)

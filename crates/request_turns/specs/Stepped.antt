@@ -1,5 +1,5 @@
 -- How a turn with steps of reclaim ends.
-use Rattle.std.specs.Prelude.{◌≡◌, ◌∷◌, ◌++◌, ℕ, Bool, false, [], Some}
+use Rattle.std.specs.Prelude.{◌∷◌, ◌++◌, ℕ, Bool, false, []}
 use Rattle.turn_lock.specs.Passes.{pass_lock, pass_number, IsInTurnWith}
 use Rattle.wol_disk.specs.Disk.{State}
 use Rattle.wol_promise.specs.Policy.{Look}
@@ -7,9 +7,8 @@ use Rattle.wol_promise.specs.Ruled.{Noted}
 use Rattle.manager.specs.Seen.{look_of_manager}
 use Rattle.manager.specs.Stands.{Stands}
 use Rattle.manager.specs.declared.manager.Manager.{Manager}
-use Rattle.manager.specs.declared.part.Part.{Part}
 use Rattle.request_turns.specs.Entries.{note_of, step_operation}
-use Rattle.request_turns.specs.Turns.{ManagerPass, notes_seen, WasDown, HasLeft}
+use Rattle.request_turns.specs.Turns.{ManagerPass, notes_seen, HasLeftWith}
 
 -- the entry of steps, one of which failed at a disk or none
 abbrev pub step_note : (pass : ℕ) → (failed : Bool) → Look → Noted
@@ -27,12 +26,11 @@ abbrev pub StandsSteppedInPlace : {D : Type 0} → Bool → (D → State) → (f
 StandsSteppedInPlace {D} tells state failed p =
     (m : Manager D) × IsInTurnWith m p × StandsStepped tells state failed m p
 
--- The turn of this manager ended with it. The part that the manager names as down was down behind
--- one of the entries up to this one.
-pub record HasLeftStep {D : Type 0} (tells failed : Bool) (m : Manager D) (p q : ManagerPass D) :
-    Type 0 where
-  pub left : HasLeft tells (step_note (pass_number p) failed (look_of_manager m)) p q
-  pub broken : (d : Part) → m.down ≡ Some d → WasDown d (notes_seen q)
+-- the turn of this manager ended with it
+abbrev pub HasLeftStep : {D : Type 0} → (tells failed : Bool) → Manager D → (p q : ManagerPass D)
+    → Type 0
+HasLeftStep tells failed m p q =
+    HasLeftWith tells (step_note (pass_number p) failed (look_of_manager m)) m p q
 
 -- .. of the manager that it kept in its place
 abbrev pub HasLeftStepInPlace : {D : Type 0} → (tells failed : Bool) → (p q : ManagerPass D)

@@ -2,7 +2,8 @@
 use Rattle.std.specs.Prelude.{⊤, ◌≡◌, ◌⊎◌, ◌∷◌, ◌++◌, ℕ, Bool, true, false, List, [], Option, None, Some, map, is_some, IsTrue}
 use Rattle.std.specs.List.{AllByRecursion}
 use Rattle.turn_lock.specs.Histories.{Entry, own, Begins}
-use Rattle.turn_lock.specs.Passes.{pass_lock, pass_number, pass_seen, pass_mine, value_of, IsFree, IsInTurnWith, IsSamePass}
+use Rattle.turn_lock.specs.Passes.{pass_lock, pass_number, pass_seen, pass_mine, value_of, IsPassOf, IsFree, IsInTurn, IsInTurnWith, IsSamePass}
+use Rattle.turn_lock.specs.declared.lock.TurnLock.{TurnLock}
 use Rattle.turn_lock.specs.declared.pass.PassOf.{PassOf}
 use Rattle.wol_disk.specs.Disk.{State}
 use Rattle.wol_model.specs.Blocks.{Write}
@@ -98,6 +99,19 @@ pub record HasLeft {D : Type 0} (tells : Bool) (n : Noted) (p q : ManagerPass D)
   pub seen : pass_seen q ≡ pass_seen p ++ coded n ∷ []
   pub mine : pass_mine q ≡ pass_mine p ++ coded n ∷ []
   pub history : HasHistory (IsTrue tells) (began q) (notes_seen q)
+
+-- a pass of the lock in a turn
+pub record IsInTurnAt {D : Type 0} (l : TurnLock (Manager D) ManagerBase) (p : ManagerPass D) :
+    Type 0 where
+  pub own : IsPassOf l p
+  pub turn : IsInTurn p
+
+-- The turn of this manager ended with this entry. The part that the manager names as down was down
+-- behind one of the entries up to this one.
+pub record HasLeftWith {D : Type 0} (tells : Bool) (n : Noted) (m : Manager D)
+    (p q : ManagerPass D) : Type 0 where
+  pub left : HasLeft tells n p q
+  pub broken : (d : Part) → m.down ≡ Some d → WasDown d (notes_seen q)
 
 -- the manager of a turn that keeps it in its place stands for this entry too
 abbrev pub StandsInPlace : {D : Type 0} → Bool → (D → State) → Noted → ManagerPass D → Type 0

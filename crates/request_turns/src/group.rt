@@ -7,12 +7,13 @@ ghost use Rattle.request_turns.specs.Answered.{HasAnsweredMany};
 ghost use Rattle.request_turns.specs.Counts.{HasCounted};
 ghost use Rattle.request_turns.specs.Entries.{note_of};
 ghost use Rattle.request_turns.specs.Groups.{HasWrittenMany, item_of, blocks_of, answered_of};
+ghost use Rattle.request_turns.specs.Helped.{IsPassAt};
 ghost use Rattle.request_turns.specs.Requests.{IsWithin};
 ghost use Rattle.request_turns.specs.Tried.{CanWriteSome, HasTriedSome};
 ghost use Rattle.request_turns.specs.Turns.{look_in_place, next_in_place, passed_in_place, notes_seen, HasLeftInPlace, StandsInPlace};
 ghost use Rattle.std.specs.List.{AllByRecursion, flat_map};
 ghost use Rattle.std.specs.Prelude.{◌≡◌, ◌≤◌, ◌+◌, ◌^◌, false, length, map, take, sum_by, vec_capacity};
-ghost use Rattle.turn_lock.specs.Passes.{pass_lock, pass_number, IsPassOf, IsFree, IsInTurnWith};
+ghost use Rattle.turn_lock.specs.Passes.{pass_lock, pass_number, IsPassOf, IsInTurnWith};
 ghost use Rattle.wol_model.specs.History.{worker};
 
 use crate::drain::drain_and_write;
@@ -165,9 +166,7 @@ pub fn write_many_turn<D: Disk, R: Wait>(
     fetch: &mut Fetch,
     tally: &mut Tally,
 ) -> (usize, Outcome)
-    requires own { IsPassOf lock.now pass.old }
-    requires free { IsFree pass.old }
-    requires client { pass_number pass.old ≡ worker }
+    requires pass { IsPassAt lock.now worker pass.old }
     requires shared { IsShared shared.now (pass_lock pass.old).base }
     requires some { 1 ≤ length requests.now }
     requires within { AllByRecursion (IsWithin (pass_lock pass.old).base) requests.now }

@@ -3,7 +3,7 @@ ghost use Rattle.manager.specs.Seen.{look_of_manager};
 ghost use Rattle.manager.specs.Stands.{Stands};
 ghost use Rattle.manager.specs.declared.part.Part.{Part};
 ghost use Rattle.request_turns.specs.Stepped.{step_note, StandsStepped, StandsSteppedInPlace, HasLeftStep, HasLeftStepInPlace};
-ghost use Rattle.request_turns.specs.Turns.{look_in_place, notes_seen, HasLeft, HasLeftInPlace, IsBroken, StandsInPlace, WasDown};
+ghost use Rattle.request_turns.specs.Turns.{look_in_place, notes_seen, IsInTurnAt, HasLeft, HasLeftInPlace, IsBroken, StandsInPlace, WasDown};
 ghost use Rattle.std.specs.Prelude.{ℕ, ◌≡◌, ◌++◌, ◌∷◌, [], None, Some};
 ghost use Rattle.turn_lock.specs.Passes.{pass_lock, pass_number, IsPassOf, IsInTurn};
 ghost use Rattle.wol_promise.specs.Code.{no_note};
@@ -52,8 +52,7 @@ fn leave_named<D: Disk, N: Memo>(
     pass: &mut Pass<Manager<D>>,
     failed: bool,
 )
-    requires own { IsPassOf lock.now pass.old }
-    requires turn { IsInTurn pass.old }
+    requires turn { IsInTurnAt lock.now pass.old }
     requires note { N.note
         ≡ step_note (pass_number pass.old) failed (look_of_manager turn.value) }
     requires value { StandsStepped D.tells D.state failed turn.value pass.old }
@@ -70,8 +69,7 @@ pub(crate) fn leave_step<D: Disk>(
     pass: &mut Pass<Manager<D>>,
     failed: bool,
 )
-    requires own { IsPassOf lock.now pass.old }
-    requires turn { IsInTurn pass.old }
+    requires turn { IsInTurnAt lock.now pass.old }
     requires value { StandsStepped D.tells D.state failed turn.value pass.old }
     ensures { HasLeftStep D.tells failed turn.value pass.old pass.new }
 {

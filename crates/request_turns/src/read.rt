@@ -3,18 +3,18 @@ ghost use Rattle.manager.specs.Answers.{was_read};
 ghost use Rattle.manager.specs.Seen.{look_of_manager};
 ghost use Rattle.manager.specs.Stands.{Stands, IsShared};
 ghost use Rattle.manager.specs.declared.manager.Manager.{Manager};
-ghost use Rattle.manager.specs.declared.part.Part.{Part};
 ghost use Rattle.request_turns.specs.Answered.{HasAnswered};
 ghost use Rattle.request_turns.specs.Blocks.{HasReadBlocks};
 ghost use Rattle.request_turns.specs.Counts.{ReclaimsNothing};
 ghost use Rattle.request_turns.specs.Entries.{note_of, read_outcome};
 ghost use Rattle.request_turns.specs.Full.{FitsVolume};
+ghost use Rattle.request_turns.specs.Helped.{IsPassAt};
 ghost use Rattle.request_turns.specs.Requests.{IsWithin};
 ghost use Rattle.request_turns.specs.Tried.{CanBeAsked, HasReplied};
-ghost use Rattle.request_turns.specs.Turns.{look_in_place, notes_seen, HasLeft, WasDown, HasLeftInPlace, StandsInPlace};
+ghost use Rattle.request_turns.specs.Turns.{look_in_place, notes_seen, IsInTurnAt, HasLeftWith, HasLeftInPlace, StandsInPlace};
 ghost use Rattle.request_turns.specs.Written.{HasRead};
-ghost use Rattle.std.specs.Prelude.{Some, ◌≡◌, ◌≤◌, ◌+◌, ◌++◌, ◌∷◌, [], false, length};
-ghost use Rattle.turn_lock.specs.Passes.{pass_lock, pass_number, IsPassOf, IsFree, IsInTurn};
+ghost use Rattle.std.specs.Prelude.{◌≡◌, ◌++◌, ◌∷◌, [], false, length};
+ghost use Rattle.turn_lock.specs.Passes.{pass_lock, pass_number, IsPassOf};
 ghost use Rattle.wol_model.specs.History.{worker};
 
 use crate::noted::{Memo, leave_noted, leave_noted_in_place};
@@ -53,14 +53,12 @@ fn leave_read<D: Disk, N: Memo>(
     out: &[Block],
     answer: &Result<Sources, ReadRefusal>,
 )
-    requires own { IsPassOf lock.now pass.old }
-    requires turn { IsInTurn pass.old }
+    requires turn { IsInTurnAt lock.now pass.old }
     requires note { N.note ≡ note_of (pass_number pass.old) (was_read lbn out.now answer.now)
         (look_of_manager turn.value) [] false }
     requires value { Stands D.tells D.state turn.value (pass_lock pass.old).base
         (notes_seen pass.old ++ N.note ∷ []) }
-    ensures left { HasLeft D.tells N.note pass.old pass.new }
-    ensures broken { (p : Part) → turn.value.down ≡ Some p → WasDown p (notes_seen pass.new) }
+    ensures { HasLeftWith D.tells N.note turn.value pass.old pass.new }
 {
     let _ = out;
     leave_noted::<D, N>(lock, turn, pass);
@@ -76,8 +74,7 @@ fn read_within<D: Disk, R: Wait>(
     lbn: u64,
     out: &mut [Block],
 ) -> Result<Sources, ReadRefusal>
-    requires own { IsPassOf lock.now pass.old }
-    requires turn { IsInTurn pass.old }
+    requires turn { IsInTurnAt lock.now pass.old }
     requires client { pass_number pass.old ≡ worker }
     requires blocks { FitsVolume shared.now lbn (length out.old) (pass_lock pass.old).base }
     requires value { Stands D.tells D.state turn.value (pass_lock pass.old).base
@@ -99,13 +96,8 @@ pub fn read_blocks<D: Disk, R: Wait>(
     lbn: u64,
     out: &mut [Block],
 ) -> Result<Sources, ReadRefusal>
-    requires own { IsPassOf lock.now pass.old }
-    requires free { IsFree pass.old }
-    requires client { pass_number pass.old ≡ worker }
-    requires shared { IsShared shared.now (pass_lock pass.old).base }
-    requires count { (1 ≤ length out.old)
-        × (length out.old ≤ (pass_lock pass.old).base.volume.began.most) }
-    requires fits { lbn + length out.old ≤ (pass_lock pass.old).base.volume.began.home_blocks }
+    requires pass { IsPassAt lock.now worker pass.old }
+    requires blocks { FitsVolume shared.now lbn (length out.old) (pass_lock pass.old).base }
     ensures read { HasReadBlocks D.tells lbn out.new result pass.old pass.new }
     ensures counted { ReclaimsNothing D.tells pass.old pass.new }
 {
@@ -158,9 +150,7 @@ pub fn read_turn<D: Disk, R: Wait>(
     request: &Request,
     payload: &mut Payload,
 ) -> Outcome
-    requires own { IsPassOf lock.now pass.old }
-    requires free { IsFree pass.old }
-    requires client { pass_number pass.old ≡ worker }
+    requires pass { IsPassAt lock.now worker pass.old }
     requires shared { IsShared shared.now (pass_lock pass.old).base }
     requires within { IsWithin (pass_lock pass.old).base request.now }
     requires kind { request.now.kind ≡ Kind.Read }

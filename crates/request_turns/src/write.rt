@@ -1,16 +1,17 @@
 // A write in one turn, after a drain where no log has room.
 ghost use Rattle.manager.specs.Answers.{written};
-ghost use Rattle.manager.specs.Stands.{Keeps, Stands, IsShared};
+ghost use Rattle.manager.specs.Stands.{Keeps, Stands};
 ghost use Rattle.manager.specs.declared.manager.Manager.{Manager};
 ghost use Rattle.request_turns.specs.Blocks.{HasWrittenBlocks};
 ghost use Rattle.request_turns.specs.Counts.{HasCounted};
 ghost use Rattle.request_turns.specs.Entries.{note_of, written_outcome, is_full};
 ghost use Rattle.request_turns.specs.Full.{FitsVolume};
+ghost use Rattle.request_turns.specs.Helped.{IsPassAt};
 ghost use Rattle.request_turns.specs.Tried.{CanBeAsked, HasTried, HasTriedInPlace};
 ghost use Rattle.request_turns.specs.Turns.{look_in_place, next_in_place, passed_by, notes_seen, HasLeftInPlace, StandsInPlace};
 ghost use Rattle.request_turns.specs.Written.{HasWritten};
-ghost use Rattle.std.specs.Prelude.{◌≡◌, ◌≤◌, ◌+◌, ◌&&◌, List, is_ok, length};
-ghost use Rattle.turn_lock.specs.Passes.{pass_lock, pass_number, IsPassOf, IsFree, IsInTurnWith};
+ghost use Rattle.std.specs.Prelude.{◌≡◌, ◌&&◌, List, is_ok, length};
+ghost use Rattle.turn_lock.specs.Passes.{pass_lock, pass_number, IsPassOf, IsInTurnWith};
 ghost use Rattle.wol_model.specs.History.{worker};
 ghost use Rattle.wol_promise.specs.Ruled.{Noted};
 
@@ -143,13 +144,8 @@ pub fn write_blocks<D: Disk, R: Wait>(
     fetch: &mut Fetch,
     tally: &mut Tally,
 ) -> Outcome
-    requires own { IsPassOf lock.now pass.old }
-    requires free { IsFree pass.old }
-    requires client { pass_number pass.old ≡ worker }
-    requires shared { IsShared shared.now (pass_lock pass.old).base }
-    requires count { (1 ≤ length from.now)
-        × (length from.now ≤ (pass_lock pass.old).base.volume.began.most) }
-    requires fits { lbn + length from.now ≤ (pass_lock pass.old).base.volume.began.home_blocks }
+    requires pass { IsPassAt lock.now worker pass.old }
+    requires blocks { FitsVolume shared.now lbn (length from.now) (pass_lock pass.old).base }
     ensures written { HasWrittenBlocks D.tells lbn from.now result pass.old pass.new }
     ensures counted { HasCounted D.tells tally.old tally.new pass.old pass.new }
 {

@@ -16,6 +16,9 @@ use Rattle.request_turns.proofs.help.drop_turn.Goals as goal
 pub invalidate_one-answer-requires-clause-at : goal.invalidate_one-answer-requires-clause-at
 invalidate_one-answer-requires-clause-at g c = home_at _ _ _ _ _ _ _ c.enter-turn.ensures.same.0 c.enter-turn.ensures.value.keeps c.requires.shared
 
+pub leave_step-requires-clause-turn : goal.leave_step-requires-clause-turn
+leave_step-requires-clause-turn g c = let e = c.enter-turn.ensures in record { own = e.same.0 ∙ c.requires.pass.own; turn = e.turn }
+
 pub leave_step-requires-clause-value : goal.leave_step-requires-clause-value
 leave_step-requires-clause-value g c = let r = c.invalidate_one-answer.ensures in let e = c.enter-turn.ensures in
     help_stands _ _ c.enter-turn.result.value c.invalidate_one-answer.new.m _ _ _ c.invalidate_one-answer.result _ c.has_failed.ensures Always tt r.keeps r.broke

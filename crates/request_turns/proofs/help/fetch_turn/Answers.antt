@@ -1,4 +1,4 @@
-use Rattle.std.proofs.Common.{[], false, refl}
+use Rattle.std.proofs.Common.{[], false, refl, ◌∙◌}
 use Rattle.turn_lock.specs.Passes.{pass_number}
 use Rattle.request_turns.specs.Entries.{note_of, step_operation}
 use Rattle.manager.specs.Reclaim.{Always}
@@ -10,6 +10,9 @@ use Rattle.request_turns.proofs.help.fetch_turn.Goals as goal
 
 pub fetch-answer-requires-clause-at : goal.fetch-answer-requires-clause-at
 fetch-answer-requires-clause-at g c = home_at _ _ _ _ _ _ _ c.enter-turn.ensures.same.0 c.enter-turn.ensures.value.keeps c.requires.shared
+
+pub leave_step-requires-clause-turn : goal.leave_step-requires-clause-turn
+leave_step-requires-clause-turn g c = let e = c.enter-turn.ensures in record { own = e.same.0 ∙ c.requires.pass.own; turn = e.turn }
 
 pub leave_step-requires-clause-value : goal.leave_step-requires-clause-value
 leave_step-requires-clause-value g c = let r = c.fetch-answer.ensures in

@@ -13,6 +13,9 @@ use Rattle.request_turns.proofs.help.put_turn.Goals as goal
 pub put_home-answer-requires-clause-at : goal.put_home-answer-requires-clause-at
 put_home-answer-requires-clause-at g c = home_at _ _ _ _ _ _ _ c.enter-turn.ensures.same.0 c.enter-turn.ensures.value.keeps c.requires.shared
 
+pub leave_step-requires-clause-turn : goal.leave_step-requires-clause-turn
+leave_step-requires-clause-turn g c = let e = c.enter-turn.ensures in record { own = e.same.0 ∙ c.requires.pass.own; turn = e.turn }
+
 pub leave_step-requires-clause-value : goal.leave_step-requires-clause-value
 leave_step-requires-clause-value g c = let r = c.put_home-answer.ensures in let e = c.enter-turn.ensures in
     help_stands _ _ c.enter-turn.result.value c.put_home-answer.new.m _ _ _ c.put_home-answer.result _ c.has_failed.ensures (HasData g.D.Disk.tells c.args.room.now) (data_in _ c.args.room.now _ _ e.same e.seen c.requires.data) r.keeps r.broke

@@ -1,5 +1,9 @@
+use Rattle.std.proofs.Common.{◌∙◌}
 use Rattle.request_turns.proofs.LookNotes.{look_stands, has_looked, look_counted}
 use Rattle.request_turns.proofs.look.look_turn.Goals as goal
+
+pub leave_step-requires-clause-turn : goal.leave_step-requires-clause-turn
+leave_step-requires-clause-turn g c = let e = c.enter-turn.ensures in record { own = e.same.0 ∙ c.requires.own; turn = e.turn }
 
 pub leave_step-requires-clause-value : goal.leave_step-requires-clause-value
 leave_step-requires-clause-value g c = look_stands _ _ c.enter-turn.result.value _ _ _ c.enter-turn.ensures.value

@@ -22,7 +22,7 @@ leave_reply-requires-clause-value g c = let e = c.enter_in_place.ensures in let 
       w.0,
       w.2,
       stands_at p i k.same k.seen _ _ w.0 _ _ (note_at p i k.same k.seen w.0 w.2 (was_read rq.lbn out a) [] false)
-          (t.stands _ _ _ (e.same.1 ∙ c.requires.client) (read_note v.0 w.0 rq.lbn out a _ (pass_number p) v.2.look rq.count t.long t.look t.down t.unchanged) v.2.keeps),
+          (t.stands _ _ _ (e.same.1 ∙ c.requires.pass.number_is) (read_note v.0 w.0 rq.lbn out a _ (pass_number p) v.2.look rq.count t.long t.look t.down t.unchanged) v.2.keeps),
     )
 
 pub returns : goal.returns

@@ -7,7 +7,7 @@ use Rattle.request_turns.proofs.write.write_blocks.Goals as goal
 
 pub write_within-requires-clause-blocks : goal.write_within-requires-clause-blocks
 write_within-requires-clause-blocks g c =
-    fits_volume c.args.shared.now c.args.lbn (length c.args.from.now) (pass_lock c.enter_in_place.new.pass) (pass_lock c.args.pass.now) c.enter_in_place.ensures.same.0 c.requires.shared c.requires.count c.requires.fits
+    fits_volume c.args.shared.now c.args.lbn (length c.args.from.now) (pass_lock c.enter_in_place.new.pass) (pass_lock c.args.pass.now) c.enter_in_place.ensures.same.0 c.requires.blocks
 
 pub returns-clause-written : goal.returns-clause-written
 returns-clause-written g c = let e = c.enter_in_place.ensures in
