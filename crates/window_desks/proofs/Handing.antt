@@ -38,15 +38,8 @@ handed_none ds es begun k d h = record { handed = begun k d h; room = rw (begun 
 
 module _ {D : Type 0} (rs : List Request) (r : Request) where
   kept_own : (k : ℕ) (d e : Desk D) → r.volume ≢ k → HasOwn rs k d e → HasOwn (rs ++ r ∷ []) k d e
-  kept_own k d e other own = let h = own.handed in record {
-    handed = record {
-      id = h.id;
-      worker_is = h.worker_is;
-      outcomes = h.outcomes;
-      fault = h.fault;
-      tally = h.tally;
-      requests = h.requests ∙ sym (own_skips k rs r (other_eq r.volume k other));
-    };
+  kept_own k d e other own = record {
+    handed = subst (λ (qs : List Request). IsHanded qs d e) (sym (own_skips k rs r (other_eq r.volume k other))) own.handed;
     room = own.room;
   }
 
