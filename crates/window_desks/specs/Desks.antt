@@ -11,6 +11,12 @@ use Rattle.window_desks.specs.Served.{HasServed}
 use Rattle.window_desks.specs.declared.desk.Desk.{Desk}
 use Rattle.trace_windows.specs.declared.request.Request.{Request}
 
+-- a desk has its worker's pass of this lock, in no turn; the locks are those that it shares
+pub record IsDeskAt {D : Type 0} (l : ManagerLock D) (shared : Shared D) (d : Desk D) :
+    Type 0 where
+  pub pass : IsPassAt l worker d.worker
+  pub shared_ : IsShared shared (pass_lock d.worker).base
+
 -- a desk has its worker's pass of this lock, and room for the outcomes of its requests, each of
 -- which lies in its volume
 pub record IsReadyDesk {D : Type 0} (l : ManagerLock D) (shared : Shared D) (d : Desk D) :

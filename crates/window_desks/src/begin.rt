@@ -1,15 +1,11 @@
 // The beginning of a window: the spindles are told the moment, and the managers which disks are awake.
-ghost use Rattle.logger.specs.Lanes.{logger_of};
-ghost use Rattle.manager.specs.Stands.{IsShared};
 ghost use Rattle.manager.specs.declared.base.LaneBase.{LaneBase};
-ghost use Rattle.request_turns.specs.Begun.{HasBegunVolume};
-ghost use Rattle.request_turns.specs.Helped.{IsPassAt};
 ghost use Rattle.std.specs.List.{AllByRecursion};
-ghost use Rattle.std.specs.Prelude.{◌≡◌, ◌≤◌, ◌<◌, [], ℕ, Bool, false, List, All, length, map, take, vec_len, vec_capacity, slice_index_or, OnOk, OnErr};
+ghost use Rattle.std.specs.Prelude.{◌≡◌, ◌≤◌, ◌<◌, [], ℕ, Bool, List, length, vec_capacity, slice_index_or, OnOk, OnErr};
 ghost use Rattle.turn_lock.specs.Passes.{pass_lock, IsPassOf, IsFree, IsSamePass};
 ghost use Rattle.window_desks.specs.Begun.{SpindlePass, AreKeepers, HaveBegun, HaveBegunFirst, HaveBegunVolumes, FailToBegin};
 ghost use Rattle.window_desks.specs.Floors.{IsFloor, IsOn};
-ghost use Rattle.window_desks.specs.Helped.{ArePassesAt, AreSharing};
+ghost use Rattle.window_desks.specs.Helped.{ArePassesAt};
 ghost use Rattle.wol_model.specs.History.{keeper};
 
 use crate::floor::Floor;

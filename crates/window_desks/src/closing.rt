@@ -1,12 +1,8 @@
 // The reclaim turns after the requests.
-ghost use Rattle.manager.specs.Stands.{IsShared};
-ghost use Rattle.request_turns.specs.Helped.{IsPassAt};
 ghost use Rattle.std.specs.Prelude.{◌≡◌, ◌<◌, ℕ, length, slice_index_or, None};
-ghost use Rattle.turn_lock.specs.Passes.{pass_lock};
 ghost use Rattle.window_desks.specs.Closed.{HasClosedDesk, AreClosed};
-ghost use Rattle.window_desks.specs.Desks.{AreAt, ShareDesks};
+ghost use Rattle.window_desks.specs.Desks.{IsDeskAt, AreAt, ShareDesks};
 ghost use Rattle.window_desks.specs.declared.desk.Desk.{Desk};
-ghost use Rattle.wol_model.specs.History.{worker};
 
 use crate::desk::Desk;
 use crate::request::Reclaim;
@@ -24,8 +20,7 @@ fn close_one<D: Disk, R: Wait>(
     shared: &Shared<D>,
     desk: &mut Desk<D>,
 )
-    requires pass { IsPassAt lock.now worker desk.old.worker }
-    requires shared { IsShared shared.now (pass_lock desk.old.worker).base }
+    requires { IsDeskAt lock.now shared.now desk.old }
     ensures { HasClosedDesk D.tells Reclaim.Between desk.old desk.new }
 {
     desk.fault = reclaim_turn(

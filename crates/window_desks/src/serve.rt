@@ -1,16 +1,13 @@
 // Serving the requests of one volume, in batches of consecutive writes.
-ghost use Rattle.manager.specs.Stands.{IsShared};
 ghost use Rattle.request_turns.specs.Answered.{HasAnsweredMany};
 ghost use Rattle.request_turns.specs.Counts.{HasCounted};
-ghost use Rattle.request_turns.specs.Helped.{IsPassAt};
 ghost use Rattle.request_turns.specs.Requests.{IsWithin};
-ghost use Rattle.std.specs.Prelude.{◌≡◌, ◌≤◌, ◌<◌, ◌+◌, ◌++◌, [], ℕ, All, length, replicate, vec_len, vec_capacity, slice_range};
+ghost use Rattle.std.specs.Prelude.{◌≡◌, ◌≤◌, ◌<◌, ◌+◌, ◌++◌, All, length, replicate, vec_len, vec_capacity, slice_range};
 ghost use Rattle.turn_lock.specs.Passes.{pass_lock};
 ghost use Rattle.window_desks.specs.Batches.{IsBatch};
-ghost use Rattle.window_desks.specs.Desks.{IsReadyDesk, IsReadyAt};
+ghost use Rattle.window_desks.specs.Desks.{IsDeskAt, IsReadyDesk, IsReadyAt};
 ghost use Rattle.window_desks.specs.Requests.{was_answered};
 ghost use Rattle.window_desks.specs.Served.{HasServed, HasServedUpTo};
-ghost use Rattle.wol_model.specs.History.{worker};
 
 use crate::batch::first_batch;
 use crate::desk::Desk;
@@ -33,8 +30,7 @@ fn answer_first<D: Disk, R: Wait>(
     at: usize,
     end: usize,
 ) -> (usize, Outcome)
-    requires pass { IsPassAt lock.now worker desk.old.worker }
-    requires shared { IsShared shared.now (pass_lock desk.old.worker).base }
+    requires at { IsDeskAt lock.now shared.now desk.old }
     requires within { All (IsWithin (pass_lock desk.old.worker).base) desk.old.requests.items }
     requires some { at < end }
     requires end { end ≤ length desk.old.requests.items }

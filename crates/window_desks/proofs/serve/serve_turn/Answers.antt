@@ -4,6 +4,9 @@ use Rattle.request_turns.specs.declared.outcome.Outcome.TheVariants as outcome
 use Rattle.window_desks.proofs.Serving.{turn_answered, turn_refused}
 use Rattle.window_desks.proofs.serve.serve_turn.Goals as goal
 
+pub answer_first-count-requires-clause-at : goal.answer_first-count-requires-clause-at
+answer_first-count-requires-clause-at g c = record { pass = c.requires.ready.pass; shared_ = c.requires.ready.shared_ }
+
 pub returns-then-is_answered-clause-served : goal.returns-then-is_answered-clause-served
 returns-then-is_answered-clause-served g c =
     let a = c.answer_first-count.ensures in let r = c.answer_first-count.result in
