@@ -28,22 +28,25 @@ AreOver {D} es ss = (k : ℕ) (e : Errands (Job D)) (s : Seat D) → k < length 
 -- ---- Workers
 
 module _ {T : Type 0} where
-  -- each of these workers waits for what is handed over, from a place of the errands on
+  -- it holds of each of these workers and its errand, from a place of the errands on
+  abbrev pub AllFrom : (P : Errands T → Worker T → Type 0) → ℕ → List (Errands T) → List (Worker T)
+      → Type 0
+  AllFrom P start es ws = (k : ℕ) (e : Errands T) (w : Worker T) → k < length ws
+      → P (slice_index_or es (start + k) e) (slice_index_or ws k w)
+
+  -- each of them waits for what is handed over
   abbrev pub AreWaitingFrom : ℕ → List (Errands T) → List (Worker T) → Type 0
-  AreWaitingFrom start es ws = (k : ℕ) (e : Errands T) (w : Worker T) → k < length ws
-      → IsWaiting (slice_index_or es (start + k) e) (slice_index_or ws k w)
+  AreWaitingFrom = AllFrom IsWaiting
+
+  -- each of them was told that nothing more comes
+  abbrev pub AreToldFrom : ℕ → List (Errands T) → List (Worker T) → Type 0
+  AreToldFrom = AllFrom IsTold
 
   -- .. from the first on
   abbrev pub AreWaiting : List (Errands T) → List (Worker T) → Type 0
   AreWaiting es ws = (k : ℕ) (e : Errands T) (w : Worker T) → k < length ws
       → IsWaiting (slice_index_or es k e) (slice_index_or ws k w)
 
-  -- each of these workers was told that nothing more comes, from a place of the errands on
-  abbrev pub AreToldFrom : ℕ → List (Errands T) → List (Worker T) → Type 0
-  AreToldFrom start es ws = (k : ℕ) (e : Errands T) (w : Worker T) → k < length ws
-      → IsTold (slice_index_or es (start + k) e) (slice_index_or ws k w)
-
-  -- .. from the first on
   abbrev pub AreTold : List (Errands T) → List (Worker T) → Type 0
   AreTold es ws = (k : ℕ) (e : Errands T) (w : Worker T) → k < length ws
       → IsTold (slice_index_or es k e) (slice_index_or ws k w)
