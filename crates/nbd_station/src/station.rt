@@ -1,10 +1,11 @@
 // A station, as a session asks it.
-ghost use Rattle.manager.specs.Stands.{IsShared};
 ghost use Rattle.nbd_session.specs.Turns.{look_turn, read_turn, write_turn};
 ghost use Rattle.nbd_station.specs.Stations.{OnlyWorks};
 ghost use Rattle.nbd_station.specs.Turns.{AnswersWrite, IsOfWrite, MakesTurn, read_refusal, write_refusal};
-ghost use Rattle.std.specs.Prelude.{◌≡◌, ◌≤◌, ◌+◌, length};
-ghost use Rattle.turn_lock.specs.Passes.{pass_lock, pass_number, IsFree, IsPassOf};
+ghost use Rattle.request_turns.specs.Full.{FitsVolume};
+ghost use Rattle.request_turns.specs.Helped.{IsPassAt};
+ghost use Rattle.std.specs.Prelude.{◌≤◌, length};
+ghost use Rattle.turn_lock.specs.Passes.{pass_lock, IsFree, IsPassOf};
 ghost use Rattle.wol_model.specs.History.{worker};
 
 use logger::Shared;
@@ -86,14 +87,8 @@ fn read_at<R: Wait, D: Disk>(
     at: u64,
     out: &mut [Block],
 ) -> Result<(), Refusal>
-    requires own { IsPassOf station.old.lock station.old.worker }
-    requires free { IsFree station.old.worker }
-    requires client { pass_number station.old.worker ≡ worker }
-    requires shared { IsShared shared.now (pass_lock station.old.worker).base }
-    requires some { 1 ≤ length out.old }
-    requires few { length out.old ≤ (pass_lock station.old.worker).base.volume.began.most }
-    requires fits { at + length out.old
-        ≤ (pass_lock station.old.worker).base.volume.began.home_blocks }
+    requires pass { IsPassAt station.old.lock worker station.old.worker }
+    requires blocks { FitsVolume shared.now at (length out.old) (pass_lock station.old.worker).base }
     ensures only { OnlyWorks station.old station.new }
     ensures turned { MakesTurn D.tells (read_turn at (length out.old) out.new result)
         station.old.worker station.new.worker }
@@ -114,14 +109,8 @@ fn write_at<R: Wait, D: Disk>(
     from: &[Block],
     fetch: &mut Fetch,
 ) -> Result<(), Refusal>
-    requires own { IsPassOf station.old.lock station.old.worker }
-    requires free { IsFree station.old.worker }
-    requires client { pass_number station.old.worker ≡ worker }
-    requires shared { IsShared shared.now (pass_lock station.old.worker).base }
-    requires some { 1 ≤ length from.now }
-    requires few { length from.now ≤ (pass_lock station.old.worker).base.volume.began.most }
-    requires fits { at + length from.now
-        ≤ (pass_lock station.old.worker).base.volume.began.home_blocks }
+    requires pass { IsPassAt station.old.lock worker station.old.worker }
+    requires blocks { FitsVolume shared.now at (length from.now) (pass_lock station.old.worker).base }
     ensures only { OnlyWorks station.old station.new }
     ensures turned { MakesTurn D.tells (write_turn at from.now result) station.old.worker
         station.new.worker }
