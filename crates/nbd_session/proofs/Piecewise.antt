@@ -7,7 +7,7 @@ use Rattle.wol_disk.specs.Disk.{Block}
 use Rattle.nbd_session.specs.declared.volume.Refusal.{Refusal}
 use Rattle.std.specs.List.{AllByRecursion}
 use Rattle.std.proofs.lemmas.List.Elements.{All-drop, All-from_recursion, All-take}
-use Rattle.nbd_session.specs.Ranges.{AreWhole, HasRead, HasWritten, HasNotWritten, ReadsPiece, bytes_of, piece_of}
+use Rattle.nbd_session.specs.Ranges.{AreWhole, HasRead, HasTransferred, HasWritten, HasNotWritten, ReadsPiece, bytes_of, piece_of}
 use Rattle.nbd_session.specs.Turns.{Turn, Wrote, NotWrote}
 
 pub bytes-append : (xs ys : List Block) → bytes_of (xs ++ ys) ≡ bytes_of xs ++ bytes_of ys
@@ -60,7 +60,7 @@ module _ {V : Type 0} (turned : Turn → V → V → Type 0) (most at count : �
   reads_piece done piece old new m w so more is (blocks, size, whole, took, put) =
       let P : ℕ → Type 0 = λ (n : ℕ). HasRead turned most at count v (done + n) (take (512 * done) old ++ bytes_of blocks) w in
       let Q : List ℕ → Type 0 = λ (bs : List ℕ). HasRead turned most at count v (done + piece) bs w in
-      subst Q (sym put) (subst P size (HasRead.next done (take (512 * done) old) m w blocks so more (size ∙ is) whole took))
+      subst Q (sym put) (subst P size (HasTransferred.next done (take (512 * done) old) m w blocks so more (size ∙ is) whole took))
 
   -- one more piece was read, into room of so many blocks
   pub reads_on : (done len piece : ℕ) (old new : List ℕ) (m w : V) → HasRead turned most at count v done (take (512 * done) old) m → ReadsPiece {T = Unit {0}} turned (at + done) len done old new m w (Ok tt) → done < count → piece ≡ piece_of most count done → len ≡ piece → HasRead turned most at count v (done + piece) (take (512 * (done + piece)) new) w
@@ -73,7 +73,7 @@ module _ {V : Type 0} (turned : Turn → V → V → Type 0) (most at count : �
       let P : ℕ → Type 0 = λ (n : ℕ). HasWritten turned most at count v (done + n) (bytes_of (take done blocks) ++ bytes_of (take piece (drop done blocks))) w in
       let Q : List ℕ → Type 0 = λ (bs : List ℕ). HasWritten turned most at count v (done + piece) bs w in
       let R : List Block → Type 0 = λ (bs : List Block). turned (Wrote (at + done) bs) m w in
-      subst Q (sym (bytes-more blocks done piece)) (subst P size (HasWritten.next done (bytes_of (take done blocks)) m w (take piece (drop done blocks)) so more (size ∙ is) (whole_part done piece blocks whole) (subst R same took)))
+      subst Q (sym (bytes-more blocks done piece)) (subst P size (HasTransferred.next done (bytes_of (take done blocks)) m w (take piece (drop done blocks)) so more (size ∙ is) (whole_part done piece blocks whole) (subst R same took)))
 
   -- a piece was refused
   pub writes_no_more : (done piece : ℕ) (blocks part : List Block) (m w : V) (refusal : Refusal) → HasWritten turned most at count v done (bytes_of (take done blocks)) m → turned (NotWrote (at + done) part refusal) m w → part ≡ take piece (drop done blocks) → length (take piece (drop done blocks)) ≡ piece → piece ≡ piece_of most count done → done < count → AreWhole blocks → HasNotWritten turned most at count (bytes_of blocks) v w refusal

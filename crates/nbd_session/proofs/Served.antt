@@ -1,5 +1,5 @@
 -- Requests of a session, one after another.
-use Rattle.std.proofs.Common.{◌≡◌, ◌≢◌, ◌+◌, ◌-◌, ◌^◌, ℕ, List, [], ◌++◌, length, min, Option, None, Some, Result, Ok, Err, refl, sym, ◌∙◌, ap, subst, arith, append-nil, inl, inr}
+use Rattle.std.proofs.Common.{◌≡◌, ◌≢◌, ◌+◌, ◌-◌, ◌^◌, ℕ, List, [], ◌++◌, length, min, Option, None, Some, Result, Ok, Err, refl, sym, ap, subst, arith, append-nil, inl, inr}
 use Rattle.std.specs.Io.KnownBytes.{Appends, Consumes}
 use Rattle.wol_io.proofs.Appending.{appends_both, appends_kept, appends_none, keeps_same}
 use Rattle.wol_io.proofs.Consuming.{consumes_both, consumes_none}
@@ -15,7 +15,7 @@ use Rattle.nbd_session.specs.Answers.{Serves, answer_in, reply_of}
 use Rattle.nbd_session.specs.Errors.{known_error}
 use Rattle.nbd_session.specs.Headers.{payload_of}
 use Rattle.nbd_session.specs.Intake.{TakesFewer, TakesHeader}
-use Rattle.nbd_session.specs.Sessions.{CountsFaults, GoesOn, HasServed, IsSession, RepliesSo, ServesOne, request_behind}
+use Rattle.nbd_session.specs.Sessions.{AreOut, CountsFaults, EndsWith, GoesOn, HasServed, IsSession, RepliesSo, ServesOne, request_behind}
 use Rattle.nbd_session.specs.Taking.{AnswersTaken, AnswersWhole, RefusesSo}
 use Rattle.nbd_session.specs.Turns.{Turn}
 
@@ -51,6 +51,20 @@ module _ {V : Type 0} (turned : Turn → V → V → Type 0) (home most : ℕ) (
   Becomes next w left' taken' (Ok (Some e)) = IsSession turned home most v w left left' taken taken' (Ok e)
   Becomes next w left' taken' (Err f) = IsSession turned home most v w left left' taken taken' (Err f)
 
+  -- a session that goes no further behind these
+  stops : (request : ℕ) (m w : V) (left' left'' taken' taken'' : Option (List ℕ)) (result : Result Ended NbdFault) (u : Underway request m left' taken') → w ≡ m → (last : List ℕ) → Consumes left' left'' last → EndsWith (request_behind u.requests) last left'' result
+      → AreOut turned home most v w u.so.bytes u.so.replies taken taken'' result → IsSession turned home most v w left left'' taken taken'' result
+  stops request m w left' left'' taken' taken'' result u same last took ends out = record {
+    requests = u.requests;
+    bytes = u.so.bytes;
+    replies = u.so.replies;
+    served = rw same u.so.served;
+    last = last;
+    took = consumes_both left left' left'' u.so.bytes last u.so.took took;
+    ends = ends;
+    out = out;
+  }
+
   becomes : (request next : ℕ) (m w : V) (left' left'' taken' taken'' : Option (List ℕ)) (result : Result (Option Ended) NbdFault) → Underway request m left' taken' → next ≡ min (request + 1) (2 ^ 64 - 1) → GoesOn turned home most next m w left' left'' taken' taken'' result → Becomes next w left'' taken'' result
   becomes request next m w left' left'' taken' taken'' (Ok None) u is (reply, one, out) = record {
     requests = u.requests + 1;
@@ -65,26 +79,9 @@ module _ {V : Type 0} (turned : Turn → V → V → Type 0) (home most : ℕ) (
   }
   becomes request next m w left' left'' taken' taken'' (Ok (Some e)) u is (same, (last, took, so, end), kept) =
       let number : next ≡ request_behind u.requests = let k = u.number in omega arith in
-      record {
-        requests = u.requests;
-        bytes = u.so.bytes;
-        replies = u.so.replies;
-        served = rw same u.so.served;
-        last = last;
-        took = consumes_both left left' left'' u.so.bytes last u.so.took took;
-        ends = (rw number at so, end);
-        out = appends_kept taken taken' taken'' u.so.replies u.so.out kept;
-      }
-  becomes request next m w left' left'' taken' taken'' (Err fault.Source) u is (same, (part, took, short), kept) = record {
-    requests = u.requests;
-    bytes = u.so.bytes;
-    replies = u.so.replies;
-    served = rw same u.so.served;
-    last = part;
-    took = consumes_both left left' left'' u.so.bytes part u.so.took took;
-    ends = short;
-    out = appends_kept taken taken' taken'' u.so.replies u.so.out kept;
-  }
+      stops request m w left' left'' taken' taken'' (Ok e) u same last took (rw number at so, end) (appends_kept taken taken' taken'' u.so.replies u.so.out kept)
+  becomes request next m w left' left'' taken' taken'' (Err fault.Source) u is (same, (part, took, short), kept) =
+      stops request m w left' left'' taken' taken'' (Err fault.Source) u same part took short (appends_kept taken taken' taken'' u.so.replies u.so.out kept)
   becomes request next m w left' left'' taken' taken'' (Err fault.Sink) u is (reply, one, out) = record {
     requests = u.requests + 1;
     bytes = u.so.bytes ++ one.bytes;
@@ -99,16 +96,13 @@ module _ {V : Type 0} (turned : Turn → V → V → Type 0) (home most : ℕ) (
       replies = u.so.replies;
       m = m;
       served = u.so.served;
-      h = one.h;
-      given = one.given;
       more = one.bytes;
-      answer = one.answer;
-      request = one.request;
-      serves = one.serves;
+      reply = reply;
+      last = one.one;
       is = refl;
       front = front;
       rest = rest;
-      cut = sym one.is ∙ cut;
+      cut = cut;
       out = appends_both taken taken' taken'' u.so.replies front u.so.out appended;
     };
   }
@@ -167,15 +161,9 @@ module _ {V : Type 0} (turned : Turn → V → V → Type 0) (home most request 
   -- it was asked of the volume
   asked_one : (w : V) (left'' : Option (List ℕ)) (h : Header) (room : List ℕ) (answer : Result ℕ NbdError) → h.command ≢ command.Disc → TakesHeader left left' (next.Request h) → AnswersWhole turned home most h v w left' left'' room answer → ServesOne turned home most v w left left'' (reply_of h.cookie (answer_in room answer))
   asked_one w left'' h room answer stays t whole = record {
-    h = h;
-    given = whole.given;
     bytes = t.bs ++ whole.given;
-    answer = answer_in room answer;
     took = consumes_both left left' left'' t.bs whole.given t.taken whole.took;
-    request = record { head = t.bs; header = t.is.0; size = whole.size; is = refl };
-    stays = stays;
-    serves = whole.serves;
-    is = refl;
+    one = record { h = h; given = whole.given; answer = answer_in room answer; request = record { head = t.bs; header = t.is.0; size = whole.size; is = refl }; stays = stays; serves = whole.serves; is = refl };
   }
 
   pub answered : (E : Type 0) (w : V) (left'' taken'' : Option (List ℕ)) (h : Header) (room : List ℕ) (a : Option (Result ℕ NbdError)) (result : Result (Option Ended) NbdFault) → h.command ≢ command.Disc → TakesHeader left left' (next.Request h) → AnswersTaken {E = E} turned home most h v w left' left'' room (Ok a) → RepliesSo h a room request taken taken'' result → GoesOn turned home most request v w left left'' taken taken'' result

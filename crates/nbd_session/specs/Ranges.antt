@@ -17,25 +17,28 @@ AreWhole blocks = All (λ b. length b ≡ 512) blocks
 abbrev pub piece_of : (most count done : ℕ) → ℕ
 piece_of most count done = min most (count - done)
 
--- the first blocks of a range were read, piece by piece: they hold these bytes
-pub data HasRead {V : Type 0} (turned : Turn → V → V → Type 0) (most at count : ℕ) (v : V) :
+-- the first blocks of a range were transferred, piece by piece, each in the turn that is made of its
+-- place and its blocks: they hold these bytes
+pub data HasTransferred {V : Type 0} (turned : Turn → V → V → Type 0)
+    (turn_of : (at : ℕ) → List Block → Turn) (most at count : ℕ) (v : V) :
     (done : ℕ) → List ℕ → V → Type 0 where
-  none : HasRead turned most at count v 0 [] v
+  none : HasTransferred turned turn_of most at count v 0 [] v
   next : (done : ℕ) (got : List ℕ) (m w : V) (blocks : List Block)
-      → HasRead turned most at count v done got m → done < count
+      → HasTransferred turned turn_of most at count v done got m → done < count
       → length blocks ≡ piece_of most count done → AreWhole blocks
-      → turned (Read (at + done) blocks) m w
-      → HasRead turned most at count v (done + length blocks) (got ++ bytes_of blocks) w
+      → turned (turn_of (at + done) blocks) m w
+      → HasTransferred turned turn_of most at count v (done + length blocks)
+      (got ++ bytes_of blocks) w
 
--- the first blocks of a range were written, piece by piece: they hold these bytes
-pub data HasWritten {V : Type 0} (turned : Turn → V → V → Type 0) (most at count : ℕ) (v : V) :
-    (done : ℕ) → List ℕ → V → Type 0 where
-  none : HasWritten turned most at count v 0 [] v
-  next : (done : ℕ) (got : List ℕ) (m w : V) (blocks : List Block)
-      → HasWritten turned most at count v done got m → done < count
-      → length blocks ≡ piece_of most count done → AreWhole blocks
-      → turned (Wrote (at + done) blocks) m w
-      → HasWritten turned most at count v (done + length blocks) (got ++ bytes_of blocks) w
+-- the first blocks of a range were read, piece by piece
+abbrev pub HasRead : {V : Type 0} → (turned : Turn → V → V → Type 0) → (most at count : ℕ) → V
+    → (done : ℕ) → List ℕ → V → Type 0
+HasRead turned = HasTransferred turned Read
+
+-- the first blocks of a range were written, piece by piece
+abbrev pub HasWritten : {V : Type 0} → (turned : Turn → V → V → Type 0) → (most at count : ℕ) → V
+    → (done : ℕ) → List ℕ → V → Type 0
+HasWritten turned = HasTransferred turned Wrote
 
 -- the first blocks of a range were read, and then a piece was refused
 pub record HasNotRead {V : Type 0} (turned : Turn → V → V → Type 0) (most at count : ℕ) (v w : V)

@@ -26,6 +26,17 @@ pub data HasServed {V : Type 0} (turned : Turn → V → V → Type 0) (home mos
       → HasServed turned home most v (n + 1) (taken ++ bytes) (replies ++ reply_of h.cookie answer)
       w
 
+-- a request stands in these bytes, it was asked of the volume, and this is its reply
+pub record IsAnswered {V : Type 0} (turned : Turn → V → V → Type 0) (home most : ℕ) (v w : V)
+    (bytes reply : List ℕ) : Type 0 where
+  pub h : Header
+  pub given : List ℕ
+  pub answer : Answer
+  pub request : IsRequest h given bytes
+  pub stays : h.command ≢ command.Disc
+  pub serves : Serves turned home most h given v answer w
+  pub is : reply ≡ reply_of h.cookie answer
+
 -- a whole header, and a part of the data that follow it
 pub record IsCutData (bs : List ℕ) : Type 0 where
   pub h : Header
@@ -75,16 +86,13 @@ pub record IsCutReply {V : Type 0} (turned : Turn → V → V → Type 0) (home 
   pub replies : List ℕ
   pub m : V
   pub served : HasServed turned home most v n before replies m
-  pub h : Header
-  pub given : List ℕ
   pub more : List ℕ
-  pub answer : Answer
-  pub request : IsRequest h given more
-  pub serves : Serves turned home most h given m answer w
+  pub reply : List ℕ
+  pub last : IsAnswered turned home most m w more reply
   pub is : bytes ≡ before ++ more
   pub front : List ℕ
   pub rest : List ℕ
-  pub cut : reply_of h.cookie answer ≡ front ++ rest
+  pub cut : reply ≡ front ++ rest
   pub out : Appends taken taken' (replies ++ front)
 
 -- the replies are out; where the sink failed, all but the last, of which a front is
@@ -124,18 +132,13 @@ pub record IsSession {V : Type 0} (turned : Turn → V → V → Type 0) (home m
   pub ends : EndsWith (request_behind requests) last left' result
   pub out : AreOut turned home most v w bytes replies taken taken' result
 
--- the bytes of one request were taken, it was asked of the volume, and this is its reply
+-- the bytes of one request were taken, which was answered by this reply
 pub record ServesOne {V : Type 0} (turned : Turn → V → V → Type 0) (home most : ℕ) (v w : V)
     (left left' : Option (List ℕ)) (reply : List ℕ) : Type 0 where
-  pub h : Header
-  pub given : List ℕ
   pub bytes : List ℕ
-  pub answer : Answer
   pub took : Consumes left left' bytes
-  pub request : IsRequest h given bytes
-  pub stays : h.command ≢ command.Disc
-  pub serves : Serves turned home most h given v answer w
-  pub is : reply ≡ reply_of h.cookie answer
+  pub one : IsAnswered turned home most v w bytes reply
+  pub open one use *
 
 -- what comes of the request with this number: it is served, or it ends the session; or a fault does
 abbrev pub GoesOn : {V : Type 0} → (turned : Turn → V → V → Type 0) → (home most request : ℕ)

@@ -44,10 +44,8 @@ fn look<V: Volume>(volume: &mut V) -> Result<usize, NbdError>
     ensures looked { LooksSo V.Turned volume.old volume.new result }
     ensures fits { IfOk result (λ n. n ≤ 33554432) }
 {
-    match volume.look() {
-        Ok(()) => Ok(0),
-        Err(refusal) => Err(error_of(refusal)),
-    }
+    volume.look().map_err(error_of)?;
+    Ok(0)
 }
 
 // Reads the range of a request into the bytes in front, by way of a room.
@@ -68,16 +66,9 @@ fn read<V: Volume>(
 {
     let length = header.length as usize;
     let count = length / BLOCK_BYTES;
-    match read_range(
-        volume,
-        header.offset / 512,
-        count,
-        &mut bytes[..length],
-        room,
-    ) {
-        Ok(()) => Ok(length),
-        Err(refusal) => Err(error_of(refusal)),
-    }
+    let bytes = &mut bytes[..length];
+    read_range(volume, header.offset / 512, count, bytes, room).map_err(error_of)?;
+    Ok(length)
 }
 
 // Writes the bytes in front to the range of a request.
@@ -92,10 +83,8 @@ fn write<V: Volume>(volume: &mut V, header: &Header, bytes: &[u8]) -> Result<usi
 {
     let length = header.length as usize;
     let count = length / BLOCK_BYTES;
-    match write_range(volume, header.offset / 512, count, &bytes[..length]) {
-        Ok(()) => Ok(0),
-        Err(refusal) => Err(error_of(refusal)),
-    }
+    write_range(volume, header.offset / 512, count, &bytes[..length]).map_err(error_of)?;
+    Ok(0)
 }
 
 // Asks a volume what a request asks for that has no error so far. A write's data stand in front in the bytes, and a read's

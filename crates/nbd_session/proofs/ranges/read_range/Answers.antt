@@ -1,13 +1,13 @@
 use Rattle.std.proofs.Common.{◌≡◌, arith}
 use Rattle.std.proofs.lemmas.List.{length-take}
 use Rattle.wol_disk.specs.Disk.{Block}
-use Rattle.nbd_session.specs.Ranges.{HasRead, piece_of}
+use Rattle.nbd_session.specs.Ranges.{HasTransferred, piece_of}
 use Rattle.nbd_session.proofs.Piecewise.{reads_on}
 use Rattle.nbd_session.proofs.Stays.{stays, stays_on}
 use Rattle.nbd_session.proofs.ranges.read_range.Goals as goal
 
 pub loop-done-init : goal.loop-done-init
-loop-done-init g c = record { within = omega arith; stays = stays c.args.volume.now c.requires.ready; read = HasRead.none }
+loop-done-init g c = record { within = omega arith; stays = stays c.args.volume.now c.requires.ready; read = HasTransferred.none }
 
 pub loop-done-preserved : goal.loop-done-preserved
 loop-done-preserved g c =

@@ -1,13 +1,13 @@
 use Rattle.std.proofs.Common.{◌≡◌, length, take, drop, arith, length-drop}
 use Rattle.std.proofs.lemmas.List.{length-take}
 use Rattle.std.proofs.lemmas.Result.{err_from_is_err_and}
-use Rattle.nbd_session.specs.Ranges.{HasWritten, piece_of}
+use Rattle.nbd_session.specs.Ranges.{HasTransferred, piece_of}
 use Rattle.nbd_session.proofs.Piecewise.{writes_no_more, writes_on}
 use Rattle.nbd_session.proofs.Stays.{stays, stays_on}
 use Rattle.nbd_session.proofs.ranges.write_blocks.Goals as goal
 
 pub loop-done-init : goal.loop-done-init
-loop-done-init g c = record { within = omega arith; stays = stays c.args.volume.now c.requires.ready; written = HasWritten.none }
+loop-done-init g c = record { within = omega arith; stays = stays c.args.volume.now c.requires.ready; written = HasTransferred.none }
 
 pub returns-in_err-write-clause-written : goal.returns-in_err-write-clause-written
 returns-in_err-write-clause-written g c =
