@@ -1,5 +1,5 @@
 -- Options of a handshake, one after another.
-use Rattle.std.proofs.Common.{◌≡◌, ◌<◌, ◌+◌, ℕ, Bool, List, [], ◌++◌, take, Option, None, Some, Result, Ok, Err, refl, sym, subst, inl, inr, append-nil}
+use Rattle.std.proofs.Common.{◌≡◌, ◌<◌, ◌+◌, ℕ, Bool, List, [], ◌++◌, take, Option, None, Some, Result, Ok, Err, refl, sym, subst, ◌⊎◌, inl, inr}
 use Rattle.std.specs.Io.KnownBytes.{Appends, Consumes}
 use Rattle.wol_io.specs.Streams.{SinkTakes}
 use Rattle.wol_io.proofs.Appending.{appends_both, appends_none, keeps_same}
@@ -12,7 +12,7 @@ use Rattle.nbd_handshake.specs.declared.ending.Unagreed.{Unagreed}
 use Rattle.nbd_handshake.specs.declared.ending.Unagreed.TheVariants as unagreed
 use Rattle.nbd_handshake.specs.declared.intake.Next.TheVariants as next
 use Rattle.nbd_handshake.specs.Options.{replies_to}
-use Rattle.nbd_handshake.specs.Shakes.{AnswersOne, AnswersSo, AsksAlong, Ends, EndsThere, GoesOn, HasAnswered, IsShake, greeting}
+use Rattle.nbd_handshake.specs.Shakes.{AnswersOne, AnswersSo, AreTooMany, AsksAlong, Ends, EndsThere, GoesOn, HasAnswered, IsShake, greeting}
 use Rattle.nbd_handshake.specs.Taking.{TakesFlags, TakesOption}
 
 module _ (name : List ℕ) (blocks : ℕ) (zeroes : Bool) (left taken : Option (List ℕ)) where
@@ -37,33 +37,29 @@ module _ (name : List ℕ) (blocks : ℕ) (zeroes : Bool) (left taken : Option (
     out = appends_both taken taken' taken'' so.replies (replies_to name blocks zeroes one.a) so.out one.out;
   }
 
-  -- the end
-  pub ends : (n : ℕ) (left' left'' taken' taken'' : Option (List ℕ)) (result : Result Shaken NbdFault) → SoFar n left' taken' → n < 64 → EndsThere name blocks zeroes left' left'' taken' taken'' result → AsksAlong name blocks zeroes left left'' taken taken'' result
-  ends n left' left'' taken' taken'' result so few there = record {
+  -- these last bytes are behind them, for which this is sent
+  followed : (n : ℕ) (left' left'' taken' taken'' : Option (List ℕ)) (result : Result Shaken NbdFault) → SoFar n left' taken' → (last sent : List ℕ) → Consumes left' left'' last → Appends taken' taken'' sent
+      → ((n < 64) × Ends name blocks zeroes left'' last sent result) ⊎ AreTooMany n last sent result → AsksAlong name blocks zeroes left left'' taken taken'' result
+  followed n left' left'' taken' taken'' result so last sent took out end = record {
     options = n;
     asked = so.asked;
     replies = so.replies;
     answered = so.answered;
-    last = there.last;
-    sent = there.sent;
-    took = consumes_both left left' left'' so.asked there.last so.took there.took;
-    out = appends_both taken taken' taken'' so.replies there.sent so.out there.out;
-    ends = inl (few, there.ends);
+    last = last;
+    sent = sent;
+    took = consumes_both left left' left'' so.asked last so.took took;
+    out = appends_both taken taken' taken'' so.replies sent so.out out;
+    ends = end;
   }
+
+  -- the end
+  pub ends : (n : ℕ) (left' left'' taken' taken'' : Option (List ℕ)) (result : Result Shaken NbdFault) → SoFar n left' taken' → n < 64 → EndsThere name blocks zeroes left' left'' taken' taken'' result → AsksAlong name blocks zeroes left left'' taken taken'' result
+  ends n left' left'' taken' taken'' result so few there = followed n left' left'' taken' taken'' result so there.last there.sent there.took there.out (inl (few, there.ends))
 
   -- too many
   pub too_many : (n : ℕ) (left' taken' : Option (List ℕ)) → SoFar n left' taken' → n ≡ 64 → AsksAlong name blocks zeroes left left' taken taken' (Ok (NotAgreed unagreed.TooMany))
-  too_many n left' taken' so all = record {
-    options = n;
-    asked = so.asked;
-    replies = so.replies;
-    answered = so.answered;
-    last = [];
-    sent = [];
-    took = rw append-nil so.took;
-    out = rw append-nil so.out;
-    ends = inr (record { all = all; last_ = refl; sent_ = refl; is = refl });
-  }
+  too_many n left' taken' so all =
+      followed n left' left' taken' taken' (Ok (NotAgreed unagreed.TooMany)) so [] [] (consumes_none left' left' (keeps_same left')) (appends_none taken' taken' (keeps_same taken')) (inr (record { all = all; last_ = refl; sent_ = refl; is = refl }))
 
 -- ---- One option
 
