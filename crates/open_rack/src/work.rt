@@ -7,11 +7,8 @@ use wol_disk::Disk;
 /// What is done with the volumes of a rack while they are open. `S` is what it reads besides, `K` what it writes to,
 /// and `R` what runs it.
 pub trait Work<R, D: Disk, S, K>: Drop {
-    ghost use Rattle.open_rack.specs.Again.{IsRackAgain};
-    ghost use Rattle.rack.specs.Racks.{IsRack};
+    ghost use Rattle.open_rack.specs.Again.{IsOpenRack, IsRackAgain};
     ghost use Rattle.rack_parts.specs.declared.rack.Rack.{Rack};
-    ghost use Rattle.std.specs.Prelude.{ℕ};
-    ghost use Rattle.wol_bay.specs.Bay.{BayState};
     ghost use Rattle.wol_config.specs.Configs.{IsValid};
     ghost use Rattle.wol_config.specs.declared.config.Config.{Config};
 
@@ -35,7 +32,7 @@ pub trait Work<R, D: Disk, S, K>: Drop {
         out: &mut K,
     ) -> Self::Answer
         requires config { IsValid config.now }
-        requires rack { (bay : BayState) × IsRack D.state config.now bay rack.old }
+        requires rack { IsOpenRack D.state config.now rack.old }
         requires ready { Ready self config.now given.old out.old }
         // the rack has again all that it came with
         ensures again { IsRackAgain rack.old rack.new }
