@@ -7,6 +7,8 @@ use Rattle.nbd_handshake.specs.declared.asked.Kind.TheVariants as asked
 use Rattle.nbd_handshake.specs.declared.ending.Shaken.{Shaken}
 use Rattle.nbd_handshake.specs.declared.ending.Shaken.TheVariants.{Agreed, Unagreed as NotAgreed}
 use Rattle.nbd_handshake.specs.declared.ending.Unagreed.TheVariants as unagreed
+use Rattle.nbd_handshake.specs.declared.replies.ReplyKind.{ReplyKind}
+use Rattle.nbd_handshake.specs.declared.replies.ReplyKind.TheVariants as reply_kind
 
 -- ---- Options
 
@@ -58,6 +60,15 @@ abbrev pub asks_for_export : (name given : List ℕ) → Bool
 asks_for_export name given = is_asking given && is_offered name (name_in given)
 
 -- ---- Replies
+
+-- the number of a kind of reply
+abbrev pub code_of : ReplyKind → ℕ
+code_of reply_kind.Ack = 1
+code_of reply_kind.Server = 2
+code_of reply_kind.Info = 3
+code_of reply_kind.Unsupported = 0x80000001
+code_of reply_kind.Invalid = 0x80000003
+code_of reply_kind.Unknown = 0x80000006
 
 -- what each reply to an option begins with: its magic, the option's number, what kind of reply it
 -- is, and how many bytes follow

@@ -1,6 +1,6 @@
 // The bytes that answer an option.
 ghost use Rattle.byteorder.specs.Endian.{big_bytes};
-ghost use Rattle.nbd_handshake.specs.Options.{export_bytes, export_replies, info_or_not, info_replies, name_bytes, replies_of, reply, reply_head, size_bytes, told_bytes};
+ghost use Rattle.nbd_handshake.specs.Options.{code_of, export_bytes, export_replies, info_or_not, info_replies, name_bytes, replies_of, reply, reply_head, size_bytes, told_bytes};
 ghost use Rattle.std.specs.Prelude.{◌≡◌, ◌++◌, ◌<◌, ◌≤◌, ◌^◌, [], length, IfOk, OnOk};
 
 use crate::asked::{Kind, asks_for_export, is_asking, is_offered};
@@ -11,23 +11,38 @@ use wol_disk::NoMemory;
 
 const REPLY_MAGIC: u64 = 0x3_e889_0455_65a9;
 
-/// The option was done.
-const ACK: u32 = 1;
+/// What kind of reply to an option it is.
+#[derive(Clone, Copy)]
+pub(crate) enum ReplyKind {
+    /// The option was done.
+    Ack,
+    /// A name of an export follows.
+    Server,
+    /// A fact on an export follows.
+    Info,
+    /// The option isn't known.
+    Unsupported,
+    /// Its data aren't as they should be.
+    Invalid,
+    /// No export has the name.
+    Unknown,
+}
 
-/// A name of an export follows.
-const SERVER: u32 = 2;
-
-/// A fact on an export follows.
-const INFO: u32 = 3;
-
-/// The option isn't known.
-const UNSUPPORTED: u32 = 0x8000_0001;
-
-/// Its data aren't as they should be.
-const INVALID: u32 = 0x8000_0003;
-
-/// No export has the name.
-const UNKNOWN: u32 = 0x8000_0006;
+impl ReplyKind {
+    // Its number.
+    fn code(self) -> u32
+        ensures { result ≡ code_of self }
+    {
+        match self {
+            ReplyKind::Ack => 1,
+            ReplyKind::Server => 2,
+            ReplyKind::Info => 3,
+            ReplyKind::Unsupported => 0x8000_0001,
+            ReplyKind::Invalid => 0x8000_0003,
+            ReplyKind::Unknown => 0x8000_0006,
+        }
+    }
+}
 
 /// What may be asked of an export: it has flags, FLUSH, and writes that are durable before their reply.
 const FLAGS: u16 = 13;
@@ -36,21 +51,26 @@ const FLAGS: u16 = 13;
 const ZEROES: [u8; 124] = [0; 124];
 
 // What each reply begins with.
-fn reply_head(number: u32, kind: u32, length: u32) -> [u8; 20]
-    ensures { result ≡ reply_head number kind length }
+fn reply_head(number: u32, kind: ReplyKind, length: u32) -> [u8; 20]
+    ensures { result ≡ reply_head number (code_of kind) length }
 {
     let mut bytes = [0; 20];
     BigEndian::write_u64(&mut bytes, REPLY_MAGIC);
     BigEndian::write_u32(&mut bytes[8..], number);
-    BigEndian::write_u32(&mut bytes[12..], kind);
+    BigEndian::write_u32(&mut bytes[12..], kind.code());
     BigEndian::write_u32(&mut bytes[16..], length);
     bytes
 }
 
 // Appends a reply of this kind with these data.
-fn append_reply(to: &mut Vec<u8>, number: u32, kind: u32, given: &[u8]) -> Result<(), NoMemory>
+fn append_reply(
+    to: &mut Vec<u8>,
+    number: u32,
+    kind: ReplyKind,
+    given: &[u8],
+) -> Result<(), NoMemory>
     requires { length given.now < 2 ^ 32 }
-    ensures { OnOk result (to.new.items ≡ to.old.items ++ reply number kind given.now) }
+    ensures { OnOk result (to.new.items ≡ to.old.items ++ reply number (code_of kind) given.now) }
 {
     to.extend_from_slice(&reply_head(number, kind, given.len() as u32))?;
     to.extend_from_slice(given)?;
@@ -128,18 +148,18 @@ fn append_names(to: &mut Vec<u8>, export: &Export<'_>, number: u32) -> Result<()
         ++ (reply number 2 (name_bytes export.now.name.now) ++ reply number 1 [])) }
 {
     let length = 4 + export.name.len() as u32;
-    to.extend_from_slice(&reply_head(number, SERVER, length))?;
+    to.extend_from_slice(&reply_head(number, ReplyKind::Server, length))?;
     append_name(to, export)?;
-    append_reply(to, number, ACK, &[])
+    append_reply(to, number, ReplyKind::Ack, &[])
 }
 
 // Appends what there is to know of the export.
 fn append_info(to: &mut Vec<u8>, export: &Export<'_>, number: u32) -> Result<(), NoMemory>
     ensures { OnOk result (to.new.items ≡ to.old.items ++ info_replies export.now.blocks number) }
 {
-    append_reply(to, number, INFO, &told_bytes(export.blocks))?;
-    append_reply(to, number, INFO, &size_bytes())?;
-    append_reply(to, number, ACK, &[])
+    append_reply(to, number, ReplyKind::Info, &told_bytes(export.blocks))?;
+    append_reply(to, number, ReplyKind::Info, &size_bytes())?;
+    append_reply(to, number, ReplyKind::Ack, &[])
 }
 
 // Appends the replies to INFO or GO with these data.
@@ -155,9 +175,9 @@ fn append_asked(
     if asks_for_export(export, given) {
         append_info(to, export, number)
     } else if is_asking(given) {
-        append_reply(to, number, UNKNOWN, &[])
+        append_reply(to, number, ReplyKind::Unknown, &[])
     } else {
-        append_reply(to, number, INVALID, &[])
+        append_reply(to, number, ReplyKind::Invalid, &[])
     }
 }
 
@@ -177,11 +197,11 @@ pub(crate) fn replies_of(
     match kind {
         Kind::ExportName if is_offered(export, given) => append_export(&mut to, export, zeroes)?,
         Kind::ExportName => {}
-        Kind::Abort => append_reply(&mut to, number, ACK, &[])?,
+        Kind::Abort => append_reply(&mut to, number, ReplyKind::Ack, &[])?,
         Kind::List if given.is_empty() => append_names(&mut to, export, number)?,
-        Kind::List => append_reply(&mut to, number, INVALID, &[])?,
+        Kind::List => append_reply(&mut to, number, ReplyKind::Invalid, &[])?,
         Kind::Info | Kind::Go => append_asked(&mut to, export, number, given)?,
-        Kind::Other => append_reply(&mut to, number, UNSUPPORTED, &[])?,
+        Kind::Other => append_reply(&mut to, number, ReplyKind::Unsupported, &[])?,
     }
     Ok(to)
 }
