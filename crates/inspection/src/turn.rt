@@ -54,7 +54,7 @@ fn append_asked<D: Disk, R: Wait>(
 {
     match asked {
         Asked::Check => check_line(rt, alloc, manager, shared, config, volume, out),
-        Asked::Dump => dump_lines(manager, shared, config, volume, out),
+        Asked::Dump => dump_lines(manager, config, volume, out),
     }
 }
 

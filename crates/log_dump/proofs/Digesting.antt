@@ -1,5 +1,5 @@
 -- An array is read and digested piece after piece.
-use Rattle.std.proofs.Common.{◌≡◌, ◌+◌, ◌-◌, ◌≤◌, ℕ, Bool, false, List, [], ◌∷◌, ◌++◌, length, take, drop, Option, None, Err, refl, sym, ap, subst, ◌∙◌, arith}
+use Rattle.std.proofs.Common.{◌≡◌, ◌+◌, ◌-◌, ◌≤◌, ℕ, Bool, false, List, [], ◌∷◌, ◌++◌, length, take, drop, Option, None, Result, Err, refl, sym, ap, subst, ◌∙◌, arith}
 use Rattle.std.specs.Prelude.{IsTrue, slice_range}
 use Rattle.std.proofs.lemmas.Grind.{flat_map-append}
 use Rattle.std.proofs.Math.Seq.{take-add, take-length}
@@ -7,7 +7,7 @@ use Rattle.sha2.specs.Hashers.{Holds256}
 use Rattle.sha2.specs.declared.Sha256.{Sha256}
 use Rattle.wol_disk.specs.Disk.{Block, State, IsDisk}
 use Rattle.wol_model.specs.Blocks.{after}
-use Rattle.wol_model.specs.History.{Entry, Kept, Read, written_by, worker, writes, AreLegalNext, IsLegalNext}
+use Rattle.wol_model.specs.History.{Entry, Kept, Operation, Read, written_by, worker, writes, AreLegalNext, IsLegalNext}
 use Rattle.wol_model.proofs.Overlay.{after_length, after_more, after_none}
 use Rattle.wol_promise.specs.Ruled.{Noted, entries_of, last_look}
 use Rattle.wol_promise.proofs.OneMore.{entries_more}
@@ -27,7 +27,8 @@ use Rattle.manager.proofs.Calm.{none_home, none_then}
 use Rattle.manager.proofs.Frames.{none_passed, stands_kept}
 use Rattle.manager.proofs.ReadKeeps.{keeps_read}
 use Rattle.manager.proofs.ReadThrough.{through_self, through_then}
-use Rattle.log_dump.specs.declared.fault.DumpFault.TheVariants.{DiskFault, Down}
+use Rattle.log_dump.specs.declared.fault.DumpFault.{DumpFault}
+use Rattle.log_dump.specs.declared.fault.DumpFault.TheVariants.{DiskFault, Down, NoMemory}
 use Rattle.log_dump.specs.Faults.{refused, was_told}
 use Rattle.log_dump.specs.Texts.{bytes_of}
 use Rattle.log_dump.specs.Volumes.{array_of}
@@ -68,6 +69,15 @@ pub record HasDigested {D : Type 0} (tells : Bool) (state : D → State) (shared
   pub within : at ≤ (state_of state first.home).size
   pub message : IsTrue tells → (b : ManagerBase) (notes : List Noted) → Keeps tells state first b notes → Holds256 hasher (bytes_of (take at (array_of b notes)))
 
+-- a Kept more, whether or not a call failed
+pub kept_as_it_is : {D : Type 0} (tells : Bool) (state : D → State) (m : Manager D) (b : ManagerBase) (notes : List Noted) (n : Noted) → IsNote (last_look b.volume.began.look notes) Kept [] (look_of_manager m) n → Keeps tells state m b notes → Stands tells state m b (notes ++ n ∷ [])
+kept_as_it_is tells state m b notes n note k = stands_kept tells state m b notes n [] note (none_passed (nones_at m.lanes.items b.lanes) notes n note.passed_is k.passed) k
+
+-- a call that had no memory changed nothing
+pub told_nothing : {D T : Type 0} (tells : Bool) (state : D → State) (m : Manager D) (result : Result T DumpFault) → result ≡ Err NoMemory → Leaves tells state m m (was_told result) [] worker
+told_nothing tells state m result is =
+    subst (λ (o : Operation). Leaves tells state m m o [] worker) (sym (ap was_told is)) (λ b notes n client note k. kept_as_it_is tells state m b notes n note k)
+
 module _ {D : Type 0} (tells : Bool) (state : D → State) (sound : (d : D) → IsDisk (state d)) (shared : Shared D) where
   pub digested_none : (first : Manager D) (hasher : Sha256) → IsReady state first → IsHome shared first → Holds256 hasher [] → HasDigested tells state shared first first 0 hasher
   digested_none first hasher ready home holds = record {
@@ -79,10 +89,6 @@ module _ {D : Type 0} (tells : Bool) (state : D → State) (sound : (d : D) → 
     message = λ told b notes k. holds;
   }
 
-  -- a Kept more, whether or not a call failed
-  pub kept_as_it_is : (m : Manager D) (b : ManagerBase) (notes : List Noted) (n : Noted) → IsNote (last_look b.volume.began.look notes) Kept [] (look_of_manager m) n → Keeps tells state m b notes → Stands tells state m b (notes ++ n ∷ [])
-  kept_as_it_is m b notes n note k = stands_kept tells state m b notes n [] note (none_passed (nones_at m.lanes.items b.lanes) notes n note.passed_is k.passed) k
-
   module _ (first now : Manager D) (at : ℕ) (hasher : Sha256) (up : first.down ≡ None) (h : HasDigested tells state shared first now at hasher) where
     keeps_now : (b : ManagerBase) (notes : List Noted) → Keeps tells state first b notes → Keeps tells state now b notes
     keeps_now b notes k = keeps_read tells state first now b notes h.read h.ready up k
@@ -92,7 +98,7 @@ module _ {D : Type 0} (tells : Bool) (state : D → State) (sound : (d : D) → 
 
     -- readers see no change
     pub digested_kept : Leaves tells state first now Kept [] worker
-    digested_kept b notes n client note k = kept_as_it_is now b notes n note (keeps_now b notes k)
+    digested_kept b notes n client note k = kept_as_it_is tells state now b notes n note (keeps_now b notes k)
 
     pub digested_only_read : HasOnlyRead state first now
     digested_only_read = subst (IsReadThrough state first) (λ i. record now { down = h.read.down i }) h.read

@@ -20,13 +20,13 @@ use Rattle.manager.specs.declared.manager.Manager.{Manager}
 use Rattle.log_dump.proofs.Naming.{mapped_at, name_of_volume, read_at}
 use Rattle.log_dump.proofs.Noting.{first_more, there_is}
 use Rattle.log_dump.specs.Texts.{AreRecordLines, IsRecordLine, count_text, mask_text, record_line}
-use Rattle.log_dump.specs.Volumes.{HasLine, IsDump, logger_names}
+use Rattle.log_dump.specs.Volumes.{HasLine, IsDumpOf, logger_names}
 
 -- the lines of the first records were appended
-pub record IsDumpTo {D : Type 0} (config : Config) (number : ℕ) (m : Manager D) (old new : List ℕ) (place : ℕ) : Type 0 where
+pub record IsDumpTo {D : Type 0} (config : Config) (name : List ℕ) (m : Manager D) (old new : List ℕ) (place : ℕ) : Type 0 where
   pub lines : List ℕ
   pub are : AreRecordLines (logger_names config m) m.index.entries (take place m.index.entries) lines
-  pub appended : new ≡ old ++ (count_text (name_at (names_of config.volumes.items) number) (length m.index.entries) ++ lines)
+  pub appended : new ≡ old ++ (count_text name (length m.index.entries) ++ lines)
 
 -- ---- Records by their versions
 
@@ -48,12 +48,12 @@ lines_more names all [] e text line are is = (line, [], rw are (sym (append-nil 
 lines_more names all (d ∷ es) e text line (first, more, whole, one, rest) is =
     (first, more ++ line, rw whole (append_assoc first more line), one, lines_more names all es e more line rest is)
 
-pub dump_none : {D : Type 0} (config : Config) (number : ℕ) (m : Manager D) (old new : List ℕ) → new ≡ old ++ count_text (name_at (names_of config.volumes.items) number) (length m.index.entries) → IsDumpTo config number m old new 0
-dump_none config number m old new is = record { lines = []; are = refl; appended = is ∙ ap (λ (l : List ℕ). old ++ l) (sym (append-nil (count_text (name_at (names_of config.volumes.items) number) (length m.index.entries)))) }
+pub dump_none : {D : Type 0} (config : Config) (name : List ℕ) (m : Manager D) (old new : List ℕ) → new ≡ old ++ count_text name (length m.index.entries) → IsDumpTo config name m old new 0
+dump_none config name m old new is = record { lines = []; are = refl; appended = is ∙ ap (λ (l : List ℕ). old ++ l) (sym (append-nil (count_text name (length m.index.entries)))) }
 
-pub dump_more : {D : Type 0} (config : Config) (number : ℕ) (m : Manager D) (old mid new : List ℕ) (place : ℕ) → IsDumpTo config number m old mid place → HasLine config m place mid new → IsDumpTo config number m old new (place + 1)
-dump_more config number m old mid new place to has =
-    let head = count_text (name_at (names_of config.volumes.items) number) (length m.index.entries) in
+pub dump_more : {D : Type 0} (config : Config) (name : List ℕ) (m : Manager D) (old mid new : List ℕ) (place : ℕ) → IsDumpTo config name m old mid place → HasLine config m place mid new → IsDumpTo config name m old new (place + 1)
+dump_more config name m old mid new place to has =
+    let head = count_text name (length m.index.entries) in
     record {
       lines = to.lines ++ has.line_;
       are = subst (λ (es : List Indexed). AreRecordLines (logger_names config m) m.index.entries es (to.lines ++ has.line_)) (sym (first_more m.index.entries place has.entry has.there))
@@ -61,8 +61,8 @@ dump_more config number m old mid new place to has =
       appended = has.appended ∙ rw to.appended (append_assoc old (head ++ to.lines) has.line_ ∙ ap (λ (l : List ℕ). old ++ l) (append_assoc head to.lines has.line_));
     }
 
-pub dump_all : {D : Type 0} (config : Config) (number : ℕ) (m : Manager D) (old new : List ℕ) (place : ℕ) → place ≡ length m.index.entries → IsDumpTo config number m old new place → IsDump config number m old new
-dump_all config number m old new place all to = record {
+pub dump_all : {D : Type 0} (config : Config) (name : List ℕ) (m : Manager D) (old new : List ℕ) (place : ℕ) → place ≡ length m.index.entries → IsDumpTo config name m old new place → IsDumpOf config name m old new
+dump_all config name m old new place all to = record {
   lines = to.lines;
   are = subst (λ (es : List Indexed). AreRecordLines (logger_names config m) m.index.entries es to.lines) (ap (λ (n : ℕ). take n m.index.entries) all ∙ take-length m.index.entries) to.are;
   appended = to.appended;

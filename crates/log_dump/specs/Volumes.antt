@@ -50,11 +50,14 @@ pub record HasLine {D : Type 0} (config : Config) (m : Manager D) (place : ℕ) 
   pub is : IsRecordLine (logger_names config m) m.index.entries entry line_
   pub appended : new ≡ old ++ line_
 
--- the lines of `dump` were appended: that of the volume, and one for each record of the index in
--- order
-pub record IsDump {D : Type 0} (config : Config) (number : ℕ) (m : Manager D) (old new : List ℕ) :
-    Type 0 where
+-- the lines of `dump` were appended: that of the volume, which has this name, and one for each record
+-- of the index in order
+pub record IsDumpOf {D : Type 0} (config : Config) (name : List ℕ) (m : Manager D)
+    (old new : List ℕ) : Type 0 where
   pub lines : List ℕ
   pub are : AreRecordLines (logger_names config m) m.index.entries m.index.entries lines
-  pub appended : new ≡ old ++ (count_text (name_at (names_of config.volumes.items) number)
-      (length m.index.entries) ++ lines)
+  pub appended : new ≡ old ++ (count_text name (length m.index.entries) ++ lines)
+
+-- the same of the volume of this number
+abbrev pub IsDump : {D : Type 0} → Config → (number : ℕ) → Manager D → (old new : List ℕ) → Type 0
+IsDump config number = IsDumpOf config (name_at (names_of config.volumes.items) number)

@@ -1,8 +1,8 @@
 // The lines of `dump`.
 ghost use Rattle.log_dump.specs.Texts.{count_text, mask_text, record_line};
-ghost use Rattle.log_dump.specs.Volumes.{HasLine, IsDump, IsVolumeOf};
+ghost use Rattle.log_dump.specs.Volumes.{HasLine, IsDump, IsDumpOf, IsVolumeOf};
 ghost use Rattle.logger.specs.Lanes.{logger_of};
-ghost use Rattle.manager.specs.Stands.{IsReady, Leaves};
+ghost use Rattle.manager.specs.Stands.{IsPlacedIn, IsReady, Leaves};
 ghost use Rattle.manager.specs.declared.part.Part.{Part};
 ghost use Rattle.redirect_map.specs.Index.{IsIndex};
 ghost use Rattle.std.specs.Io.{StartsWith};
@@ -13,7 +13,6 @@ ghost use Rattle.wol_model.specs.History.{Kept};
 
 use crate::fault::DumpFault;
 use hex::encode_to_slice;
-use logger::Shared;
 use manager::Manager;
 use redirect_map::Rec;
 use report::Word::{Number, Text};
@@ -25,7 +24,6 @@ use wol_disk::{Disk, NoMemory};
 /// rising version. No disk is read, and the manager stays as it is. After a refusal nothing is appended.
 pub fn dump_lines<D: Disk>(
     manager: &mut Manager<D>,
-    _shared: &Shared<D>,
     config: &Config,
     volume: u32,
     out: &mut Vec<u8>,
@@ -44,7 +42,8 @@ pub fn dump_lines<D: Disk>(
         return Err(DumpFault::Down(part));
     }
     let start = out.len();
-    match put_lines(manager, config, volume, out) {
+    let name = config.volumes[volume as usize].name.as_bytes();
+    match put_lines(manager, config, name, out) {
         Ok(()) => Ok(()),
         Err(NoMemory) => {
             out.truncate(start);
@@ -53,21 +52,20 @@ pub fn dump_lines<D: Disk>(
     }
 }
 
-// The same of a manager that isn't down, but some first lines may be left behind.
-fn put_lines<D: Disk>(
+// The same of a manager whose records lie in its lanes, and whose volume has this name, but some first lines may be left
+// behind.
+fn put_lines<'a, D: Disk>(
     manager: &Manager<D>,
     config: &Config,
-    volume: u32,
+    name: &'a [u8],
     out: &mut Vec<u8>,
 ) -> Result<(), NoMemory>
-    requires ready { IsReady D.state manager.now }
-    requires up { manager.now.down ≡ None }
-    requires valid { IsValid config.now }
-    requires serves { IsVolumeOf D.state config.now volume manager.now }
-    ensures ok { OnOk result (IsDump config.now volume manager.now out.old.items out.new.items) }
+    requires placed { AllByRecursion (IsPlacedIn manager.now.lanes.items) manager.now.index.entries }
+    requires loggers { AllByRecursion (λ l. logger_of l < length config.now.volumes.items)
+        manager.now.lanes.items }
+    ensures ok { OnOk result (IsDumpOf config.now name.now manager.now out.old.items out.new.items) }
     ensures starts { StartsWith out.new.items out.old.items }
 {
-    let name = config.volumes[volume as usize].name.as_bytes();
     let records = manager.index().len();
     append_count(name, records, out)?;
     for place in 0..records {
@@ -92,8 +90,7 @@ fn put_record<D: Disk>(
     place: u64,
     out: &mut Vec<u8>,
 ) -> Result<(), NoMemory>
-    requires ready { IsReady D.state manager.now }
-    requires up { manager.now.down ≡ None }
+    requires placed { AllByRecursion (IsPlacedIn manager.now.lanes.items) manager.now.index.entries }
     requires index { IsIndex manager.now.index.entries }
     requires there { place < length manager.now.index.entries }
     requires loggers { AllByRecursion (λ l. logger_of l < length config.now.volumes.items)

@@ -1,23 +1,20 @@
-use Rattle.std.proofs.Common.{◌≡◌, ℕ, List, [], length, None, Err, sym, ap, subst, ◌∙◌, arith}
+use Rattle.std.proofs.Common.{◌≡◌, ℕ, List, length, None, Err, sym, ap, ◌∙◌, arith}
 use Rattle.std.proofs.lemmas.Option.{slice_get_within}
 use Rattle.std.proofs.lemmas.Result.{err_from_is_err_and}
 use Rattle.hex.specs.Hex.{encode_lower}
 use Rattle.wol_config.specs.declared.config.VolumeConf.{VolumeConf}
 use Rattle.wol_config.specs.Documents.{names_of}
 use Rattle.report.specs.Names.{name_at}
-use Rattle.wol_model.specs.History.{Kept, Operation, worker}
-use Rattle.manager.specs.Stands.{Leaves}
 use Rattle.manager.proofs.ReadThrough.{never_some, through_self}
-use Rattle.log_dump.specs.Faults.{was_told}
 use Rattle.log_dump.specs.Texts.{digest_text}
 use Rattle.log_dump.specs.Volumes.{array_of, held_segments}
-use Rattle.log_dump.proofs.Digesting.{kept_as_it_is}
+use Rattle.log_dump.proofs.Digesting.{kept_as_it_is, told_nothing}
 use Rattle.log_dump.proofs.HeldCount.{count_held}
 use Rattle.log_dump.proofs.Naming.{name_of_volume, read_at}
 use Rattle.log_dump.proofs.check.check_line.Goals as goal
 
 pub returns-in-Some-clause-stands : goal.returns-in-Some-clause-stands
-returns-in-Some-clause-stands g c b notes n client note k = kept_as_it_is g.D.Disk.tells g.D.Disk.state g.met.D.Disk.sound c.args.shared.now c.args.manager.now b notes n note k
+returns-in-Some-clause-stands g c b notes n client note k = kept_as_it_is g.D.Disk.tells g.D.Disk.state c.args.manager.now b notes n note k
 
 pub returns-in-Some-clause-read : goal.returns-in-Some-clause-read
 returns-in-Some-clause-read g c = through_self g.D.Disk.state g.met.D.Disk.sound c.args.manager.now
@@ -29,9 +26,7 @@ index-configured-requires g c =
 pub returns-in_err-segments-clause-stands : goal.returns-in_err-segments-clause-stands
 returns-in_err-segments-clause-stands g c b notes n client note k =
     let p = err_from_is_err_and c.from_residual.result c.from_residual.ensures.1 in
-    let same : was_told c.from_residual.result ≡ Kept = ap was_told (p.1 ∙ ap Err (p.2 ∙ c.in_err-segments.ensures.err)) in
-    subst (λ (o : Operation). Leaves g.D.Disk.tells g.D.Disk.state c.args.manager.now c.args.manager.now o [] worker) (sym same)
-    (λ d ns m client note k. kept_as_it_is g.D.Disk.tells g.D.Disk.state g.met.D.Disk.sound c.args.shared.now c.args.manager.now d ns m note k) b notes n client note k
+    told_nothing g.D.Disk.tells g.D.Disk.state c.args.manager.now c.from_residual.result (p.1 ∙ ap Err (p.2 ∙ c.in_err-segments.ensures.err)) b notes n client note k
 
 pub returns-in_err-segments-clause-read : goal.returns-in_err-segments-clause-read
 returns-in_err-segments-clause-read g c = through_self g.D.Disk.state g.met.D.Disk.sound c.args.manager.now

@@ -1,11 +1,11 @@
 use Rattle.std.proofs.Common.{◌≡◌, [], length, None, Some, Err, sym, ap, subst, ◌∙◌, arith}
 use Rattle.std.proofs.lemmas.List.{length-take-le}
 use Rattle.std.proofs.lemmas.Result.{err_from_is_err_and}
-use Rattle.wol_model.specs.History.{Kept, Operation, worker}
+use Rattle.wol_model.specs.History.{Operation, worker}
 use Rattle.manager.specs.Stands.{Leaves}
 use Rattle.manager.proofs.ReadThrough.{rose_through, through_self}
 use Rattle.log_dump.specs.Faults.{was_told}
-use Rattle.log_dump.proofs.Digesting.{digested_all, digested_broke, digested_kept, digested_more, digested_none, kept_as_it_is, refused_down, refused_fault, then_only_read, up_now}
+use Rattle.log_dump.proofs.Digesting.{digested_all, digested_broke, digested_kept, digested_more, digested_none, refused_down, refused_fault, then_only_read, told_nothing, up_now}
 use Rattle.log_dump.proofs.digest.digest_of.Goals as goal
 
 pub returns-in_err-piece-clause-read : goal.returns-in_err-piece-clause-read
@@ -14,9 +14,7 @@ returns-in_err-piece-clause-read g c = through_self g.D.Disk.state g.met.D.Disk.
 pub returns-in_err-piece-clause-stands : goal.returns-in_err-piece-clause-stands
 returns-in_err-piece-clause-stands g c b notes n client note k =
     let p = err_from_is_err_and c.from_residual.result c.from_residual.ensures.1 in
-    let same : was_told c.from_residual.result ≡ Kept = ap was_told (p.1 ∙ ap Err (p.2 ∙ c.in_err-piece.ensures.err)) in
-    subst (λ (o : Operation). Leaves g.D.Disk.tells g.D.Disk.state c.args.manager.now c.args.manager.now o [] worker) (sym same)
-    (λ d ns m client note k. kept_as_it_is g.D.Disk.tells g.D.Disk.state g.met.D.Disk.sound c.args.shared.now c.args.manager.now d ns m note k) b notes n client note k
+    told_nothing g.D.Disk.tells g.D.Disk.state c.args.manager.now c.from_residual.result (p.1 ∙ ap Err (p.2 ∙ c.in_err-piece.ensures.err)) b notes n client note k
 
 pub reading-init : goal.reading-init
 reading-init g c = record {

@@ -17,7 +17,7 @@ returns-clause-ok g c =
     let es = m.index.entries in
     let e = there_is es c.args.place c.requires.there in
     let of : IsRecordOf e.0 c.at-record.result = rw e.1 at (rw c.index-index.ensures at c.at-record.ensures) in
-    let placed = all_member (IsPlacedIn m.lanes.items) es e.0 (c.requires.ready.up c.requires.up).placed (member_of es e.0 c.args.place e.1) in
+    let placed = all_member (IsPlacedIn m.lanes.items) es e.0 c.requires.placed (member_of es e.0 c.args.place e.1) in
     let name = logger_name c.args.config.now m e.0 c.logger.result c.index-logger.result.now c.as_bytes.result.now placed c.requires.loggers (rw of.lane at c.logger.ensures) c.index-logger.ensures c.as_bytes.ensures in
     on_ok c.append_record.result
     (has_line c.args.config.now m c.args.place c.args.out.now.items c.append_record.new.out.items c.at-record.result c.as_bytes.result.now c.mask_digits-live.result c.mask_digits-home.result c.live.result c.homed.result e.0
