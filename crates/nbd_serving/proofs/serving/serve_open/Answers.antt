@@ -16,17 +16,14 @@ serve_station-requires g c =
     let conf = slice_get_read c.args.config.now.volumes.items _ c.args.volume c.index.result.now refl (omega (arith, c.requires.volume)) c.index.ensures in
     can_serve c.args.config.now c.args.rack.now c.place_of-place.result c.args.volume p.0 c.index_mut.result.now c.requires.rack p.1 c.index_mut.ensures.value c.index.result.now conf c.most_of.result c.most_of.ensures.most c.most_of.ensures.some c.most_of.ensures.few
 
-pub returns-clause-again : goal.returns-clause-again
-returns-clause-again g c =
+pub returns : goal.returns
+returns g c =
     let p = rw c.deref.ensures.value at c.place_of-place.ensures in
     let conf = slice_get_read c.args.config.now.volumes.items _ c.args.volume c.index.result.now refl (omega (arith, c.requires.volume)) c.index.ensures in
-    served_again c.args.config.now c.args.rack.now c.place_of-place.result c.args.volume p.0 c.index_mut.result.now c.requires.rack p.1 c.index_mut.ensures.value c.index.result.now conf
-    (with_item c.args.rack.now.stations c.place_of-place.result c.serve_station.new.station) c.serve_station.new.station c.most_of.result c.serve_station.ensures.only c.serve_station.ensures.ready refl
-
-pub returns-clause-serves : goal.returns-clause-serves
-returns-clause-serves g c =
-    let p = rw c.deref.ensures.value at c.place_of-place.ensures in
-    let conf = slice_get_read c.args.config.now.volumes.items _ c.args.volume c.index.result.now refl (omega (arith, c.requires.volume)) c.index.ensures in
-    served_station c.args.config.now c.args.rack.now c.place_of-place.result c.args.volume p.0 c.index_mut.result.now c.requires.rack p.1 c.index_mut.ensures.value c.index.result.now conf
-    (with_item c.args.rack.now.stations c.place_of-place.result c.serve_station.new.station) c.serve_station.new.station c.most_of.result c.serve_station.ensures.only c.serve_station.ensures.ready refl
-    g.D.Disk.tells _ _ c.serve_station.result c.most_of.ensures.most c.serve_station.ensures.session c.serve_station.ensures.faults
+    let s = c.serve_station.ensures in let t = c.serve_station.new.station in
+    let ts = with_item c.args.rack.now.stations c.place_of-place.result t in
+    record {
+      again = served_again c.args.config.now c.args.rack.now c.place_of-place.result c.args.volume p.0 c.index_mut.result.now c.requires.rack p.1 c.index_mut.ensures.value c.index.result.now conf ts t c.most_of.result s.only s.ready refl;
+      serves = served_station c.args.config.now c.args.rack.now c.place_of-place.result c.args.volume p.0 c.index_mut.result.now c.requires.rack p.1 c.index_mut.ensures.value c.index.result.now conf ts t c.most_of.result s.only s.ready refl g.D.Disk.tells _ _ c.serve_station.result
+          c.most_of.ensures.most s.session s.faults;
+    }
