@@ -3,9 +3,8 @@ ghost use Rattle.inspection.specs.Lines.{PrintsVolumes, first_of};
 ghost use Rattle.inspection.specs.Racks.{CanLook};
 ghost use Rattle.inspection.specs.Runs.{Completes, Inspects, MayComplete};
 ghost use Rattle.inspection.specs.declared.calls.Stop.TheVariants.{Sink as sink_failed, Memory as no_memory};
-ghost use Rattle.open_rack.specs.Sessions.{OpensAndCloses};
 ghost use Rattle.rack.specs.Opens.{KeepsAllSound, KeepsOthers, LeavesAll};
-ghost use Rattle.std.specs.Prelude.{◌≡◌, ◌≤◌, ◌<◌, Err, IfOk, IsTrue, OnErr};
+ghost use Rattle.std.specs.Prelude.{◌≡◌, ◌≤◌, ◌<◌, Err, IsTrue};
 ghost use Rattle.volume_images.specs.Left.{IsTold};
 ghost use Rattle.volume_images.specs.Volumes.{NoneOut};
 ghost use Rattle.wol_bay.specs.Bay.{outs};
@@ -14,7 +13,6 @@ ghost use Rattle.wol_disk.specs.Disk.{Rose};
 
 use crate::asked::Asked;
 use crate::found::{append_next, findings_for};
-use open_rack::Closed;
 use rack::{Rack, close_all, open_all};
 use report::Trouble;
 use std::alloc::Global;
@@ -91,40 +89,6 @@ fn print_volumes<D: Disk + Send, R: Threads + Wait + Sync, K: Sink>(
     Ok(first)
 }
 
-// Opens all volumes, prints what is asked of each, and closes them.
-fn print_opened<R: Threads + Wait + Sync, K: Sink, B: Bay>(
-    rt: &R,
-    alloc: Global,
-    asked: Asked,
-    config: &Config,
-    bay: &mut B,
-    out: &mut K,
-) -> Result<Closed<Result<Option<Trouble>, Stop>>, NoMemory>
-where
-    B::Part: Send,
-    requires config { IsValid config.now }
-    requires home { NoneOut config.now (B.state bay.old) }
-    ensures none_out { NoneOut config.now (B.state bay.new) }
-    ensures home { outs (B.state bay.new) ≡ outs (B.state bay.old) }
-    ensures counts { (B.state bay.old).faults ≤ (B.state bay.new).faults }
-    ensures sound { IsTrue B.Part.tells
-        → IsTold (KeepsAllSound config.now) (B.state bay.old).told (B.state bay.new).told }
-    ensures others { IsTold (KeepsOthers config.now) (B.state bay.old).told (B.state bay.new).told }
-    ensures did { IfOk result (λ c. OpensAndCloses B.Part.tells B.Part.state config.now
-        (λ before after. PrintsVolumes B.Part.tells B.Part.state config.now asked before after
-        c.answer (K.faults out.old) (K.faults out.new) (K.taken out.old) (K.taken out.new))
-        (B.state bay.old) (B.state bay.new) c.spindles.items) }
-    ensures left { OnErr result (IsTrue B.Part.tells
-        → IsTold (LeavesAll B.Part.tells B.Part.state config.now (B.state bay.old)
-        (B.state bay.new)) (B.state bay.old).told (B.state bay.new).told) }
-    ensures unwritten { OnErr result (out.new ≡ out.old) }
-{
-    let mut rack = open_all(alloc, rt, bay, config)?;
-    let answer = print_volumes(rt, alloc, asked, &mut rack, config, out);
-    let spindles = close_all(rack, bay, config);
-    Ok(Closed { answer, spindles })
-}
-
 /// Opens all volumes of the configuration, prints the lines of each in order, and closes them. It answers what is wrong
 /// with the first volume that isn't in order, or nothing where all are. A volume is in order where it was opened and no
 /// call of a disk failed while it was looked at. For `Check` runs of eight volumes are looked at, at most four at a time,
@@ -163,6 +127,8 @@ where
     ensures complete { MayComplete B.Part.tells config.now (B.state bay.old) (B.state bay.new)
         (K.faults out.old) (K.faults out.new) → Completes result }
 {
-    let closed = print_opened(rt, alloc, asked, config, bay, out)?;
-    closed.answer
+    let mut rack = open_all(alloc, rt, bay, config)?;
+    let answer = print_volumes(rt, alloc, asked, &mut rack, config, out);
+    close_all(rack, bay, config);
+    answer
 }
