@@ -59,6 +59,7 @@ impl Fault {
 ///
 /// No volumes stand for `solo`, whose one volume has the number 0 and the name `solo`. A configuration that was refused for
 /// want of memory has no line of its own: that fault is `Memory`.
+#[tactic(auto, unfolding(crate::specs::Faults::fault_text))]
 pub fn fault_text(volumes: &[VolumeConf], fault: &Fault, out: &mut Vec<u8>) -> Result<(), NoMemory>
     requires told { fault.now ≢ Fault.Config ConfigFault.NoMemory }
     ensures ok { OnOk result
@@ -66,31 +67,18 @@ pub fn fault_text(volumes: &[VolumeConf], fault: &Fault, out: &mut Vec<u8>) -> R
     ensures err { OnErr result (out.new.items ≡ out.old.items) }
 {
     let start = out.len();
-    match put_fault(volumes, fault, out) {
-        Ok(()) => Ok(()),
-        Err(NoMemory) => {
-            out.truncate(start);
-            Err(NoMemory)
-        }
-    }
-}
-
-// The same, but a front of the line may be left behind.
-#[tactic(auto, unfolding(crate::specs::Faults::fault_text))]
-fn put_fault(volumes: &[VolumeConf], fault: &Fault, out: &mut Vec<u8>) -> Result<(), NoMemory>
-    requires told { fault.now ≢ Fault.Config ConfigFault.NoMemory }
-    ensures ok { OnOk result
-        (out.new.items ≡ out.old.items ++ fault_text (printed_names volumes.now) fault.now) }
-    ensures starts { StartsWith out.new.items out.old.items }
-{
     let status = u64::from(fault.status());
-    put_ended(&[Text(b"fault"), Number(status)], b' ', out)?;
-    put_cause(volumes, fault, out)?;
-    out.push(b'\n')?;
-    Ok(())
+    if put_ended(&[Text(b"fault"), Number(status)], b' ', out).is_ok()
+        && put_cause(volumes, fault, out).is_ok()
+        && out.push(b'\n').is_ok()
+    {
+        return Ok(());
+    }
+    out.truncate(start);
+    Err(NoMemory)
 }
 
-// What stands behind the status.
+// What stands behind the status. A front of that may be left behind.
 #[tactic(auto, unfolding(crate::specs::Faults::cause_text))]
 fn put_cause(volumes: &[VolumeConf], fault: &Fault, out: &mut Vec<u8>) -> Result<(), NoMemory>
     requires told { fault.now ≢ Fault.Config ConfigFault.NoMemory }
