@@ -1,6 +1,7 @@
 -- What was found, row by row.
-use Rattle.std.proofs.Common.{◌≡◌, ◌∙◌, Bool, true, false, refl, ap, cond, List, [], ◌∷◌, ◌++◌, append-nil, Option, Some, None, true≢false}
+use Rattle.std.proofs.Common.{◌≡◌, ◌∙◌, inl, inr, true, false, refl, ap, cond, List, [], ◌∷◌, ◌++◌, append-nil, Option, Some, None, true≢false}
 use Rattle.std.specs.List.{find}
+use Rattle.std.proofs.lemmas.Bool.{cases_Bool}
 use Rattle.std.specs.Str.{bytes_eq}
 use Rattle.clap.specs.Walk.{at_row, has_row, more_values, with_values, without}
 use Rattle.clap.specs.Words.{Row, Text}
@@ -21,14 +22,10 @@ row_of_name name rows = find (λ r. bytes_eq r.id name) rows
 -- where no row has the name, one more stands at the end
 pub at_missing : (name : Text) (change : Row → List Row) (missing rows : List Row) → has_row name rows ≡ false → at_row name change missing rows ≡ rows ++ missing
 at_missing name change missing [] none = refl
-at_missing name change missing (r ∷ rs) none = go (bytes_eq r.id name) refl (at_missing name change missing rs)
-  where
-    go : (b : Bool) → bytes_eq r.id name ≡ b → (has_row name rs ≡ false → at_row name change missing rs ≡ rs ++ missing)
-        → at_row name change missing (r ∷ rs) ≡ r ∷ rs ++ missing
-    go true e more = absurd (true≢false (rw e at none))
-    go false e more =
-        let rest : has_row name rs ≡ false = rw e at none in
-        rw e (ap (λ xs. r ∷ xs) (more rest))
+at_missing name change missing (r ∷ rs) none = elim (cases_Bool (bytes_eq r.id name)) [
+  | inl e ↦ absurd (true≢false (rw e at none))
+  | inr e ↦ rw e (ap (λ xs. r ∷ xs) (at_missing name change missing rs (rw e at none)))
+]
 
 pub without_missing : (name : Text) (rows : List Row) → has_row name rows ≡ false → without name rows ≡ rows
 without_missing name rows none = at_missing name (λ r. []) [] rows none ∙ append-nil rows
@@ -45,13 +42,10 @@ added_anew name value rows none =
 -- one more row
 pub has_more : (name : Text) (rows : List Row) (r : Row) → has_row name rows ≡ false → bytes_eq r.id name ≡ false → has_row name (rows ++ r ∷ []) ≡ false
 has_more name [] r none other = rw other refl
-has_more name (x ∷ xs) r none other = go (bytes_eq x.id name) refl (λ rest. has_more name xs r rest other)
-  where
-    go : (b : Bool) → bytes_eq x.id name ≡ b → (has_row name xs ≡ false → has_row name (xs ++ r ∷ []) ≡ false) → has_row name (x ∷ xs ++ r ∷ []) ≡ false
-    go true e more = absurd (true≢false (rw e at none))
-    go false e more =
-        let rest : has_row name xs ≡ false = rw e at none in
-        rw e (more rest)
+has_more name (x ∷ xs) r none other = elim (cases_Bool (bytes_eq x.id name)) [
+  | inl e ↦ absurd (true≢false (rw e at none))
+  | inr e ↦ rw e (has_more name xs r (rw e at none) other)
+]
 
 -- a row of another name is passed over
 pub passed_over : (name : Text) (rows : List Row) (r : Row) (more : List Row) → bytes_eq r.id name ≡ false
@@ -59,42 +53,29 @@ pub passed_over : (name : Text) (rows : List Row) (r : Row) (more : List Row) �
 passed_over name [] r more other = rw other refl
 passed_over name (x ∷ xs) r more other = ap (cond (bytes_eq x.id name) (Some x)) (passed_over name xs r more other)
 
+some_none : (x : Row) → Some x ≡ None → ⊥
+some_none x is = cc is
+
 -- where no row has the name, none is found
 pub found_none : (name : Text) (rows : List Row) → row_of_name name rows ≡ None → has_row name rows ≡ false
 found_none name [] none = refl
-found_none name (x ∷ xs) none = go (bytes_eq x.id name) refl (found_none name xs)
-  where
-    go : (b : Bool) → bytes_eq x.id name ≡ b → (row_of_name name xs ≡ None → has_row name xs ≡ false) → has_row name (x ∷ xs) ≡ false
-    go true e more =
-        let found : Some x ≡ None = rw e at none in
-        absurd (cc found)
-    go false e more =
-        let rest : row_of_name name xs ≡ None = rw e at none in
-        rw e (more rest)
+found_none name (x ∷ xs) none = elim (cases_Bool (bytes_eq x.id name)) [
+  | inl e ↦ absurd (some_none x (rw e at none))
+  | inr e ↦ rw e (found_none name xs (rw e at none))
+]
 
 -- the first row of the name stays the first
 pub found_first : (name : Text) (rows more : List Row) (r : Row) → row_of_name name rows ≡ Some r → row_of_name name (rows ++ more) ≡ Some r
 found_first name [] more r is = absurd (cc is)
-found_first name (x ∷ xs) more r is = go (bytes_eq x.id name) refl (found_first name xs more r)
-  where
-    go : (b : Bool) → bytes_eq x.id name ≡ b → (row_of_name name xs ≡ Some r → row_of_name name (xs ++ more) ≡ Some r) → row_of_name name (x ∷ xs ++ more) ≡ Some r
-    go true e later =
-        let same : Some x ≡ Some r = rw e at is in
-        rw e same
-    go false e later =
-        let rest : row_of_name name xs ≡ Some r = rw e at is in
-        rw e (later rest)
+found_first name (x ∷ xs) more r is = elim (cases_Bool (bytes_eq x.id name)) [
+  | inl e ↦ rw e (rw e at is)
+  | inr e ↦ rw e (found_first name xs more r (rw e at is))
+]
 
 -- where no row has the name, the rows that follow count
 pub found_after : (name : Text) (rows more : List Row) → row_of_name name rows ≡ None → row_of_name name (rows ++ more) ≡ row_of_name name more
 found_after name [] more none = refl
-found_after name (x ∷ xs) more none = go (bytes_eq x.id name) refl (found_after name xs more)
-  where
-    go : (b : Bool) → bytes_eq x.id name ≡ b → (row_of_name name xs ≡ None → row_of_name name (xs ++ more) ≡ row_of_name name more)
-        → row_of_name name (x ∷ xs ++ more) ≡ row_of_name name more
-    go true e later =
-        let found : Some x ≡ None = rw e at none in
-        absurd (cc found)
-    go false e later =
-        let rest : row_of_name name xs ≡ None = rw e at none in
-        rw e (later rest)
+found_after name (x ∷ xs) more none = elim (cases_Bool (bytes_eq x.id name)) [
+  | inl e ↦ absurd (some_none x (rw e at none))
+  | inr e ↦ rw e (found_after name xs more (rw e at none))
+]

@@ -77,19 +77,8 @@ same_options rows o p h k =
 
 -- which command a name is of, if of any
 pub data Kind : Type 0 where
-  of_solo : Kind
-  of_format : Kind
-  of_replay : Kind
-  of_check : Kind
-  of_dump : Kind
-  of_gen : Kind
-  of_soak : Kind
-  of_whatif : Kind
-  of_view_add : Kind
-  of_view_remove : Kind
-  of_clean : Kind
-  of_nbd : Kind
-  of_serve : Kind
+  of_solo of_format of_replay of_check of_dump of_gen of_soak of_whatif : Kind
+  of_view_add of_view_remove of_clean of_nbd of_serve : Kind
   of_none : Kind
 
 abbrev pub kind_of : Text → Kind

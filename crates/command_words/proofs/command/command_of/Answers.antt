@@ -14,19 +14,13 @@ returns-in-Err-clause-refused c =
 
 pub returns-clause-refused : goal.returns-clause-refused
 returns-clause-refused c =
-    let words : List Text = map (string_bytes {Z = Rattle.std.proofs.Common.Global}) c.args.words.now in
-    let m = c.in-Ok-try_get_matches_from.matches in
-    let name : Text = c.in-Some.name.now in
     let rows = rows_of (found_of c.in-Some.matches.now) in
-    let met = side_by_side (out-ArgMatches m).subcommand name rows c.in-Some.ensures.name c.in-Some.ensures.rows in
-    λ is. asked_nothing (app_of c.in-Ok.application) words m name rows c.in-Ok.ensures c.in-Ok-try_get_matches_from.ensures.matches met
-    (was_none c.read.result c.ok_or.result NotACommand NotACommand (AsksNothing name rows) c.ok_or.ensures.value is c.read.ensures.none)
+    let met = side_by_side (out-ArgMatches c.in-Ok-try_get_matches_from.matches).subcommand c.in-Some.name.now rows c.in-Some.ensures.name c.in-Some.ensures.rows in
+    λ is. asked_nothing (app_of c.in-Ok.application) _ c.in-Ok-try_get_matches_from.matches c.in-Some.name.now rows c.in-Ok.ensures c.in-Ok-try_get_matches_from.ensures.matches met
+    (was_none c.read.result c.ok_or.result NotACommand NotACommand (AsksNothing c.in-Some.name.now rows) c.ok_or.ensures.value is c.read.ensures.none)
 
 pub returns-clause-ok : goal.returns-clause-ok
 returns-clause-ok c =
-    let words : List Text = map (string_bytes {Z = Rattle.std.proofs.Common.Global}) c.args.words.now in
-    let m = c.in-Ok-try_get_matches_from.matches in
-    let name : Text = c.in-Some.name.now in
     let rows = rows_of (found_of c.in-Some.matches.now) in
-    let met = side_by_side (out-ArgMatches m).subcommand name rows c.in-Some.ensures.name c.in-Some.ensures.rows in
-    asked_for (app_of c.in-Ok.application) words m name rows c.read.result c.ok_or.result NotACommand c.in-Ok.ensures c.in-Ok-try_get_matches_from.ensures.kinds c.in-Ok-try_get_matches_from.ensures.matches met c.ok_or.ensures.value c.read.ensures.some
+    let met = side_by_side (out-ArgMatches c.in-Ok-try_get_matches_from.matches).subcommand c.in-Some.name.now rows c.in-Some.ensures.name c.in-Some.ensures.rows in
+    asked_for (app_of c.in-Ok.application) _ c.in-Ok-try_get_matches_from.matches c.in-Some.name.now rows c.read.result c.ok_or.result NotACommand c.in-Ok.ensures c.in-Ok-try_get_matches_from.ensures.kinds c.in-Ok-try_get_matches_from.ensures.matches met c.ok_or.ensures.value c.read.ensures.some
