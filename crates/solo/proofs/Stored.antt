@@ -10,6 +10,8 @@ use Rattle.wol_model.specs.Trace.{Request, mark, payload, payload_block, payload
 use Rattle.wol_model.specs.declared.trace.Kind.TheVariants as kind
 use Rattle.wol_model.proofs.Arrays.{after_put}
 use Rattle.solo.specs.Served.{IsSettled, content_of, content_after}
+use Rattle.solo.specs.Texts.{AreMarks}
+use Rattle.solo.proofs.Marks.{read_marks}
 
 -- what holds at `Ok`
 pub on_ok : {T E : Type 0} (r : Result T E) (P : Type 0) → false ≡ is_err r → OnOk r P → P
@@ -42,7 +44,7 @@ stored r blocks (Some vs) mid new is on filled wrote synced =
     ap content_of (synced_write r.first blocks (Some vs) mid new wrote synced) ∙ ap Some (stored_in r blocks vs is on filled)
 
 -- the mark of what was read
-pub found_mark : (r : Request) (blocks : List Block) (values : Option (List (Values Block))) (found count : ℕ) → count ≡ r.count
+found_mark : (r : Request) (blocks : List Block) (values : Option (List (Values Block))) (found count : ℕ) → count ≡ r.count
     → IfSome values (λ vs. blocks ≡ take count (drop r.first (reads vs))) → found ≡ mark blocks
     → (a : List Block) → content_of values ≡ Some a → found ≡ mark (slice_range a r.first (r.first + r.count))
 found_mark r blocks None found count long read is a told = absurd (cc told)
@@ -50,6 +52,11 @@ found_mark r blocks (Some vs) found count long read is a told =
     let array : reads vs ≡ a = cc told in
     let size : r.first + r.count - r.first ≡ r.count = omega arith in
     rw (is, read, long, array, size) refl
+
+-- it is the mark that the read is to answer
+pub marks_read : (r : Request) (blocks : List Block) (values : Option (List (Values Block))) (found count : ℕ) → r.kind ≡ kind.Read → count ≡ r.count
+    → IfSome values (λ vs. blocks ≡ take count (drop r.first (reads vs))) → found ≡ mark blocks → AreMarks (content_of values) (r ∷ []) (Some found ∷ [])
+marks_read r blocks values found count is long read here = read_marks (content_of values) r found is (found_mark r blocks values found count long read here)
 
 -- a sync leaves each block one value
 pub stored_settled : (new mid : Option (List (Values Block))) → new ≡ option_map settled mid → IsSettled new

@@ -69,23 +69,25 @@ abbrev pub whole_text : Target → List (Option TraceLine) → (marks : List (Op
 whole_text target lines marks =
     read_lines (asked_of target lines) marks ++ summary_text (tally_of target lines)
 
+-- the trace was run to its end, and of all that it prints the sink took what `took` says
+abbrev pub PrintsSo : (took : (text : List ℕ) → Type 0) → Target → (trace : Option (List ℕ))
+    → (array : Option (List Block)) → (values : Option (List (Values Block))) → Type 0
+PrintsSo took target trace array values =
+    (lines : List (Option TraceLine)) × HasLines trace lines [] × (length lines ≤ 2 ^ 32)
+    × (marks : List (Option ℕ)) × AreMarks array (asked_of target lines) marks
+    × took (whole_text target lines marks)
+    × LeavesCutOf array (asked_of target lines) [] values
+
 -- the whole text was printed
 abbrev pub Prints : Target → (trace : Option (List ℕ)) → (array : Option (List Block))
     → (old new : Option (List ℕ)) → (values : Option (List (Values Block))) → Type 0
-Prints target trace array old new values =
-    (lines : List (Option TraceLine)) × HasLines trace lines [] × (length lines ≤ 2 ^ 32)
-    × (marks : List (Option ℕ)) × AreMarks array (asked_of target lines) marks
-    × Appends old new (whole_text target lines marks)
-    × LeavesCutOf array (asked_of target lines) [] values
+Prints target trace array old new values = PrintsSo (Appends old new) target trace array values
 
 -- .. or a front of it
 abbrev pub PrintsFront : Target → (trace : Option (List ℕ)) → (array : Option (List Block))
     → (old new : Option (List ℕ)) → (values : Option (List (Values Block))) → Type 0
 PrintsFront target trace array old new values =
-    (lines : List (Option TraceLine)) × HasLines trace lines [] × (length lines ≤ 2 ^ 32)
-    × (marks : List (Option ℕ)) × AreMarks array (asked_of target lines) marks
-    × AppendsFront old new (whole_text target lines marks)
-    × LeavesCutOf array (asked_of target lines) [] values
+    PrintsSo (AppendsFront old new) target trace array values
 
 -- how a run ended that wasn't done: without an image, in the trace, or at the last line
 abbrev pub EndsBy : Fault → Target → (trace left : Option (List ℕ)) → (array : Option (List Block))

@@ -1,12 +1,11 @@
-use Rattle.std.proofs.Common.{◌≡◌, ◌∷◌, [], ◌∙◌, sym, ap}
+use Rattle.std.proofs.Common.{◌∷◌, [], ◌∙◌, sym, ap, subst}
 use Rattle.std.specs.Io.KnownBytes.{Appends}
 use Rattle.wol_io.specs.Streams.{AppendsFront}
 use Rattle.solo.specs.Requests.{request_of}
 use Rattle.solo.specs.Served.{content_of}
-use Rattle.solo.specs.Texts.{read_text}
 use Rattle.solo.proofs.Answering.{answered_read, left_in_sink, left_out, write_served}
-use Rattle.solo.proofs.Marks.{read_content, read_marks}
-use Rattle.solo.proofs.Stored.{on_ok, on_err, match_ok, found_mark}
+use Rattle.solo.proofs.Marks.{read_content}
+use Rattle.solo.proofs.Stored.{on_ok, on_err, match_ok, marks_read}
 use Rattle.solo.proofs.answer.serve.Goals as goal
 
 pub returns-then-is_err-clause-content : goal.returns-then-is_err-clause-content
@@ -23,11 +22,9 @@ pub returns-then-is_err-2-clause-content : goal.returns-then-is_err-2-clause-con
 returns-then-is_err-2-clause-content g c =
     let r = request_of c.args.request.now in
     let values = (g.D.Disk.state c.args.part.now).values in
-    let known = found_mark r c.read.new.out values c.mark.result _ c.requires.count (on_ok c.read.result _ c.if-is_err.ensures.value c.read.ensures.content) c.mark.ensures in
-    let front : AppendsFront (g.K.Sink.taken c.args.out.now) (g.K.Sink.taken c.write.new.self) c.as_bytes.result.now = on_err c.write.result _ _ c.if-is_err-2.ensures.value c.write.ensures.content in
-    let text : c.as_bytes.result.now ≡ read_text r c.mark.result = c.as_bytes.ensures.value ∙ c.in-Ok.ensures in
-    left_in_sink r c.mark.result values (g.D.Disk.state c.read.new.self).values (g.K.Sink.taken c.args.out.now) (g.K.Sink.taken c.write.new.self) c.requires.settled c.read.ensures.values c.in-Read.is
-    (read_marks (content_of values) r c.mark.result c.in-Read.is known) (rw text at front)
+    let marks = marks_read r c.read.new.out values c.mark.result _ c.in-Read.is c.requires.count (on_ok c.read.result _ c.if-is_err.ensures.value c.read.ensures.content) c.mark.ensures in
+    left_in_sink r c.mark.result values (g.D.Disk.state c.read.new.self).values (g.K.Sink.taken c.args.out.now) (g.K.Sink.taken c.write.new.self) c.requires.settled c.read.ensures.values c.in-Read.is marks
+    (subst (AppendsFront (g.K.Sink.taken c.args.out.now) (g.K.Sink.taken c.write.new.self)) (c.as_bytes.ensures.value ∙ c.in-Ok.ensures) (on_err c.write.result _ _ c.if-is_err-2.ensures.value c.write.ensures.content))
 
 pub returns-else-is_err-2-clause-values : goal.returns-else-is_err-2-clause-values
 returns-else-is_err-2-clause-values g c = ap content_of c.read.ensures.values ∙ sym (read_content (request_of c.args.request.now) (content_of (g.D.Disk.state c.args.part.now).values) c.in-Read.is)
@@ -36,10 +33,9 @@ pub returns-else-is_err-2-clause-content : goal.returns-else-is_err-2-clause-con
 returns-else-is_err-2-clause-content g c =
     let r = request_of c.args.request.now in
     let values = (g.D.Disk.state c.args.part.now).values in
-    let known = found_mark r c.read.new.out values c.mark.result _ c.requires.count (on_ok c.read.result _ c.if-is_err.ensures.value c.read.ensures.content) c.mark.ensures in
-    let took : Appends (g.K.Sink.taken c.args.out.now) (g.K.Sink.taken c.write.new.self) c.as_bytes.result.now = match_ok c.write.result _ _ c.if-is_err-2.ensures.value c.write.ensures.content in
-    let text : c.as_bytes.result.now ≡ read_text r c.mark.result = c.as_bytes.ensures.value ∙ c.in-Ok.ensures in
-    answered_read (content_of values) r c.mark.result (g.K.Sink.taken c.args.out.now) (g.K.Sink.taken c.write.new.self) (read_marks (content_of values) r c.mark.result c.in-Read.is known) (rw text at took)
+    let marks = marks_read r c.read.new.out values c.mark.result _ c.in-Read.is c.requires.count (on_ok c.read.result _ c.if-is_err.ensures.value c.read.ensures.content) c.mark.ensures in
+    answered_read (content_of values) r c.mark.result (g.K.Sink.taken c.args.out.now) (g.K.Sink.taken c.write.new.self) marks
+    (subst (Appends (g.K.Sink.taken c.args.out.now) (g.K.Sink.taken c.write.new.self)) (c.as_bytes.ensures.value ∙ c.in-Ok.ensures) (match_ok c.write.result _ _ c.if-is_err-2.ensures.value c.write.ensures.content))
 
 pub returns-in-Write-clause-content : goal.returns-in-Write-clause-content
 returns-in-Write-clause-content g c =

@@ -25,8 +25,7 @@ loop-piece-init g c = record {
 
 pub overflow_add-earlier : goal.overflow_add-earlier
 overflow_add-earlier g c =
-    let few = few_so_far c.blocks-home.result (trace_line c.args.line.now) c.loop-piece.yielded c.loop-piece.piece-iterator c.requires.fits c.loop-piece.invariant.split in
-    omega (arith, few, c.loop-piece.invariant.count)
+    omega (arith, few_so_far c.blocks-home.result (trace_line c.args.line.now) c.loop-piece.yielded c.loop-piece.piece-iterator c.requires.fits c.loop-piece.invariant.split, c.loop-piece.invariant.count)
 
 pub slice_bounds-serve-end : goal.slice_bounds-serve-end
 slice_bounds-serve-end g c =
@@ -47,8 +46,7 @@ returns-in_err-serve-clause-content g c =
 
 pub overflow_add-count : goal.overflow_add-count
 overflow_add-count g c =
-    let few = few_so_far c.blocks-home.result (trace_line c.args.line.now) c.loop-piece.yielded c.loop-piece.piece-iterator c.requires.fits c.loop-piece.invariant.split in
-    omega (arith, few, c.loop-piece.invariant.count)
+    omega (arith, few_so_far c.blocks-home.result (trace_line c.args.line.now) c.loop-piece.yielded c.loop-piece.piece-iterator c.requires.fits c.loop-piece.invariant.split, c.loop-piece.invariant.count)
 
 pub loop-piece-preserved : goal.loop-piece-preserved
 loop-piece-preserved g c =
@@ -69,5 +67,4 @@ loop-piece-preserved g c =
 
 pub returns-clause-few : goal.returns-clause-few
 returns-clause-few g c =
-    let few = few_so_far c.blocks-home.result (trace_line c.args.line.now) c.loop-piece.yielded c.loop-piece.piece-iterator c.requires.fits c.loop-piece.invariant.split in
-    omega (arith, few, c.loop-piece.invariant.count)
+    omega (arith, few_so_far c.blocks-home.result (trace_line c.args.line.now) c.loop-piece.yielded c.loop-piece.piece-iterator c.requires.fits c.loop-piece.invariant.split, c.loop-piece.invariant.count)
