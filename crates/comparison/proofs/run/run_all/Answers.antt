@@ -46,17 +46,15 @@ loop-preserved g c =
     let i = c.loop.invariant in
     let so = i.so_far in
     let next = rw c.in-Ok-Some.field-0-is at c.in-Ok-Some.ensures.line in
-    let line = copied_line c.as_ref-line.result c.in-Ok-Some.line c.as_ref-line.ensures.value in
-    let count = rw c.in-Ok-Some.field-0-is at c.in-Ok-Some.ensures.count in
     let e = c.in_ok-take-in-Ok-Some.ensures in
     record {
       so_far = record {
         run = so.run ++ option_map trace_line c.in-Ok-Some.line ∷ [];
         given = next c.args.given.now so.run so.given;
-        taken = rw line at (e.taken so.run so.taken);
+        taken = rw (copied_line c.as_ref-line.result c.in-Ok-Some.line c.as_ref-line.ensures.value) at (e.taken so.run so.taken);
       };
       live = c.in-Ok-Some.ensures.live;
-      turns = count ∙ ap (λ n. n + 1) i.turns;
+      turns = (rw c.in-Ok-Some.field-0-is at c.in-Ok-Some.ensures.count) ∙ ap (λ n. n + 1) i.turns;
       lines = e.lines ∙ ap (λ n. n + 1) i.lines;
       most = c.in-Ok-Some.ensures.most;
       source_later = (let a = i.source_later in let b = c.in-Ok-Some.ensures.later in omega (arith, a, b));
