@@ -24,9 +24,9 @@ use Rattle.command_words.specs.Values.{named_by, served_by}
 use Rattle.view_commands.specs.declared.order.Verb.TheVariants.{Add, Remove}
 use Rattle.wol_run.specs.Causes.{AskFor}
 use Rattle.wol_run.specs.Causes as row
-use Rattle.wol_run.specs.Commands.{runs_trace}
-use Rattle.wol_run.specs.Completing.{HasSoundImages, HaveVersions, HaveVersionsToClean, IsGoodTrace, seed_lines}
-use Rattle.wol_run.specs.Outside.{LeavesUnused, Outside, Stream}
+use Rattle.wol_run.specs.Commands.{runs_trace, uses_bay, uses_config}
+use Rattle.wol_run.specs.Completing.{HasSoundImages, HaveVersions, HaveVersionsToClean, IsGoodTrace, IsUnhindered, seed_lines}
+use Rattle.wol_run.specs.Outside.{LeavesUnused, NothingFailed, Outside, Stream}
 use Rattle.wol_run.specs.Replaying.{lines_of, options_as, trace_of}
 use Rattle.wol_run.specs.Run.{Does, IsCleaningOf, IsComparisonOf, IsFormat, IsListingOf, IsLookFor, IsReplayOf, IsServingOf, IsViewChangeOf, Run}
 use Rattle.wol_run.specs.Serving.{EndsAtClient}
@@ -47,6 +47,13 @@ use Rattle.wol_run.proofs.Unread.{not_begun}
 
 module _ {D : Type 0} (tells : Bool) (state : D → State) (words : List (List ℕ)) (before after : Outside) (status : ℕ)
     (seven : status ≡ 7 → Rose before.sink.faults after.sink.faults) (later : before.sink.faults < after.sink.faults → status ≡ 7) where
+  -- nothing stands in the way of a command on the volumes
+  abbrev Free : Type 0
+  Free = IsUnhindered tells before.config.bytes before.config.faults after.config.faults before.bay after.bay before.sink.faults after.sink.faults
+
+  abbrev free : (command : Command) → uses_config command ≡ true → uses_bay command ≡ true → IsConfigured before.config.bytes → HasSoundImages tells before.config.bytes before.bay → NothingFailed command before after → Free
+  free command config bay configured images calm = record { images = images; configured = configured; source = calm.config config; bay = calm.bay bay; sink = calm.sink }
+
   used : {b : Bool} → b ≡ true → b ≡ false → ⊥
   used is none = true≢false (sym is ∙ none)
 
@@ -61,22 +68,20 @@ module _ {D : Type 0} (tells : Bool) (state : D → State) (words : List (List �
       (λ order calm. inl (complete_format _ _ _ _ _ status _ _ order (calm.config refl) (calm.bay refl) (λ is_7. calm.sink (seven is_7)) run))
 
   -- the volumes were looked at, and where nothing stood in the way the look came to its end
-  module _ (complete : HasSoundImages tells before.config.bytes before.bay → IsConfigured before.config.bytes → ¬ Rose before.bay.faults after.bay.faults
-      → ¬ Rose before.config.faults after.config.faults → ¬ Rose before.sink.faults after.sink.faults → IsDoneOrMemory status) (trace : after.trace ≡ before.trace) where
+  module _ (complete : Free → IsDoneOrMemory status) (trace : after.trace ≡ before.trace) where
     pub check_promise : IsCommand words Check → IsLookFor tells state before after status asked.Check → Run tells state words before after status
     check_promise is run = of_command tells state words before after status Check is run (look_cause tells state words before after status seven Check is refl refl refl asked.Check run) later
         (record { config = λ none. absurd (used refl (none Check is)); trace = λ none. trace; bay = λ none. absurd (used refl (none Check is)) })
-        (λ order calm. inl (complete order.1 order.0 (calm.bay refl) (calm.config refl) calm.sink))
+        (λ order calm. inl (complete (free Check refl refl order.0 order.1 calm)))
 
     pub dump_promise : IsCommand words Dump → IsLookFor tells state before after status asked.Dump → Run tells state words before after status
     dump_promise is run = of_command tells state words before after status Dump is run (look_cause tells state words before after status seven Dump is refl refl refl asked.Dump run) later
         (record { config = λ none. absurd (used refl (none Dump is)); trace = λ none. trace; bay = λ none. absurd (used refl (none Dump is)) })
-        (λ order calm. inl (complete order.1 order.0 (calm.bay refl) (calm.config refl) calm.sink))
+        (λ order calm. inl (complete (free Dump refl refl order.0 order.1 calm)))
 
   pub replay_promise : (options : Options) → IsCommand words (Replay options) → IsReplayOf tells state before after status (options_as options, trace_of before.trace.bytes)
       → (status ≡ 8 → Rose before.config.faults after.config.faults ⊎ Rose before.trace.faults after.trace.faults)
-      → ((lines : _) (images : HasSoundImages tells before.config.bytes before.bay) → HaveVersions before.config.bytes images.entry (λ c. lines) → IsGoodTrace before.trace.bytes lines → IsConfigured before.config.bytes
-      → ¬ Rose before.bay.faults after.bay.faults → ¬ Rose before.config.faults after.config.faults → ¬ Rose before.trace.faults after.trace.faults → ¬ Rose before.sink.faults after.sink.faults → IsDoneOrMemory status)
+      → ((lines : _) (all : Free) → HaveVersions before.config.bytes all.images.entry (λ c. lines) → IsGoodTrace before.trace.bytes lines → ¬ Rose before.trace.faults after.trace.faults → IsDoneOrMemory status)
       → Run tells state words before after status
   replay_promise options is run source complete = of_command tells state words before after status (Replay options) is run
       (replay_cause tells state words before after status seven (Replay options) is refl refl (options_as options) (trace_of before.trace.bytes) refl source
@@ -84,15 +89,14 @@ module _ {D : Type 0} (tells : Bool) (state : D → State) (words : List (List �
       (λ ten. (for_trace, replay_more_lines tells state (options_as options) _ _ _ _ _ _ _ status _ _ before.trace.bytes run ten))
       (λ now lines config rest all uses. at_end before.trace.bytes after.trace.bytes now lines config rest all) run) later
       (record { config = λ none. absurd (used refl (none (Replay options) is)); trace = λ none. absurd (used refl (none (Replay options) is)); bay = λ none. absurd (used refl (none (Replay options) is)) })
-      (λ order calm. inl (complete order.2 order.1 order.4 order.3 order.0 (calm.bay refl) (calm.config refl) (calm.trace refl) calm.sink))
+      (λ order calm. inl (complete order.2 (free (Replay options) refl refl order.0 order.1 calm) order.4 order.3 (calm.trace refl)))
     where
       for_trace : AskFor words runs_trace
       for_trace = record { command = Replay options; is = is; does = refl }
 
   pub soak_promise : (what : Generated) (options : Options) → IsCommand words (Soak what options) → IsReplayOf tells state before after status (options_as options, lines_of what)
       → (status ≡ 8 → Rose before.config.faults after.config.faults)
-      → ((images : HasSoundImages tells before.config.bytes before.bay) → HaveVersions before.config.bytes images.entry (seed_lines what) → IsConfigured before.config.bytes
-      → ¬ Rose before.bay.faults after.bay.faults → ¬ Rose before.config.faults after.config.faults → ¬ Rose before.sink.faults after.sink.faults → IsDoneOrMemory status)
+      → ((all : Free) → HaveVersions before.config.bytes all.images.entry (seed_lines what) → IsDoneOrMemory status)
       → after.trace ≡ before.trace → Run tells state words before after status
   soak_promise what options is run source complete trace = of_command tells state words before after status (Soak what options) is run
       (replay_cause tells state words before after status seven (Soak what options) is refl refl (options_as options) (lines_of what) refl (λ eight. inl (source eight))
@@ -100,7 +104,7 @@ module _ {D : Type 0} (tells : Bool) (state : D → State) (words : List (List �
       (λ ten. absurd (soak_not_ten tells state (options_as options) _ _ _ _ _ _ _ status _ _ what run ten))
       (λ now lines config rest all asks. absurd (used asks.does (of_asked (λ c. runs_trace c ≡ false) uses_alike words (Soak what options) asks.command is asks.is refl))) run) later
       (record { config = λ none. absurd (used refl (none (Soak what options) is)); trace = λ none. trace; bay = λ none. absurd (used refl (none (Soak what options) is)) })
-      (λ order calm. inl (complete order.1 order.2 order.0 (calm.bay refl) (calm.config refl) calm.sink))
+      (λ order calm. inl (complete (free (Soak what options) refl refl order.0 order.1 calm) order.2))
 
   pub comparison_promise : IsCommand words WhatIf → IsComparisonOf before after status → (status ≡ 8 → Rose before.config.faults after.config.faults ⊎ Rose before.trace.faults after.trace.faults)
       → ((lines : _) → IsGoodTrace before.trace.bytes lines → IsConfigured before.config.bytes → ¬ Rose before.config.faults after.config.faults → ¬ Rose before.trace.faults after.trace.faults → ¬ Rose before.sink.faults after.sink.faults
@@ -110,8 +114,7 @@ module _ {D : Type 0} (tells : Bool) (state : D → State) (words : List (List �
       (λ order calm. inl (complete order.1 order.2 order.0 (calm.config refl) (calm.trace refl) calm.sink))
 
   -- a view was to be changed
-  module _ (complete : HasSoundImages tells before.config.bytes before.bay → IsConfigured before.config.bytes → ¬ Rose before.bay.faults after.bay.faults
-      → ¬ Rose before.config.faults after.config.faults → ¬ Rose before.sink.faults after.sink.faults → IsDoneOrMemory status ⊎ (status ≡ 15)) (trace : after.trace ≡ before.trace) where
+  module _ (complete : Free → IsDoneOrMemory status ⊎ (status ≡ 15)) (trace : after.trace ≡ before.trace) where
     view_ends : {b : Bool} {A : Type 0} → b ≡ true → IsDoneOrMemory status ⊎ (status ≡ 15) → IsDoneOrMemory status ⊎ ((b ≡ true) × (status ≡ 15)) ⊎ A
     view_ends changes (inl done) = inl done
     view_ends changes (inr refused) = inr (inl (changes, refused))
@@ -120,25 +123,23 @@ module _ {D : Type 0} (tells : Bool) (state : D → State) (words : List (List �
     view_add_promise names is run = of_command tells state words before after status (ViewAdd names) is run
         (view_cause tells state words before after status seven (ViewAdd names) is refl refl Add (named_by names) refl (record { command = ViewAdd names; is = is; does = refl }) refl run) later
         (record { config = λ none. absurd (used refl (none (ViewAdd names) is)); trace = λ none. trace; bay = λ none. absurd (used refl (none (ViewAdd names) is)) })
-        (λ order calm. view_ends refl (complete order.1 order.0 (calm.bay refl) (calm.config refl) calm.sink))
+        (λ order calm. view_ends refl (complete (free (ViewAdd names) refl refl order.0 order.1 calm)))
 
     pub view_remove_promise : (names : ViewNames) → IsCommand words (ViewRemove names) → IsViewChangeOf tells state before after status (Remove, named_by names) → Run tells state words before after status
     view_remove_promise names is run = of_command tells state words before after status (ViewRemove names) is run
         (view_cause tells state words before after status seven (ViewRemove names) is refl refl Remove (named_by names) refl (record { command = ViewRemove names; is = is; does = refl }) refl run) later
         (record { config = λ none. absurd (used refl (none (ViewRemove names) is)); trace = λ none. trace; bay = λ none. absurd (used refl (none (ViewRemove names) is)) })
-        (λ order calm. view_ends refl (complete order.1 order.0 (calm.bay refl) (calm.config refl) calm.sink))
+        (λ order calm. view_ends refl (complete (free (ViewRemove names) refl refl order.0 order.1 calm)))
 
   pub clean_promise : IsCommand words Clean → IsCleaningOf tells state before after status
-      → ((images : HasSoundImages tells before.config.bytes before.bay) → HaveVersionsToClean before.config.bytes images.entry → IsConfigured before.config.bytes
-      → ¬ Rose before.bay.faults after.bay.faults → ¬ Rose before.config.faults after.config.faults → ¬ Rose before.sink.faults after.sink.faults → IsDoneOrMemory status)
+      → ((all : Free) → HaveVersionsToClean before.config.bytes all.images.entry → IsDoneOrMemory status)
       → after.trace ≡ before.trace → Run tells state words before after status
   clean_promise is run complete trace = of_command tells state words before after status Clean is run (clean_cause tells state words before after status seven Clean is refl refl is run) later
       (record { config = λ none. absurd (used refl (none Clean is)); trace = λ none. trace; bay = λ none. absurd (used refl (none Clean is)) })
-      (λ order calm. inl (complete order.1 order.2 order.0 (calm.bay refl) (calm.config refl) calm.sink))
+      (λ order calm. inl (complete (free Clean refl refl order.0 order.1 calm) order.2))
 
   -- a volume was to be served
-  module _ (complete : HasSoundImages tells before.config.bytes before.bay → IsConfigured before.config.bytes → ¬ Rose before.bay.faults after.bay.faults → ¬ Rose before.config.faults after.config.faults
-      → ¬ Rose before.trace.faults after.trace.faults → ¬ Rose before.sink.faults after.sink.faults → EndsAtClient status) where
+  module _ (complete : Free → ¬ Rose before.trace.faults after.trace.faults → EndsAtClient status) where
     at_client : {A : Type 0} {b : Bool} → b ≡ true → EndsAtClient status → IsDoneOrMemory status ⊎ A ⊎ ((b ≡ true) × ((status ≡ 14) ⊎ (status ≡ 15)))
     at_client serves (inl done) = inl done
     at_client serves (inr other) = inr (inr (serves, other))
@@ -147,13 +148,13 @@ module _ {D : Type 0} (tells : Bool) (state : D → State) (words : List (List �
     nbd_promise name is run = of_command tells state words before after status (Nbd name) is run
         (serving_cause tells state words before after status seven (Nbd name) is refl refl AtOnce (served_by name) refl refl run) later
         (record { config = λ none. absurd (used refl (none (Nbd name) is)); trace = λ none. absurd (used refl (none (Nbd name) is)); bay = λ none. absurd (used refl (none (Nbd name) is)) })
-        (λ order calm. at_client refl (complete order.1 order.0 (calm.bay refl) (calm.config refl) (calm.trace refl) calm.sink))
+        (λ order calm. at_client refl (complete (free (Nbd name) refl refl order.0 order.1 calm) (calm.trace refl)))
 
     pub serve_promise : (name : ServedName) → IsCommand words (Serve name) → IsServingOf tells state before after status (Handshake, served_by name) → Run tells state words before after status
     serve_promise name is run = of_command tells state words before after status (Serve name) is run
         (serving_cause tells state words before after status seven (Serve name) is refl refl Handshake (served_by name) refl refl run) later
         (record { config = λ none. absurd (used refl (none (Serve name) is)); trace = λ none. absurd (used refl (none (Serve name) is)); bay = λ none. absurd (used refl (none (Serve name) is)) })
-        (λ order calm. at_client refl (complete order.1 order.0 (calm.bay refl) (calm.config refl) (calm.trace refl) calm.sink))
+        (λ order calm. at_client refl (complete (free (Serve name) refl refl order.0 order.1 calm) (calm.trace refl)))
 
   -- the lines of one volume were run on an image of its own
   module _ (own : Volume) (is : IsCommand words (Solo own)) (config : after.config ≡ before.config) where

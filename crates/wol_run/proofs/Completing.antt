@@ -76,14 +76,8 @@ complete_unread left faults faults' status printed new e cause is calm whole (in
 
 module _ (tells : Bool) (left : Option (List ℕ)) (config : Config) (has : HasConfig left config) (old new : BayState) (sink sink' : ℕ) where
   unfoldable pub may_look : HasSoundImages tells left old → ¬ Rose old.faults new.faults → ¬ Rose sink sink' → look.MayComplete tells config old new sink sink'
-  may_look is bay_calm sink_calm = record {
-    telling = is.telling;
-    entry = is.entry;
-    entry_is = is.entry_is;
-    sound = is.sound config has;
-    bay_calm = bay_calm;
-    sink_calm = sink_calm;
-  }
+  may_look is bay_calm sink_calm =
+      record { telling = is.telling; entry = is.entry; entry_is = is.entry_is; sound = is.sound config has; bay_calm = bay_calm; sink_calm = sink_calm }
 
 abbrev IsWhole : Result (Option Trouble) LookStop → Type 0
 IsWhole (Ok None) = ⊤

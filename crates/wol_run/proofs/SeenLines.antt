@@ -1,5 +1,5 @@
 -- Lines of any source, seen as the bytes that are left of it.
-use Rattle.std.proofs.Common.{inl, inr, ℕ, Bool, List, ◌++◌, Option, Result, ap, subst, sym, arith}
+use Rattle.std.proofs.Common.{◌↔◌, inl, inr, ℕ, Bool, List, ◌++◌, Option, Result, ap, subst, sym, arith}
 use Rattle.wol_disk.specs.Disk.{Rose, State}
 use Rattle.wol_bay.specs.Bay.{BayState}
 use Rattle.wol_model.specs.Trace.{Target, TraceLine}
@@ -117,24 +117,18 @@ still_given left targets (Trace r) (Trace q) ls h is = tt
 still_given left targets (Trace r) (Generated g n) ls h is = h
 still_given left targets (Generated g n) now ls h is = absurd is
 
--- lines of a source stay so
-pub source_kept : {D S T : Type 0} (tells : Bool) (state : D → State) (left : S → Option (List ℕ)) (config : Config) (options : Options) (start now : Given S) (old new : BayState) (sink sink' : ℕ) (printed printed' : Option (List ℕ)) (result : Result T Stop)
-    → Replayed tells state left config options start now old new sink sink' printed printed' result → HasSource start → HasSource now
-source_kept tells state left config options start now old new sink sink' printed printed' result (no_memory asks leaves) is = subst HasSource (sym asks.unread) is
-source_kept tells state left config options start now old new sink sink' printed printed' result (closed k f asks first leaves) is = subst HasSource (sym asks.unread) is
-source_kept tells state left config options start now old new sink sink' printed printed' result (ran r replays) is = still_given left (targets_of config) start now (replays.run ++ replays.more) replays.given is
-
 given_still : {S : Type 0} (left : S → Option (List ℕ)) (targets : List Target) (start now : Given S) (ls : List (Option TraceLine)) → HasGiven left targets start now ls → HasSource now → HasSource start
 given_still left targets (Trace r) now ls h is = tt
 given_still left targets (Generated g n) (Trace q) ls h is = h
 given_still left targets (Generated g n) (Generated k m) ls h is = is
 
--- .. and those of a seed
-pub seed_kept : {D S T : Type 0} (tells : Bool) (state : D → State) (left : S → Option (List ℕ)) (config : Config) (options : Options) (start now : Given S) (old new : BayState) (sink sink' : ℕ) (printed printed' : Option (List ℕ)) (result : Result T Stop)
-    → Replayed tells state left config options start now old new sink sink' printed printed' result → HasSource now → HasSource start
-seed_kept tells state left config options start now old new sink sink' printed printed' result (no_memory asks leaves) is = subst HasSource asks.unread is
-seed_kept tells state left config options start now old new sink sink' printed printed' result (closed k f asks first leaves) is = subst HasSource asks.unread is
-seed_kept tells state left config options start now old new sink sink' printed printed' result (ran r replays) is = given_still left (targets_of config) start now (replays.run ++ replays.more) replays.given is
+-- lines of a source stay so
+pub source_kept : {D S T : Type 0} (tells : Bool) (state : D → State) (left : S → Option (List ℕ)) (config : Config) (options : Options) (start now : Given S) (old new : BayState) (sink sink' : ℕ) (printed printed' : Option (List ℕ)) (result : Result T Stop)
+    → Replayed tells state left config options start now old new sink sink' printed printed' result → HasSource start ↔ HasSource now
+source_kept tells state left config options start now old new sink sink' printed printed' result (no_memory asks leaves) = (subst HasSource (sym asks.unread), subst HasSource asks.unread)
+source_kept tells state left config options start now old new sink sink' printed printed' result (closed k f asks first leaves) = (subst HasSource (sym asks.unread), subst HasSource asks.unread)
+source_kept tells state left config options start now old new sink sink' printed printed' result (ran r replays) =
+    (still_given left (targets_of config) start now (replays.run ++ replays.more) replays.given, given_still left (targets_of config) start now (replays.run ++ replays.more) replays.given)
 
 -- nothing is left of lines without a source, and no call of theirs failed
 pub left_of_seed : {S : Type 0} (left : S → Option (List ℕ)) (now : Given S) (rest : Option (List ℕ)) → ¬ HasSource now → HasLeft (seen left now) rest

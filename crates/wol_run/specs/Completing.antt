@@ -1,6 +1,7 @@
 -- What a run needs to come to its end, where no count rises and there is memory.
 use Rattle.std.specs.Prelude.{◌≡◌, ℕ, ◌≤◌, ◌^◌, ◌+◌, Bool, List, [], length, map, Option, Some, IsTrue}
 use Rattle.std.specs.List.{range_with_len}
+use Rattle.wol_disk.specs.Disk.{Rose}
 use Rattle.wol_bay.specs.Bay.{BayState, Told}
 use Rattle.wol_model.specs.Images.{AreSound}
 use Rattle.wol_model.specs.Trace.{TraceLine, requests}
@@ -13,7 +14,7 @@ use Rattle.trace_gen.specs.Generated.{line, targets_of}
 use Rattle.replay.specs.Completes.{writes_to}
 use Rattle.cleaning.specs.Runs.{LacksVersions}
 use Rattle.command_words.specs.declared.command.Generated.{Generated}
-use Rattle.wol_run.specs.Settings.{HasConfig}
+use Rattle.wol_run.specs.Settings.{HasConfig, IsConfigured}
 use Rattle.wol_config.specs.Configs.{most_of}
 
 -- the bay tells its images, and as they read they are sound for the configuration, with all volumes
@@ -24,6 +25,16 @@ pub record HasSoundImages (tells : Bool) (left : Option (List ℕ)) (bay : BaySt
   pub entry_is : bay.told ≡ Some entry
   pub sound : (config : Config) → HasConfig left config
       → AreSound (shapes_of config) (images_read config entry)
+
+-- Nothing stands in the way of a command on the volumes: the images are sound for the
+-- configuration, which is one, and no call of its source, of the bay or of the sink failed.
+pub record IsUnhindered (tells : Bool) (left : Option (List ℕ)) (faults faults' : ℕ)
+    (old new : BayState) (sink sink' : ℕ) : Type 0 where
+  pub images : HasSoundImages tells left old
+  pub configured : IsConfigured left
+  pub source : ¬ Rose faults faults'
+  pub bay : ¬ Rose old.faults new.faults
+  pub sink : ¬ Rose sink sink'
 
 -- the versions that a volume began with suffice for its writes in these lines
 abbrev pub HasVersions : Config → Base → List (Option TraceLine) → Type 0

@@ -1,9 +1,7 @@
 // The volumes of the configuration, cleaned.
 ghost use Rattle.solo.specs.Images.{NoneOut};
-ghost use Rattle.wol_disk.specs.Disk.{Rose};
 ghost use Rattle.wol_run.specs.Cleaning.{RunsCleaning};
-ghost use Rattle.wol_run.specs.Completing.{HasSoundImages, HaveVersionsToClean};
-ghost use Rattle.wol_run.specs.Settings.{IsConfigured};
+ghost use Rattle.wol_run.specs.Completing.{HaveVersionsToClean, IsUnhindered};
 ghost use Rattle.wol_run.specs.Tops.{IsDoneOrMemory, TellsSink};
 
 use crate::settings::config_of;
@@ -33,11 +31,10 @@ pub fn clean<R: Wait, C: Source, K: Sink, B: Bay>(
     ensures content { RunsCleaning B.Part.tells B.Part.state (C.left source.old)
         (C.faults source.old) (C.faults source.new) (B.state bay.old) (B.state bay.new)
         (K.faults out.old) result (K.taken out.old) (K.taken out.new) }
-    ensures complete { (images : HasSoundImages B.Part.tells (C.left source.old) (B.state bay.old))
-        → HaveVersionsToClean (C.left source.old) images.entry → IsConfigured (C.left source.old)
-        → ¬ Rose (B.state bay.old).faults (B.state bay.new).faults
-        → ¬ Rose (C.faults source.old) (C.faults source.new)
-        → ¬ Rose (K.faults out.old) (K.faults out.new) → IsDoneOrMemory result }
+    ensures complete { (free : IsUnhindered B.Part.tells (C.left source.old) (C.faults source.old)
+        (C.faults source.new) (B.state bay.old) (B.state bay.new) (K.faults out.old)
+        (K.faults out.new)) → HaveVersionsToClean (C.left source.old) free.images.entry
+        → IsDoneOrMemory result }
     ensures sink { TellsSink (K.faults out.old) (K.faults out.new) result }
 {
     let config = match config_of(alloc, source) {

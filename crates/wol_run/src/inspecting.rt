@@ -1,10 +1,8 @@
 // The volumes of the configuration, looked at.
 ghost use Rattle.solo.specs.Images.{NoneOut};
 ghost use Rattle.std.specs.Prelude.{◌≡◌};
-ghost use Rattle.wol_disk.specs.Disk.{Rose};
-ghost use Rattle.wol_run.specs.Completing.{HasSoundImages};
+ghost use Rattle.wol_run.specs.Completing.{IsUnhindered};
 ghost use Rattle.wol_run.specs.Inspecting.{RunsLook, status_of_first};
-ghost use Rattle.wol_run.specs.Settings.{IsConfigured};
 ghost use Rattle.wol_run.specs.Tops.{IsDoneOrMemory, TellsSink};
 
 use crate::settings::config_of;
@@ -37,11 +35,9 @@ where
     ensures content { RunsLook B.Part.tells B.Part.state asked (C.left source.old)
         (C.faults source.old) (C.faults source.new) (B.state bay.old) (B.state bay.new) result
         (K.taken out.old) (K.taken out.new) }
-    ensures complete { HasSoundImages B.Part.tells (C.left source.old) (B.state bay.old)
-        → IsConfigured (C.left source.old)
-        → ¬ Rose (B.state bay.old).faults (B.state bay.new).faults
-        → ¬ Rose (C.faults source.old) (C.faults source.new)
-        → ¬ Rose (K.faults out.old) (K.faults out.new) → IsDoneOrMemory result }
+    ensures complete { IsUnhindered B.Part.tells (C.left source.old) (C.faults source.old)
+        (C.faults source.new) (B.state bay.old) (B.state bay.new) (K.faults out.old)
+        (K.faults out.new) → IsDoneOrMemory result }
     ensures sink { TellsSink (K.faults out.old) (K.faults out.new) result }
 {
     let config = match config_of(alloc, source) {

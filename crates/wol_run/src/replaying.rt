@@ -2,13 +2,13 @@
 ghost use Rattle.replay.specs.Completes.{MayComplete};
 ghost use Rattle.replay.specs.Givens.{IsNew, IsWithin, borrow_of, faults_of};
 ghost use Rattle.solo.specs.Images.{NoneOut};
-ghost use Rattle.std.specs.Prelude.{◌≡◌, ◌⊎◌, ◌≤◌, ◌^◌, true};
+ghost use Rattle.std.specs.Prelude.{◌≡◌, ◌↔◌, ◌⊎◌, ◌≤◌, ◌^◌, true};
 ghost use Rattle.wol_config.specs.Configs.{IsValid};
 ghost use Rattle.wol_disk.specs.Disk.{Rose};
 ghost use Rattle.wol_run.specs.Commands.{IsCount};
-ghost use Rattle.wol_run.specs.Completing.{HasSoundImages, HaveVersions, IsGoodTrace, seed_lines};
+ghost use Rattle.wol_run.specs.Completing.{HaveVersions, IsGoodTrace, IsUnhindered, seed_lines};
 ghost use Rattle.wol_run.specs.Replaying.{HasLeft, HasSource, IsReplay, RunsReplay, lines_of, options_as, reclaim_of, seen, trace_of};
-ghost use Rattle.wol_run.specs.Settings.{HasConfig, IsConfigured};
+ghost use Rattle.wol_run.specs.Settings.{HasConfig};
 ghost use Rattle.wol_run.specs.Tops.{IsDoneOrMemory, TellsSink};
 
 use crate::settings::config_of;
@@ -53,13 +53,11 @@ where
     ensures source { result ≡ 8 → Rose (C.faults source.old) (C.faults source.new)
         ⊎ Rose (S.faults trace.old) (S.faults trace.new) }
     ensures complete { (lines : _)
-        (images : HasSoundImages B.Part.tells (C.left source.old) (B.state bay.old))
-        → HaveVersions (C.left source.old) images.entry (λ c. lines)
-        → IsGoodTrace (S.left trace.old) lines → IsConfigured (C.left source.old)
-        → ¬ Rose (B.state bay.old).faults (B.state bay.new).faults
-        → ¬ Rose (C.faults source.old) (C.faults source.new)
-        → ¬ Rose (S.faults trace.old) (S.faults trace.new)
-        → ¬ Rose (K.faults out.old) (K.faults out.new) → IsDoneOrMemory result }
+        (free : IsUnhindered B.Part.tells (C.left source.old) (C.faults source.old)
+        (C.faults source.new) (B.state bay.old) (B.state bay.new) (K.faults out.old)
+        (K.faults out.new)) → HaveVersions (C.left source.old) free.images.entry (λ c. lines)
+        → IsGoodTrace (S.left trace.old) lines → ¬ Rose (S.faults trace.old) (S.faults trace.new)
+        → IsDoneOrMemory result }
     ensures sink { TellsSink (K.faults out.old) (K.faults out.new) result }
 {
     let config = match config_of(alloc, source) {
@@ -94,12 +92,10 @@ where
         (B.state bay.old) (B.state bay.new) (K.faults out.old) result (K.taken out.old)
         (K.taken out.new) }
     ensures source { result ≡ 8 → Rose (C.faults source.old) (C.faults source.new) }
-    ensures complete { (images : HasSoundImages B.Part.tells (C.left source.old) (B.state bay.old))
-        → HaveVersions (C.left source.old) images.entry (seed_lines asked)
-        → IsConfigured (C.left source.old)
-        → ¬ Rose (B.state bay.old).faults (B.state bay.new).faults
-        → ¬ Rose (C.faults source.old) (C.faults source.new)
-        → ¬ Rose (K.faults out.old) (K.faults out.new) → IsDoneOrMemory result }
+    ensures complete { (free : IsUnhindered B.Part.tells (C.left source.old) (C.faults source.old)
+        (C.faults source.new) (B.state bay.old) (B.state bay.new) (K.faults out.old)
+        (K.faults out.new)) → HaveVersions (C.left source.old) free.images.entry (seed_lines asked)
+        → IsDoneOrMemory result }
     ensures sink { TellsSink (K.faults out.old) (K.faults out.new) result }
 {
     let config = match config_of(alloc, source) {
@@ -181,8 +177,7 @@ where
         (B.state bay.old) (B.state bay.new) (K.faults out.old) (K.faults out.new)
         (faults_of S.faults given.old) (faults_of S.faults given.new) → IsDoneOrMemory result }
     ensures within { IsWithin given.new }
-    ensures source_kept { HasSource given.old → HasSource given.new }
-    ensures seed_kept { HasSource given.new → HasSource given.old }
+    ensures same_source { HasSource given.old ↔ HasSource given.new }
     ensures same_borrow { borrow_of S.borrow given.new ≡ borrow_of S.borrow given.old }
     ensures sink { TellsSink (K.faults out.old) (K.faults out.new) result }
 {

@@ -1,11 +1,10 @@
 // A volume of the configuration, served to a client, at once or behind a handshake.
 ghost use Rattle.command_words.specs.Values.{served_by};
 ghost use Rattle.solo.specs.Images.{NoneOut};
-ghost use Rattle.std.specs.Prelude.{◌≡◌, ◌≤◌, ◌<◌};
+ghost use Rattle.std.specs.Prelude.{◌≡◌, ◌<◌};
 ghost use Rattle.wol_disk.specs.Disk.{Rose};
-ghost use Rattle.wol_run.specs.Completing.{HasSoundImages};
+ghost use Rattle.wol_run.specs.Completing.{IsUnhindered};
 ghost use Rattle.wol_run.specs.Serving.{EndsAtClient, RunsServing, wire};
-ghost use Rattle.wol_run.specs.Settings.{IsConfigured};
 
 use crate::settings::config_of;
 use command_words::ServedName;
@@ -39,12 +38,10 @@ pub fn serve<R: Wait, C: Source, S: Source, K: Sink, B: Bay>(
         (B.state bay.old) (B.state bay.new)
         (wire (S.left input.old) (S.faults input.old) (K.taken out.old) (K.faults out.old))
         (wire (S.left input.new) (S.faults input.new) (K.taken out.new) (K.faults out.new)) result }
-    ensures complete { HasSoundImages B.Part.tells (C.left source.old) (B.state bay.old)
-        → IsConfigured (C.left source.old)
-        → ¬ Rose (B.state bay.old).faults (B.state bay.new).faults
-        → ¬ Rose (C.faults source.old) (C.faults source.new)
-        → ¬ Rose (S.faults input.old) (S.faults input.new)
-        → ¬ Rose (K.faults out.old) (K.faults out.new) → EndsAtClient result }
+    ensures complete { IsUnhindered B.Part.tells (C.left source.old) (C.faults source.old)
+        (C.faults source.new) (B.state bay.old) (B.state bay.new) (K.faults out.old)
+        (K.faults out.new) → ¬ Rose (S.faults input.old) (S.faults input.new)
+        → EndsAtClient result }
     ensures cause { result ≡ 7 → Rose (K.faults out.old) (K.faults out.new) }
     ensures calm { K.faults out.old < K.faults out.new → result ≡ 7 }
 {

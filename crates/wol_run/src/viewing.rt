@@ -3,9 +3,7 @@ ghost use Rattle.command_words.specs.Values.{named_by};
 ghost use Rattle.solo.specs.Images.{NoneOut};
 ghost use Rattle.std.specs.Prelude.{◌≡◌, ◌⊎◌, codes};
 ghost use Rattle.view_commands.specs.Orders.{refusal_text};
-ghost use Rattle.wol_disk.specs.Disk.{Rose};
-ghost use Rattle.wol_run.specs.Completing.{HasSoundImages};
-ghost use Rattle.wol_run.specs.Settings.{IsConfigured};
+ghost use Rattle.wol_run.specs.Completing.{IsUnhindered};
 ghost use Rattle.wol_run.specs.Tops.{EndsWith, IsDoneOrMemory, TellsSink};
 ghost use Rattle.wol_run.specs.Viewing.{RunsViewChange};
 
@@ -38,11 +36,9 @@ pub fn change_view<R: Wait, C: Source, K: Sink, B: Bay>(
     ensures content { RunsViewChange B.Part.tells B.Part.state verb (named_by names.entry)
         (C.left source.old) (C.faults source.old) (C.faults source.new) (B.state bay.old)
         (B.state bay.new) (K.faults out.old) result (K.taken out.old) (K.taken out.new) }
-    ensures complete { HasSoundImages B.Part.tells (C.left source.old) (B.state bay.old)
-        → IsConfigured (C.left source.old)
-        → ¬ Rose (B.state bay.old).faults (B.state bay.new).faults
-        → ¬ Rose (C.faults source.old) (C.faults source.new)
-        → ¬ Rose (K.faults out.old) (K.faults out.new) → IsDoneOrMemory result ⊎ (result ≡ 15) }
+    ensures complete { IsUnhindered B.Part.tells (C.left source.old) (C.faults source.old)
+        (C.faults source.new) (B.state bay.old) (B.state bay.new) (K.faults out.old)
+        (K.faults out.new) → IsDoneOrMemory result ⊎ (result ≡ 15) }
     ensures sink { TellsSink (K.faults out.old) (K.faults out.new) result }
 {
     let config = match config_of(alloc, source) {

@@ -30,22 +30,22 @@ returns-clause-content g c =
 -- ---- It comes to its end
 
 pub returns-in-Err-clause-complete : goal.returns-in-Err-clause-complete
-returns-in-Err-clause-complete g c is versions configured bay source sink =
-    complete_unread _ _ _ c.tell_fault.result _ _ c.in-Err.fault c.in-Err.ensures.err configured source (λ seven. sink (c.tell_fault.ensures.sink.cause seven)) c.tell_fault.ensures.content
+returns-in-Err-clause-complete g c free versions =
+    complete_unread _ _ _ c.tell_fault.result _ _ c.in-Err.fault c.in-Err.ensures.err free.configured free.source (λ seven. free.sink (c.tell_fault.ensures.sink.cause seven)) c.tell_fault.ensures.content
 
 pub returns-in-Ok-clean_volumes-clause-complete : goal.returns-in-Ok-clean_volumes-clause-complete
-returns-in-Ok-clean_volumes-clause-complete g c is versions configured bay source sink = inl refl
+returns-in-Ok-clean_volumes-clause-complete g c free versions = inl refl
 
 pub returns-in-Err-Sink-clause-complete : goal.returns-in-Err-Sink-clause-complete
-returns-in-Err-Sink-clause-complete g c is versions configured bay source sink =
+returns-in-Err-Sink-clause-complete g c free versions =
     absurd (replay_not_sink (Err c.in-Err-Sink.field-0) c.in-Err-Sink.field-0 refl c.in-Err-Sink.field-0-is
-    (as_run _ (c.in-Err-Sink.ensures.complete (may_clean _ _ c.in-Ok.config c.in-Ok.ensures.ok _ _ _ _ is versions bay sink))))
+    (as_run _ (c.in-Err-Sink.ensures.complete (may_clean _ _ c.in-Ok.config c.in-Ok.ensures.ok _ _ _ _ free.images versions free.bay free.sink))))
 
 pub returns-clause-complete : goal.returns-clause-complete
-returns-clause-complete g c is versions configured bay source sink =
-    let may = may_clean _ _ c.in-Ok.config c.in-Ok.ensures.ok _ _ _ _ is versions bay (λ rose. sink (rose_later _ _ _ rose c.tell_fault-in-Err-Fault.ensures.sink.later)) in
+returns-clause-complete g c free versions =
+    let may = may_clean _ _ c.in-Ok.config c.in-Ok.ensures.ok _ _ _ _ free.images versions free.bay (λ rose. free.sink (rose_later _ _ _ rose c.tell_fault-in-Err-Fault.ensures.sink.later)) in
     let memory = replay_memory (Err c.in-Err-Fault.field-0) c.in-Err-Fault.field-0 c.in-Err-Fault.fault refl c.in-Err-Fault.field-0-is (as_run _ (c.in-Err-Fault.ensures.complete may)) in
-    told_memory (printed_names c.deref.result.now) c.in-Err-Fault.fault c.tell_fault-in-Err-Fault.result _ _ memory (λ seven. sink (rose_from _ _ _ c.in-Err-Fault.ensures.later (c.tell_fault-in-Err-Fault.ensures.sink.cause seven))) c.tell_fault-in-Err-Fault.ensures.content
+    told_memory (printed_names c.deref.result.now) c.in-Err-Fault.fault c.tell_fault-in-Err-Fault.result _ _ memory (λ seven. free.sink (rose_from _ _ _ c.in-Err-Fault.ensures.later (c.tell_fault-in-Err-Fault.ensures.sink.cause seven))) c.tell_fault-in-Err-Fault.ensures.content
 
 -- ---- The sink
 

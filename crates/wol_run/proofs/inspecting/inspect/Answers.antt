@@ -16,22 +16,22 @@ pub returns-clause-content : goal.returns-clause-content
 returns-clause-content g c = look_cut _ _ _ _ _ _ _ _ _ _ _ c.in-Ok.config c.in-Ok.ensures.ok (record { left = c.in-Err-Memory.ensures.left; sound = c.in-Err-Memory.ensures.sound }) c.in-Err-Memory.ensures.others _ _ _ (rw c.in-Err-Memory.field-0-is at c.in-Err-Memory.ensures.content) c.end_with.ensures.content
 
 pub returns-in-Err-clause-complete : goal.returns-in-Err-clause-complete
-returns-in-Err-clause-complete g c is configured bay source sink =
-    complete_unread _ _ _ c.tell_fault.result _ _ c.in-Err.fault c.in-Err.ensures.err configured source (λ seven. sink (c.tell_fault.ensures.sink.cause seven)) c.tell_fault.ensures.content
+returns-in-Err-clause-complete g c free =
+    complete_unread _ _ _ c.tell_fault.result _ _ c.in-Err.fault c.in-Err.ensures.err free.configured free.source (λ seven. free.sink (c.tell_fault.ensures.sink.cause seven)) c.tell_fault.ensures.content
 
 pub returns-in-Ok-inspect-clause-complete : goal.returns-in-Ok-inspect-clause-complete
-returns-in-Ok-inspect-clause-complete g c is configured bay source sink =
-    inl (c.status_of_first.ensures ∙ look_whole_done c.in-Ok-inspect.first (c.in-Ok-inspect.ensures.complete (may_look _ _ c.in-Ok.config c.in-Ok.ensures.ok _ _ _ _ is bay sink)))
+returns-in-Ok-inspect-clause-complete g c free =
+    inl (c.status_of_first.ensures ∙ look_whole_done c.in-Ok-inspect.first (c.in-Ok-inspect.ensures.complete (may_look _ _ c.in-Ok.config c.in-Ok.ensures.ok _ _ _ _ free.images free.bay free.sink)))
 
 pub returns-in-Err-Sink-clause-complete : goal.returns-in-Err-Sink-clause-complete
-returns-in-Err-Sink-clause-complete g c is configured bay source sink =
-    absurd (look_not_sink c.in-Err-Sink.field-0 c.in-Err-Sink.field-0-is (c.in-Err-Sink.ensures.complete (may_look _ _ c.in-Ok.config c.in-Ok.ensures.ok _ _ _ _ is bay sink)))
+returns-in-Err-Sink-clause-complete g c free =
+    absurd (look_not_sink c.in-Err-Sink.field-0 c.in-Err-Sink.field-0-is (c.in-Err-Sink.ensures.complete (may_look _ _ c.in-Ok.config c.in-Ok.ensures.ok _ _ _ _ free.images free.bay free.sink)))
 
 pub returns-clause-complete : goal.returns-clause-complete
-returns-clause-complete g c is configured bay source sink = elim c.end_with.ensures.status [
+returns-clause-complete g c free = elim c.end_with.ensures.status [
   | inl nine ↦ inr nine
   | inr seven ↦ elim (c.end_with.ensures.cause seven) [
     | inl no_seven ↦ absurd (omega (arith, no_seven))
-    | inr rose ↦ absurd (sink (rose_from _ _ _ c.in-Err-Memory.ensures.later rose))
+    | inr rose ↦ absurd (free.sink (rose_from _ _ _ c.in-Err-Memory.ensures.later rose))
   ]
 ]

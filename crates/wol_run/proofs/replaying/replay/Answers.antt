@@ -17,11 +17,11 @@ returns-clause-source g c eight =
     inr (rw (c.new-lines.ensures, same) at (c.replay_lines-status.ensures.source eight))
 
 pub returns-in-Err-clause-complete : goal.returns-in-Err-clause-complete
-returns-in-Err-clause-complete g c lines images versions good configured bay source trace sink =
-    complete_unread _ _ _ c.tell_fault.result _ _ c.in-Err.fault c.in-Err.ensures.err configured source (λ seven. sink (c.tell_fault.ensures.sink.cause seven)) c.tell_fault.ensures.content
+returns-in-Err-clause-complete g c lines free versions good trace =
+    complete_unread _ _ _ c.tell_fault.result _ _ c.in-Err.fault c.in-Err.ensures.err free.configured free.source (λ seven. free.sink (c.tell_fault.ensures.sink.cause seven)) c.tell_fault.ensures.content
 
 pub returns-clause-complete : goal.returns-clause-complete
-returns-clause-complete g c lines images versions good configured bay source trace sink =
+returns-clause-complete g c lines free versions good trace =
     let same : c.replay_lines-status.result.1.source.now ≡ c.trace-1.given.0 = search rules in
     (rw c.new-lines.ensures at c.replay_lines-status.ensures.complete)
-    (may_replay _ c.in-Ok.config lines _ _ refl refl good _ _ _ _ sink (λ rose. trace (rw same at rose)) _ _ c.in-Ok.ensures.ok _ _ images versions bay)
+    (may_replay _ c.in-Ok.config lines _ _ refl refl good _ _ _ _ free.sink (λ rose. trace (rw same at rose)) _ _ c.in-Ok.ensures.ok _ _ free.images versions free.bay)

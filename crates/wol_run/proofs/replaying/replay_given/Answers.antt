@@ -4,7 +4,7 @@ use Rattle.wol_run.proofs.Completing.{earlier_calm, replay_memory, replay_not_si
 use Rattle.wol_run.proofs.ReplayEndings.{told_status}
 use Rattle.wol_run.proofs.ReplayEnds.{calm_of, can_end, sink_rose, whole_calm}
 use Rattle.wol_run.proofs.ReplayFaults.{CanEnd, is_source}
-use Rattle.wol_run.proofs.SeenLines.{is_replay, seed_kept, source_kept}
+use Rattle.wol_run.proofs.SeenLines.{is_replay, source_kept}
 use Rattle.wol_run.proofs.SinkTold.{sink_failed, sink_kept}
 use Rattle.wol_run.proofs.replaying.replay_given.Goals as goal
 
@@ -28,23 +28,14 @@ returns-in-Err-Fault-clause-source g c eight =
     let told = told_status (printed_names c.deref.result.now) c.in-Err-Fault.fault c.tell_fault.result 8 _ _ (λ e. omega (arith, e)) (λ e. omega (arith, e)) c.tell_fault.ensures.content eight in
     c.in-Err-Fault.ensures.source (rw (sym (is_source c.in-Err-Fault.fault can told)) is)
 
-pub returns-in-Ok-clause-source_kept : goal.returns-in-Ok-clause-source_kept
-returns-in-Ok-clause-source_kept g c is = source_kept _ _ _ _ _ _ _ _ _ _ _ _ _ _ c.in-Ok.ensures.replays is
+pub returns-in-Ok-clause-same_source : goal.returns-in-Ok-clause-same_source
+returns-in-Ok-clause-same_source g c = source_kept _ _ _ _ _ _ _ _ _ _ _ _ _ _ c.in-Ok.ensures.replays
 
-pub returns-in-Err-Sink-clause-source_kept : goal.returns-in-Err-Sink-clause-source_kept
-returns-in-Err-Sink-clause-source_kept g c is = source_kept _ _ _ _ _ _ _ _ _ _ _ _ _ _ c.in-Err-Sink.ensures.replays is
+pub returns-in-Err-Sink-clause-same_source : goal.returns-in-Err-Sink-clause-same_source
+returns-in-Err-Sink-clause-same_source g c = source_kept _ _ _ _ _ _ _ _ _ _ _ _ _ _ c.in-Err-Sink.ensures.replays
 
-pub returns-in-Err-Fault-clause-source_kept : goal.returns-in-Err-Fault-clause-source_kept
-returns-in-Err-Fault-clause-source_kept g c is = source_kept _ _ _ _ _ _ _ _ _ _ _ _ _ _ c.in-Err-Fault.ensures.replays is
-
-pub returns-in-Ok-clause-seed_kept : goal.returns-in-Ok-clause-seed_kept
-returns-in-Ok-clause-seed_kept g c is = seed_kept _ _ _ _ _ _ _ _ _ _ _ _ _ _ c.in-Ok.ensures.replays is
-
-pub returns-in-Err-Sink-clause-seed_kept : goal.returns-in-Err-Sink-clause-seed_kept
-returns-in-Err-Sink-clause-seed_kept g c is = seed_kept _ _ _ _ _ _ _ _ _ _ _ _ _ _ c.in-Err-Sink.ensures.replays is
-
-pub returns-in-Err-Fault-clause-seed_kept : goal.returns-in-Err-Fault-clause-seed_kept
-returns-in-Err-Fault-clause-seed_kept g c is = seed_kept _ _ _ _ _ _ _ _ _ _ _ _ _ _ c.in-Err-Fault.ensures.replays is
+pub returns-in-Err-Fault-clause-same_source : goal.returns-in-Err-Fault-clause-same_source
+returns-in-Err-Fault-clause-same_source g c = source_kept _ _ _ _ _ _ _ _ _ _ _ _ _ _ c.in-Err-Fault.ensures.replays
 
 pub returns-in-Ok-clause-complete : goal.returns-in-Ok-clause-complete
 returns-in-Ok-clause-complete g c may = inl refl

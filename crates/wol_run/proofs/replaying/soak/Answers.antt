@@ -10,16 +10,16 @@ returns-in-Err-clause-content g c rest = unreplayed _ _ _ _ _ _ _ _ _ _ _ _ _ c.
 
 pub returns-clause-content : goal.returns-clause-content
 returns-clause-content g c rest =
-    inl (rw c.new.ensures at (c.replay_given.ensures.content _ rest c.in-Ok.ensures.ok (left_of_seed _ c.replay_given.new.given rest c.replay_given.ensures.seed_kept)))
+    inl (rw c.new.ensures at (c.replay_given.ensures.content _ rest c.in-Ok.ensures.ok (left_of_seed _ c.replay_given.new.given rest c.replay_given.ensures.same_source.1)))
 
 pub returns-clause-source : goal.returns-clause-source
-returns-clause-source g c eight = absurd (seed_calm _ (Generated c.new.result c.args.asked.lines) c.replay_given.new.given (λ is. is) c.replay_given.ensures.seed_kept (c.replay_given.ensures.source eight))
+returns-clause-source g c eight = absurd (seed_calm _ (Generated c.new.result c.args.asked.lines) c.replay_given.new.given (λ is. is) c.replay_given.ensures.same_source.1 (c.replay_given.ensures.source eight))
 
 pub returns-in-Err-clause-complete : goal.returns-in-Err-clause-complete
-returns-in-Err-clause-complete g c images versions configured bay source sink =
-    complete_unread _ _ _ c.tell_fault.result _ _ c.in-Err.fault c.in-Err.ensures.err configured source (λ seven. sink (c.tell_fault.ensures.sink.cause seven)) c.tell_fault.ensures.content
+returns-in-Err-clause-complete g c free versions =
+    complete_unread _ _ _ c.tell_fault.result _ _ c.in-Err.fault c.in-Err.ensures.err free.configured free.source (λ seven. free.sink (c.tell_fault.ensures.sink.cause seven)) c.tell_fault.ensures.content
 
 pub returns-clause-complete : goal.returns-clause-complete
-returns-clause-complete g c images versions configured bay source sink =
+returns-clause-complete g c free versions =
     (rw c.new.ensures at c.replay_given.ensures.complete)
-    (may_soak _ _ c.in-Ok.config _ c.in-Ok.ensures.ok c.args.asked c.replay_given.new.given _ _ _ _ _ _ (seed_calm _ (Generated c.new.result c.args.asked.lines) c.replay_given.new.given (λ is. is) c.replay_given.ensures.seed_kept) c.replay_given.ensures.within images versions bay sink)
+    (may_soak _ _ c.in-Ok.config _ c.in-Ok.ensures.ok c.args.asked c.replay_given.new.given _ _ _ _ _ _ (seed_calm _ (Generated c.new.result c.args.asked.lines) c.replay_given.new.given (λ is. is) c.replay_given.ensures.same_source.1) c.replay_given.ensures.within free.images versions free.bay free.sink)

@@ -19,11 +19,11 @@ returns-clause-content g c =
     })
 
 pub returns-in-Err-clause-complete : goal.returns-in-Err-clause-complete
-returns-in-Err-clause-complete g c is configured bay source input sink = inl (unserved_complete _ _ _ c.status.result c.in-Err.fault c.in-Err.ensures.err c.status.ensures configured source)
+returns-in-Err-clause-complete g c free input = inl (unserved_complete _ _ _ c.status.result c.in-Err.fault c.in-Err.ensures.err c.status.ensures free.configured free.source)
 
 pub returns-clause-complete : goal.returns-clause-complete
-returns-clause-complete g c is configured bay source input sink =
-    ends_at_client c.serve_volume-answer.result c.status_of.result c.status_of.ensures (c.serve_volume-answer.ensures.complete input (may_look _ _ c.in-Ok.config c.in-Ok.ensures.ok _ _ _ _ is bay sink))
+returns-clause-complete g c free input =
+    ends_at_client c.serve_volume-answer.result c.status_of.result c.status_of.ensures (c.serve_volume-answer.ensures.complete input (may_look _ _ c.in-Ok.config c.in-Ok.ensures.ok _ _ _ _ free.images free.bay free.sink))
 
 pub returns-in-Err-clause-cause : goal.returns-in-Err-clause-cause
 returns-in-Err-clause-cause g c seven = absurd (unserved_not_sink _ _ _ c.status.result c.in-Err.fault c.in-Err.ensures.err c.status.ensures seven)

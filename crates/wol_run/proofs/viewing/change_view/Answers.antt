@@ -36,25 +36,25 @@ returns-clause-content g c =
 -- ---- It comes to its end
 
 pub returns-in-Err-clause-complete : goal.returns-in-Err-clause-complete
-returns-in-Err-clause-complete g c is configured bay source sink =
-    inl (complete_unread _ _ _ c.tell_fault.result _ _ c.in-Err.fault c.in-Err.ensures.err configured source (λ seven. sink (c.tell_fault.ensures.sink.cause seven)) c.tell_fault.ensures.content)
+returns-in-Err-clause-complete g c free =
+    inl (complete_unread _ _ _ c.tell_fault.result _ _ c.in-Err.fault c.in-Err.ensures.err free.configured free.source (λ seven. free.sink (c.tell_fault.ensures.sink.cause seven)) c.tell_fault.ensures.content)
 
 pub returns-in-Ok-change_view-clause-complete : goal.returns-in-Ok-change_view-clause-complete
-returns-in-Ok-change_view-clause-complete g c is configured bay source sink = inl (inl refl)
+returns-in-Ok-change_view-clause-complete g c free = inl (inl refl)
 
 pub returns-in-Err-Sink-clause-complete : goal.returns-in-Err-Sink-clause-complete
-returns-in-Err-Sink-clause-complete g c is configured bay source sink =
-    absurd (change_not_sink c.in-Err-Sink.field-0 c.in-Err-Sink.field-0-is (c.in-Err-Sink.ensures.complete (may_look _ _ c.in-Ok.config c.in-Ok.ensures.ok _ _ _ _ is bay sink)))
+returns-in-Err-Sink-clause-complete g c free =
+    absurd (change_not_sink c.in-Err-Sink.field-0 c.in-Err-Sink.field-0-is (c.in-Err-Sink.ensures.complete (may_look _ _ c.in-Ok.config c.in-Ok.ensures.ok _ _ _ _ free.images free.bay free.sink)))
 
 pub returns-in-Err-Refused-clause-complete : goal.returns-in-Err-Refused-clause-complete
-returns-in-Err-Refused-clause-complete g c is configured bay source sink =
-    told_refusal _ c.tell_refusal.result _ _ (λ seven. sink (rose_from _ _ _ c.in-Err-Refused.ensures.later (c.tell_refusal.ensures.sink.cause seven))) c.tell_refusal.ensures.content
+returns-in-Err-Refused-clause-complete g c free =
+    told_refusal _ c.tell_refusal.result _ _ (λ seven. free.sink (rose_from _ _ _ c.in-Err-Refused.ensures.later (c.tell_refusal.ensures.sink.cause seven))) c.tell_refusal.ensures.content
 
 pub returns-clause-complete : goal.returns-clause-complete
-returns-clause-complete g c is configured bay source sink =
-    let may = may_look _ _ c.in-Ok.config c.in-Ok.ensures.ok _ _ _ _ is bay (λ rose. sink (rose_later _ _ _ rose c.tell_fault-in-Err-Fault.ensures.sink.later)) in
+returns-clause-complete g c free =
+    let may = may_look _ _ c.in-Ok.config c.in-Ok.ensures.ok _ _ _ _ free.images free.bay (λ rose. free.sink (rose_later _ _ _ rose c.tell_fault-in-Err-Fault.ensures.sink.later)) in
     let memory = change_memory c.in-Err-Fault.field-0 c.in-Err-Fault.fault c.in-Err-Fault.field-0-is (c.in-Err-Fault.ensures.complete may) in
-    inl (told_memory (printed_names c.deref.result.now) c.in-Err-Fault.fault c.tell_fault-in-Err-Fault.result _ _ memory (λ seven. sink (rose_from _ _ _ c.in-Err-Fault.ensures.later (c.tell_fault-in-Err-Fault.ensures.sink.cause seven))) c.tell_fault-in-Err-Fault.ensures.content)
+    inl (told_memory (printed_names c.deref.result.now) c.in-Err-Fault.fault c.tell_fault-in-Err-Fault.result _ _ memory (λ seven. free.sink (rose_from _ _ _ c.in-Err-Fault.ensures.later (c.tell_fault-in-Err-Fault.ensures.sink.cause seven))) c.tell_fault-in-Err-Fault.ensures.content)
 
 -- ---- The sink
 
