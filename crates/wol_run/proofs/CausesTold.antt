@@ -8,6 +8,7 @@ use Rattle.wol_disk.specs.Disk.{Rose, State}
 use Rattle.wol_bay.specs.Bay.{Told}
 use Rattle.wol_model.specs.Trace.{TraceLine}
 use Rattle.wol_config.specs.declared.config.Config.{Config}
+use Rattle.wol_config.specs.declared.config.VolumeConf.{VolumeConf}
 use Rattle.report.specs.Faults.{fault_text, status_of}
 use Rattle.report.specs.Troubles.{trouble_status}
 use Rattle.report.specs.declared.fault.Fault.{Fault}
@@ -28,6 +29,9 @@ use Rattle.comparison.specs.Compares.{EndsBehind}
 use Rattle.comparison.specs.Compares as behind
 use Rattle.replay.specs.Givens.{HasGivenAll, Refuses}
 use Rattle.replay.specs.NotOpened.{IsFirstClosed, IsOpened}
+use Rattle.rack.specs.Opens.{RefusesVolume, WereThere}
+use Rattle.rack.specs.Rests.{image_here}
+use Rattle.rack_parts.specs.declared.rack.ImageRest.{ImageRest}
 use Rattle.rack_parts.specs.declared.volume_fault.VolumeFault.{VolumeFault}
 use Rattle.replay.specs.Replays.{Replayed, Replays, closed, no_memory, ran}
 use Rattle.replay.specs.Served.{ServedWindow}
@@ -70,7 +74,7 @@ use Rattle.command_words.specs.Table.{Named}
 use Rattle.command_words.specs.declared.command.Command.{Command}
 use Rattle.command_words.specs.declared.command.Command.TheVariants.{Clean, Format, Gen, WhatIf}
 use Rattle.command_words.specs.declared.command.Generated.{Generated}
-use Rattle.wol_run.specs.Causes.{AskFor, IsCause, IsClosedFor, replayed_by}
+use Rattle.wol_run.specs.Causes.{AskFor, HasRefusal, IsCause, IsClosedFor, replayed_by}
 use Rattle.wol_run.specs.Causes as row
 use Rattle.wol_run.specs.Cleaning.{IsCleaning}
 use Rattle.wol_run.specs.Commands.{changes_view, runs_trace, uses_bay, uses_config}
@@ -196,15 +200,15 @@ module _ {D : Type 0} (tells : Bool) (state : D → State) (words : List (List �
       no_further now run trace.NoMemory other refuses same = absurd (other refl)
 
       module _ (run : IsComparison (trace_of before.trace.bytes) before.config.bytes after.trace.bytes before.sink.faults status before.sink.bytes after.sink.bytes) where
-        of_behind : (ls : List (Option TraceLine)) (x : Result (Unit {0}) Stop) → EndsBehind (λ bytes. bytes) run.config (trace_of before.trace.bytes) run.now before.sink.faults run.sink_then before.sink.bytes run.printed_then ls x
-            → EndsReplay run.config x status run.printed_then after.sink.bytes → Cause status
-        of_behind ls x (behind.whole done all calm more) ends = at_status 0 status ends.0 (row.done WhatIf is (λ asks. at_end before.trace.bytes after.trace.bytes run.now ls run.config run.rest all))
+        of_behind : (ls : List (Option TraceLine)) (x : Result (Unit {0}) Stop) → EndsBehind (λ bytes. bytes) run.over.config (trace_of before.trace.bytes) run.now before.sink.faults run.over.sink_then before.sink.bytes run.over.printed_then ls x
+            → EndsReplay run.over.config x status run.over.printed_then after.sink.bytes → Cause status
+        of_behind ls x (behind.whole done all calm more) ends = at_status 0 status ends.0 (row.done WhatIf is (λ asks. at_end before.trace.bytes after.trace.bytes run.now ls run.over.config run.rest all))
         of_behind ls x (behind.sink_failed all rose front) ends = of_sink ends.0
-        of_behind ls x (behind.no_line refusal other refuses calm kept) ends = told_cause _ (fault_of_trace refusal) run.printed_then ends (no_further run.now ls refusal other refuses)
-        of_behind ls x (behind.memory calm kept) ends = told_cause _ fault.Memory run.printed_then ends memory_cause
+        of_behind ls x (behind.no_line refusal other refuses calm kept) ends = told_cause _ (fault_of_trace refusal) run.over.printed_then ends (no_further run.now ls refusal other refuses)
+        of_behind ls x (behind.memory calm kept) ends = told_cause _ fault.Memory run.over.printed_then ends memory_cause
 
       pub comparison_cause : IsComparisonOf before after status → Cause status
-      comparison_cause (inl run) = of_behind run run.compares.run run.result run.compares.ends run.ends
+      comparison_cause (inl run) = of_behind run run.compares.run run.over.result run.compares.ends run.over.ends
       comparison_cause (inr unread) = ended_cause unread.text unread.wanted _ unread.ends (unread_cause (record { command = WhatIf; is = is; does = refl }) unread.text unread.wanted unread.line_)
 
     pub gen_cause : (what : Generated) → IsCommand words (Gen what) → IsListingOf before after status what → Cause status
@@ -233,24 +237,18 @@ module _ {D : Type 0} (tells : Bool) (state : D → State) (words : List (List �
       for_bay : AskFor words uses_bay
       for_bay = record { command = command; is = is; does = bay_ }
 
+      -- a volume that was refused, and those before it were opened
+      refused_cause : (config : Config) → HasConfig before.config.bytes config → (k : ℕ) (conf : VolumeConf) (out : List (Option (ImageRest D))) (f : VolumeFault) → slice_get config.volumes.items k ≡ Some conf
+          → ((j : ℕ) (v : VolumeConf) → slice_get config.volumes.items j ≡ Some v → image_here out j ≡ None → (e : VolumeFault) × RefusesVolume tells state config out before.bay after.bay j v e)
+          → (IsTrue tells → IfSome before.bay.told (λ t. WereThere config out t)) → RefusesVolume tells state config out before.bay after.bay k conf f
+          → ((j : ℕ) → j < k → IsTrue tells → IfSome before.bay.told (λ images. IsOpened config out images j)) → (trouble_status (trouble_of f) ≡ 4 → Rose before.bay.faults after.bay.faults) → Cause (trouble_status (trouble_of f))
+      refused_cause config has k conf out f conf_is missing there refused first =
+          trouble_cause for_config for_bay (trouble_of f) (record { config = config; has = has; volume = k; conf = conf; conf_is = conf_is; out = out; missing = missing; there = there; fault = f; refused = refused; status_is = refl; first = first })
+
       -- the first volume that isn't open, and why it isn't
       closed_cause : (config : Config) → HasConfig before.config.bytes config → (k : ℕ) (f : VolumeFault) → IsFirstClosed tells state config before.bay after.bay k f → Cause (trouble_status (trouble_of f))
-      closed_cause config has k f first = trouble_cause for_config for_bay (trouble_of f)
-          (record {
-            config = config;
-            has = has;
-            volume = k;
-            conf = first.conf;
-            conf_is = first.conf_is;
-            out = first.out;
-            missing = first.missing;
-            there = first.there;
-            fault = f;
-            refused = first.refused;
-            status_is = refl;
-            first = λ j less. (first.before j less).1;
-          })
-          (λ four. first.cause (of_call f _ first.names four))
+      closed_cause config has k f first =
+          refused_cause config has k first.conf first.out f first.conf_is first.missing first.there first.refused (λ j less. (first.before j less).1) (λ four. first.cause (of_call f _ first.names four))
 
       -- ---- Volumes that were looked at
 
@@ -271,21 +269,9 @@ module _ {D : Type 0} (tells : Bool) (state : D → State) (words : List (List �
       look_trouble config has what told are o (k, t, here, is_o, earlier) = elim (are.each k t here) [
         | inl refusal ↦
             let same : trouble_of refusal.fault ≡ o = same_Some (trouble_of refusal.fault) o (sym refusal.trouble ∙ is_o) in
-            subst (λ (x : Trouble). Cause (trouble_status x)) same (trouble_cause for_config for_bay (trouble_of refusal.fault)
-            (record {
-              config = config;
-              has = has;
-              volume = k;
-              conf = refusal.conf;
-              conf_is = refusal.is_conf;
-              out = are.out;
-              missing = are.missing (λ empty. none_in k t (rw empty at here));
-              there = are.there (λ empty. none_in k t (rw empty at here));
-              fault = refusal.fault;
-              refused = refusal.refuses;
-              status_is = refl;
-              first = λ j less. (let (u, there, none) = earlier j less in was_opened config what told are j u there none);
-            }) refusal.rose)
+            let some : told ≢ [] = λ empty. none_in k t (rw empty at here) in
+            subst (λ (x : Trouble). Cause (trouble_status x)) same
+            (refused_cause config has k refusal.conf are.out refusal.fault refusal.is_conf (are.missing some) (are.there some) refusal.refuses (λ j less. (let (u, there, none) = earlier j less in was_opened config what told are j u there none)) refusal.rose)
         | inr (inl order) ↦ absurd (let no : None ≡ Some o = sym order.trouble ∙ is_o in cc)
         | inr (inr part) ↦ subst (λ (x : Trouble). Cause (trouble_status x)) (same_Some (trouble_of_part (part_named k part.name)) o (sym part.trouble ∙ is_o)) (part_cause for_bay (part_named k part.name) part.rose)
       ]
@@ -308,21 +294,12 @@ module _ {D : Type 0} (tells : Bool) (state : D → State) (words : List (List �
           abbrev EndsSo : Result (Unit {0}) ViewStop → Type 0
           EndsSo r = EndsChange run.config run.order r status run.printed_then after.sink.bytes
 
+          refused_for : (refusal : ViewRefusal) → RefusesChange tells run.config run.order before.bay after.bay refusal → HasRefusal tells words before after
+          refused_for refusal why = record { config = run.config; has = run.has; command = command; is = is; verb = verb; named = named; changes = changes; order = run.order; is_order = run.is_order; refusal = refusal; cause = why }
+
           -- a refusal was told, or the sink or memory failed
           of_refusal : (refusal : ViewRefusal) → RefusesChange tells run.config run.order before.bay after.bay refusal → EndsSo (Err (view_stop.Refused refusal)) → Cause status
-          of_refusal refusal why (inl ends) = ended_cause _ 15 run.printed_then ends (λ same. at_status 15 status same (row.view_refused (record {
-            config = run.config;
-            has = run.has;
-            command = command;
-            is = is;
-            verb = verb;
-            named = named;
-            changes = changes;
-            order = run.order;
-            is_order = run.is_order;
-            refusal = refusal;
-            cause = why;
-          })))
+          of_refusal refusal why (inl ends) = ended_cause _ 15 run.printed_then ends (λ same. at_status 15 status same (row.view_refused (refused_for refusal why)))
           of_refusal refusal why (inr ends) = ended_cause _ 9 run.printed_then ends memory_cause
 
           of_failure : (volume : ℕ) (t : Trouble) → FailsWith tells run.config volume before.bay after.bay t → Cause (trouble_status t)
@@ -377,25 +354,25 @@ module _ {D : Type 0} (tells : Bool) (state : D → State) (words : List (List �
 
       module _ (cleans_ : IsCommand words Clean) where
         module _ (run : IsCleaning tells state before.config.bytes before.bay after.bay before.sink.faults status before.sink.bytes after.sink.bytes) where
-          of_clean_fault : (n : ℕ) (f : CleanFault) → CleansVolume tells state run.config before.bay after.bay n (Err f) → status ≡ status_of (fault_of n f) → Cause status
+          of_clean_fault : (n : ℕ) (f : CleanFault) → CleansVolume tells state run.over.config before.bay after.bay n (Err f) → status ≡ status_of (fault_of n f) → Cause status
           of_clean_fault n (DiskFault p) cleans same = at_status (trouble_status (trouble_of_part p)) status same (part_cause for_bay p (cleans.cause p refl))
-          of_clean_fault n VersionsSpent cleans same = at_status 11 status same (row.no_version_to_copy cleans_ (record { config = run.config; has = run.has; base = cleans.base.volume.began; begun = cleans.begun; lacks = cleans.spent refl }))
+          of_clean_fault n VersionsSpent cleans same = at_status 11 status same (row.no_version_to_copy cleans_ (record { config = run.over.config; has = run.over.has; base = cleans.base.volume.began; begun = cleans.begun; lacks = cleans.spent refl }))
           of_clean_fault n NoMemory cleans same = at_status 9 status same row.no_memory
 
-          of_cleaned : (r : Result (Unit {0}) Stop) → EndsCleaning tells state run.config before.bay after.bay before.sink.faults run.sink_then before.sink.bytes run.printed_then r → EndsReplay run.config r status run.printed_then after.sink.bytes → Cause status
+          of_cleaned : (r : Result (Unit {0}) Stop) → EndsCleaning tells state run.over.config before.bay after.bay before.sink.faults run.over.sink_then before.sink.bytes run.over.printed_then r → EndsReplay run.over.config r status run.over.printed_then after.sink.bytes → Cause status
           of_cleaned r (cleaned.whole told are all calm more) ends = at_status 0 status ends.0 (done_without Clean cleans_ refl)
-          of_cleaned r (cleaned.refused told f are less cleans calm more) ends = told_cause _ (fault_of _ f) run.printed_then ends (of_clean_fault _ f cleans)
-          of_cleaned r (cleaned.no_memory told c are calm more) ends = told_cause _ fault.Memory run.printed_then ends memory_cause
+          of_cleaned r (cleaned.refused told f are less cleans calm more) ends = told_cause _ (fault_of _ f) run.over.printed_then ends (of_clean_fault _ f cleans)
+          of_cleaned r (cleaned.no_memory told c are calm more) ends = told_cause _ fault.Memory run.over.printed_then ends memory_cause
           of_cleaned r (cleaned.sink_failed told c are rose front) ends = of_sink ends.0
 
-          of_bay : (r : Result (Unit {0}) Stop) → CleansBay tells state run.config before.bay after.bay before.sink.faults run.sink_then before.sink.bytes run.printed_then r → EndsReplay run.config r status run.printed_then after.sink.bytes → Cause status
-          of_bay r (cleaned.unopened calm kept) ends = told_cause _ fault.Memory run.printed_then ends memory_cause
+          of_bay : (r : Result (Unit {0}) Stop) → CleansBay tells state run.over.config before.bay after.bay before.sink.faults run.over.sink_then before.sink.bytes run.over.printed_then r → EndsReplay run.over.config r status run.over.printed_then after.sink.bytes → Cause status
+          of_bay r (cleaned.unopened calm kept) ends = told_cause _ fault.Memory run.over.printed_then ends memory_cause
           of_bay r (cleaned.closed k f calm kept first) ends =
-              told_cause _ (fault.Volume k (trouble_of f)) run.printed_then ends (λ same. at_status (trouble_status (trouble_of f)) status same (closed_cause run.config run.has k f first))
+              told_cause _ (fault.Volume k (trouble_of f)) run.over.printed_then ends (λ same. at_status (trouble_status (trouble_of f)) status same (closed_cause run.over.config run.over.has k f first))
           of_bay r (cleaned.ran x ended arrays) ends = of_cleaned x ended ends
 
         pub clean_cause : IsCleaningOf tells state before after status → Cause status
-        clean_cause (inl run) = of_bay run run.result run.cleans run.ends
+        clean_cause (inl run) = of_bay run run.over.result run.cleans run.over.ends
         clean_cause (inr unread) = ended_cause unread.text unread.wanted _ unread.ends (unread_cause for_config unread.text unread.wanted unread.untouched.line_)
 
       -- ---- A volume that was served
@@ -455,7 +432,7 @@ module _ {D : Type 0} (tells : Bool) (state : D → State) (words : List (List �
           (ended : (now : GivenLines) (run : List (Option TraceLine)) (config : Config) → HasLeft now after.trace.bytes → HasGivenAll (λ bytes. bytes) (targets_of config) start now run → AskFor words runs_trace → IsAtEnd after.trace.bytes) where
         module _ (run : IsReplay tells state how start before.config.bytes after.trace.bytes before.bay after.bay before.sink.faults status before.sink.bytes after.sink.bytes) where
           abbrev Ends : Result (Unit {0}) Stop → Type 0
-          Ends r = EndsReplay run.config r status run.printed_then after.sink.bytes
+          Ends r = EndsReplay run.over.config r status run.over.printed_then after.sink.bytes
 
           of_line : (refusal : TraceFault) → refusal ≢ trace.NoMemory → status ≡ status_of (fault_of_trace refusal) → Cause status
           of_line trace.Source other same = at_status 8 status same (row.source_failed (source same))
@@ -463,46 +440,30 @@ module _ {D : Type 0} (tells : Bool) (state : D → State) (words : List (List �
           of_line trace.Spent other same = at_status 10 status same (row.more_lines (lines same).0 (lines same).1)
           of_line trace.NoMemory other same = absurd (other refl)
 
-          module _ (r : Result (Unit {0}) Stop) (of : Replays tells (λ bytes. bytes) run.config how start run.now before.bay after.bay r before.sink.faults run.sink_then before.sink.bytes run.printed_then) where
+          module _ (r : Result (Unit {0}) Stop) (of : Replays tells (λ bytes. bytes) run.over.config how start run.now before.bay after.bay r before.sink.faults run.over.sink_then before.sink.bytes run.over.printed_then) where
             of_versions : (v : ℕ) (s : ServedWindow) → of.last ≡ s ∷ [] → HasRefusedWrite v s → r ≡ Err (stop.Fault (fault.Versions v)) → Cause 11
             of_versions v s only write told =
-                let spent = spent_of tells (λ bytes. bytes) run.config how start run.now before.bay after.bay r before.sink.faults run.sink_then before.sink.bytes run.printed_then of v s only write told in
-                row.no_version for_config (record {
-                  config = run.config;
-                  has = run.has;
-                  command = command;
-                  is = is;
-                  how = how;
-                  start = start;
-                  replays = replays;
-                  now = run.now;
-                  lines = of.run;
-                  more = of.more;
-                  given = of.given;
-                  base = spent.base;
-                  begun = spent.begun;
-                  logged = spent.logged;
-                  few = spent.few;
-                  spent = spent.spent;
-                })
+                let spent = spent_of tells (λ bytes. bytes) run.over.config how start run.now before.bay after.bay r before.sink.faults run.over.sink_then before.sink.bytes run.over.printed_then of v s only write told in
+                row.no_version for_config
+                (record { config = run.over.config; has = run.over.has; command = command; is = is; how = how; start = start; replays = replays; now = run.now; lines = of.run; more = of.more; given = of.given; base = spent.base; begun = spent.begun; logged = spent.logged; few = spent.few; spent = spent.spent })
 
-            of_end : (x : Result (Unit {0}) Stop) → x ≡ r → EndsFor (λ bytes. bytes) run.config start run.now of.run of.last before.bay.faults after.bay.faults before.sink.faults run.sink_then x → Ends x → Cause status
-            of_end x same (whole d none all) ends = at_status 0 status ends.0 (row.done command is (ended run.now of.run run.config run.rest all))
-            of_end x same (no_line refusal other empty refuses) ends = told_cause _ (fault_of_trace refusal) run.printed_then ends (of_line refusal other)
-            of_end x same (refused f s only told rose versions) ends = told_cause _ f run.printed_then ends (λ at. elim (ends_window s.batch.requests s.answer f told) [
+            of_end : (x : Result (Unit {0}) Stop) → x ≡ r → EndsFor (λ bytes. bytes) run.over.config start run.now of.run of.last before.bay.faults after.bay.faults before.sink.faults run.over.sink_then x → Ends x → Cause status
+            of_end x same (whole d none all) ends = at_status 0 status ends.0 (row.done command is (ended run.now of.run run.over.config run.rest all))
+            of_end x same (no_line refusal other empty refuses) ends = told_cause _ (fault_of_trace refusal) run.over.printed_then ends (of_line refusal other)
+            of_end x same (refused f s only told rose versions) ends = told_cause _ f run.over.printed_then ends (λ at. elim (ends_window s.batch.requests s.answer f told) [
               | inl (part, four) ↦ at_status 4 status (at ∙ four) (row.part_failed for_bay (rose part))
               | inr (inl lacks) ↦ at_status 9 status (at ∙ ap status_of lacks) row.no_memory
               | inr (inr (v, spent)) ↦ at_status 11 status (at ∙ ap status_of spent) (of_versions v s only (versions v spent) (sym same ∙ ap (λ (y : Fault). Err (stop.Fault y)) spent))
             ])
-            of_end x same memory ends = told_cause _ fault.Memory run.printed_then ends memory_cause
+            of_end x same memory ends = told_cause _ fault.Memory run.over.printed_then ends memory_cause
             of_end x same (sink_failed rose) ends = of_sink ends.0
 
-          of_replayed : (r : Result (Unit {0}) Stop) → Replayed tells state (λ bytes. bytes) run.config how start run.now before.bay after.bay before.sink.faults run.sink_then before.sink.bytes run.printed_then r → Ends r → Cause status
-          of_replayed r (no_memory asks leaves) ends = told_cause _ fault.Memory run.printed_then ends memory_cause
+          of_replayed : (r : Result (Unit {0}) Stop) → Replayed tells state (λ bytes. bytes) run.over.config how start run.now before.bay after.bay before.sink.faults run.over.sink_then before.sink.bytes run.over.printed_then r → Ends r → Cause status
+          of_replayed r (no_memory asks leaves) ends = told_cause _ fault.Memory run.over.printed_then ends memory_cause
           of_replayed r (closed k f asks first leaves) ends =
-              told_cause _ (fault.Volume k (trouble_of f)) run.printed_then ends (λ same. at_status (trouble_status (trouble_of f)) status same (closed_cause run.config run.has k f first))
+              told_cause _ (fault.Volume k (trouble_of f)) run.over.printed_then ends (λ same. at_status (trouble_status (trouble_of f)) status same (closed_cause run.over.config run.over.has k f first))
           of_replayed r (ran r2 of) ends = of_end r2 of r2 refl of.ends ends
 
         pub replay_cause : IsReplayOf tells state before after status (how, start) → Cause status
-        replay_cause (inl run) = of_replayed run run.result run.replayed run.ends
+        replay_cause (inl run) = of_replayed run run.over.result run.replayed run.over.ends
         replay_cause (inr unread) = ended_cause unread.text unread.wanted _ unread.ends (unread_cause for_config unread.text unread.wanted unread.untouched.line_)

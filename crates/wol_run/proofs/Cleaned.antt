@@ -61,13 +61,8 @@ pub is_cleaning : {D : Type 0} (tells : Bool) (state : D → State) (config : Co
     → LeavesBay tells state config old new → IsTold (KeepsOthers config) old.told new.told → CleansBay tells state config old new sink sink' printed then result → EndsReplay config result status then printed' → (bytes : Option (List ℕ)) → HasConfig bytes config
     → IsCleaning tells state bytes old new sink status printed printed'
 is_cleaning tells state config old new sink sink' printed then printed' status result leaves others cleans ends bytes has = record {
-  config = config;
-  has = has;
-  result = result;
-  sink_then = sink';
-  printed_then = then;
+  over = record { config = config; has = has; result = result; sink_then = sink'; printed_then = then; ends = ends };
   leaves = leaves;
   others = others;
   cleans = cleans;
-  ends = ends;
 }

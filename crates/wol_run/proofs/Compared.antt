@@ -92,15 +92,10 @@ pub is_comparison : {S : Type 0} (left : S → Option (List ℕ)) (config : Conf
     → Compares left config start now sink sink' printed then result → EndsReplay config result status then printed' → (bytes rest : Option (List ℕ)) → HasConfig bytes config → HasLeft (seen left now) rest
     → IsComparison (seen left start) bytes rest sink status printed printed'
 is_comparison left config start now sink sink' printed then printed' status result compares ends bytes rest has left_is = record {
-  config = config;
-  has = has;
+  over = record { config = config; has = has; result = result; sink_then = sink'; printed_then = then; ends = ends };
   now = seen left now;
   rest = left_is;
-  result = result;
-  sink_then = sink';
-  printed_then = then;
   compares = comparison_seen left config start now sink sink' printed then result compares;
-  ends = ends;
 }
 
 -- the configuration wasn't had

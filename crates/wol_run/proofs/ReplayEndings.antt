@@ -109,15 +109,15 @@ module _ {D : Type 0} (tells : Bool) (state : D → State) (options : Options) (
   module _ (is : IsReplay tells state options start left rest old new sink status printed printed') where
     ended : (status ≡ 0) ⊎ (status ≡ 7) ⊎ (status ≡ 9)
         ⊎ ((f : Fault) × (status ≡ status_of f) × (IsOfWindow f ⊎ NoLine (λ bytes. bytes) start is.now f) × CanEnd f)
-    ended = elim (ends_status is.config is.result status is.printed_then printed' is.ends) [
+    ended = elim (ends_status is.over.config is.over.result status is.over.printed_then printed' is.over.ends) [
       | inl zero_ ↦ inl zero_
       | inr (inl seven) ↦ inr (inl seven)
       | inr (inr (inl nine)) ↦ inr (inr (inl nine))
       | inr (inr (inr (f, err, same))) ↦ inr (inr (inr (
         f,
         same,
-        ended_by tells state options _ is.config start is.now old new sink is.sink_then printed is.printed_then is.result is.replayed f err,
-        can_end tells state options _ is.config start is.now old new sink is.sink_then printed is.printed_then is.result is.replayed f err,
+        ended_by tells state options _ is.over.config start is.now old new sink is.over.sink_then printed is.over.printed_then is.over.result is.replayed f err,
+        can_end tells state options _ is.over.config start is.now old new sink is.over.sink_then printed is.over.printed_then is.over.result is.replayed f err,
       )))
     ]
 

@@ -146,14 +146,9 @@ pub is_replay : {D S : Type 0} (tells : Bool) (state : D → State) (left : S �
     (result : Result (Unit {0}) Stop) → IsTold (KeepsOthers config) old.told new.told → Replayed tells state left config options start now old new sink sink' printed then result → EndsReplay config result status then printed'
     → (bytes rest : Option (List ℕ)) → HasConfig bytes config → HasLeft (seen left now) rest → IsReplay tells state options (seen left start) bytes rest old new sink status printed printed'
 is_replay tells state left config options start now old new sink sink' printed then printed' status result others replayed ends bytes rest has left_is = record {
-  config = config;
-  has = has;
+  over = record { config = config; has = has; result = result; sink_then = sink'; printed_then = then; ends = ends };
   now = seen left now;
   rest = left_is;
-  result = result;
-  sink_then = sink';
-  printed_then = then;
   others = others;
   replayed = replayed_seen tells left config start now old new sink sink' options printed then state result replayed;
-  ends = ends;
 }

@@ -1,31 +1,24 @@
 -- What cleaning the volumes of the configuration prints and leaves, and its exit status.
-use Rattle.std.specs.Prelude.{ℕ, ◌⊎◌, Bool, List, Option, Result}
+use Rattle.std.specs.Prelude.{ℕ, ◌⊎◌, Bool, List, Option}
 use Rattle.wol_disk.specs.Disk.{State}
 use Rattle.wol_bay.specs.Bay.{BayState}
-use Rattle.wol_config.specs.declared.config.Config.{Config}
 use Rattle.volume_images.specs.Left.{IsTold}
 use Rattle.rack.specs.Opens.{KeepsOthers}
 use Rattle.replay.specs.NotOpened.{LeavesBay}
-use Rattle.replay.specs.declared.stop.Stop.{Stop}
 use Rattle.cleaning.specs.Runs.{CleansBay}
 use Rattle.wol_run.specs.Formatting.{IsNotBegun}
-use Rattle.wol_run.specs.Replaying.{EndsReplay}
-use Rattle.wol_run.specs.Settings.{HasConfig}
+use Rattle.wol_run.specs.Replaying.{IsRunOver}
 
 -- the configuration was had, and its volumes were to be cleaned
 pub record IsCleaning {D : Type 0} (tells : Bool) (state : D → State) (left : Option (List ℕ))
     (old new : BayState) (sink status : ℕ) (printed printed' : Option (List ℕ)) : Type 0 where
-  pub config : Config
-  pub has : HasConfig left config
-  pub result : Result (Unit {0}) Stop
-  pub sink_then : ℕ
-  pub printed_then : Option (List ℕ)
+  pub over : IsRunOver left status printed'
   -- each image that is left recovers to what an image at entry did, and sound images stay sound
-  pub leaves : LeavesBay tells state config old new
+  pub leaves : LeavesBay tells state over.config old new
   -- images of names that aren't configured are as they were
-  pub others : IsTold (KeepsOthers config) old.told new.told
-  pub cleans : CleansBay tells state config old new sink sink_then printed printed_then result
-  pub ends : EndsReplay config result status printed_then printed'
+  pub others : IsTold (KeepsOthers over.config) old.told new.told
+  pub cleans : CleansBay tells state over.config old new sink over.sink_then printed
+      over.printed_then over.result
 
 -- a run of `clean`, by the bytes of the configuration, its count of faults, the bay, the sink's
 -- count of faults at entry, the status, and what the sink took

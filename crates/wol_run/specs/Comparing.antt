@@ -1,25 +1,18 @@
 -- What comparing the policies on a trace prints, and its exit status.
-use Rattle.std.specs.Prelude.{ℕ, ◌⊎◌, List, Option, Result}
-use Rattle.wol_config.specs.declared.config.Config.{Config}
-use Rattle.replay.specs.declared.stop.Stop.{Stop}
+use Rattle.std.specs.Prelude.{ℕ, ◌⊎◌, List, Option}
 use Rattle.comparison.specs.Compares.{Compares}
-use Rattle.wol_run.specs.Replaying.{EndsReplay, GivenLines, HasLeft}
-use Rattle.wol_run.specs.Settings.{HasConfig, IsFaultLine}
+use Rattle.wol_run.specs.Replaying.{GivenLines, HasLeft, IsRunOver}
+use Rattle.wol_run.specs.Settings.{IsFaultLine}
 use Rattle.wol_run.specs.Tops.{EndsWith}
 
 -- the configuration was had, and these lines were run by each policy
 pub record IsComparison (start : GivenLines) (left left_of_trace : Option (List ℕ))
     (sink status : ℕ) (printed printed' : Option (List ℕ)) : Type 0 where
-  pub config : Config
-  pub has : HasConfig left config
+  pub over : IsRunOver left status printed'
   pub now : GivenLines
   pub rest : HasLeft now left_of_trace
-  pub result : Result (Unit {0}) Stop
-  pub sink_then : ℕ
-  pub printed_then : Option (List ℕ)
-  pub compares : Compares (λ bytes. bytes) config start now sink sink_then printed printed_then
-      result
-  pub ends : EndsReplay config result status printed_then printed'
+  pub compares : Compares (λ bytes. bytes) over.config start now sink over.sink_then printed
+      over.printed_then over.result
 
 -- the configuration wasn't had: the text says why, and the trace is as it was
 pub record IsUncompared (start : GivenLines) (left left_of_trace : Option (List ℕ))

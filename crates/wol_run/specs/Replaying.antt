@@ -78,22 +78,27 @@ EndsReplay config (Err (stop.Fault f)) status printed new =
     EndsWith (fault_text (printed_names config.volumes.items) f) (status_of f) status printed new
     ⊎ EndsWith (codes "fault 9 memory\n") 9 status printed new
 
+-- the configuration was had, and a command came to this result with it, behind which it ended so
+pub record IsRunOver (left : Option (List ℕ)) (status : ℕ) (printed' : Option (List ℕ)) :
+    Type 0 where
+  pub config : Config
+  pub has : HasConfig left config
+  pub result : Result (Unit {0}) Stop
+  pub sink_then : ℕ
+  pub printed_then : Option (List ℕ)
+  pub ends : EndsReplay config result status printed_then printed'
+
 -- the configuration was had, and these lines were replayed on its volumes
 pub record IsReplay {D : Type 0} (tells : Bool) (state : D → State) (options : Serving)
     (start : GivenLines) (left left_of_trace : Option (List ℕ)) (old new : BayState)
     (sink status : ℕ) (printed printed' : Option (List ℕ)) : Type 0 where
-  pub config : Config
-  pub has : HasConfig left config
+  pub over : IsRunOver left status printed'
   pub now : GivenLines
   pub rest : HasLeft now left_of_trace
-  pub result : Result (Unit {0}) Stop
-  pub sink_then : ℕ
-  pub printed_then : Option (List ℕ)
   -- images of names that aren't configured are as they were
-  pub others : IsTold (KeepsOthers config) old.told new.told
-  pub replayed : Replayed tells state (λ bytes. bytes) config options start now old new sink
-      sink_then printed printed_then result
-  pub ends : EndsReplay config result status printed_then printed'
+  pub others : IsTold (KeepsOthers over.config) old.told new.told
+  pub replayed : Replayed tells state (λ bytes. bytes) over.config options start now old new sink
+      over.sink_then printed over.printed_then over.result
 
 -- the configuration was had, and this is kept of it and of the lines that were given
 pub record KeepsReplayed (left left_of_trace : Option (List ℕ))
