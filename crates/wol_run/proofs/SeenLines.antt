@@ -71,15 +71,18 @@ module _ {S T : Type 0} (tells : Bool) (left : S → Option (List ℕ)) (config 
     replayed_seen state result (no_memory asks leaves) = no_memory (asks_seen left start now sink sink' printed printed' asks) leaves
     replayed_seen state result (closed k f asks first leaves) = closed k f (asks_seen left start now sink sink' printed printed' asks) first leaves
     replayed_seen state result (ran r is) = ran r (record {
-      run = is.run;
-      more = is.more;
-      given = given_seen left (targets_of config) start now (is.run ++ is.more) is.given;
-      earlier = is.earlier;
-      last = is.last;
-      windows_ = is.windows_;
+      of = record {
+        run = is.run;
+        more = is.more;
+        given = given_seen left (targets_of config) start now (is.run ++ is.more) is.given;
+        earlier = is.earlier;
+        last = is.last;
+        windows_ = is.windows_;
+        whole = λ some. window_seen left config start now is.run is.more (is.whole some);
+        well = is.well;
+        ahead = is.ahead;
+      };
       one = is.one;
-      whole = λ some. window_seen left config start now is.run is.more (is.whole some);
-      well = is.well;
       asked = is.asked;
       ends = ends_seen is.run is.last r is.ends;
       histories = is.histories;
@@ -105,7 +108,6 @@ module _ {S T : Type 0} (tells : Bool) (left : S → Option (List ℕ)) (config 
       summary = is.summary;
       summary_is = summary_seen (view_at is.histories) is.run (is.earlier ++ is.last) is.awake r is.summary is.summary_is;
       prints = is.prints;
-      ahead = is.ahead;
       open_ = is.open_;
       disks = is.disks;
     })
