@@ -1,9 +1,9 @@
 -- Laws of racks that are opened over one bay one after the other. `state` is that of a part's disk.
 use Rattle.std.specs.Prelude.{⊤, ◌≡◌, ◌⊎◌, ◌<◌, ℕ, Bool, List, [], length, Option, Some, None, unwrap_or, slice_get, Contains, IsTrue}
 use Rattle.std.specs.List.{AllByRecursion}
-use Rattle.wol_disk.specs.Disk.{State, Rose}
+use Rattle.wol_disk.specs.Disk.{Block, State, Rose}
 use Rattle.wol_model.specs.Blocks.{after}
-use Rattle.wol_model.specs.History.{writes, flight_of, IsCut}
+use Rattle.wol_model.specs.History.{Entry, writes, flight_of, IsCut}
 use Rattle.wol_model.specs.Images.{Images, AreSound}
 use Rattle.wol_promise.specs.Ruled.{entries_of}
 use Rattle.wol_bay.specs.Bay.{Told, BayState}
@@ -41,30 +41,30 @@ pub record FollowsOn {D : Type 0} (state : D → State) (config : Config)
   pub parts : AreLeftOfParts state config r t
   pub no_more : (k : ℕ) → IsImageOut q.rest.images.items k → IsImageOut r.rest.images.items k
 
--- Opened again, the loggers of its view being out again, a volume begins with what was written to
--- the array that it began with before, where no call of a disk had failed.
-abbrev pub OpensAgain : {D : Type 0} → (tells : Bool) → (D → State) → Type 0
-OpensAgain {D} tells state = IsTrue tells
+-- What is said of each volume that was closed and is opened again, the loggers of its view being out
+-- again: of the array that it began with, of its entries until it was closed, and of the array that
+-- it begins with now.
+abbrev pub OfOpenedAgain : {D : Type 0} → (tells : Bool) → (D → State)
+    → ((was : List Block) → List Entry → (now : List Block) → Type 0) → Type 0
+OfOpenedAgain {D} tells state Says = IsTrue tells
     → (config : Config) (opened closed last : BayState) (t : Told) (r q : Rack D)
     → FollowsOn state config opened closed last t r q
     → (s n : Station D) → Contains r.stations.items s → Contains q.stations.items n → n.id ≡ s.id
     → AllByRecursion (IsImageOut q.rest.images.items) (base_of_station s).volume.began.view
     → (c : IsClosedVolume tells config r.rest.images.items opened closed s)
-    → flight_of (entries_of (notes_of c.entries)) ≡ None
-    → (base_of_station n).volume.began.array
-    ≡ after (base_of_station s).volume.began.array (writes (entries_of (notes_of c.entries)))
+    → Says (base_of_station s).volume.began.array (entries_of (notes_of c.entries))
+    (base_of_station n).volume.began.array
+
+-- It begins with what was written to the array that it began with before, where no call of a disk
+-- had failed.
+abbrev pub OpensAgain : {D : Type 0} → (tells : Bool) → (D → State) → Type 0
+OpensAgain tells state = OfOpenedAgain tells state
+    (λ was es now. flight_of es ≡ None → now ≡ after was (writes es))
 
 -- Where one had failed, it begins with a cut of the writes in flight.
 abbrev pub OpensCut : {D : Type 0} → (tells : Bool) → (D → State) → Type 0
-OpensCut {D} tells state = IsTrue tells
-    → (config : Config) (opened closed last : BayState) (t : Told) (r q : Rack D)
-    → FollowsOn state config opened closed last t r q
-    → (s n : Station D) → Contains r.stations.items s → Contains q.stations.items n → n.id ≡ s.id
-    → AllByRecursion (IsImageOut q.rest.images.items) (base_of_station s).volume.began.view
-    → (c : IsClosedVolume tells config r.rest.images.items opened closed s)
-    → IsCut (base_of_station s).volume.began.array (writes (entries_of (notes_of c.entries)))
-    (unwrap_or (flight_of (entries_of (notes_of c.entries))) [])
-    (base_of_station n).volume.began.array
+OpensCut tells state = OfOpenedAgain tells state
+    (λ was es now. IsCut was (writes es) (unwrap_or (flight_of es) []) now)
 
 -- ---- Sound images
 
