@@ -5,7 +5,7 @@ use Rattle.rack_closing.proofs.Basics.{slice_get_within, get_or_from_slice_get, 
 use Rattle.rack_closing.proofs.Terms.{State, Name, BayState, IsOut, Config, VolumeConf, lock_id, TurnLock, PoolBase, Pool, FreeSegment, part_sizes, shape_in, image_here, held_here, list_of}
 use Rattle.rack_closing.proofs.Terms.{IsImageOut, IsRow, IsRest, out_names, IsClosable, KeepsButHome, ClosesStations, RefillsAll, KeepsSpindles, KeepsOtherRows, LeavesNoneOut, ImageRest, Rack}
 use Rattle.rack_closing.proofs.Terms.{Rest, Block, IsImageOf, Shape, Record, Held, SaysOwnerOrFree, IsHeldBy, volume_of, state_of, Spun, part_of, IsHeld, logger_of, held_in, HeldSegment, Lane}
-use Rattle.rack_closing.proofs.Terms.{all_held, parts_of, IsReadyLane, Station, shapes_of, HasBack, AreComplete, Closing, IsClosing, home_here, IsOpenBase, base_of_station, IsStation}
+use Rattle.rack_closing.proofs.Terms.{all_held, parts_of, IsReadyLane, Station, shapes_of, CanCloseStations, HasBack, AreComplete, Closing, IsClosing, home_here, IsOpenBase, base_of_station, IsStation}
 use Rattle.rack_closing.proofs.Terms.{segment_here, AreImageRests, IsDisk, TellsContent}
 use Rattle.rack_parts.specs.Closing.{IsRefilledAll}
 use Rattle.rack_parts.specs.Racks.{AreRising}
@@ -14,7 +14,7 @@ use Rattle.wol_config.specs.Configs.{IsValid}
 use Rattle.manager.specs.declared.manager.Manager.{Manager}
 use Rattle.rack_parts.proofs.Members.{a_value, element_at, here_within, in_map, of_recursion}
 use Rattle.rack_parts.specs.declared.rack.VolumePasses.{VolumePasses}
-use Rattle.rack_closing.proofs.Closable.{blocks_at, image_was, images_rest, images_whole}
+use Rattle.rack_closing.proofs.Closable.{stations_may, blocks_at, image_was, images_rest, images_whole}
 use Rattle.rack_closing.proofs.HeldSegments.{of_held}
 
 -- the closing at the place of a station
@@ -87,6 +87,12 @@ pub record IsEnding {D : Type 0} (state : D → State) (tells : Bool) (config : 
   pub closed : ClosesStations tells state r.stations.items r.rest first
   pub filled : (k : ℕ) (f : TurnLock (Pool (FreeSegment D)) PoolBase) → slice_get r.shared.pools.items k ≡ Some f → RefillsAll state (lock_id f).base.blocks first k (image_here first.images.items k) (image_here second.images.items k)
   pub kept : KeepsSpindles first second
+
+pub ending_of : {D : Type 0} {state : D → State} {tells : Bool} {config : Config} {b : BayState} {r : Rack D} {first second : Rest D} → IsValid config → (IsTrue tells → (d : D) → TellsContent (state d)) → ((d : D) → IsDisk (state d))
+    → IsClosable state config b r → (CanCloseStations state config r.shared r.stations.items r.rest → IsRest state config r.shared [] first) → ClosesStations tells state r.stations.items r.rest first
+    → ((k : ℕ) (f : TurnLock (Pool (FreeSegment D)) PoolBase) → slice_get r.shared.pools.items k ≡ Some f → RefillsAll state (lock_id f).base.blocks first k (image_here first.images.items k) (image_here second.images.items k))
+    → KeepsSpindles first second → IsEnding state tells config b r first second
+ending_of valid tell_all sound can rests closed filled kept = let is = rests (stations_may can) in assumption
 
 module _ {D : Type 0} {state : D → State} {tells : Bool} {config : Config} {b : BayState} {r : Rack D} {first second : Rest D} (ending : IsEnding state tells config b r first second) where
   open ending use {valid, can, is, closed, filled, kept}

@@ -2,7 +2,6 @@ use Rattle.rack_closing.proofs.Basics.{◌≡◌, ◌≢◌, ◌≤◌, ℕ, fal
 use Rattle.rack_closing.proofs.Terms.{Told, PassOf, Spindle, SpindleBase, shapes_of, Rose, GivesBack, HasFaultHere, LeavesNoneOut, pass_number, lock_id, AreComplete, AreImageRests, IsImageOut, AreLeftOfParts, LeavesOpen, HadRefused, KeepsAllSound, IsTold}
 use Rattle.std.specs.Prelude.{reverse}
 use Rattle.std.proofs.lemmas.List.{length-reverse}
-use Rattle.std.proofs.lemmas.Grind.{common_steps}
 use Rattle.wol_bay.specs.Bay.{outs}
 use Rattle.turn_lock.specs.Histories.{own}
 use Rattle.turn_lock.specs.Passes.{IsPartOf}
@@ -13,10 +12,10 @@ use Rattle.rack_parts.proofs.Members.{element_at, all_member}
 use Rattle.rack_closing.specs.Closes.{LeavesVolumes, LeavesUnopened, ListsFaulty}
 use Rattle.rack_closing.specs.Opens.{KeepsOthers}
 use Rattle.rack_closing.proofs.Closable.{stations_may, pools_may, spindles_may}
-use Rattle.rack_closing.proofs.StationParts.{IsEnding, lists_ended, none_out, few, out_there, rests_end, whole_end}
+use Rattle.rack_closing.proofs.StationParts.{IsEnding, ending_of, lists_ended, none_out, few, out_there, rests_end, whole_end}
 use Rattle.rack_closing.proofs.VolumesClosed.{none_made, volumes_closed, told_end}
 use Rattle.rack_closing.proofs.LeftVolumes.{fault_through, listed_through, left_kept, left_parts, over, closed_recovers, station_opened, volume_recovers}
-use Rattle.rack_closing.proofs.FinalImages.{IsCrash, left_quiet}
+use Rattle.rack_closing.proofs.FinalImages.{left_quiet}
 use Rattle.rack_closing.proofs.SoundClosed.{left_sound}
 use Rattle.rack_closing.proofs.closing.close_all.Goals as goal
 
@@ -41,16 +40,8 @@ end_passes-requires g c =
 
 pub give_back-requires : goal.give_back-requires
 give_back-requires g c =
-    let e : IsEnding g.B.Part.Disk.state g.B.Part.Disk.tells c.args.config.now (g.B.Bay.state c.args.bay.now) c.args.rack c.close_stations.new.self c.close_pools.new.self = record {
-      valid = c.requires.config;
-      tell_all = λ told d. g.met.B.Part.Disk.told told d;
-      sound = g.met.B.Part.Disk.sound;
-      can = c.requires.rack;
-      is = c.close_stations.ensures.rest c.args.config.now c.args.rack.shared (stations_may c.requires.rack);
-      closed = c.close_stations.ensures.closed;
-      filled = c.close_pools.ensures.images;
-      kept = c.close_pools.ensures.spindles;
-    } in
+    let e : IsEnding g.B.Part.Disk.state g.B.Part.Disk.tells c.args.config.now (g.B.Bay.state c.args.bay.now) c.args.rack c.close_stations.new.self c.close_pools.new.self = ending_of c.requires.config (λ told d. g.met.B.Part.Disk.told told d) g.met.B.Part.Disk.sound c.requires.rack (c.close_stations.ensures.rest c.args.config.now c.args.rack.shared)
+    c.close_stations.ensures.closed c.close_pools.ensures.images c.close_pools.ensures.spindles in
     let images = sym c.close_spindles.ensures.images in
     record {
       config = c.requires.config;
@@ -62,16 +53,8 @@ give_back-requires g c =
 
 pub returns : goal.returns
 returns g c =
-    let e : IsEnding g.B.Part.Disk.state g.B.Part.Disk.tells c.args.config.now (g.B.Bay.state c.args.bay.now) c.args.rack c.close_stations.new.self c.close_pools.new.self = record {
-      valid = c.requires.config;
-      tell_all = λ told d. g.met.B.Part.Disk.told told d;
-      sound = g.met.B.Part.Disk.sound;
-      can = c.requires.rack;
-      is = c.close_stations.ensures.rest c.args.config.now c.args.rack.shared (stations_may c.requires.rack);
-      closed = c.close_stations.ensures.closed;
-      filled = c.close_pools.ensures.images;
-      kept = c.close_pools.ensures.spindles;
-    } in
+    let e : IsEnding g.B.Part.Disk.state g.B.Part.Disk.tells c.args.config.now (g.B.Bay.state c.args.bay.now) c.args.rack c.close_stations.new.self c.close_pools.new.self = ending_of c.requires.config (λ told d. g.met.B.Part.Disk.told told d) g.met.B.Part.Disk.sound c.requires.rack (c.close_stations.ensures.rest c.args.config.now c.args.rack.shared)
+    c.close_stations.ensures.closed c.close_pools.ensures.images c.close_pools.ensures.spindles in
     let state = g.B.Part.Disk.state in
     let config = c.args.config.now in
     let rack = c.args.rack in
