@@ -17,7 +17,9 @@ use Rattle.manager_recovery.specs.Owned as owned
 
 -- one of the segments of these images, by its place
 same_owned : (shapes : List Shape) (images : Images) (v : ℕ) (a b : owned.Owned) → IsOwnedIn shapes images v a → IsOwnedIn shapes images v b → a.logger ≡ b.logger → a.index ≡ b.index → a ≡ b
-same_owned shapes images v a b one other logger index =
+same_owned shapes images v a b one_owned other_owned logger index =
+    let one = one_owned.segment in
+    let other = other_owned.segment in
     let image : one.image ≡ other.image = same_Some one.image other.image (sym one.there ∙ ap (image_of images) logger ∙ other.there) in
     let shape : one.shape ≡ other.shape = same_Some one.shape other.shape (sym one.shape_is ∙ ap (slice_get shapes) logger ∙ other.shape_is) in
     let first : a.first ≡ b.first = one.first_is ∙ (λ i. Rattle.volume_images.specs.Accepted.head_place (shape i) (index i)) ∙ sym other.first_is in
@@ -103,13 +105,15 @@ module _ {D : Type 0} (state : D → State) (config : Config) (valid : IsValid c
       let has = at_k.says.accepted.each p.index (head.Owned id) (slice_get-map segment_head at_k.saying.heads.items p.index ∙ ap (option_map segment_head) in_said) in
       let split = first_block (segment_of (shape_in config at_k.conf) (reads at_k.entry.blocks) p.index) has.block has.first in
       record {
-        image = reads at_k.entry.blocks;
-        shape = is.shape;
-        there = at_k.read;
-        shape_is = is.shape_is;
-        within = is.within;
-        blocks_are = blocks ∙ ap (λ (s : Shape). segment_of s (reads at_k.entry.blocks) p.index) same;
-        first_is = is.first;
+        segment = record {
+          image = reads at_k.entry.blocks;
+          shape = is.shape;
+          there = at_k.read;
+          shape_is = is.shape_is;
+          within = is.within;
+          blocks_are = blocks ∙ ap (λ (s : Shape). segment_of s (reads at_k.entry.blocks) p.index) same;
+          first_is = is.first;
+        };
         rest = split.0;
         owner = blocks ∙ split.1 ∙ ap (λ (x : Block). x ∷ split.0) has.spelled.bytes;
       }
@@ -137,21 +141,22 @@ module _ {D : Type 0} (state : D → State) (config : Config) (valid : IsValid c
       go (Owned w) e = let n : w ≡ id = cc e in ap Owned n
 
   all_of_them : (x : owned.Owned) → IsOwnedIn (shapes_of config) images id x → Contains (all_owned state o.owned.items) x
-  all_of_them x is =
+  all_of_them x owned =
+      let is = owned.segment in
       let out = image_out x.logger is.image is.there in
       let at_k = read_at x.logger out.0 out.1 in
       let same : shape_in config at_k.conf ≡ is.shape = same_Some (shape_in config at_k.conf) is.shape (sym at_k.shape_is ∙ is.shape_is) in
       let image : reads at_k.entry.blocks ≡ is.image = same_Some (reads at_k.entry.blocks) is.image (sym at_k.read ∙ is.there) in
       let few : (shape_in config at_k.conf).segments ≡ is.shape.segments = ap (λ (s : Shape). s.segments) same in
       let within = is.within in
-      let blocks : segment_of (shape_in config at_k.conf) (reads at_k.entry.blocks) x.index ≡ owned_block id ∷ is.rest = (λ i. segment_of (same i) (image i) x.index) ∙ sym is.blocks_are ∙ is.owner in
-      let says_so = head_of x.logger x.index out.0 at_k is.rest (omega (arith, few, within)) blocks in
+      let blocks : segment_of (shape_in config at_k.conf) (reads at_k.entry.blocks) x.index ≡ owned_block id ∷ owned.rest = (λ i. segment_of (same i) (image i) x.index) ∙ sym is.blocks_are ∙ owned.owner in
+      let says_so = head_of x.logger x.index out.0 at_k owned.rest (omega (arith, few, within)) blocks in
       let place : IsOwnedPlace said id x.logger x.index = (at_k.saying, slice_get-get_or said x.logger None (here_within said x.logger at_k.saying at_k.said_is) ∙ ap Some at_k.said_is, says_so) in
       let from = of_map place_of o.owned.items (x.logger, x.index) (takes.owned.all x.logger x.index place) in
       let has : Contains (all_owned state o.owned.items) (owned_of state from.0) = in_map (owned_of state) o.owned.items from.0 from.1 in
       let of_part = Rattle.std.proofs.lemmas.List.Elements.All-contains (IsOwnedIn (shapes_of config) images id) (all_owned state o.owned.items) (owned_of state from.0) each_owned has in
       subst (λ (y : owned.Owned). Contains (all_owned state o.owned.items) y)
-      (same_owned (shapes_of config) images id (owned_of state from.0) x of_part is (ap (λ (p : ℕ × ℕ). p.0) from.2) (ap (λ (p : ℕ × ℕ). p.1) from.2)) has
+      (same_owned (shapes_of config) images id (owned_of state from.0) x of_part owned (ap (λ (p : ℕ × ℕ). p.0) from.2) (ap (λ (p : ℕ × ℕ). p.1) from.2)) has
 
   pub opening_of : IsOpeningOf state config r.rest.images.items images id o
   opening_of =

@@ -3,7 +3,7 @@ use Rattle.rack_closing.proofs.Basics.{◌≡◌, inl, inr, ⊎_elim, ◌<◌, �
 use Rattle.rack_closing.proofs.Basics.{subst, ◌∙◌, length, arith, slice_get, unwrap_or, AllByRecursion, range_with_len, eq-eqb, ◌≢◌, flat_map, filter, cases_eq, map-append, All-contains}
 use Rattle.rack_closing.proofs.Basics.{slice_get_within}
 use Rattle.rack_closing.proofs.Terms.{Block, IsAmong, Shape, owned_block, Extent, with_extents, Images, image_of, image_size, home_of, home_in, segment_of, segments_of, all_segments, extent_of}
-use Rattle.rack_closing.proofs.Terms.{extents_of, read_records, AreInOrder, IsBefore, head_place, AreOwnedIn, IsOwnedIn}
+use Rattle.rack_closing.proofs.Terms.{extents_of, read_records, AreInOrder, IsBefore, head_place, AreOwnedIn, IsOwnedIn, IsSegmentIn}
 use Rattle.std.specs.Str.{bytes_eq}
 use Rattle.std.proofs.lemmas.List.Concat.{flat_map_single}
 use Rattle.wol_model.specs.Images.{recovered_from}
@@ -101,28 +101,18 @@ row k (Some s) (Some image) = flat_map (λ (i : ℕ). segment_at k s image i ∷
 abbrev pub every : List Shape → Images → List Owned
 every shapes images = flat_map (λ (k : ℕ). row k (slice_get shapes k) (image_of images k)) (range_with_len 0 (length shapes))
 
--- a segment of the images
-pub record Stands (shapes : List Shape) (images : Images) (o : Owned) : Type 0 where
-  pub image : List Block
-  pub shape : Shape
-  pub there : image_of images o.logger ≡ Some image
-  pub shape_is : slice_get shapes o.logger ≡ Some shape
-  pub within : o.index < shape.segments
-  pub blocks_are : o.blocks ≡ segment_of shape image o.index
-  pub first_is : o.first ≡ head_place shape o.index
-
 of_row : (k : ℕ) (s : Shape) (image : List Block) (o : Owned) → IsAmong (row k (Some s) (Some image)) o → (i : ℕ) × (i < s.segments) × (o ≡ segment_at k s image i)
 of_row k s image o has =
     let x = flat_among (λ (i : ℕ). segment_at k s image i ∷ []) (range_with_len 0 s.segments) o has in
     let lt = (range_bounds 0 s.segments x.0 x.1).1 in
     (x.0, omega (arith, lt), ⊎_elim (λ e. e) (λ never. absurd never) x.2)
 
-pub stands : (shapes : List Shape) (images : Images) (o : Owned) → IsAmong (every shapes images) o → Stands shapes images o
+pub stands : (shapes : List Shape) (images : Images) (o : Owned) → IsAmong (every shapes images) o → IsSegmentIn shapes images o
 stands shapes images o has =
     let w = flat_among (λ (k : ℕ). row k (slice_get shapes k) (image_of images k)) (range_with_len 0 (length shapes)) o has in
     go w.0 (slice_get shapes w.0) refl (image_of images w.0) refl w.2
   where
-    go : (k : ℕ) (s : Option Shape) → slice_get shapes k ≡ s → (i : Option (List Block)) → image_of images k ≡ i → IsAmong (row k s i) o → Stands shapes images o
+    go : (k : ℕ) (s : Option Shape) → slice_get shapes k ≡ s → (i : Option (List Block)) → image_of images k ≡ i → IsAmong (row k s i) o → IsSegmentIn shapes images o
     go k None a i b has_it = absurd has_it
     go k (Some s) a None b has_it = absurd has_it
     go k (Some s) a (Some image) b has_it =
@@ -250,15 +240,16 @@ module _ (v : ℕ) where
       (λ o has. listed o (All-contains (IsOwnedIn shapes images v) os o are.each (contains_among os o has)))
       (λ o has. let w = among_filter says_owned (every shapes images) o has in among_contains os o (are.all o (owned o (stands shapes images o w.0) w.1)))
     where
-      owned : (o : Owned) → Stands shapes images o → says v o.blocks ≡ true → IsOwnedIn shapes images v o
+      owned : (o : Owned) → IsSegmentIn shapes images o → says v o.blocks ≡ true → IsOwnedIn shapes images v o
       owned o is so =
           let owner = says_so v o.blocks so in
-          record { image = is.image; shape = is.shape; there = is.there; shape_is = is.shape_is; within = is.within; blocks_are = is.blocks_are; first_is = is.first_is; rest = owner.0; owner = owner.1 }
+          record { segment = is; rest = owner.0; owner = owner.1 }
 
       listed : (o : Owned) → IsOwnedIn shapes images v o → IsAmong (filter says_owned (every shapes images)) o
       listed o is =
-          let there = found shapes images o.logger o.index is.shape is.image is.shape_is is.there is.within in
-          let same : segment_at o.logger is.shape is.image o.index ≡ o = λ i. record { logger = o.logger; index = o.index; first = sym is.first_is i; blocks = sym is.blocks_are i } in
+          let s = is.segment in
+          let there = found shapes images o.logger o.index s.shape s.image s.shape_is s.there s.within in
+          let same : segment_at o.logger s.shape s.image o.index ≡ o = λ i. record { logger = o.logger; index = o.index; first = sym s.first_is i; blocks = sym s.blocks_are i } in
           filter_among says_owned (every shapes images) o (subst (λ (x : Owned). IsAmong (every shapes images) x) same there) (says_of v o.blocks is.rest is.owner)
 
 -- the extents of all segments are those of the owned ones

@@ -8,7 +8,7 @@ use Rattle.rack_closing.proofs.Terms.{Block, State, Rose, reads, Image, Told, Ba
 use Rattle.rack_closing.proofs.Terms.{Images, image_of, image_size, segment_of, segments_of, all_segments, IsSoundSegment, IsSoundImage, AreSound, accepted, Record, IsIdle, IsLog, IsNamed}
 use Rattle.rack_closing.proofs.Terms.{extent_of, extents_of, log_read, one_segment_head, one_log, one_label, one_view, Config, VolumeConf, HasView, Part, Station, Head, records_of, records_in}
 use Rattle.rack_closing.proofs.Terms.{heads_from, heads_of, heads_in, with_version, IsFault, LiesWithin, AreFirstTwins, owned_of, all_owned, HasHead, IsImageFault, part_sizes, shape_in, shapes_of}
-use Rattle.rack_closing.proofs.Terms.{image_read, images_read, IsOwnedIn, AreOwnedIn, images_taken, IsOpeningOf, fault_in_image, RefusesVolume, RefusesImage, RefusesOpening, RefusesBay}
+use Rattle.rack_closing.proofs.Terms.{image_read, images_read, IsSegmentIn, IsOwnedIn, AreOwnedIn, images_taken, IsOpeningOf, fault_in_image, RefusesVolume, RefusesImage, RefusesOpening, RefusesBay}
 use Rattle.rack_closing.proofs.Terms.{AreRefused, NamesVolumes, IsRack, IsOpenBase, IsStation, base_of_station, image_here, IsImageOut, ImageRest, VolumeFault, Absent, WrongLength, Refused}
 use Rattle.rack_closing.proofs.Terms.{LabelFault, BayFailed, is_kept_home, HasFaultIn, IsOfFailedCall, RefusesSound, OpensAllAgain, Rack}
 use Rattle.std.proofs.lemmas.List.Folds.{sum_by-replicate}
@@ -151,7 +151,7 @@ module _ (shapes : List Shape) (images : Images) (sound : AreSound shapes images
       pub within : AllByRecursion (LiesWithin shape.home) records
 
     pub sound_log : (o : Owned) → IsOwnedIn shapes images v o → IsSoundLog o
-    sound_log o is = of_segment o.blocks is.rest is.owner (subst (IsSoundSegment shapes sound.views o.logger) (sym is.blocks_are) (segment_sound o.logger is.shape is.image o.index is.shape_is is.there is.within)) refl
+    sound_log o is = let s = is.segment in of_segment o.blocks is.rest is.owner (subst (IsSoundSegment shapes sound.views o.logger) (sym s.blocks_are) (segment_sound o.logger s.shape s.image o.index s.shape_is s.there s.within)) refl
       where
         of_segment : (bs rest : List Block) → bs ≡ owned_block v ∷ rest → IsSoundSegment shapes sound.views o.logger bs → o.blocks ≡ bs → IsSoundLog o
         of_segment bs rest owner (idle empty) same =
@@ -244,10 +244,8 @@ read_back (Some i) c is = ⊎_elim
 -- the parts of an image have all of its blocks
 sum_parts : (s : Shape) → sum (part_sizes s) ≡ image_size s
 sum_parts s =
-    let one = sum_by-cons (λ x. x) 2 (s.home ∷ replicate s.segments s.segment_blocks) in
-    let two = sum_by-cons (λ x. x) s.home (replicate s.segments s.segment_blocks) in
-    let more = sum_by-replicate (λ x. x) s.segments s.segment_blocks in
-    omega (arith, one, two, more)
+    let segments = replicate s.segments s.segment_blocks in
+    omega (arith, sum_by-cons (λ x. x) 2 (s.home ∷ segments), sum_by-cons (λ x. x) s.home segments, sum_by-replicate (λ x. x) s.segments s.segment_blocks)
 
 -- ---- Refusals
 
@@ -391,11 +389,14 @@ module _ {D : Type 0} (tells : Bool) (telling : IsTrue tells) (state : D → Sta
     abbrev os : List Owned
     os = all_owned state o.owned.items
 
+    there_too : {s : Owned} → IsSegmentIn every_shape (images_taken config out t) s → IsSegmentIn every_shape images s
+    there_too {s} is = record { image = is.image; shape = is.shape; there = (accepted_is (is_kept_home out) images s.logger is.image is.there).1; shape_is = is.shape_is; within = is.within; blocks_are = is.blocks_are; first_is = is.first_is }
+
     log_of : (s : Owned) → Contains os s → IsSoundLog every_shape images sound k known s
     log_of s has =
         let its = All-contains (IsOwnedIn every_shape (images_taken config out t) k) os s is.owned.each has in
         sound_log every_shape images sound k known s
-        (record { image = its.image; shape = its.shape; there = (accepted_is (is_kept_home out) images s.logger its.image its.there).1; shape_is = its.shape_is; within = its.within; blocks_are = its.blocks_are; first_is = its.first_is; rest = its.rest; owner = its.owner })
+        (record { segment = there_too its.segment; rest = its.rest; owner = its.owner })
 
     read_own : image_of (images_taken config out t) k ≡ Some (reads x.image.blocks)
     read_own = accepted_same (is_kept_home out) images k (ap not is_out) ∙ x.read

@@ -1,6 +1,6 @@
 -- What the images of a configuration say of one volume as they read: which segments it owns, and
 -- what it recovers to.
-use Rattle.std.specs.Prelude.{false, true, ◌≡◌, ◌⊎◌, ◌<◌, ◌-◌, ℕ, Bool, List, ◌∷◌, length, map, min, Option, None, Some, is_some, not, slice_get, Contains, All}
+use Rattle.std.specs.Prelude.{false, true, ◌≡◌, ◌⊎◌, ◌<◌, ◌-◌, ℕ, Bool, List, ◌∷◌, length, map, Option, None, Some, is_some, not, slice_get, Contains, All}
 use Rattle.std.specs.List.{AllByRecursion}
 use Rattle.wol_disk.specs.Disk.{Block, State}
 use Rattle.wol_model.specs.Heads.{Shape, owned_block}
@@ -60,8 +60,8 @@ HadRefused config out old new =
     → (c : Option (List Block)) → MayLeave (at_name v.name new.images) c
     → MayLeave (at_name v.name old.images) c
 
--- a segment of these images that reads as owned by volume v
-pub record IsOwnedIn (shapes : List Shape) (images : Images) (v : ℕ) (o : Owned) : Type 0 where
+-- a segment of these images
+pub record IsSegmentIn (shapes : List Shape) (images : Images) (o : Owned) : Type 0 where
   pub image : List Block
   pub shape : Shape
   pub there : image_of images o.logger ≡ Some image
@@ -69,6 +69,10 @@ pub record IsOwnedIn (shapes : List Shape) (images : Images) (v : ℕ) (o : Owne
   pub within : o.index < shape.segments
   pub blocks_are : o.blocks ≡ segment_of shape image o.index
   pub first_is : o.first ≡ head_place shape o.index
+
+-- one that reads as owned by volume v
+pub record IsOwnedIn (shapes : List Shape) (images : Images) (v : ℕ) (o : Owned) : Type 0 where
+  pub segment : IsSegmentIn shapes images o
   pub rest : List Block
   pub owner : o.blocks ≡ owned_block v ∷ rest
 
