@@ -22,7 +22,7 @@ use Rattle.rack.specs.declared.images.Images.{Images as Asked}
 use Rattle.rack.proofs.Asking.{refuses_later, told_then}
 use Rattle.rack.proofs.ImagesSent.{names_alike, none_named}
 use Rattle.rack.proofs.StillThere.{WasThere, conf_there, there_may}
-use Rattle.rack.specs.Opening.{IsOut}
+use Rattle.rack.specs.Opening.{IsOut, BringsAllBack}
 
 -- What was taken out for a rack, from which it is set up.
 
@@ -77,6 +77,9 @@ module _ {D : Type 0} (tells : Bool) (state : D → State) (config : Config) (b 
   pub sound_back : IsTold LeavesNoMore b.told b'.told → IsTold (KeepsAllSound config) b.told b'.told
   sound_back = told_less sound_less
 
+  pub brought_back : outs b' ≡ outs b → (IsTrue tells → IsTold LeavesNoMore b.told b'.told) → BringsAllBack tells state config b b'
+  brought_back home less = record { home = home; left = λ telling. left_back (less telling); sound = λ telling. sound_back (less telling) }
+
 -- nothing was done
 pub nothing_done : (o : Option Told) → IsTold LeavesNoMore o o
 nothing_done None = refl
@@ -85,8 +88,8 @@ nothing_done (Some t) = λ name c may. may
 -- ---- After want of memory for the pools
 
 -- one segment is as it was, or idle as it was
-abbrev KeepsSegment : (k i : ℕ) → (now was : List Block) → Type 0
-KeepsSegment k i now was = (now ≡ was) ⊎ (IsIdle now × IsIdle was)
+abbrev KeepsSegment : (k : ℕ) → (now was : List Block) → Type 0
+KeepsSegment k now was = (now ≡ was) ⊎ (IsIdle now × IsIdle was)
 
 -- the front is as it was
 abbrev KeepsFront : (k : ℕ) → (now was : List Block) → Type 0
@@ -98,10 +101,10 @@ keeps_front k i now was same lt = ap (λ (l : List Block). slice_get l i) same
 same_front : (v : ℕ) (now was : List Block) → KeepsFront v now was → was ≡ now
 same_front v now was same = same
 
-keeps_extents : (v k i : ℕ) (c d : List Block) → KeepsSegment k i c d → extents_in v c ≡ extents_in v d
+keeps_extents : (v k : ℕ) (c d : List Block) → KeepsSegment k c d → extents_in v c ≡ extents_in v d
 keeps_extents v k i c d keeps = ⊎_elim (λ (same : c ≡ d). ap (extents_in v) same) (λ idle. idle_none v c idle.0 ∙ sym (idle_none v d idle.1)) keeps
 
-keeps_sound : (shapes : List Shape) (views : List (List ℕ)) (k i : ℕ) (c d : List Block) → KeepsSegment k i c d → IsSoundSegment shapes views k d → IsSoundSegment shapes views k c
+keeps_sound : (shapes : List Shape) (views : List (List ℕ)) (k : ℕ) (c d : List Block) → KeepsSegment k c d → IsSoundSegment shapes views k d → IsSoundSegment shapes views k c
 keeps_sound shapes views k i c d keeps sound = ⊎_elim (λ (same : c ≡ d). subst (IsSoundSegment shapes views k) (sym same) sound) (λ idle. IsSoundSegment.idle idle.0) keeps
 
 -- ---- What was taken out
@@ -290,10 +293,7 @@ module _ {D : Type 0} (tells : Bool) (state : D → State) (config : Config) (b 
                   let before = ba.entry.image in
                   let home = a_value n.home whole.all.home in
                   record {
-                    before = before;
-                    there = ba.entry.there;
-                    whole = ba.entry.says.whole;
-                    size = ba.entry.says.size;
+                    entered = record { image = before; there = ba.entry.there; whole = ba.entry.says.whole; size = ba.entry.says.size };
                     now = now.0;
                     is = now.1;
                     sized = now.2.size;
@@ -351,7 +351,7 @@ module _ {D : Type 0} (tells : Bool) (state : D → State) (config : Config) (b 
 
           back_recovers : (v : ℕ) → (was : Images) × AreLeft config t was × RecoversSame config not_taken (no_one v) images was v
           back_recovers v =
-              let keeps : (k i : ℕ) (c d : List Block) → KeepsSegment k i c d → SegmentsKeep v c d = λ k j c d keeps n. ap (λ es. keeping n es) (keeps_extents v k j c d keeps) in (
+              let keeps : (k : ℕ) (c d : List Block) → KeepsSegment k c d → SegmentsKeep v c d = λ k c d keeps n. ap (λ es. keeping n es) (keeps_extents v k c d keeps) in (
                 before.0,
                 before.1.left,
                 record {
@@ -362,7 +362,7 @@ module _ {D : Type 0} (tells : Bool) (state : D → State) (config : Config) (b 
 
           back_sound : ((was : Images) → AreLeft config t was → AreSound (shapes_of config) was) → AreSound (shapes_of config) images
           back_sound all =
-              sound_before KeepsFront KeepsSegment (shapes_of config) images before.0 (left.count ∙ sym before.1.left.count) each keeps_front (λ v k j c d keeps. keeps_extents v k j c d keeps) (λ views k j c d keeps is. keeps_sound (shapes_of config) views k j c d keeps is)
+              sound_before KeepsFront KeepsSegment (shapes_of config) images before.0 (left.count ∙ sym before.1.left.count) each keeps_front keeps_extents (keeps_sound (shapes_of config))
               (all before.0 before.1.left)
             where
               each : (k : ℕ) (s : Shape) → slice_get (shapes_of config) k ≡ Some s → (image_of before.0 k ≡ image_of images k) ⊎ AreTwo (KeepsFront k) (KeepsSegment k) s (image_of images k) (image_of before.0 k)

@@ -33,7 +33,7 @@ use Rattle.rack_parts.specs.Locks.{AreSpindlesOf}
 use Rattle.rack_parts.specs.Parts.{holder_by, IsIssuedPool, Supplies, IsOwnedPlace, segment_in}
 use Rattle.rack_parts.specs.Racks.{IsClosable, NamesVolumes, AreUnused, KeepToViews}
 use Rattle.rack_parts.specs.Closing.{IsComplete}
-use Rattle.rack_closing.specs.Opens.{HadBefore, IsAsRead, BeganWith, HasFaulty, KeepsOthers, RefusesVolume}
+use Rattle.rack_closing.specs.Opens.{HadBefore, IsAsRead, BeganWith, HasFaulty, KeepsOthers, KeepsAllSound, LeavesAll, RefusesVolume}
 use Rattle.rack.specs.declared.all.Taken.{Taken}
 use Rattle.rack_parts.specs.declared.heads_said.Said.{Said}
 use Rattle.rack.specs.declared.images.Images.{Images}
@@ -226,6 +226,14 @@ pub record IsTaken {D : Type 0} (tells : Bool) (state : D → State) (config : C
   pub pools : (k : ℕ) (s : Shape) (i : Issued (Pool (FreeSegment D)) PoolBase)
       → slice_get (shapes_of config) k ≡ Some s → slice_get t.pools.items k ≡ Some i
       → IsIssuedPool (length config.volumes.items) k s (said_at before.said.items k) i
+
+-- There was no memory: each image is in the bay again, and recovers to what one at entry did, also
+-- after a stop within.
+pub record BringsAllBack {D : Type 0} (tells : Bool) (state : D → State) (config : Config)
+    (b b' : BayState) : Type 0 where
+  pub home : outs b' ≡ outs b
+  pub left : IsTrue tells → IsTold (LeavesAll tells state config b b') b.told b'.told
+  pub sound : IsTrue tells → IsTold (KeepsAllSound config) b.told b'.told
 
 -- ---- The rack while its volumes are opened, of which the first n were tried
 

@@ -1,7 +1,7 @@
 // All volumes of a bay are opened.
 ghost use Rattle.manager.specs.declared.part.Part.{Part};
 ghost use Rattle.manager_recovery.specs.declared.refusal.OpenRefusal.TheVariants.{DiskFault};
-ghost use Rattle.rack.specs.Opening.{IsTaken};
+ghost use Rattle.rack.specs.Opening.{IsTaken, BringsAllBack};
 ghost use Rattle.rack_closing.specs.Closes.{HasFaultAt, HasFaultIn};
 ghost use Rattle.rack_closing.specs.Opens.{AreViewsAsRead, BeganWith, WereThere, AreRefused, LeavesAll, HasFaulty, KeepsOthers, KeepsAllSound};
 ghost use Rattle.rack_closing.specs.Owners.{HadRefused};
@@ -46,12 +46,8 @@ fn take_out<R: Wait, B: Bay>(
     requires home { NoneOut config.now (B.state bay.old) }
     ensures taken { IfOk result
         (IsTaken B.Part.tells B.Part.state config.now (B.state bay.old) (B.state bay.new)) }
-    ensures home { OnErr result (outs (B.state bay.new) ≡ outs (B.state bay.old)) }
-    ensures left { OnErr result (IsTrue B.Part.tells
-        → IsTold (LeavesAll B.Part.tells B.Part.state config.now (B.state bay.old)
-        (B.state bay.new)) (B.state bay.old).told (B.state bay.new).told) }
-    ensures sound { OnErr result (IsTrue B.Part.tells
-        → IsTold (KeepsAllSound config.now) (B.state bay.old).told (B.state bay.new).told) }
+    ensures back { OnErr result
+        (BringsAllBack B.Part.tells B.Part.state config.now (B.state bay.old) (B.state bay.new)) }
     ensures others { IsTold (KeepsOthers config.now) (B.state bay.old).told (B.state bay.new).told }
     ensures counts { (B.state bay.old).faults ≤ (B.state bay.new).faults }
 {

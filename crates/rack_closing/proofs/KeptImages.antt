@@ -106,29 +106,27 @@ module _ (s : Shape) (front : List Block) (f : ℕ → List Block) (long : lengt
         let full : slice_range bs 0 (2 + s.home + (0 + s.segments) * s.segment_blocks) ≡ bs = ap (λ (k : ℕ). slice_range bs 0 k) end ∙ take_all (length bs - 0) bs (omega arith) in
         subst (λ (vs : List (Values Block)). IsImage vs (front ++ row f 0 s.segments)) full whole
 
+-- a whole image of a volume's size
+pub record IsEntered (s : Shape) (entry : Option Image) : Type 0 where
+  pub image : Image
+  pub there : entry ≡ Some image
+  pub whole : image.rest ≡ []
+  pub size : length image.blocks ≡ image_size s
+
 -- the front of the image that is left of a volume, and each segment of it, goes with one that it might have been at entry
-pub record IsKeptImage (Fronts : (now was : List Block) → Type 0) (Keeps : (i : ℕ) → (now was : List Block) → Type 0) (s : Shape) (entry : Option Image) (image : Option (List Block)) : Type 0 where
-  pub before : Image
-  pub there : entry ≡ Some before
-  pub whole : before.rest ≡ []
-  pub size : length before.blocks ≡ image_size s
+pub record IsKeptImage (Fronts : (now was : List Block) → Type 0) (Keeps : (now was : List Block) → Type 0) (s : Shape) (entry : Option Image) (image : Option (List Block)) : Type 0 where
+  pub entered : IsEntered s entry
   pub now : List Block
   pub is : image ≡ Some now
   pub sized : length now ≡ image_size s
-  pub front : (was : List Block) × IsImage (slice_range before.blocks 0 (2 + s.home)) was × Fronts (slice_range now 0 (2 + s.home)) was
-  pub segments : (i : ℕ) → i < s.segments → (was : List Block) × IsImage (slice_range before.blocks (2 + s.home + i * s.segment_blocks) (2 + s.home + (i + 1) * s.segment_blocks)) was
-      × Keeps i (segment_of s now i) was
+  pub front : (was : List Block) × IsImage (slice_range entered.image.blocks 0 (2 + s.home)) was × Fronts (slice_range now 0 (2 + s.home)) was
+  pub segments : (i : ℕ) → i < s.segments → (was : List Block) × IsImage (slice_range entered.image.blocks (2 + s.home + i * s.segment_blocks) (2 + s.home + (i + 1) * s.segment_blocks)) was
+      × Keeps (segment_of s now i) was
 
 -- two whole images whose fronts and segments go together
-pub record AreTwo (Fronts : (now was : List Block) → Type 0) (Keeps : (i : ℕ) → (now was : List Block) → Type 0) (s : Shape) (image before : Option (List Block)) : Type 0 where
-  pub now : List Block
-  pub was : List Block
-  pub now_is : image ≡ Some now
-  pub was_is : before ≡ Some was
-  pub now_sized : length now ≡ image_size s
-  pub was_sized : length was ≡ image_size s
-  pub front : Fronts (slice_range now 0 (2 + s.home)) (slice_range was 0 (2 + s.home))
-  pub segments : (i : ℕ) → i < s.segments → Keeps i (segment_of s now i) (segment_of s was i)
+pub record AreTwo (Fronts : (now was : List Block) → Type 0) (Keeps : (now was : List Block) → Type 0) (s : Shape) (image before : Option (List Block)) : Type 0 where
+  pub go : ImagesGo Keeps s image before
+  pub front : Fronts (slice_range go.now 0 (2 + s.home)) (slice_range go.was 0 (2 + s.home))
 
 -- what was there where it is within
 pub chosen : {P : ℕ → List Block → Type 0} (n : ℕ) → ((i : ℕ) → i < n → (was : List Block) × P i was) → (i : ℕ) → (was : List Block) × (i < n → P i was)
@@ -158,25 +156,19 @@ piece_length s vs i c size lt image =
     let long = length-take-le (2 + s.home + (i + 1) * s.segment_blocks - (2 + s.home + i * s.segment_blocks)) (drop (2 + s.home + i * s.segment_blocks) vs) (omega (arith, width, behind, size, more, most)) in
     n ∙ long ∙ width
 
-module _ (Fronts : (now was : List Block) → Type 0) (Keeps : (i : ℕ) → (now was : List Block) → Type 0) (s : Shape) where
+module _ (Fronts : (now was : List Block) → Type 0) (Keeps : (now was : List Block) → Type 0) (s : Shape) where
   -- of one front they have one home
   pub two_home : (image before : Option (List Block)) → ((now was : List Block) → Fronts now was → slice_range was 2 (2 + s.home) ≡ slice_range now 2 (2 + s.home)) → AreTwo Fronts Keeps s image before → home_in (Some s) before ≡ home_in (Some s) image
   two_home image before same t =
-      ap (home_in (Some s)) t.was_is ∙ sym (front_home s t.was t.was_sized)
-      ∙ same (slice_range t.now 0 (2 + s.home)) (slice_range t.was 0 (2 + s.home)) t.front
-      ∙ front_home s t.now t.now_sized ∙ ap (home_in (Some s)) (sym t.now_is)
+      let g = t.go in
+      ap (home_in (Some s)) g.was_is ∙ sym (front_home s g.was g.was_sized)
+      ∙ same (slice_range g.now 0 (2 + s.home)) (slice_range g.was 0 (2 + s.home)) t.front
+      ∙ front_home s g.now g.now_sized ∙ ap (home_in (Some s)) (sym g.now_is)
 
   -- they go together where their segments do
-  pub two_go : (Together : (now was : List Block) → Type 0) (image before : Option (List Block)) → ((i : ℕ) (c d : List Block) → Keeps i c d → Together c d) → AreTwo Fronts Keeps s image before → ImagesGo Together s image before
-  two_go Together image before keeps t = record {
-    now = t.now;
-    was = t.was;
-    now_is = t.now_is;
-    was_is = t.was_is;
-    now_sized = t.now_sized;
-    was_sized = t.was_sized;
-    segments = λ i below. keeps i (segment_of s t.now i) (segment_of s t.was i) (t.segments i below);
-  }
+  pub two_go : (Together : (now was : List Block) → Type 0) (image before : Option (List Block)) → ((c d : List Block) → Keeps c d → Together c d) → AreTwo Fronts Keeps s image before → ImagesGo Together s image before
+  two_go Together image before keeps t =
+      let g = t.go in record { now = g.now; was = g.was; now_is = g.now_is; was_is = g.was_is; now_sized = g.now_sized; was_sized = g.was_sized; segments = λ i below. keeps (segment_of s g.now i) (segment_of s g.was i) (g.segments i below) }
 
   -- one that might have been left at entry
   pub record Earlier (entry : Option Image) (image : Option (List Block)) : Type 0 where
@@ -187,21 +179,23 @@ module _ (Fronts : (now was : List Block) → Type 0) (Keeps : (i : ℕ) → (no
   pub earlier : (entry : Option Image) (image : Option (List Block)) → IsKeptImage Fronts Keeps s entry image → Earlier entry image
   earlier entry image k = record {
     was = whole;
-    may = subst (λ (e : Option Image). MayLeave e (Some whole)) (sym k.there) (k.whole, assembled_image s front piece long sized k.before.blocks k.front.1 (λ i lt. ((segment i).1 lt).0) k.size);
+    may = subst (λ (e : Option Image). MayLeave e (Some whole)) (sym k.entered.there) (k.entered.whole, assembled_image s front piece long sized k.entered.image.blocks k.front.1 (λ i lt. ((segment i).1 lt).0) k.entered.size);
     two = record {
-      now = k.now;
-      was = whole;
-      now_is = k.is;
-      was_is = refl;
-      now_sized = k.sized;
-      was_sized = assembled_size s front piece long sized;
+      go = record {
+        now = k.now;
+        was = whole;
+        now_is = k.is;
+        was_is = refl;
+        now_sized = k.sized;
+        was_sized = assembled_size s front piece long sized;
+        segments = λ i lt. subst (λ (c : List Block). Keeps (segment_of s k.now i) c) (sym (assembled_segment s front piece long sized i lt)) (((segment i).1 lt).1);
+      };
       front = subst (λ (c : List Block). Fronts (slice_range k.now 0 (2 + s.home)) c) (sym (assembled_front s front piece long sized)) k.front.2;
-      segments = λ i lt. subst (λ (c : List Block). Keeps i (segment_of s k.now i) c) (sym (assembled_segment s front piece long sized i lt)) (((segment i).1 lt).1);
     };
   }
     where
       Holds : ℕ → List Block → Type 0
-      Holds i was = IsImage (slice_range k.before.blocks (2 + s.home + i * s.segment_blocks) (2 + s.home + (i + 1) * s.segment_blocks)) was × Keeps i (segment_of s k.now i) was
+      Holds i was = IsImage (slice_range k.entered.image.blocks (2 + s.home + i * s.segment_blocks) (2 + s.home + (i + 1) * s.segment_blocks)) was × Keeps (segment_of s k.now i) was
 
       segment : (i : ℕ) → (was : List Block) × (i < s.segments → Holds i was)
       segment = chosen {P = Holds} s.segments (λ i lt. let g = k.segments i lt in (g.0, (g.1, g.2)))
@@ -210,7 +204,7 @@ module _ (Fronts : (now was : List Block) → Type 0) (Keeps : (i : ℕ) → (no
       piece i = (segment i).0
 
       sized : (i : ℕ) → i < s.segments → length (piece i) ≡ s.segment_blocks
-      sized i lt = piece_length s k.before.blocks i (piece i) k.size lt ((segment i).1 lt).0
+      sized i lt = piece_length s k.entered.image.blocks i (piece i) k.entered.size lt ((segment i).1 lt).0
 
       front : List Block
       front = k.front.0
@@ -221,9 +215,9 @@ module _ (Fronts : (now was : List Block) → Type 0) (Keeps : (i : ℕ) → (no
       long : length front ≡ 2 + s.home
       long =
           let at : 2 + s.home - 0 ≡ 2 + s.home = omega arith in
-          image_length (slice_range k.before.blocks 0 (2 + s.home)) k.front.0 k.front.1 ∙ length-take-le (2 + s.home - 0) k.before.blocks (let z = k.size in omega (arith, z, at)) ∙ at
+          image_length (slice_range k.entered.image.blocks 0 (2 + s.home)) k.front.0 k.front.1 ∙ length-take-le (2 + s.home - 0) k.entered.image.blocks (let z = k.entered.size in omega (arith, z, at)) ∙ at
 
-module _ (Fronts : (k : ℕ) → (now was : List Block) → Type 0) (Keeps : (k i : ℕ) → (now was : List Block) → Type 0) (config : Config) (old : Told) (refused : ℕ → Bool) (images : Images)
+module _ (Fronts : (k : ℕ) → (now was : List Block) → Type 0) (Keeps : (k : ℕ) → (now was : List Block) → Type 0) (config : Config) (old : Told) (refused : ℕ → Bool) (images : Images)
     (kept : (k : ℕ) (conf : VolumeConf) → slice_get config.volumes.items k ≡ Some conf → refused k ≡ false → IsKeptImage (Fronts k) (Keeps k) (shape_in config conf) (at_name conf.name old.images) (image_of images k))
     (still : (k : ℕ) (conf : VolumeConf) → slice_get config.volumes.items k ≡ Some conf → refused k ≡ true → MayLeave (at_name conf.name old.images) (image_of images k)) where
   record IsPicked (k : ℕ) (conf : VolumeConf) (o : Option (List Block)) : Type 0 where
@@ -268,7 +262,7 @@ module _ (Fronts : (k : ℕ) → (now was : List Block) → Type 0) (Keeps : (k 
       go false e = inr (e, subst (λ (s : Shape). AreTwo (Fronts k) (Keeps k) s (image_of images k) (image_of before k)) v.2 (is.two k v.0 v.1 e))
 
   module _ (before : Images) (is : IsBefore before) (v : ℕ) (fronts : (now was : List Block) → Fronts v now was → was ≡ now)
-      (count : length images ≡ length config.volumes.items) (keeps : (k i : ℕ) (c d : List Block) → Keeps k i c d → SegmentsKeep v c d) where
+      (count : length images ≡ length config.volumes.items) (keeps : (k : ℕ) (c d : List Block) → Keeps k c d → SegmentsKeep v c d) where
     each_keeps : (k : ℕ) (s : Shape) → slice_get (shapes_of config) k ≡ Some s → (image_of images k ≡ image_of before k) ⊎ ImagesKeep v s (image_of images k) (image_of before k)
     each_keeps k s at = ⊎_elim (λ same. inl (sym same.1)) (λ two. inr (two_go (Fronts k) (Keeps k) s (SegmentsKeep v) (image_of images k) (image_of before k) (keeps k) two.1)) (two_or_same before is k s at)
 

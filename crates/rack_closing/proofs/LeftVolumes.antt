@@ -2,7 +2,7 @@
 use Rattle.rack_closing.proofs.Basics.{◌≡◌, ◌<◌, ◌≤◌, ◌+◌, ◌⊎◌, inl, inr, ℕ, Bool, List, [], length, map, Option, Some, None, refl, sym, ap, ◌∙◌, subst, arith, ⊎_elim, ◌∷◌, ◌≢◌, ◌^◌, true, false}
 use Rattle.rack_closing.proofs.Basics.{not, eqb, option_map, is_some, option_and_then, Contains, slice_get, slice_index_or, IsTrue, slice_range, All, cases_lt, cases_eq, eqb-true, eq-eqb}
 use Rattle.rack_closing.proofs.Basics.{none-some, slice_get_past, slice_get-get_or, same_Some, slice_get-map, AllByRecursion, length-map, All-contains}
-use Rattle.rack_closing.proofs.Terms.{State, Block, IsImageOf, Values, IsImage, reads, image_reads, BayState, Told, Image, at_name, Shape, Images, image_of, segment_of, image_size, home_in}
+use Rattle.rack_closing.proofs.Terms.{State, Block, IsImageOf, Values, IsImage, reads, image_reads, BayState, Told, Image, at_name, Shape, Images, image_of, segment_of, home_in}
 use Rattle.rack_closing.proofs.Terms.{recovered_from, segments_of, Record, IsNamed, IsIdle, IsLog, LiesInHome, IsSoundOf, Config, VolumeConf, state_of, Spun, part_of, logger_of, held_in}
 use Rattle.rack_closing.proofs.Terms.{HeldSegment, Lane, ManagerBase, Part, Station, may_be, shapes_of, AreLeft, shape_in, image_read, images_read, MayLeave, image_here, segment_here, held_here}
 use Rattle.rack_closing.proofs.Terms.{pool_pass, away_with, IsSegmentHere, IsImageOut, IsClosable, base_of_station, GivesBack, KeepsButHome, HasFaultHere, home_here, HasFaultAt, HasFaultIn}
@@ -16,7 +16,7 @@ use Rattle.rack_closing.proofs.StationParts.{IsEnding, few_volumes, is_station, 
 use Rattle.rack_closing.proofs.FinalImages.{IsCrash, left_now, left_origin, was_here, was_pooled, of_station, Origin, sound_left, here_or_not, left_quiet, IsLeftNow}
 use Rattle.rack_closing.proofs.VolumesClosed.{part_at, segment_at_place, fault_here, fault_listed}
 use Rattle.rack_closing.proofs.SoundBefore.{IsClosed, Came, has_come, keeps_came, reads_among, at_front}
-use Rattle.rack_closing.proofs.KeptImages.{IsKeptImage, AreTwo, IsBefore, kept_before, before_same, before_all}
+use Rattle.rack_closing.proofs.KeptImages.{IsEntered, IsKeptImage, AreTwo, IsBefore, kept_before, before_same, before_all}
 use Rattle.rack_closing.proofs.SameRecovered.{picked, ArePicked, recovered_same, recovered_none}
 use Rattle.rack_closing.proofs.LeftImage.{read_cases, volume_at, read_here, may_at, out_taken}
 use Rattle.rack_closing.proofs.Places.{both_slices, slice_join}
@@ -228,15 +228,12 @@ module _ {D : Type 0} {state : D → State} {config : Config} {b : BayState} {r 
   pub record IsOut (k : ℕ) (v : VolumeConf) : Type 0 where
     pub rest : ImageRest D
     pub here : image_here r.rest.images.items k ≡ Some rest
-    pub entered : Image
-    pub is : at_name v.name entry.images ≡ Some entered
-    pub whole : entered.rest ≡ []
-    pub size : length entered.blocks ≡ image_size (shape_in config v)
+    pub entered : IsEntered (shape_in config v) (at_name v.name entry.images)
     pub now : List Block
     pub now_is : image_of images k ≡ Some now
     pub of_parts : IsLeftOfParts state (shape_in config v) r k rest now
     -- label and view are as they read
-    pub label : slice_range now 0 2 ≡ slice_range (reads entered.blocks) 0 2
+    pub label : slice_range now 0 2 ≡ slice_range (reads entered.image.blocks) 0 2
 
   pub is_out : (k : ℕ) (v : VolumeConf) → slice_get config.volumes.items k ≡ Some v → refused k ≡ false → IsOut k v
   is_out k v at taken =
@@ -246,10 +243,7 @@ module _ {D : Type 0} {state : D → State} {config : Config} {b : BayState} {r 
       record {
         rest = m.0;
         here = m.1;
-        entered = i.0;
-        is = i.1;
-        whole = i.2;
-        size = i.3;
+        entered = record { image = i.0; there = i.1; whole = i.2; size = i.3 };
         now = image.0;
         now_is = image.1;
         of_parts = image.2;
@@ -266,8 +260,8 @@ module _ {D : Type 0} {state : D → State} {config : Config} {b : BayState} {r 
   abbrev pub Fronts : (k : ℕ) → (now was : List Block) → Type 0
   Fronts k now was = ((i : ℕ) → i < 2 → slice_get was i ≡ slice_get now i) × (IsClosed r k → was ≡ now)
 
-  abbrev pub Segments : (k i : ℕ) → (now was : List Block) → Type 0
-  Segments k i now was = Came r k now was
+  abbrev pub Segments : (k : ℕ) → (now was : List Block) → Type 0
+  Segments k now was = Came r k now was
 
   -- the home of a volume without a station is here
   home_of_closed : (k : ℕ) → IsClosed r k → Contains (away_with (map (λ (s : Station D). base_of_station s) r.stations.items)).homes k → ⊥
@@ -277,19 +271,19 @@ module _ {D : Type 0} {state : D → State} {config : Config} {b : BayState} {r 
       closed s.0 s.1 (sym m.2 ∙ ap (λ (x : ManagerBase). x.volume.began.owner) (sym s.2) ∙ (All-contains (λ u. IsStation u) r.stations.items s.0 can.stations s.1).id)
 
   front_was : (k : ℕ) (v : VolumeConf) → slice_get config.volumes.items k ≡ Some v → (o : IsOut k v)
-      → (was : List Block) × IsImage (slice_range o.entered.blocks 0 (2 + v.home)) was × Fronts k (slice_range o.now 0 (2 + v.home)) was
+      → (was : List Block) × IsImage (slice_range o.entered.image.blocks 0 (2 + v.home)) was × Fronts k (slice_range o.now 0 (2 + v.home)) was
   front_was k v at o = ⊎_elim
       (λ s. (slice_range (reads bs) 0 n, reads_among bs 0 n, (λ i lt. at_front n i (reads bs) (omega (arith, lt)) ∙ sym (at_front 2 i (reads bs) lt) ∙ ap (λ (l : List Block). slice_get l i) (sym o.label) ∙ at_front 2 i o.now lt ∙ sym (at_front n i o.now (omega (arith, lt))), λ closed. absurd (closed s.0 s.1 (sym s.2)))))
       (λ closed.
       let p = a_value o.rest.home ((can.rest.parts.homes k o.rest o.here).1 (home_of_closed k closed)) in
       let label = subst (λ (c : List Block). IsImage (slice_range bs 0 2) c) (sym o.label) (reads_among bs 0 2) in
-      let home = (began.left k v o.entered o.rest at o.is o.here).home p.0 p.1 (slice_range o.now 2 n) (o.of_parts.home p.0 p.1) in
+      let home = (began.left k v o.entered.image o.rest at o.entered.there o.here).home p.0 p.1 (slice_range o.now 2 n) (o.of_parts.home p.0 p.1) in
       let both = both_slices bs 0 2 n (slice_range o.now 0 2) (slice_range o.now 2 n) (omega arith) (omega arith) label home in
       (slice_range o.now 0 n, subst (λ (c : List Block). IsImage (slice_range bs 0 n) c) (slice_join o.now 0 2 n (omega arith) (omega arith)) both, (λ i lt. refl, λ c. refl)))
       (has_station_or k)
     where
       bs : List (Values Block)
-      bs = o.entered.blocks
+      bs = o.entered.image.blocks
 
       n : ℕ
       n = 2 + v.home
@@ -298,15 +292,12 @@ module _ {D : Type 0} {state : D → State} {config : Config} {b : BayState} {r 
   kept_image k v at taken =
       let o = is_out k v at taken in
       record {
-        before = o.entered;
-        there = o.is;
-        whole = o.whole;
-        size = o.size;
+        entered = o.entered;
         now = o.now;
         is = o.now_is;
         sized = o.of_parts.sized;
         front = front_was k v at o;
-        segments = λ i lt. let come = has_come state config few r entry began k i v o.entered o.rest (segment_of (shape_in config v) o.now i) at o.is o.here lt (o.of_parts.segments i lt) in (come.was, come.had, come.came);
+        segments = λ i lt. let come = has_come state config few r entry began k i v o.entered.image o.rest (segment_of (shape_in config v) o.now i) at o.entered.there o.here lt (o.of_parts.segments i lt) in (come.was, come.had, come.came);
       }
 
   pub may_still : (k : ℕ) (v : VolumeConf) → slice_get config.volumes.items k ≡ Some v → refused k ≡ true → MayLeave (at_name v.name entry.images) (image_of images k)
@@ -327,10 +318,10 @@ module _ {D : Type 0} {state : D → State} {config : Config} {b : BayState} {r 
   -- a volume without a station recovers to the same of them
   module _ (v : ℕ) (closed : IsClosed r v) where
     closed_but : recovered_but shapes refused images v ≡ recovered_but shapes refused before v
-    closed_but = before_same Fronts Segments config entry refused images kept_image may_still before chosen.1 v (λ now was front. front.1 closed) left.count (λ k i c d came. keeps_came r v k c d closed came)
+    closed_but = before_same Fronts Segments config entry refused images kept_image may_still before chosen.1 v (λ now was front. front.1 closed) left.count (λ k c d came. keeps_came r v k c d closed came)
 
     closed_all : recovered_from shapes images v ≡ recovered_from shapes before v
-    closed_all = before_all Fronts Segments config entry refused images kept_image may_still before chosen.1 v (λ now was front. front.1 closed) left.count (λ k i c d came. keeps_came r v k c d closed came)
+    closed_all = before_all Fronts Segments config entry refused images kept_image may_still before chosen.1 v (λ now was front. front.1 closed) left.count (λ k c d came. keeps_came r v k c d closed came)
 
     pub closed_recovers : (before : Images) × AreLeft config entry before × (recovered_from shapes images v ≡ recovered_from shapes before v)
     closed_recovers = (before, chosen.1.left, closed_all)

@@ -40,11 +40,11 @@ some_image (o ∷ images) zero c is = same_Some o (Some c) is
 some_image (o ∷ images) (suc k) c is = some_image images k c is
 
 -- each image is the same as one that was, or goes with it; label and view are the same
-module _ (Fronts : (k : ℕ) → (now was : List Block) → Type 0) (Keeps : (k i : ℕ) → (now was : List Block) → Type 0) (shapes : List Shape) (images before : Images)
+module _ (Fronts : (k : ℕ) → (now was : List Block) → Type 0) (Keeps : (k : ℕ) → (now was : List Block) → Type 0) (shapes : List Shape) (images before : Images)
     (each : (k : ℕ) (s : Shape) → slice_get shapes k ≡ Some s → (image_of before k ≡ image_of images k) ⊎ AreTwo (Fronts k) (Keeps k) s (image_of images k) (image_of before k))
     (fronts : (k i : ℕ) (now was : List Block) → Fronts k now was → i < 2 → slice_get was i ≡ slice_get now i) where
   -- they are sound where those were, if their segments are, and no two records have one version
-  pub sound_with : (are : AreSound shapes before) → ((k i : ℕ) (c d : List Block) → Keeps k i c d → IsSoundSegment shapes are.views k d → IsSoundSegment shapes are.views k c)
+  pub sound_with : (are : AreSound shapes before) → ((k : ℕ) (c d : List Block) → Keeps k c d → IsSoundSegment shapes are.views k d → IsSoundSegment shapes are.views k c)
       → ((v : ℕ) → v < length shapes → AreDistinct (covers_of (extents_of v (all_segments shapes images)))) → AreSound shapes images
   sound_with are sound distinct = record {
     views = are.views;
@@ -52,35 +52,35 @@ module _ (Fronts : (k : ℕ) → (now was : List Block) → Type 0) (Keeps : (k 
     distinct = distinct;
   }
     where
-      two_sound : (k : ℕ) (s : Shape) (ids : List ℕ) (two : AreTwo (Fronts k) (Keeps k) s (image_of images k) (image_of before k)) → IsSoundImage shapes are.views k s ids two.was → IsSoundImage shapes are.views k s ids two.now
+      two_sound : (k : ℕ) (s : Shape) (ids : List ℕ) (two : AreTwo (Fronts k) (Keeps k) s (image_of images k) (image_of before k)) → IsSoundImage shapes are.views k s ids two.go.was → IsSoundImage shapes are.views k s ids two.go.now
       two_sound k s ids two is = record {
-        sized = two.now_sized;
+        sized = two.go.now_sized;
         label = (is.label.0, same_at 0 (omega arith) ∙ is.label.1, is.label.2);
         view = (is.view.0, same_at 1 (omega arith) ∙ is.view.1, is.view.2, is.view.3);
-        segments = subst (λ (l : List (List Block)). AllByRecursion (IsSoundSegment shapes are.views k) l) (sym (segments_are s two.now two.now_sized))
-            (rows_pass (IsSoundSegment shapes are.views k) (IsSoundSegment shapes are.views k) s two.now two.was 0 s.segments
-            (λ i le lt. sound k i (segment_of s two.now i) (segment_of s two.was i) (two.segments i (omega (arith, lt))))
-            (subst (λ (l : List (List Block)). AllByRecursion (IsSoundSegment shapes are.views k) l) (segments_are s two.was two.was_sized) is.segments));
+        segments = subst (λ (l : List (List Block)). AllByRecursion (IsSoundSegment shapes are.views k) l) (sym (segments_are s two.go.now two.go.now_sized))
+            (rows_pass (IsSoundSegment shapes are.views k) (IsSoundSegment shapes are.views k) s two.go.now two.go.was 0 s.segments
+            (λ i le lt. sound k (segment_of s two.go.now i) (segment_of s two.go.was i) (two.go.segments i (omega (arith, lt))))
+            (subst (λ (l : List (List Block)). AllByRecursion (IsSoundSegment shapes are.views k) l) (segments_are s two.go.was two.go.was_sized) is.segments));
       }
         where
-          same_at : (i : ℕ) → i < 2 → slice_get two.now i ≡ slice_get two.was i
+          same_at : (i : ℕ) → i < 2 → slice_get two.go.now i ≡ slice_get two.go.was i
           same_at i lt =
-              sym (at_front (2 + s.home) i two.now (omega (arith, lt)))
-              ∙ sym (fronts k i (slice_range two.now 0 (2 + s.home)) (slice_range two.was 0 (2 + s.home)) two.front lt)
-              ∙ at_front (2 + s.home) i two.was (omega (arith, lt))
+              sym (at_front (2 + s.home) i two.go.now (omega (arith, lt)))
+              ∙ sym (fronts k i (slice_range two.go.now 0 (2 + s.home)) (slice_range two.go.was 0 (2 + s.home)) two.front lt)
+              ∙ at_front (2 + s.home) i two.go.was (omega (arith, lt))
 
       image_at : (v : ℕ) (s : Shape) (was : List Block) (ids : List ℕ) → image_of before v ≡ Some was → slice_get are.views v ≡ Some ids → IsSoundImage shapes are.views v s ids was
           → (image_of before v ≡ image_of images v) ⊎ AreTwo (Fronts v) (Keeps v) s (image_of images v) (image_of before v)
           → (image : List Block) × (ids : List ℕ) × (slice_get images v ≡ Some (Some image)) × (slice_get are.views v ≡ Some ids) × IsSoundImage shapes are.views v s ids image
       image_at v s was ids is view was_sound (inl same) = (was, ids, image_some images v was (sym same ∙ is), view, was_sound)
       image_at v s was ids is view was_sound (inr two) =
-          (two.now, ids, image_some images v two.now two.now_is, view, two_sound v s ids two (subst (λ (c : List Block). IsSoundImage shapes are.views v s ids c) (same_Some was two.was (sym is ∙ two.was_is)) was_sound))
+          (two.go.now, ids, image_some images v two.go.now two.go.now_is, view, two_sound v s ids two (subst (λ (c : List Block). IsSoundImage shapes are.views v s ids c) (same_Some was two.go.was (sym is ∙ two.go.was_is)) was_sound))
 
-pub sound_before : (Fronts : (k : ℕ) → (now was : List Block) → Type 0) (Keeps : (k i : ℕ) → (now was : List Block) → Type 0) (shapes : List Shape) (images before : Images) (count : length images ≡ length before)
+pub sound_before : (Fronts : (k : ℕ) → (now was : List Block) → Type 0) (Keeps : (k : ℕ) → (now was : List Block) → Type 0) (shapes : List Shape) (images before : Images) (count : length images ≡ length before)
     (each : (k : ℕ) (s : Shape) → slice_get shapes k ≡ Some s → (image_of before k ≡ image_of images k) ⊎ AreTwo (Fronts k) (Keeps k) s (image_of images k) (image_of before k))
     (fronts : (k i : ℕ) (now was : List Block) → Fronts k now was → i < 2 → slice_get was i ≡ slice_get now i)
-    (extents : (v k i : ℕ) (c d : List Block) → Keeps k i c d → extents_in v c ≡ extents_in v d)
-    (sound : (views : List (List ℕ)) (k i : ℕ) (c d : List Block) → Keeps k i c d → IsSoundSegment shapes views k d → IsSoundSegment shapes views k c) → AreSound shapes before → AreSound shapes images
+    (extents : (v k : ℕ) (c d : List Block) → Keeps k c d → extents_in v c ≡ extents_in v d)
+    (sound : (views : List (List ℕ)) (k : ℕ) (c d : List Block) → Keeps k c d → IsSoundSegment shapes views k d → IsSoundSegment shapes views k c) → AreSound shapes before → AreSound shapes images
 sound_before Fronts Keeps shapes images before count each fronts extents sound are = sound_with Fronts Keeps shapes images before each fronts are (sound are.views)
     (λ v lt. subst (λ es. AreDistinct (covers_of es)) (sym (same_extents v shapes images before count (λ k s at below. goes v k s at (each k s at)))) (are.distinct v lt))
   where
@@ -90,7 +90,7 @@ sound_before Fronts Keeps shapes images before count each fronts extents sound a
         let was = are.each k s at in
         let is = some_image before k was.0 was.2 in
         record { now = was.0; was = was.0; now_is = sym same ∙ is; was_is = is; now_sized = was.4.sized; was_sized = was.4.sized; segments = λ i lt. refl }
-    goes v k s at (inr two) = two_go (Fronts k) (Keeps k) s (λ now was. extents_in v now ≡ extents_in v was) (image_of images k) (image_of before k) (λ i c d keeps. extents v k i c d keeps) two
+    goes v k s at (inr two) = two_go (Fronts k) (Keeps k) s (λ now was. extents_in v now ≡ extents_in v was) (image_of images k) (image_of before k) (extents v k) two
 
 -- Extents of which some are left out: they have no twins where all have none.
 

@@ -49,13 +49,13 @@ module _ {D : Type 0} {state : D → State} {config : Config} {b : BayState} {r 
         let two = (chosen over).1.two s.id v.0 v.1 taken in
         let n = 2 + v.0.home in
         let sound = are.each s.id z.0 z.1 in
-        let was : sound.0 ≡ two.was = same_Some sound.0 two.was (sym (some_image (before over) s.id sound.0 sound.2) ∙ two.was_is) in
-        let now : two.now ≡ o.now = same_Some two.now o.now (sym two.now_is ∙ o.now_is) in
-        let second : slice_get two.was 1 ≡ slice_get (reads o.entered.blocks) 1 =
-        sym (at_front n 1 two.was (omega arith)) ∙ two.front.0 1 (omega arith) ∙ at_front n 1 two.now (omega arith) ∙ ap (λ (l : List Block). slice_get l 1) now
-        ∙ sym (at_front 2 1 o.now (omega arith)) ∙ ap (λ (l : List Block). slice_get l 1) o.label ∙ at_front 2 1 (reads o.entered.blocks) (omega arith) in
-        let read : image_of (images_taken config r.rest.images.items entry) s.id ≡ Some (reads o.entered.blocks) = accepted_same (refused over) (images_read config entry) s.id taken ∙ read_at config entry s.id v.0 o.entered v.1 o.is o.whole in
-        let says : HasView (reads o.entered.blocks) (base_of_station s).volume.began.view = begun.view (reads o.entered.blocks) (ap (image_of (images_taken config r.rest.images.items entry)) owner ∙ read) in
+        let was : sound.0 ≡ two.go.was = same_Some sound.0 two.go.was (sym (some_image (before over) s.id sound.0 sound.2) ∙ two.go.was_is) in
+        let now : two.go.now ≡ o.now = same_Some two.go.now o.now (sym two.go.now_is ∙ o.now_is) in
+        let second : slice_get two.go.was 1 ≡ slice_get (reads o.entered.image.blocks) 1 =
+        sym (at_front n 1 two.go.was (omega arith)) ∙ two.front.0 1 (omega arith) ∙ at_front n 1 two.go.now (omega arith) ∙ ap (λ (l : List Block). slice_get l 1) now
+        ∙ sym (at_front 2 1 o.now (omega arith)) ∙ ap (λ (l : List Block). slice_get l 1) o.label ∙ at_front 2 1 (reads o.entered.image.blocks) (omega arith) in
+        let read : image_of (images_taken config r.rest.images.items entry) s.id ≡ Some (reads o.entered.image.blocks) = accepted_same (refused over) (images_read config entry) s.id taken ∙ read_at config entry s.id v.0 o.entered.image v.1 o.entered.there o.entered.whole in
+        let says : HasView (reads o.entered.image.blocks) (base_of_station s).volume.began.view = begun.view (reads o.entered.image.blocks) (ap (image_of (images_taken config r.rest.images.items entry)) owner ∙ read) in
         let block : says.block ≡ sound.4.view.0 = same_Some says.block sound.4.view.0 (sym says.second ∙ sym second ∙ ap (λ (l : List Block). slice_get l 1) (sym was) ∙ sound.4.view.1) in
         let same : sound.1 ≡ (base_of_station s).volume.began.view = one_view sound.4.view.0 sound.1 (base_of_station s).volume.began.view sound.4.view.2 (subst (λ (x : Block). SpellsView x (base_of_station s).volume.began.view) block says.spelled) in
         record { shape = z.0; shape_is = z.1; view = sound.3 ∙ ap (λ (ids : List ℕ). Some ids) same; home = base.home_blocks z.0 (ap (slice_get (shapes over)) owner ∙ z.1) }
@@ -65,7 +65,7 @@ module _ {D : Type 0} {state : D → State} {config : Config} {b : BayState} {r 
     fewer_closed : (v : ℕ) → IsClosed r v → Fewer (extents_of v (all_segments (shapes over) images)) (extents_of v (all_segments (shapes over) (before over)))
     fewer_closed v closed = fewer_images v (shapes over) images (before over) (left.count ∙ sym (chosen over).1.left.count) (λ k z at. ⊎_elim
         (λ same. subst (λ (o : Option (List Block)). Fewer (extents_of v (segments_of z (image_of images k))) (extents_of v (segments_of z o))) (sym same.1) (fewer_same (extents_of v (segments_of z (image_of images k)))))
-        (λ two. fewer_image v z (image_of images k) (image_of (before over) k) (two_go (Fronts over k) (Segments over k) z (λ now was. Fewer (extents_in v now) (extents_in v was)) (image_of images k) (image_of (before over) k) (λ i c d came. fewer_came r v k c d closed came) two.1))
+        (λ two. fewer_image v z (image_of images k) (image_of (before over) k) (two_go (Fronts over k) (Segments over k) z (λ now was. Fewer (extents_in v now) (extents_in v was)) (image_of images k) (image_of (before over) k) (λ c d came. fewer_came r v k c d closed came) two.1))
         (two_or_same over k z at))
 
     -- an open volume has no record in an image that isn't out

@@ -3,7 +3,7 @@ use Rattle.rack.proofs.Terms.{Spindle, SpindleBase, IsHome, VolumeConf, IsWholeL
 use Rattle.std.specs.Prelude.{vec_len}
 use Rattle.rack_parts.proofs.LocksIssued.{on_err}
 use Rattle.rack.proofs.ImagesSent.{names_out, others_same, others_then, back_others, sent_others}
-use Rattle.rack.proofs.TakenBack.{left_back, sound_back, nothing_done, left_again, sound_again, may_issue, again, whole_again, same_here, home_again}
+use Rattle.rack.proofs.TakenBack.{brought_back, nothing_done, left_again, sound_again, may_issue, again, whole_again, same_here, home_again}
 use Rattle.rack.proofs.all.take_out.Goals as goal
 
 pub issue_pools-requires-clause-each : goal.issue_pools-requires-clause-each
@@ -57,27 +57,22 @@ returns-in-Ok-issue_pools-clause-taken g c =
           (subst (λ (l : List (Option Said)). IsIssuedPool (vec_len c.args.config.now.volumes) k s (slice_index_or l k None) i) c.as_slice.ensures.value (c.in-Ok-issue_pools.ensures.issued k s i is at));
     }
 
-pub returns-in-Err-issue_pools-clause-home : goal.returns-in-Err-issue_pools-clause-home
-returns-in-Err-issue_pools-clause-home g c =
-    home_again g.B.Part.Disk.tells g.B.Part.Disk.state c.args.config.now (g.B.Bay.state c.args.bay.now) (g.B.Bay.state c.open_images.new.bay) c.in-Ok.images c.in-Ok.ensures.asked c.issue_pools.new.images c.as_mut_slice.result.now c.as_slice.result.now c.issue_pools.ensures.images c.as_mut_slice.ensures.value c.as_slice.ensures.value c.in-Err-issue_pools.ensures.restores c.requires.home c.in-Ok.ensures.out (g.B.Bay.state c.give_back.new.bay) c.give_back.ensures.home
+pub returns-in_err-spindles-clause-back : goal.returns-in_err-spindles-clause-back
+returns-in_err-spindles-clause-back g c =
+    let old = g.B.Bay.state c.args.bay.now in
+    on_err c.from_residual.result _ (brought_back g.B.Part.Disk.tells g.B.Part.Disk.state c.args.config.now old old refl (λ telling. nothing_done old.told))
 
-pub returns-in_err-spindles-clause-left : goal.returns-in_err-spindles-clause-left
-returns-in_err-spindles-clause-left g c =
-    on_err c.from_residual.result _ (λ telling. left_back g.B.Part.Disk.tells g.B.Part.Disk.state c.args.config.now (g.B.Bay.state c.args.bay.now) (g.B.Bay.state c.args.bay.now) (nothing_done (g.B.Bay.state c.args.bay.now).told))
+pub returns-in-Err-clause-back : goal.returns-in-Err-clause-back
+returns-in-Err-clause-back g c =
+    let back = c.in-Err.ensures.err in
+    brought_back g.B.Part.Disk.tells g.B.Part.Disk.state c.args.config.now (g.B.Bay.state c.args.bay.now) (g.B.Bay.state c.open_images.new.bay) back.outs back.left
 
-pub returns-in-Err-clause-left : goal.returns-in-Err-clause-left
-returns-in-Err-clause-left g c = λ telling. left_back g.B.Part.Disk.tells g.B.Part.Disk.state c.args.config.now (g.B.Bay.state c.args.bay.now) (g.B.Bay.state c.open_images.new.bay) (c.in-Err.ensures.err.left telling)
-
-pub returns-in-Err-clause-sound : goal.returns-in-Err-clause-sound
-returns-in-Err-clause-sound g c = λ telling. sound_back g.B.Part.Disk.tells g.B.Part.Disk.state c.args.config.now (g.B.Bay.state c.args.bay.now) (g.B.Bay.state c.open_images.new.bay) (c.in-Err.ensures.err.left telling)
-
-pub returns-in-Err-issue_pools-clause-left : goal.returns-in-Err-issue_pools-clause-left
-returns-in-Err-issue_pools-clause-left g c =
-    left_again g.B.Part.Disk.tells g.B.Part.Disk.state c.args.config.now (g.B.Bay.state c.args.bay.now) (g.B.Bay.state c.open_images.new.bay) c.in-Ok.images c.in-Ok.ensures.asked c.issue_pools.new.images c.as_mut_slice.result.now c.as_slice.result.now c.issue_pools.ensures.images c.as_mut_slice.ensures.value c.as_slice.ensures.value c.in-Err-issue_pools.ensures.restores c.requires.config (g.B.Bay.state c.give_back.new.bay) c.in-Ok.ensures.out c.give_back.ensures.back c.give_back.ensures.counts (λ telling d. g.met.B.Part.Disk.told telling d) g.met.B.Part.Disk.sound
-
-pub returns-in-Err-issue_pools-clause-sound : goal.returns-in-Err-issue_pools-clause-sound
-returns-in-Err-issue_pools-clause-sound g c =
-    sound_again g.B.Part.Disk.tells g.B.Part.Disk.state c.args.config.now (g.B.Bay.state c.args.bay.now) (g.B.Bay.state c.open_images.new.bay) c.in-Ok.images c.in-Ok.ensures.asked c.issue_pools.new.images c.as_mut_slice.result.now c.as_slice.result.now c.issue_pools.ensures.images c.as_mut_slice.ensures.value c.as_slice.ensures.value c.in-Err-issue_pools.ensures.restores c.requires.config (g.B.Bay.state c.give_back.new.bay) c.in-Ok.ensures.out c.give_back.ensures.back c.give_back.ensures.counts (λ telling d. g.met.B.Part.Disk.told telling d) g.met.B.Part.Disk.sound
+pub returns-in-Err-issue_pools-clause-back : goal.returns-in-Err-issue_pools-clause-back
+returns-in-Err-issue_pools-clause-back g c = record {
+  home = home_again g.B.Part.Disk.tells g.B.Part.Disk.state c.args.config.now (g.B.Bay.state c.args.bay.now) (g.B.Bay.state c.open_images.new.bay) c.in-Ok.images c.in-Ok.ensures.asked c.issue_pools.new.images c.as_mut_slice.result.now c.as_slice.result.now c.issue_pools.ensures.images c.as_mut_slice.ensures.value c.as_slice.ensures.value c.in-Err-issue_pools.ensures.restores c.requires.home c.in-Ok.ensures.out (g.B.Bay.state c.give_back.new.bay) c.give_back.ensures.home;
+  left = left_again g.B.Part.Disk.tells g.B.Part.Disk.state c.args.config.now (g.B.Bay.state c.args.bay.now) (g.B.Bay.state c.open_images.new.bay) c.in-Ok.images c.in-Ok.ensures.asked c.issue_pools.new.images c.as_mut_slice.result.now c.as_slice.result.now c.issue_pools.ensures.images c.as_mut_slice.ensures.value c.as_slice.ensures.value c.in-Err-issue_pools.ensures.restores c.requires.config (g.B.Bay.state c.give_back.new.bay) c.in-Ok.ensures.out c.give_back.ensures.back c.give_back.ensures.counts (λ telling d. g.met.B.Part.Disk.told telling d) g.met.B.Part.Disk.sound;
+  sound = sound_again g.B.Part.Disk.tells g.B.Part.Disk.state c.args.config.now (g.B.Bay.state c.args.bay.now) (g.B.Bay.state c.open_images.new.bay) c.in-Ok.images c.in-Ok.ensures.asked c.issue_pools.new.images c.as_mut_slice.result.now c.as_slice.result.now c.issue_pools.ensures.images c.as_mut_slice.ensures.value c.as_slice.ensures.value c.in-Err-issue_pools.ensures.restores c.requires.config (g.B.Bay.state c.give_back.new.bay) c.in-Ok.ensures.out c.give_back.ensures.back c.give_back.ensures.counts (λ telling d. g.met.B.Part.Disk.told telling d) g.met.B.Part.Disk.sound;
+}
 
 pub returns-in_err-spindles-clause-others : goal.returns-in_err-spindles-clause-others
 returns-in_err-spindles-clause-others g c = others_same c.args.config.now (g.B.Bay.state c.args.bay.now).told
