@@ -19,6 +19,7 @@ use Rattle.rack.proofs.OpeningOf.{sized, opening_of, read_at}
 use Rattle.rack_closing.proofs.OwnedSegments.{recovered_owned}
 use Rattle.rack_closing.proofs.SameOut.{taken_same}
 use Rattle.rack.proofs.Without as without
+use Rattle.rack_parts.proofs.ManagerBack.{base_stays}
 use Rattle.wol_model.specs.Heads as head
 
 -- ---- The rack once one volume more is open
@@ -105,7 +106,7 @@ module _ {D : Type 0} (state : D → State) (config : Config) (valid : IsValid c
         rising = subst (λ (ns : List ℕ). AreRising ns) (sym ids_are) (rising_push (map (λ (x : Station D). x.id) r.stations.items) s.id old.rising
             (λ j m found. subst (λ (n : ℕ). m < n) (sym s_id) (below j m found)));
         bases = all_push (λ (x : Station D). IsOpenBase config r.shared new.images.items (base_of_station x)) r.stations.items stations.items s stations_are
-            (λ j d within. without.base_stays config r.shared r.rest.images.items new.images.items (base_of_station (slice_index_or r.stations.items j d)) (without.out_without state config said id view r.rest new o takes) (old.bases j d within)) base_ok;
+            (λ j d within. base_stays config r.shared r.rest.images.items new.images.items (base_of_station (slice_index_or r.stations.items j d)) (λ k out. without.out_without state config said id view r.rest new o takes k ∙ out) (old.bases j d within)) base_ok;
         rest = record {
           parts = subst (λ (bs : List ManagerBase). IsRestBut state config r.shared (away_with bs) next.rest) (sym bases_are)
               (without.with_rooms state config r.shared (away_with (bases ++ base_of_station s ∷ [])) new rooms
@@ -185,32 +186,34 @@ module _ {D : Type 0} (state : D → State) (config : Config) (valid : IsValid c
 
     pub one_opening : IsOpeningRack state config b said (id + 1) next
     one_opening = record {
-      closable = one_closable;
-      fresh = all_push (λ (x : Station D). IsUnused x.worker × IsUnused x.helper × IsUnused x.keeper) r.stations.items stations.items s stations_are ready.fresh unused;
+      being = record {
+        closable = one_closable;
+        fresh = all_push (λ (x : Station D). IsUnused x.worker × IsUnused x.helper × IsUnused x.keeper) r.stations.items stations.items s stations_are ready.fresh unused;
+        says = λ k sh shape out. ready.says k sh shape (sym (without.out_without state config said id view r.rest new o takes k) ∙ out);
+        silent = λ k none. ready.silent k (without.none_was state config said id view r.rest new o takes k none);
+        pools = ready.pools;
+        said_count = ready.said_count;
+        unheld = λ v k. without.none_held state config said id view r.rest new o takes ready.unheld v k;
+        since = λ v k i p here holding. ready.since v k i p (without.pool_was state config said id view r.rest new o takes v k p here).0 holding;
+        owners = record {
+          closed = λ k i w own_k image p is head now here has.
+              let before = segment_before k i image p now here in
+              ⊎_elim
+              (λ old. ready.owners.closed k i w own_k (was_at k image now).image p is head (was_at k image now).here before old)
+              (λ (e : id ≡ w).
+              let place : IsOwnedPlace said id k i = (own_k, Rattle.std.proofs.lemmas.Option.slice_get-get_or said k None (here_within said k own_k is) ∙ ap Some is, head ∙ ap (λ (n : ℕ). Some (Owned n)) (sym e)) in
+              none-some p (sym (without.segment_gone state config said id view r.rest new o takes k i (takes.owned.all k i place)) ∙ segment_in_image new k image now i ∙ here))
+              (contains_cases w has);
+          says = λ k i w own_k image p is head now here told c im. ready.owners.says k i w own_k (was_at k image now).image p is head (was_at k image now).here (segment_before k i image p now here) told c im;
+          free = λ k i own_k image is head now. no_value (segment_here image i) (λ there.
+              let p = a_value (segment_here image i) there in
+              none-some p.0 (sym (ready.owners.free k i own_k (was_at k image now).image is head (was_at k image now).here) ∙ segment_before k i image p.0 now p.1));
+        };
+        users = users;
+      };
       station_room = let n = ready.station_room in let c = count_stations in omega (arith, n, c, station_cap);
       manager_room = let n = ready.manager_room in let c = count_stations in omega (arith, n, c, manager_cap);
       tried = tried;
-      says = λ k sh shape out. ready.says k sh shape (sym (without.out_without state config said id view r.rest new o takes k) ∙ out);
-      silent = λ k none. ready.silent k (without.none_was state config said id view r.rest new o takes k none);
-      pools = ready.pools;
-      said_count = ready.said_count;
-      unheld = λ v k. without.none_held state config said id view r.rest new o takes ready.unheld v k;
-      since = λ v k i p here holding. ready.since v k i p (without.pool_was state config said id view r.rest new o takes v k p here).0 holding;
-      owners = record {
-        closed = λ k i w own_k image p is head now here has.
-            let before = segment_before k i image p now here in
-            ⊎_elim
-            (λ old. ready.owners.closed k i w own_k (was_at k image now).image p is head (was_at k image now).here before old)
-            (λ (e : id ≡ w).
-            let place : IsOwnedPlace said id k i = (own_k, Rattle.std.proofs.lemmas.Option.slice_get-get_or said k None (here_within said k own_k is) ∙ ap Some is, head ∙ ap (λ (n : ℕ). Some (Owned n)) (sym e)) in
-            none-some p (sym (without.segment_gone state config said id view r.rest new o takes k i (takes.owned.all k i place)) ∙ segment_in_image new k image now i ∙ here))
-            (contains_cases w has);
-        says = λ k i w own_k image p is head now here told c im. ready.owners.says k i w own_k (was_at k image now).image p is head (was_at k image now).here (segment_before k i image p now here) told c im;
-        free = λ k i own_k image is head now. no_value (segment_here image i) (λ there.
-            let p = a_value (segment_here image i) there in
-            none-some p.0 (sym (ready.owners.free k i own_k (was_at k image now).image is head (was_at k image now).here) ∙ segment_before k i image p.0 now p.1));
-      };
-      users = users;
       untouched = record {
         passes = λ v k p le here. ready.untouched.passes v k p (omega (arith, le)) (without.pool_was state config said id view r.rest new o takes v k p here).0;
         here = λ v k i own_k image le is head now.

@@ -1,14 +1,15 @@
 -- A rest that lost nothing, and one whose opening of one volume is away.
 use Rattle.rack.proofs.Basics.{◌≡◌, inl, inr, ⊎_elim, ℕ, List, length, map, Option, sym, ap, ◌∙◌, subst, arith, ◌≢◌, None, Some, refl, is_some, Contains, All, cases_eq, All-contains}
-use Rattle.rack.proofs.Basics.{MatchOption-at_some, MatchOption-at_none, ◌⊎◌, ◌∷◌, ◌↔◌, slice_get, IsSome, none-some, same_Some, AllByRecursion, Global, Vec, slice_index_or, [], All-nil}
+use Rattle.rack.proofs.Basics.{MatchOption-at_some, MatchOption-at_none, ◌⊎◌, ◌∷◌, ◌↔◌, slice_get, IsSome, none-some, same_Some, Global, Vec, slice_index_or, [], All-nil}
 use Rattle.rack.proofs.Terms.{State, Told, BayState, Config, Spun, AreApart, Shared, Station, shapes_of, image_here, indexes_here, Away, away_with, AreImageRests, IsHolding, IsHeldHere}
 use Rattle.rack.proofs.Terms.{IsPart, IsRestBut, AreRooms, IsSegmentHere, segment_here, pool_pass, spindle_pass, held_here, images_taken, BeganInPlace, IsBegun, base_of_station, AreOut}
-use Rattle.rack.proofs.Terms.{IsOpenBase, IsSameRest, TakesOpening, IsSameBut, loggers_out, segment_in, with_home, IsOpeningRack, HasBegun, IsStopped, BeganWith, Said, ImageRest, Rack, Rest}
-use Rattle.rack.proofs.Terms.{place_of, Opening, PassOf, FreeSegment, Owned, PoolBase, Pool, Spindle, SpindleBase, ManagerBase, IsImageOut, OnlyAccess, IsTakenOf, IsOwnedPlace, IsClosable}
+use Rattle.rack.proofs.Terms.{IsSameRest, TakesOpening, IsSameBut, loggers_out, segment_in, with_home, IsOpeningRack, HasBegun, IsStopped, BeganWith, Said, ImageRest, Rack, Rest}
+use Rattle.rack.proofs.Terms.{place_of, Opening, PassOf, FreeSegment, Owned, PoolBase, Pool, Spindle, SpindleBase, OnlyAccess, IsTakenOf, IsOwnedPlace, IsClosable}
 use Rattle.rack.proofs.Terms.{Rooms, AreSameOut, AreForeign, VolumeFault, in_image, AreHandedBack, IsRow}
 use Rattle.rack_parts.proofs.Members.{segment_in_image, in_cases, first_in, later_in, is_member, none_in, of_map}
 use Rattle.rack_closing.proofs.SameOut.{same_out, out_too, none_too, out_at, taken_same}
 use Rattle.rack_closing.proofs.Cases.{by_option}
+use Rattle.rack_parts.proofs.ManagerBack.{base_stays}
 use Rattle.rack_parts.specs.Parts.{KeepsRows, KeepsPlace, ChangesHome}
 
 -- two numbers are among these pairs, or aren't
@@ -117,27 +118,6 @@ with_rooms state config shared away q rooms =
 
 -- ---- A rack with the same stations and the same images out
 
--- a base stays one while the same images are out
-pub base_stays : {D : Type 0} (config : Config) (shared : Shared D) (old new : List (Option (ImageRest D))) (b : ManagerBase) → ((k : ℕ) → is_some (image_here new k) ≡ is_some (image_here old k))
-    → IsOpenBase config shared old b → IsOpenBase config shared new b
-base_stays config shared old new b same is = record {
-  out = same b.volume.began.owner ∙ is.out;
-  home_blocks = is.home_blocks;
-  at = is.at;
-  loggers = is.loggers;
-  loggers_out = each b.volume.began.view is.loggers_out;
-  others = is.others;
-  apart = is.apart;
-  most = is.most;
-  own_spindle = is.own_spindle;
-  own_lanes = is.own_lanes;
-  untaken = is.untaken;
-}
-  where
-    each : (ks : List ℕ) → AllByRecursion (IsImageOut old) ks → AllByRecursion (IsImageOut new) ks
-    each [] all = tt
-    each (k ∷ ks) all = (same k ∙ all.0, each ks all.1)
-
 module _ {D : Type 0} (state : D → State) (config : Config) (b : BayState) (r : Rack D) (new : Rest D) (same : AreSameOut r (record r { rest = new })) where
   -- the names that are out stay so
   pub out_stays : AreOut config r.rest.images.items b → AreOut config new.images.items b
@@ -152,7 +132,7 @@ module _ {D : Type 0} (state : D → State) (config : Config) (b : BayState) (r 
     keepers = old.keepers;
     stations = old.stations;
     rising = old.rising;
-    bases = λ j d within. base_stays config r.shared r.rest.images.items new.images.items (base_of_station (slice_index_or r.stations.items j d)) (out_at new.images.items r.rest.images.items same) (old.bases j d within);
+    bases = λ j d within. base_stays config r.shared r.rest.images.items new.images.items (base_of_station (slice_index_or r.stations.items j d)) (λ k out. out_at new.images.items r.rest.images.items same k ∙ out) (old.bases j d within);
     rest = record { parts = parts; rooms = subst (AreRooms (length (shapes_of config)) (length (map (λ (s : Station D). base_of_station s) r.stations.items))) (sym rooms) old.rest.rooms };
     foreign = foreign;
     accesses = accesses;

@@ -3,7 +3,7 @@ use Rattle.rack_parts.proofs.Basics.{◌≡◌, ◌⊎◌, inl, inr, ⊎_elim, �
 use Rattle.rack_parts.proofs.Basics.{◌<◌, ◌↔◌, length, Option, Some, None, refl, arith, Contains, All, AllPairs, IsSome, IfSome}
 use Rattle.rack_parts.proofs.Basics.{slice_get, slice_index_or, option_and_then, cases_eq, append-nil, map_push, get_or-map, length-map}
 use Rattle.rack_parts.proofs.Basics.{Contains-append_left, Contains-append_right, Contains-append_cases, Contains-push, Contains-push_cases}
-use Rattle.rack_parts.proofs.Basics.{All-contains, All-weaker, All-from_recursion, AllByRecursion, none-some, same_Some, get_or_from_slice_get, Vec, Global}
+use Rattle.rack_parts.proofs.Basics.{All-contains, All-weaker, All-from_recursion, none-some, same_Some, get_or_from_slice_get, Vec, Global}
 use Rattle.rack_parts.proofs.Terms.{ManagerBase, away_with, image_here, segment_here, pool_pass, spindle_pass, held_here, indexes_here}
 use Rattle.rack_parts.proofs.Terms.{IsImageOut, IsPassAt, IsPart, IsImageRest, IsHolding, IsHeldHere, AreLocks, OnlyAccess, IsRestBut}
 use Rattle.rack_parts.proofs.Terms.{State, AreApart, Shape, Config, lock_id, pass_lock, pass_mine, TurnLock, PassOf, has_token}
@@ -18,6 +18,22 @@ use Rattle.wol_promise.specs.Ruled.{Noted}
 use Rattle.logger.specs.Lanes.{segments_in}
 use Rattle.manager.specs.declared.base.LaneBase.{LaneBase}
 use Rattle.rack_parts.proofs.Members.{first_in, later_in, none_in, in_map, of_map, is_member, map_map, element_at, no_value, a_value, is_there, no_members, all_member, of_recursion, in_cases}
+
+-- a base stays one while the images that were out are out
+pub base_stays : {D : Type 0} (config : Config) (shared : Shared D) (old new : List (Option (ImageRest D))) (b : ManagerBase) → ((k : ℕ) → IsImageOut old k → IsImageOut new k) → IsOpenBase config shared old b → IsOpenBase config shared new b
+base_stays config shared old new b still is = record {
+  out = still b.volume.began.owner is.out;
+  home_blocks = is.home_blocks;
+  at = is.at;
+  loggers = is.loggers;
+  loggers_out = recursion_from_All (IsImageOut new) b.volume.began.view (All-weaker (IsImageOut old) (IsImageOut new) still b.volume.began.view (All-from_recursion (IsImageOut old) b.volume.began.view is.loggers_out));
+  others = is.others;
+  apart = is.apart;
+  most = is.most;
+  own_spindle = is.own_spindle;
+  own_lanes = is.own_lanes;
+  untaken = is.untaken;
+}
 
 -- ---- What is away with managers, as the last one comes back
 
@@ -530,25 +546,10 @@ module _ {D : Type 0} (state : D → State) (tells : Bool) (config : Config) (sh
     }
 
     pub open_still : (c : ManagerBase) → IsOpenBase config shared old.images.items c → IsOpenBase config shared new.images.items c
-    open_still c o = record {
-      out = out_still c.volume.began.owner o.out;
-      home_blocks = o.home_blocks;
-      at = o.at;
-      loggers = o.loggers;
-      loggers_out = each_out c.volume.began.view o.loggers_out;
-      others = o.others;
-      apart = o.apart;
-      most = o.most;
-      own_spindle = o.own_spindle;
-      own_lanes = o.own_lanes;
-      untaken = o.untaken;
-    }
+    open_still c o = base_stays config shared old.images.items new.images.items c out_still o
       where
         out_still : (k : ℕ) → IsImageOut old.images.items k → IsImageOut new.images.items k
         out_still k is = let image = a_value (image_here old.images.items k) is in kept_out image.0 (image_here new.images.items k) (rw image.1 at (images_kept k))
-
-        each_out : (ks : List ℕ) → AllByRecursion (IsImageOut old.images.items) ks → AllByRecursion (IsImageOut new.images.items) ks
-        each_out ks all = recursion_from_All (IsImageOut new.images.items) ks (All-weaker (IsImageOut old.images.items) (IsImageOut new.images.items) out_still ks (All-from_recursion (IsImageOut old.images.items) ks all))
 
     -- the lists that no lane of the manager has are as they were
     pub lists_kept : (v k : ℕ) → (Contains (away_with (b ∷ [])).lanes (v, k) → ⊥) → held_here new v k ≡ held_here old v k
