@@ -13,13 +13,13 @@ use Rattle.spin_model.specs.declared.spindle.Spindle.{Spindle}
 use Rattle.spin_model.specs.declared.spindle.SpindleBase.{SpindleBase}
 use Rattle.spin_model.specs.declared.spun.Spun.{Spun}
 use Rattle.seg_pool.specs.Holders.{holder}
-use Rattle.seg_pool.specs.Pools.{IsEmptyPool, item_at, note_at, room_of, volume_of, blocks_of, base_of}
+use Rattle.seg_pool.specs.Pools.{IsEmptyPool, item_at, note_at, room_of, volume_of, blocks_of, base_of, StandsFor}
 use Rattle.seg_pool.specs.declared.base.Holder.{Holder}
 use Rattle.seg_pool.specs.declared.base.Holder.TheVariants.{Elsewhere, InPool, HeldBy}
 use Rattle.seg_pool.specs.declared.base.PoolBase.{PoolBase}
 use Rattle.seg_pool.specs.declared.pool.Pool.{Pool}
 use Rattle.log_segment.specs.Kept.{IsFreeInAll}
-use Rattle.log_segment.specs.Segment.{free_part, part_of}
+use Rattle.log_segment.specs.Segment.{free_part, part_of, IsBlank}
 use Rattle.log_segment.specs.declared.free.FreeSegment.{FreeSegment}
 use Rattle.log_layout.specs.Values.{shape_of}
 use Rattle.log_layout.specs.declared.segment.SegHead.{SegHead}
@@ -90,6 +90,14 @@ pub record IsBlankPart {D : Type 0} (state : D → State) (volume blocks : ℕ) 
 abbrev pub holder_said : SegHead → Holder
 holder_said Free = InPool
 holder_said (Owned owner) = HeldBy owner
+
+-- an empty pool whose segments may be given to it, or noted as held
+pub record MayBeFilled {D : Type 0} (state : D → State) (pool : Pool (FreeSegment D)) : Type 0 where
+  pub few : room_of pool ≤ 1024
+  pub blocks : (4 ≤ blocks_of pool) × (blocks_of pool ≤ 65536)
+  pub empty : IsEmptyPool pool
+  pub notes : (index : ℕ) → note_at pool index ≡ None
+  pub stands : StandsFor (IsBlank state) pool (base_of pool) []
 
 -- all segments are here, and those with a free head are blank
 pub record AreFillable {D : Type 0} (state : D → State) (volume blocks : ℕ) (heads : List SegHead)

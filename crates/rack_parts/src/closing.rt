@@ -185,10 +185,7 @@ impl<D: Disk> VolumePasses<D> {
         requires { IsSome (pool_in self.old id) }
         ensures { IsPoolTaken id self.old self.new result }
     {
-        let Some(pass) = self.pools[id].take() else {
-            unreachable!()
-        };
-        pass
+        self.pools[id].take().unwrap()
     }
 
     // The pass of the spindle of volume `id` goes.
@@ -196,10 +193,7 @@ impl<D: Disk> VolumePasses<D> {
         requires { IsSome (spindle_in self.old id) }
         ensures { IsSpindleTaken id self.old self.new result }
     {
-        let Some(pass) = self.spindles[id].take() else {
-            unreachable!()
-        };
-        pass
+        self.spindles[id].take().unwrap()
     }
 }
 

@@ -1,6 +1,6 @@
 // The pool of an image's free segments is made, and emptied.
 ghost use Rattle.log_segment.specs.Segment.{IsBlank};
-ghost use Rattle.rack_parts.specs.Parts.{AreFillable, IsBlankPart, left_by, FillsSlot, TakesFree, IsFilledPool, IsSameBut, HasPlaces, EmptiesInto, MaySupply, IsSupplied, CanIssue, IsIssuedPool, Supplies, Restores, CanEnd, EndsInto};
+ghost use Rattle.rack_parts.specs.Parts.{MayBeFilled, AreFillable, IsBlankPart, left_by, FillsSlot, TakesFree, IsFilledPool, IsSameBut, HasPlaces, EmptiesInto, MaySupply, IsSupplied, CanIssue, IsIssuedPool, Supplies, Restores, CanEnd, EndsInto};
 ghost use Rattle.seg_pool.specs.Pools.{IsEmptyPool, IsSamePool, StandsFor, item_at, note_at, room_of, volume_of, blocks_of, base_of};
 ghost use Rattle.std.specs.Prelude.{◌≡◌, ◌<◌, ◌≤◌, ℕ, [], length, None, Some, IfOk, IfErr, OnOk, OnErr, IfSome, IsSome, MatchOption, slice_get, slice_index_or, slice_set, vec_len};
 ghost use Rattle.turn_lock.specs.Passes.{lock_id, lock_passes, AreNewPasses};
@@ -27,12 +27,8 @@ fn fill_pool<D: Disk>(
     heads: &[SegHead],
     segments: &mut [Option<Spun<D>>],
 )
+    requires pool { MayBeFilled D.state pool.old }
     requires room { room_of pool.old ≡ length heads.now }
-    requires few { length heads.now ≤ 1024 }
-    requires blocks { (4 ≤ blocks_of pool.old) × (blocks_of pool.old ≤ 65536) }
-    requires empty { IsEmptyPool pool.old }
-    requires notes { (index : ℕ) → note_at pool.old index ≡ None }
-    requires stands { StandsFor (IsBlank D.state) pool.old (base_of pool.old) [] }
     requires segments { AreFillable D.state (volume_of pool.old) (blocks_of pool.old) heads.now
         segments.old }
     ensures same { IsSamePool pool.old pool.new }
@@ -95,11 +91,7 @@ fn supply<D: Disk>(
     said: &Option<Said>,
     image: &mut Option<ImageRest<D>>,
 )
-    requires blocks { (4 ≤ blocks_of pool.old) × (blocks_of pool.old ≤ 65536) }
-    requires few { room_of pool.old ≤ 1024 }
-    requires empty { IsEmptyPool pool.old }
-    requires notes { (index : ℕ) → note_at pool.old index ≡ None }
-    requires stands { StandsFor (IsBlank D.state) pool.old (base_of pool.old) [] }
+    requires pool { MayBeFilled D.state pool.old }
     requires ready { MaySupply D.state pool.old said.now image.old }
     ensures same { IsSamePool pool.old pool.new }
     ensures stands { StandsFor (IsBlank D.state) pool.new (base_of pool.new) [] }
@@ -113,12 +105,8 @@ fn supply<D: Disk>(
 impl<D: Disk> ImageRest<D> {
     // Gives the free segments to an empty pool, and notes who holds the others.
     fn give_free(&mut self, pool: &mut Pool<FreeSegment<D>>, heads: &[SegHead])
+        requires pool { MayBeFilled D.state pool.old }
         requires room { room_of pool.old ≡ length heads.now }
-        requires few { length heads.now ≤ 1024 }
-        requires blocks { (4 ≤ blocks_of pool.old) × (blocks_of pool.old ≤ 65536) }
-        requires empty { IsEmptyPool pool.old }
-        requires notes { (index : ℕ) → note_at pool.old index ≡ None }
-        requires stands { StandsFor (IsBlank D.state) pool.old (base_of pool.old) [] }
         requires segments { AreFillable D.state (volume_of pool.old) (blocks_of pool.old) heads.now
             self.old.segments.items }
         ensures same { IsSamePool pool.old pool.new }

@@ -5,7 +5,7 @@ use Rattle.rack_parts.proofs.LocksIssued.{filled_none, filled_next, filled_all}
 use Rattle.rack_parts.proofs.pools.fill_pool.Goals as goal
 
 pub loop-index-init : goal.loop-index-init
-loop-index-init g c = filled_none g.D.Disk.state c.args.heads.now c.args.segments.now c.args.pool.now c.requires.stands c.requires.empty c.requires.notes
+loop-index-init g c = filled_none g.D.Disk.state c.args.heads.now c.args.segments.now c.args.pool.now c.requires.pool.stands c.requires.pool.empty c.requires.pool.notes
 
 pub fill_slot-requires-clause-none : goal.fill_slot-requires-clause-none
 fill_slot-requires-clause-none g c = (c.loop-index.invariant.none c.loop-index.index (omega arith)).0
