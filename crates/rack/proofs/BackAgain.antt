@@ -679,28 +679,30 @@ module _ {D : Type 0} (state : D → State) (tells : Bool) (config : Config) (va
 
           pub opening_again : IsOpeningRack state config b said (id + 1) next
           opening_again = record {
-            closable = closable_again;
-            fresh = ready.fresh;
+            being = record {
+              closable = closable_again;
+              fresh = ready.fresh;
+              says = λ k s shape out. ready.says k s shape (out_was k out);
+              silent = λ k none. ready.silent k (none_was k none);
+              pools = ready.pools;
+              said_count = ready.said_count;
+              unheld = held_none;
+              since = λ v k i p here holding. let w = held_was freed_named v k i p here holding in ready.since v k i w.before w.here w.held;
+              owners = owners;
+              users = record {
+                opened = ready.users.opened;
+                unused = λ v k p other never here. spindle_back v k p here
+                    (λ before. ready.users.unused v k p other never before)
+                    (λ e f same. absurd (other (e ∙ sym f)))
+                    -- its lanes came back from the view that its image says
+                    (λ l m is e f g same.
+                    let seen = in_view (logger_of m) (logger_seen m is.after) in
+                    absurd (never (subst (λ (xs : List ℕ). Contains xs k) (view_is ∙ ap (view_at said) (sym e)) (subst (λ (j : ℕ). Contains view j) g seen))));
+              };
+            };
             station_room = let h = ready.station_room in omega (arith, h);
             manager_room = let h = ready.manager_room in let e = ap (λ x. Rattle.std.proofs.Common.vec_capacity x.managers) rooms_back in omega (arith, h, e);
             tried = tried;
-            says = λ k s shape out. ready.says k s shape (out_was k out);
-            silent = λ k none. ready.silent k (none_was k none);
-            pools = ready.pools;
-            said_count = ready.said_count;
-            unheld = held_none;
-            since = λ v k i p here holding. let w = held_was freed_named v k i p here holding in ready.since v k i w.before w.here w.held;
-            owners = owners;
-            users = record {
-              opened = ready.users.opened;
-              unused = λ v k p other never here. spindle_back v k p here
-                  (λ before. ready.users.unused v k p other never before)
-                  (λ e f same. absurd (other (e ∙ sym f)))
-                  -- its lanes came back from the view that its image says
-                  (λ l m is e f g same.
-                  let seen = in_view (logger_of m) (logger_seen m is.after) in
-                  absurd (never (subst (λ (xs : List ℕ). Contains xs k) (view_is ∙ ap (view_at said) (sym e)) (subst (λ (j : ℕ). Contains view j) g seen))));
-            };
             untouched = record {
               passes = λ v k p le here. pool_back v k p here (λ before never. ready.untouched.passes v k p (omega (arith, le)) before) (λ l m is e f g before same. absurd (omega (arith, le, e)));
               here = λ v k i own_k y le is head now.

@@ -330,45 +330,47 @@ module _ {D : Type 0} (state : D → State) (config : Config) (spindles : List (
 
       pub first_opening : IsOpeningRack state config b said 0 r
       first_opening = record {
-        closable = record {
-          accesses = λ v k p here.
-              let lock = spindle_there v k p here in
-              let at = spindle_in v k lock.0 p lock.1 here in
-              subst (λ (x : PassOf Spindle SpindleBase). AreAccesses (pass_mine x)) (get_or_from_slice_get at.0.passes.items v p p at.4)
-              (ready.accesses k at.0 at.1 v p (slice_get_within at.0.passes.items v p at.4));
-          out = ready.out;
-          locks = first_locks;
-          keepers = first_keepers;
-          stations = subst (All (λ (s : Station D). IsStation s)) (sym none) (All-nil (λ (s : Station D). IsStation s));
-          rising = subst (λ (l : List (Station D)). AreRising (map (λ (s : Station D). s.id) l)) (sym none) (λ i j n m lt is other. absurd (none-some n is));
-          bases = subst (All (λ (s : Station D). IsOpenBase config r.shared r.rest.images.items (base_of_station s))) (sym none) (All-nil (λ (s : Station D). IsOpenBase config r.shared r.rest.images.items (base_of_station s)));
-          rest = subst (λ (l : List (Station D)). IsRest state config r.shared (map (λ (s : Station D). base_of_station s) l) r.rest) (sym none) (first_rest);
-          foreign = subst (λ (l : List (Station D)). AreForeign state (map (λ (s : Station D). base_of_station s) l) r.rest) (sym none) (record {
-            places = λ k i image p is here tells c base rs image_of has log. none_in base has;
-            held = λ v k i p has tells c base rs image_of among log. none_in base among;
-          });
+        being = record {
+          closable = record {
+            accesses = λ v k p here.
+                let lock = spindle_there v k p here in
+                let at = spindle_in v k lock.0 p lock.1 here in
+                subst (λ (x : PassOf Spindle SpindleBase). AreAccesses (pass_mine x)) (get_or_from_slice_get at.0.passes.items v p p at.4)
+                (ready.accesses k at.0 at.1 v p (slice_get_within at.0.passes.items v p at.4));
+            out = ready.out;
+            locks = first_locks;
+            keepers = first_keepers;
+            stations = subst (All (λ (s : Station D). IsStation s)) (sym none) (All-nil (λ (s : Station D). IsStation s));
+            rising = subst (λ (l : List (Station D)). AreRising (map (λ (s : Station D). s.id) l)) (sym none) (λ i j n m lt is other. absurd (none-some n is));
+            bases = subst (All (λ (s : Station D). IsOpenBase config r.shared r.rest.images.items (base_of_station s))) (sym none) (All-nil (λ (s : Station D). IsOpenBase config r.shared r.rest.images.items (base_of_station s)));
+            rest = subst (λ (l : List (Station D)). IsRest state config r.shared (map (λ (s : Station D). base_of_station s) l) r.rest) (sym none) (first_rest);
+            foreign = subst (λ (l : List (Station D)). AreForeign state (map (λ (s : Station D). base_of_station s) l) r.rest) (sym none) (record {
+              places = λ k i image p is here tells c base rs image_of has log. none_in base has;
+              held = λ v k i p has tells c base rs image_of among log. none_in base among;
+            });
+          };
+          fresh = subst (All (λ (s : Station D). IsUnused s.worker × IsUnused s.helper × IsUnused s.keeper)) (sym none) (All-nil (λ (s : Station D). IsUnused s.worker × IsUnused s.helper × IsUnused s.keeper));
+          says = ready.says;
+          silent = first.silent;
+          pools = λ k i l lock. holder_is k i l lock;
+          said_count = ready.said_count;
+          unheld = first.set_up.held;
+          since = λ v k i p here has.
+              let lock = pool_there v k p here in
+              owned_place said v k i (sym (new_holds v k i lock.0 p lock.1 here) ∙ has);
+          owners = record {
+            closed = λ k i w own image p says owned is here has. none_in w (subst (λ (l : List (Station D)). Contains (map (λ (s : Station D). s.id) l) w) none has);
+            says = λ k i w own image p says owned is here tells c image_of. says_owner (length (shapes_of config)) w c (ready.heads k image own is says i p (Owned w) here owned c image_of);
+            free = λ k i own image says free is. (supplier k image own is says).free i free;
+          };
+          users = record {
+            opened = subst (All (λ (s : Station D). view_at said s.id ≡ (base_of_station s).volume.began.view)) (sym none) (All-nil (λ (s : Station D). view_at said s.id ≡ (base_of_station s).volume.began.view));
+            unused = λ v k p other never here. others_unused v k p other here;
+          };
         };
-        fresh = subst (All (λ (s : Station D). IsUnused s.worker × IsUnused s.helper × IsUnused s.keeper)) (sym none) (All-nil (λ (s : Station D). IsUnused s.worker × IsUnused s.helper × IsUnused s.keeper));
         station_room = let e = ap length none in let c = first.set_up.stations.1 in omega (arith, e, c);
         manager_room = let e = ap length none in let c = first.set_up.managers in omega (arith, e, c);
         tried = ready.tried;
-        says = ready.says;
-        silent = first.silent;
-        pools = λ k i l lock. holder_is k i l lock;
-        said_count = ready.said_count;
-        unheld = first.set_up.held;
-        since = λ v k i p here has.
-            let lock = pool_there v k p here in
-            owned_place said v k i (sym (new_holds v k i lock.0 p lock.1 here) ∙ has);
-        owners = record {
-          closed = λ k i w own image p says owned is here has. none_in w (subst (λ (l : List (Station D)). Contains (map (λ (s : Station D). s.id) l) w) none has);
-          says = λ k i w own image p says owned is here tells c image_of. says_owner (length (shapes_of config)) w c (ready.heads k image own is says i p (Owned w) here owned c image_of);
-          free = λ k i own image says free is. (supplier k image own is says).free i free;
-        };
-        users = record {
-          opened = subst (All (λ (s : Station D). view_at said s.id ≡ (base_of_station s).volume.began.view)) (sym none) (All-nil (λ (s : Station D). view_at said s.id ≡ (base_of_station s).volume.began.view));
-          unused = λ v k p other never here. others_unused v k p other here;
-        };
         untouched = record {
           passes = λ v k p behind here. (let lock = pool_there v k p here in (pool_new v k lock.0 p lock.1 here).mine);
           here = λ v k i own image behind says owned is.

@@ -20,16 +20,7 @@ module _ {D : Type 0} (tells : Bool) (state : D → State) (config : Config) (sa
       -- such a volume is passed over
       pub passed : IsOpeningRack state config b said (n + 1) r
       passed = record {
-        closable = o.closable;
-        fresh = o.fresh;
-        says = o.says;
-        silent = o.silent;
-        pools = o.pools;
-        said_count = o.said_count;
-        unheld = o.unheld;
-        since = o.since;
-        owners = o.owners;
-        users = o.users;
+        being = o.being;
         station_room = let h = o.station_room in omega (arith, h);
         manager_room = let h = o.manager_room in omega (arith, h);
         tried = record {
@@ -72,18 +63,10 @@ module _ {D : Type 0} (tells : Bool) (state : D → State) (config : Config) (sa
     -- when all were tried the rack is whole
     pub whole : n ≡ length (shapes_of config) → IsRack state config b r
     whole all = record {
-      out = o.closable.out;
-      locks = o.closable.locks;
-      keepers = o.closable.keepers;
-      stations = o.closable.stations;
-      rising = o.closable.rising;
-      bases = o.closable.bases;
+      closable = o.closable;
       fault_count = o.tried.count;
       faults = λ k lt. o.tried.tried k (omega (arith, lt, all));
       known = o.tried.known;
-      rest = o.closable.rest;
-      foreign = o.closable.foreign;
-      accesses = o.closable.accesses;
       users = (view_at said, o.users);
     }
 

@@ -301,16 +301,11 @@ pub record AreTried {D : Type 0} (config : Config) (n : ℕ) (r : Rack D) : Type
   pub further : (k : ℕ) → n ≤ k → k < length (shapes_of config) → (fault_at r.faults.items k ≡ None)
       ↔ IsImageOut r.rest.images.items k
 
--- the rack while its volumes are opened
-pub record IsOpeningRack {D : Type 0} (state : D → State) (config : Config) (b : BayState)
-    (said : List (Option Said)) (n : ℕ) (r : Rack D) : Type 0 where
+-- a rack of images that say this, with the stations that were opened so far
+pub record IsBeingOpened {D : Type 0} (state : D → State) (config : Config) (b : BayState)
+    (said : List (Option Said)) (r : Rack D) : Type 0 where
   pub closable : IsClosable state config b r
   pub fresh : AreUnused r.stations.items
-  pub station_room : length r.stations.items + (length (shapes_of config))
-      ≤ vec_capacity r.stations + n
-  pub manager_room : length r.stations.items + (length (shapes_of config))
-      ≤ vec_capacity r.rest.rooms.managers + n
-  pub tried : AreTried config n r
   pub says : (k : ℕ) (s : Shape) → slice_get (shapes_of config) k ≡ Some s
       → IsImageOut r.rest.images.items k
       → (own : Said) × (said_at said k ≡ Some own) × IsSaidOf (length (shapes_of config)) k s own
@@ -323,9 +318,20 @@ pub record IsOpeningRack {D : Type 0} (state : D → State) (config : Config) (b
       → pool_pass r.rest v k ≡ Some p
       → holds (pass_lock p).base (pass_number p) (pass_mine p) i ≡ true → IsOwnedPlace said v k i
   pub owners : AreOwnersHere state said r
-  pub untouched : AreUntouched state (length (shapes_of config)) n said r.rest
   -- also those whose opening was refused used only disks of the views that their images say
   pub users : KeepToViews (view_at said) r
+
+-- the rack while its volumes are opened, of which the first n were tried
+pub record IsOpeningRack {D : Type 0} (state : D → State) (config : Config) (b : BayState)
+    (said : List (Option Said)) (n : ℕ) (r : Rack D) : Type 0 where
+  pub being : IsBeingOpened state config b said r
+  pub open being use *
+  pub station_room : length r.stations.items + (length (shapes_of config))
+      ≤ vec_capacity r.stations + n
+  pub manager_room : length r.stations.items + (length (shapes_of config))
+      ≤ vec_capacity r.rest.rooms.managers + n
+  pub tried : AreTried config n r
+  pub untouched : AreUntouched state (length (shapes_of config)) n said r.rest
 
 -- what it began with so far, where the bay told this at entry
 pub record HasBegun {D : Type 0} (state : D → State) (config : Config) (t : Told)

@@ -229,10 +229,7 @@ module _ {D : Type 0} {state : D → State} {tells : Bool} {config : Config} {b 
     on_loggers_left up e listed =
         let o = on_loggers_now tells state told m base notes ic.stands.keeps open_base.apart (shapes_of config) taken home are_left up e (subst (λ (es : List Listed). Contains es e) (sym look) listed) in
         record {
-          logger = o.logger;
-          lane = o.lane;
-          shape = o.shape;
-          shape_is = o.shape_is;
+          its = o.its;
           image = o.image;
           there = (accepted_is (is_kept_home r.rest.images.items) images o.logger o.image o.there).1;
           index = o.index;

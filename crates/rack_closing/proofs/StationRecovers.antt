@@ -172,10 +172,12 @@ module _ {D : Type 0} (tells : Bool) (state : D → State) (told : IsTrue tells)
           let placed : IsHeldBy (parts_of tells state) b.volume.began h = of_recursion (IsHeldBy (parts_of tells state) b.volume.began) held h kp.upholds.places.each k.is_held in
           let logs = of_recursion (λ (s : Held (Spun D)). (bs : List Block) → IsTrue tells × IsImageOf (state_of state s.part).values bs → IsLog bs v s.records) held h whole_is.logs k.is_held in
           record {
-            logger = volume_of h.part;
-            lane = ap (slice_get b.volume.began.view) (ap (λ (l : Listed). l.lane) (sym d.2) ∙ k.is_its.lane) ∙ placed.logger;
-            shape = t.shape;
-            shape_is = t.shape_is;
+            its = record {
+              logger = volume_of h.part;
+              lane = ap (slice_get b.volume.began.view) (ap (λ (l : Listed). l.lane) (sym d.2) ∙ k.is_its.lane) ∙ placed.logger;
+              shape = t.shape;
+              shape_is = t.shape_is;
+            };
             image = t.image;
             there = t.image_is;
             index = h.index;

@@ -1,5 +1,5 @@
 -- What closing a rack leaves. `state` is that of a part's disk.
-use Rattle.std.specs.Prelude.{true, false, Bool, ◌≡◌, ◌==◌, ◌≢◌, ◌<◌, ◌≤◌, ◌+◌, ◌++◌, ◌⊎◌, ℕ, List, [], ◌∷◌, length, map, Option, None, Some, not, is_some, unwrap_or, slice_get, slice_index_or, slice_range, All, Contains, IsTrue, ⊤}
+use Rattle.std.specs.Prelude.{true, false, Bool, ◌≡◌, ◌==◌, ◌≢◌, ◌<◌, ◌≤◌, ◌+◌, ◌++◌, ◌⊎◌, ℕ, List, [], length, map, Option, None, Some, not, is_some, unwrap_or, slice_get, slice_index_or, slice_range, All, Contains, IsTrue, ⊤}
 use Rattle.std.specs.List.{AllByRecursion, list_any}
 use Rattle.wol_disk.specs.Disk.{Block, State, Rose, IsAmong, IsImageOf}
 use Rattle.wol_model.specs.Blocks.{Write, after}
@@ -169,13 +169,18 @@ pub record AreListedOf (listed : List Listed) (extents : List Extent) : Type 0 w
       → (x : Extent) × IsAmong extents x × IsValid x.cover × IsOfExtent x e
   pub rising : AreRising (map (λ (e : Listed). e.version) listed)
 
--- a listed record of volume v lies on its lane's logger: a log of these images there has it
-pub record IsOnLogger (shapes : List Shape) (images : Images) (v : ℕ) (view : List ℕ) (e : Listed) :
-    Type 0 where
+-- the logger of its lane
+pub record IsLoggerOf (shapes : List Shape) (view : List ℕ) (e : Listed) : Type 0 where
   pub logger : ℕ
   pub lane : slice_get view e.lane ≡ Some logger
   pub shape : Shape
   pub shape_is : slice_get shapes logger ≡ Some shape
+
+-- a listed record of volume v lies on its lane's logger: a log of these images there has it
+pub record IsOnLogger (shapes : List Shape) (images : Images) (v : ℕ) (view : List ℕ) (e : Listed) :
+    Type 0 where
+  pub its : IsLoggerOf shapes view e
+  pub open its use *
   pub image : List Block
   pub there : image_of images logger ≡ Some image
   pub index : ℕ

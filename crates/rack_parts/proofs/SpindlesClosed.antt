@@ -148,11 +148,13 @@ module _ {D : Type 0} (r : Rest D) (k : ℕ) (l : TurnLock Spindle SpindleBase) 
   spindle_stands s es stands whole =
       let place = gathered_at at_place r.passes.items ps taken.taken there in
       record {
-        entries = es;
-        stands = stands;
-        keeper_part = All-contains (λ p. IsPartOf es p) (ps ++ keeper ∷ []) keeper whole.parts (Contains-push ps keeper);
-        accesses = by_own (pass_number keeper) es (by_others AreAccesses tt es ps keeper whole (λ v d less. has.accesses v (get_or ps v d) (place v d less)));
-        ended = by_others (λ xs. has_token xs ≡ false) refl es ps keeper whole (λ v d less. has.settled v (get_or ps v d) (place v d less));
+        whole = record {
+          entries = es;
+          stands = stands;
+          keeper_part = All-contains (λ p. IsPartOf es p) (ps ++ keeper ∷ []) keeper whole.parts (Contains-push ps keeper);
+          accesses = by_own (pass_number keeper) es (by_others AreAccesses tt es ps keeper whole (λ v d less. has.accesses v (get_or ps v d) (place v d less)));
+          ended = by_others (λ xs. has_token xs ≡ false) refl es ps keeper whole (λ v d less. has.settled v (get_or ps v d) (place v d less));
+        };
         made = others_made es ps keeper (λ v. spindle_pass r v k) whole (λ v d less. (place v d less, (gathered_pass at_place r.passes.items ps taken.taken there l has.each v d less).number_is))
             (λ v past. ap (option_and_then at_place) (slice_get_past r.passes.items v (omega (arith, past, taken.taken))));
       }
@@ -202,11 +204,7 @@ rows_same a = assumption
 pub made_in : {D : Type 0} (a b : Rest D) (j k : ℕ) (l : TurnLock Spindle SpindleBase) (p : PassOf Spindle SpindleBase) (s : SpindleView) → j ≡ k
     → ((v : ℕ) → spindle_pass b v j ≡ spindle_pass a v k) → StandsClosed b j l p s → StandsClosed a k l p s
 made_in a b j k l p s at same is = record {
-  entries = is.entries;
-  stands = is.stands;
-  keeper_part = is.keeper_part;
-  accesses = is.accesses;
-  ended = is.ended;
+  whole = is.whole;
   made = λ n differs. is.made n differs ∙ ap (λ (o : Option (PassOf Spindle SpindleBase)). entries_made o) (same n);
 }
 

@@ -274,9 +274,9 @@ IsAccessBut keeper e = e.0 ≢ keeper → (use_of e.1 ≡ Needed) ⊎ (use_of e.
 abbrev pub entries_made : Option (PassOf Spindle SpindleBase) → List Entry
 entries_made p = option_map_or (λ (q : PassOf Spindle SpindleBase). pass_mine q) p []
 
--- the spindle of volume k stands for all entries of its lock, among which are those of its keeper
-pub record StandsClosed {D : Type 0} (r : Rest D) (k : ℕ) (l : TurnLock Spindle SpindleBase)
-    (keeper : PassOf Spindle SpindleBase) (s : SpindleView) : Type 0 where
+-- the spindle stands for all entries of its lock, among which are those of its keeper
+pub record StandsForAll (l : TurnLock Spindle SpindleBase) (keeper : PassOf Spindle SpindleBase)
+    (s : SpindleView) : Type 0 where
   pub entries : List Entry
   pub stands : StandsFor s (lock_id l).base entries
   pub keeper_part : IsPartOf entries keeper
@@ -284,7 +284,12 @@ pub record StandsClosed {D : Type 0} (r : Rest D) (k : ℕ) (l : TurnLock Spindl
   pub accesses : AllByRecursion (IsAccessBut (pass_number keeper)) entries
   -- and none has an access open at the end
   pub ended : (n : ℕ) → n ≢ pass_number keeper → has_token (own n entries) ≡ false
-  -- those of a volume are the ones that its pass made
+
+-- so does that of volume k, and the entries of a volume are the ones that its pass made
+pub record StandsClosed {D : Type 0} (r : Rest D) (k : ℕ) (l : TurnLock Spindle SpindleBase)
+    (keeper : PassOf Spindle SpindleBase) (s : SpindleView) : Type 0 where
+  pub whole : StandsForAll l keeper s
+  pub open whole use *
   pub made : (n : ℕ) → n ≢ pass_number keeper → own n entries ≡ entries_made (spindle_pass r n k)
 
 -- the passes of the lock of spindle k: one in each row, and the keeper's

@@ -1,5 +1,5 @@
 -- A rack, whatever its volumes were told since it was opened: what it needs to be closed.
-use Rattle.std.specs.Prelude.{⊤, ◌≡◌, ◌≢◌, ◌<◌, ◌↔◌, ℕ, List, [], length, map, None, Some, slice_get, slice_index_or, Contains, All, AllPairs, IsSome}
+use Rattle.std.specs.Prelude.{⊤, ◌≡◌, ◌≢◌, ◌<◌, ◌↔◌, ℕ, List, [], length, map, None, Some, slice_get, slice_index_or, Contains, All, AllPairs}
 use Rattle.std.specs.List.{AllByRecursion}
 use Rattle.wol_disk.specs.Disk.{State}
 use Rattle.wol_model.specs.Heads.{Shape}
@@ -136,23 +136,13 @@ pub record KeepToViews {D : Type 0} (views : ℕ → List ℕ) (r : Rack D) : Ty
 -- The rack is whole: it may be closed, and a volume has a station exactly where it has no fault.
 pub record IsRack {D : Type 0} (state : D → State) (config : Config) (b : BayState) (r : Rack D) :
     Type 0 where
-  pub out : AreOut config r.rest.images.items b
-  pub locks : AreLocks config r.shared
-  pub keepers : AreKeepers config r.shared r.keepers.items
-  pub stations : All (λ s. IsStation s) r.stations.items
-  pub rising : AreRising (map (λ (s : Station D). s.id) r.stations.items)
-  pub bases : All (λ s. IsOpenBase config r.shared r.rest.images.items (base_of_station s))
-      r.stations.items
+  pub closable : IsClosable state config b r
+  pub open closable use *
   pub fault_count : length r.faults.items ≡ length (shapes_of config)
   pub faults : (k : ℕ) → k < length (shapes_of config)
       → (slice_index_or r.faults.items k None ≡ None)
       ↔ Contains (map (λ (s : Station D). s.id) r.stations.items) k
   pub known : (k : ℕ) (f : VolumeFault) → slice_get r.faults.items k ≡ Some (Some f)
       → NamesVolumes (length (shapes_of config)) f
-  pub rest : IsRest state config r.shared
-      (map (λ (s : Station D). base_of_station s) r.stations.items) r.rest
-  pub foreign :
-      AreForeign state (map (λ (s : Station D). base_of_station s) r.stations.items) r.rest
-  pub accesses : OnlyAccess r.rest
   -- a volume used the disks of its own image and of its view alone
   pub users : (views : ℕ → List ℕ) × KeepToViews views r
