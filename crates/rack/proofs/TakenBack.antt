@@ -102,10 +102,10 @@ same_front : (v : ℕ) (now was : List Block) → KeepsFront v now was → was �
 same_front v now was same = same
 
 keeps_extents : (v k : ℕ) (c d : List Block) → KeepsSegment k c d → extents_in v c ≡ extents_in v d
-keeps_extents v k i c d keeps = ⊎_elim (λ (same : c ≡ d). ap (extents_in v) same) (λ idle. idle_none v c idle.0 ∙ sym (idle_none v d idle.1)) keeps
+keeps_extents v k c d keeps = ⊎_elim (λ (same : c ≡ d). ap (extents_in v) same) (λ idle. idle_none v c idle.0 ∙ sym (idle_none v d idle.1)) keeps
 
 keeps_sound : (shapes : List Shape) (views : List (List ℕ)) (k : ℕ) (c d : List Block) → KeepsSegment k c d → IsSoundSegment shapes views k d → IsSoundSegment shapes views k c
-keeps_sound shapes views k i c d keeps sound = ⊎_elim (λ (same : c ≡ d). subst (IsSoundSegment shapes views k) (sym same) sound) (λ idle. IsSoundSegment.idle idle.0) keeps
+keeps_sound shapes views k c d keeps sound = ⊎_elim (λ (same : c ≡ d). subst (IsSoundSegment shapes views k) (sym same) sound) (λ idle. IsSoundSegment.idle idle.0) keeps
 
 -- ---- What was taken out
 

@@ -98,7 +98,7 @@ module _ {D : Type 0} {state : D → State} {config : Config} {b : BayState} {r 
 
     sound_images : AreSound (shapes over) images
     sound_images = sound_with (Fronts over) (Segments over) (shapes over) images (before over) (λ k z at. ⊎_elim (λ same. inl same.1) (λ two. inr two.1) (two_or_same over k z at)) (λ k i now was front lt. front.0 i lt) are
-        (λ k i c d came. sound_came r (shapes over) are.views is_open k c d came)
+        (λ k c d came. sound_came r (shapes over) are.views is_open k c d came)
         (λ v lt. ⊎_elim
         (λ s. subst (λ (w : ℕ). AreDistinct (covers_of (extents_of w (all_segments (shapes over) images)))) s.2
         (fewer_distinct (extents_of s.0.id (all_segments (shapes over) images)) (extents_of s.0.id (segments_out config r.rest.images.items images)) (fewer_open s.0 s.1) (apart s.0 s.1)))

@@ -92,7 +92,7 @@ pub ending_of : {D : Type 0} {state : D → State} {tells : Bool} {config : Conf
     → IsClosable state config b r → (CanCloseStations state config r.shared r.stations.items r.rest → IsRest state config r.shared [] first) → ClosesStations tells state r.stations.items r.rest first
     → ((k : ℕ) (f : TurnLock (Pool (FreeSegment D)) PoolBase) → slice_get r.shared.pools.items k ≡ Some f → RefillsAll state (lock_id f).base.blocks first k (image_here first.images.items k) (image_here second.images.items k))
     → KeepsSpindles first second → IsEnding state tells config b r first second
-ending_of valid tell_all sound can rests closed filled kept = let is = rests (stations_may can) in assumption
+ending_of valid tell_all sound can rests closed filled kept = record { valid = valid; tell_all = tell_all; sound = sound; can = can; is = rests (stations_may can); closed = closed; filled = filled; kept = kept }
 
 module _ {D : Type 0} {state : D → State} {tells : Bool} {config : Config} {b : BayState} {r : Rack D} {first second : Rest D} (ending : IsEnding state tells config b r first second) where
   open ending use {valid, can, is, closed, filled, kept}
