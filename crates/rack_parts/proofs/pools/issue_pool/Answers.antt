@@ -11,6 +11,13 @@ returns-in_err-pool-clause-restores g c =
     on_err c.from_residual.result (Restores g.D.Disk.state id config.segment_blocks c.args.said.now c.args.image.now c.args.image.now)
     (unchanged g.D.Disk.state (length config.volumes.items) id s c.args.said.now c.args.image.now (subst (λ (n : ℕ). CanIssue g.D.Disk.state n id s c.args.said.now c.args.image.now) config.volumes.ok.0 (c.requires.image s is)))
 
+pub supply-requires-clause-pool : goal.supply-requires-clause-pool
+supply-requires-clause-pool g c =
+    let config = c.args.config.now in let v = c.index.result.now in let made = c.in_ok-pool.ensures in
+    let valid = c.requires.config.volumes c.args.id v (omega (arith, c.requires.within, config.volumes.ok.0)) in
+    let segments = ap (λ x. x.segments) c.index.ensures in let blocks = c.requires.config.segment_blocks in
+    record { few = omega (arith, made.room, segments, valid.segments); blocks = (omega (arith, made.blocks, blocks), omega (arith, made.blocks, blocks)); empty = made.empty; notes = made.notes; stands = made.stands }
+
 pub supply-requires-clause-ready : goal.supply-requires-clause-ready
 supply-requires-clause-ready g c =
     let config = c.args.config.now in let id = c.args.id in let v = c.index.result.now in let s = shape_in config v in
