@@ -20,14 +20,18 @@ idle_joined : (l : Look) (xs ys : List Noted) → IsKeeperIdle l xs → IsKeeper
 idle_joined l [] ys left right = right
 idle_joined l (x ∷ xs) ys (first, others) right = (first, idle_joined x.look xs ys others right)
 
+-- where none is of a pass, the first isn't, and none of the others
+pub none_first : (n : ℕ) (e : Entry) (es : List Entry) → own n (e ∷ es) ≡ [] → ((noted_of e.0 e.1).entry.pass ≡ n → ⊥) × (own n es ≡ [])
+none_first n e es none = at (e.0 == n) refl none
+  where
+    at : (t : Bool) → (e.0 == n) ≡ t → cond t (e ∷ own n es) (own n es) ≡ [] → ((noted_of e.0 e.1).entry.pass ≡ n → ⊥) × (own n es ≡ [])
+    at true is gone = absurd (cc gone)
+    at false is gone = (λ mine. (let so : true ≡ false = sym (eq-eqb e.0 n (sym (pass_kept e.0 e.1) ∙ mine)) ∙ is in cc so), gone)
+
 -- where none is the keeper's
 idle_none : (l : Look) (es : List Entry) → own keeper es ≡ [] → IsKeeperIdle l (notes_of es)
 idle_none l [] none = tt
-idle_none l (e ∷ es) none = at (e.0 == keeper) refl none (λ rest. idle_none (noted_of e.0 e.1).look es rest)
-  where
-    at : (t : Bool) → (e.0 == keeper) ≡ t → cond t (e ∷ own keeper es) (own keeper es) ≡ [] → (own keeper es ≡ [] → IsKeeperIdle (noted_of e.0 e.1).look (notes_of es)) → IsKeeperIdle l (notes_of (e ∷ es))
-    at true is gone others = absurd (cc gone)
-    at false is gone others = (λ mine. (let so : true ≡ false = sym (eq-eqb e.0 keeper (sym (pass_kept e.0 e.1) ∙ mine)) ∙ is in absurd (cc so)), others gone)
+idle_none l (e ∷ es) none = let (other, rest) = none_first keeper e es none in (λ mine. absurd (other mine), idle_none (noted_of e.0 e.1).look es rest)
 
 pub own_joined : (n : ℕ) (xs ys : List Entry) → own n (xs ++ ys) ≡ own n xs ++ own n ys
 own_joined n xs ys = filter-append (λ (e : Entry). e.0 == n) xs ys

@@ -1,16 +1,16 @@
 -- What the worker and the keeper of each closed volume did in the windows of a run.
-use Rattle.replay.proofs.Basics.{◌≡◌, ◌≢◌, ◌==◌, ◌<◌, ◌≤◌, ◌⊎◌, ◌++◌, ℕ, Bool, true, false, cond, List, [], ◌∷◌, length, map, refl, sym, ap}
+use Rattle.replay.proofs.Basics.{◌≡◌, ◌≢◌, ◌==◌, ◌<◌, ◌≤◌, ◌⊎◌, ◌++◌, ℕ, Bool, false, List, [], ◌∷◌, length, map, refl, sym, ap}
 use Rattle.replay.proofs.Basics.{subst, ◌∙◌, Option, None, Some, is_some, length-append, inl, inr, arith, All, IsTrue, slice_get}
-use Rattle.replay.proofs.Basics.{slice_index_or, AllByRecursion, filter, option_map_or, eq-eqb}
+use Rattle.replay.proofs.Basics.{slice_index_or, AllByRecursion, filter, option_map_or}
 use Rattle.replay.proofs.Terms.{BayState, Write, Kept, flight_of, helper, keeper, worker, noted_of, Look, HasNoHelp, by_worker, IsDrained}
 use Rattle.replay.proofs.Terms.{Noted, entries_of, last_look, Config, Entry, own, IsFree, pass_mine, pass_number, pass_seen, notes_of}
 use Rattle.replay.proofs.Terms.{Station, IsBroken, KeptStay, ManagerPass, began, coded, notes_seen, AreOthersIdle, kept_join, notes_joined}
-use Rattle.replay.proofs.Terms.{nothing_more, pass_kept, IsMoved, Desk, Floor, Reclaim, IsClosedVolume, AreUnused, IsUnused}
+use Rattle.replay.proofs.Terms.{nothing_more, IsMoved, Desk, Floor, Reclaim, IsClosedVolume, AreUnused, IsUnused}
 use Rattle.replay.proofs.Terms.{base_of_station, ImageRest, History, is_broken, is_broken_at, ServedFromStart, ServedWindow, WentWell}
 use Rattle.replay.proofs.Terms.{AreBegun, AreWorked, AreWorks, DrainsAlone, KeepsRecords, WorksAs, by_keeper}
 use Rattle.replay.proofs.EntriesOwn.{OfEntry, all_of_three, coded_all, noted_all, notes_back}
 use Rattle.replay.proofs.HistoriesLeft.{IsHistoryAt, histories_of, history_at}
-use Rattle.replay.proofs.KeeperIdle.{own_joined}
+use Rattle.replay.proofs.KeeperIdle.{none_first, own_joined}
 use Rattle.replay.proofs.RacksServed.{a_member, at_place}
 use Rattle.replay.proofs.ReclaimPlaced.{honest_unused, none_noted, others_idle}
 use Rattle.replay.proofs.ReclaimedLeft.{own_noted}
@@ -25,11 +25,7 @@ use Rattle.window_desks.specs.declared.request.Reclaim.TheVariants as reclaim
 -- entries that aren't the worker's
 kept_rest : (l : Look) (es : List Entry) → own worker es ≡ [] → KeptStay l (notes_of es)
 kept_rest l [] none = tt
-kept_rest l (e ∷ es) none = at (e.0 == worker) refl none (λ rest. kept_rest (noted_of e.0 e.1).look es rest)
-  where
-    at : (t : Bool) → (e.0 == worker) ≡ t → cond t (e ∷ own worker es) (own worker es) ≡ [] → (own worker es ≡ [] → KeptStay (noted_of e.0 e.1).look (notes_of es)) → KeptStay l (notes_of (e ∷ es))
-    at true is gone others = absurd (cc gone)
-    at false is gone others = (λ mine kept. (let so : true ≡ false = sym (eq-eqb e.0 worker (sym (pass_kept e.0 e.1) ∙ mine)) ∙ is in absurd (cc so)), others gone)
+kept_rest l (e ∷ es) none = let (other, rest) = none_first worker e es none in (λ mine kept. absurd (other mine), kept_rest (noted_of e.0 e.1).look es rest)
 
 drains_alone : (l : Look) (notes : List Noted) → KeptStay l notes → AreOthersIdle l notes → HasNoHelp notes → DrainsAlone l notes
 drains_alone l [] stay idle none = tt
