@@ -77,19 +77,12 @@ kinds_counted passes asks (x ∷ xs) (first, others) =
     let rest = kinds_counted passes asks xs others in
     omega (arith, here, a, b, rest)
 
-read_same : (o : turns.Outcome) → was_read o ≡ read_in (told o)
-read_same (outcome.Read mark sources) = refl
-read_same (outcome.Wrote place drained) = refl
-read_same (outcome.NoRead refusal) = refl
-read_same (outcome.NoWrite refusal) = refl
-read_same outcome.NotRun = refl
-
-written_same : (o : turns.Outcome) → was_written o ≡ written_in (told o)
-written_same (outcome.Read mark sources) = refl
-written_same (outcome.Wrote place drained) = refl
-written_same (outcome.NoRead refusal) = refl
-written_same (outcome.NoWrite refusal) = refl
-written_same outcome.NotRun = refl
+kind_same : (o : turns.Outcome) → (was_read o ≡ read_in (told o)) × (was_written o ≡ written_in (told o))
+kind_same (outcome.Read mark sources) = (refl, refl)
+kind_same (outcome.Wrote place drained) = (refl, refl)
+kind_same (outcome.NoRead refusal) = (refl, refl)
+kind_same (outcome.NoWrite refusal) = (refl, refl)
+kind_same outcome.NotRun = (refl, refl)
 
 all_map : (P Q : Answered → Type 0) (xs : List Answered) → ((a : Answered) → P a → Q a) → AllByRecursion P xs → AllByRecursion Q xs
 all_map P Q [] f all = tt
@@ -108,6 +101,6 @@ all_counted_asked rs ss hs sized within asked answered all =
     let kinds : AllByRecursion IsOfKind (answers_in ss) = by_volumes IsOfKind (length hs) (answers_in ss) within (λ v lt. (let (h, here) = a_member hs v lt in
     subst (λ (l : List Answered). AllByRecursion IsOfKind l) (all_there (answers_of v (answers_in ss)) (all v)) (of_outcomes (answered_in (answers_of v (answers_in ss))) (map (λ (e : history.Entry). e.operation) (entries_of h.notes)) (answered v h here)))) in
     record {
-      reads = of_windows read_in was_read read_same ss sized ∙ kinds_counted read_in (λ (r : Request). not (is_write r.kind)) (answers_in ss) (all_map IsOfKind _ (answers_in ss) (λ a is. is.0) kinds) ∙ ap (λ (l : List Request). count_by (λ (r : Request). not (is_write r.kind)) l) asked;
-      writes = of_windows written_in was_written written_same ss sized ∙ kinds_counted written_in (λ (r : Request). is_write r.kind) (answers_in ss) (all_map IsOfKind _ (answers_in ss) (λ a is. is.1) kinds) ∙ ap (λ (l : List Request). count_by (λ (r : Request). is_write r.kind) l) asked;
+      reads = of_windows read_in was_read (λ o. (kind_same o).0) ss sized ∙ kinds_counted read_in (λ (r : Request). not (is_write r.kind)) (answers_in ss) (all_map IsOfKind _ (answers_in ss) (λ a is. is.0) kinds) ∙ ap (λ (l : List Request). count_by (λ (r : Request). not (is_write r.kind)) l) asked;
+      writes = of_windows written_in was_written (λ o. (kind_same o).1) ss sized ∙ kinds_counted written_in (λ (r : Request). is_write r.kind) (answers_in ss) (all_map IsOfKind _ (answers_in ss) (λ a is. is.1) kinds) ∙ ap (λ (l : List Request). count_by (λ (r : Request). is_write r.kind) l) asked;
     }

@@ -192,21 +192,13 @@ module _ (goes : Bool → Bool) where
 
 -- ---- The whole
 
-logged_same : (o : turns.Outcome) → was_logged o ≡ writes_that (λ t. t) (told o)
-logged_same (outcome.Read mark sources) = refl
-logged_same (outcome.Wrote place.Home drained) = refl
-logged_same (outcome.Wrote (place.Log logger) drained) = refl
-logged_same (outcome.NoRead refusal) = refl
-logged_same (outcome.NoWrite refusal) = refl
-logged_same outcome.NotRun = refl
-
-home_same : (o : turns.Outcome) → went_home o ≡ writes_that not (told o)
-home_same (outcome.Read mark sources) = refl
-home_same (outcome.Wrote place.Home drained) = refl
-home_same (outcome.Wrote (place.Log logger) drained) = refl
-home_same (outcome.NoRead refusal) = refl
-home_same (outcome.NoWrite refusal) = refl
-home_same outcome.NotRun = refl
+place_same : (o : turns.Outcome) → (was_logged o ≡ writes_that (λ t. t) (told o)) × (went_home o ≡ writes_that not (told o))
+place_same (outcome.Read mark sources) = (refl, refl)
+place_same (outcome.Wrote place.Home drained) = (refl, refl)
+place_same (outcome.Wrote (place.Log logger) drained) = (refl, refl)
+place_same (outcome.NoRead refusal) = (refl, refl)
+place_same (outcome.NoWrite refusal) = (refl, refl)
+place_same outcome.NotRun = (refl, refl)
 
 -- the writes to logs and those home that are counted are those of the histories
 pub record ArePlaced (ss : List ServedWindow) (hs : List History) : Type 0 where
@@ -217,6 +209,6 @@ pub counts_placed : (ss : List ServedWindow) (hs : List History) → AllByRecurs
     → AllByRecursion (λ (a : Answered). a.request.volume < length hs) (answers_in ss)
     → ((v : ℕ) (h : History) → slice_get hs v ≡ Some h → AreOutcomes (answered_in (answers_of v (answers_in ss))) (map (λ (e : history.Entry). e.operation) (entries_of h.notes))) → ArePlaced ss hs
 counts_placed ss hs sized within answered = record {
-  log = all_counted (writes_that (λ t. t)) was_logged logged_same ss hs sized within (λ (h : History). logged_writes h.notes) (λ v h here. placed_of (λ t. t) v (answers_in ss) (entries_of h.notes) (answered v h here));
-  home = all_counted (writes_that not) went_home home_same ss hs sized within (λ (h : History). home_writes h.notes) (λ v h here. placed_of not v (answers_in ss) (entries_of h.notes) (answered v h here));
+  log = all_counted (writes_that (λ t. t)) was_logged (λ o. (place_same o).0) ss hs sized within (λ (h : History). logged_writes h.notes) (λ v h here. placed_of (λ t. t) v (answers_in ss) (entries_of h.notes) (answered v h here));
+  home = all_counted (writes_that not) went_home (λ o. (place_same o).1) ss hs sized within (λ (h : History). home_writes h.notes) (λ v h here. placed_of not v (answers_in ss) (entries_of h.notes) (answered v h here));
 }
