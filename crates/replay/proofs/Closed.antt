@@ -1,11 +1,11 @@
 -- The rack of a replay is closed.
 use Rattle.replay.proofs.Basics.{◌≡◌, ◌++◌, ℕ, Bool, List, [], map, sym, ap, subst, ◌∙◌, Option, None, Some, Result, Ok, Err, ◌∷◌, arith}
-use Rattle.replay.proofs.Basics.{All, IfSome, MatchResult, option_map, slice_get, slice_index_or, length, ◌<◌, ◌≤◌, AllByRecursion}
+use Rattle.replay.proofs.Basics.{All, IfSome, MatchResult, option_map, slice_get, slice_index_or, length, ◌<◌, ◌≤◌, ◌≢◌, false, AllByRecursion, Contains}
 use Rattle.replay.proofs.Terms.{TraceLine, ended, pieces_of, started, timed, IsJournal, Use, keeper_uses, Entry, own, lock_id, pass_mine}
 use Rattle.replay.proofs.Terms.{pass_number, operation_of, SpindleBase, targets_of, IsClosedSpindle, ServedFromStart, ServedWindow}
 use Rattle.replay.proofs.Terms.{SpindleView, StandsFor, SpindlePass, Floor, ServesSome, ServesWhole, State, BayState, Told, at_name, outs}
 use Rattle.replay.proofs.Terms.{Config, VolumeConf, NoneOut, shapes_of, out_names, IsClosable, IsRack, IsUnused, Rack, Rest, RunsIn, closed}
-use Rattle.replay.proofs.Terms.{no_memory, served, Counted, Given, Options, Stop, most_of}
+use Rattle.replay.proofs.Terms.{no_memory, served, Counted, Given, Options, Stop, most_of, IsPartOf, KeepToViews, Reclaim, has_token, pass_lock}
 use Rattle.wol_model.specs.Trace.{Window, windows}
 use Rattle.rack.specs.Closing.{LeavesNoneOut}
 use Rattle.trace_windows.proofs.Rising.{moments_rise}
@@ -51,6 +51,55 @@ module _ {D S : Type 0} (state : D → State) (tells : Bool) (left : S → Optio
       leaves (outs entry) (outs_home config entry home)
       (subst (λ (r : Rest D). outs b ≡ option_map (λ os. os ++ out_names config config.volumes.items r.images.items) (outs entry)) (sym (same_rest result runs)) opened)
 
+-- ---- Spindles
+
+-- a spindle that was closed, by the pass of its keeper
+pub record HasKeeper {D : Type 0} (config : Config) (r : Rack D) (k : ℕ) (s : SpindleView) : Type 0 where
+  pub pass : SpindlePass
+  pub keeper : slice_get r.keepers.items k ≡ Some pass
+  pub base : SpindleBase
+  pub base_is : (pass_lock pass).base ≡ base
+  pub volume : s.volume ≡ k
+  pub timeout_is : s.timeout ≡ config.timeout
+  pub entries : List Entry
+  pub stands : StandsFor s base entries
+  pub others : AreOthers (pass_number pass) entries
+  pub part : IsPartOf entries pass
+  pub ended : (m : ℕ) → m ≢ pass_number pass → has_token (own m entries) ≡ false
+  pub users : (views : ℕ → List ℕ) → KeepToViews views r → (m : ℕ) → m ≢ pass_number pass → m ≢ k → (Contains (views m) k → ⊥) → own m entries ≡ []
+
+pub kept_by : {D : Type 0} (state : D → State) (config : Config) (b : BayState) (r : Rack D) → IsClosable state config b r → (spindles : List SpindleView) → length spindles ≡ length (shapes_of config) → (k : ℕ) (s : SpindleView) → slice_get spindles k ≡ Some s
+    → IsClosedSpindle r k s → HasKeeper config r k s
+kept_by state config b r closable spindles count k s there closed_ =
+    let lt = (at_place spindles k s there).0 in
+    let (p, keeper) = a_member r.keepers.items k (omega (arith, lt, count, closable.keepers.0)) in
+    let (l, lock) = a_member r.shared.spindles.items k (omega (arith, lt, count, closable.locks.spindle_count)) in
+    let is_lock = closable.locks.spindles k l lock in
+    let stands = closed_.stands l lock in
+    record {
+      pass = p;
+      keeper = keeper;
+      base = (lock_id l).base;
+      base_is = ap (λ x. x.base) (closable.keepers.1 k l p lock keeper).own;
+      volume = stands.volume ∙ is_lock.volume;
+      timeout_is = stands.timeout ∙ is_lock.timeout_is;
+      entries = closed_.entries;
+      stands = stands;
+      others = closed_.accesses p keeper;
+      part = closed_.keeper_part p keeper;
+      ended = closed_.ended p keeper;
+      users = closed_.users p keeper;
+    }
+
+-- what a keeper's pass made in the windows of a run
+pub served_mine : {D : Type 0} (tells : Bool) (mode : Reclaim) (k : ℕ) (w : ServedWindow) (ss : List ServedWindow) (f : Floor D) (ps : List SpindlePass) (g : Floor D) (qs : List SpindlePass) (p : SpindlePass) → ServedFromStart tells mode (w ∷ ss) f ps g qs → k < length ps
+    → All (λ (x : SpindlePass). IsUnused x) ps → slice_get qs k ≡ Some p → pass_mine p ≡ map (λ (u : Use). (pass_number p, operation_of u)) (keeper_uses w.batch.moment (moments_of (w ∷ ss)))
+served_mine tells mode k w ss f ps g qs p served_ lt unused there =
+    let used = served_used tells mode k w ss f ps g qs p served_ lt in
+    let at = (at_place qs k p there).1 p in
+    let same : pass_number (slice_index_or ps k p) ≡ pass_number p = sym used.number ∙ ap (λ (x : SpindlePass). pass_number x) at in
+    ap (λ (x : SpindlePass). pass_mine x) (sym at) ∙ used.mine ∙ (λ i. (unused k p lt).mine i ++ map (λ (u : Use). (same i, operation_of u)) (keeper_uses w.batch.moment (moments_of (w ∷ ss))))
+
 -- ---- Journals
 
 module _ {D S : Type 0} (state : D → State) (tells : Bool) (left : S → Option (List ℕ)) (config : Config) (options : Options) (start now : Given S) (b : BayState) (old new : Rack D) (faults faults' : ℕ) (printed printed' : Option (List ℕ))
@@ -66,12 +115,7 @@ module _ {D S : Type 0} (state : D → State) (tells : Bool) (left : S → Optio
       let zero_start : started (timed lines) ≡ 0 = no_start (pieces_of (most_of config) (targets_of config)) (timed lines) moments in
       subst (λ (t : ℕ). IsJournal t s.journal (ended (timed lines))) (sym zero_start) (empty_journal s base entries (pass_number p) (ended (timed lines)) stands others (mine ∙ none))
   spindle_journal lines (w ∷ ss) f g served_ moments k s base entries p lt there stands others mine =
-      let used = served_used tells options.reclaim k w ss f old.keepers.items g new.keepers.items p served_ lt in
-      let at = (at_place new.keepers.items k p there).1 p in
-      let same : pass_number (slice_index_or old.keepers.items k p) ≡ pass_number p = sym used.number ∙ ap (λ (x : SpindlePass). pass_number x) at in
-      let uses = keeper_uses w.batch.moment (moments_of (w ∷ ss)) in
-      let all : pass_mine p ≡ map (λ (u : Use). (pass_number p, operation_of u)) uses =
-      ap (λ (x : SpindlePass). pass_mine x) (sym at) ∙ used.mine ∙ (λ i. (unused k p lt).mine i ++ map (λ (u : Use). (same i, operation_of u)) uses) in
+      let all = served_mine tells options.reclaim k w ss f old.keepers.items g new.keepers.items p served_ lt unused there in
       let first : w.batch.moment ≡ started (timed lines) = first_start (pieces_of (most_of config) (targets_of config)) (timed lines) w.batch.moment (moments_of ss) moments in
       let (within, le) = moments_within (started (timed lines)) (windows (most_of config) (targets_of config) lines) (ended (timed lines)) (moments_rise (most_of config) (targets_of config) lines) in
       subst (λ (t : ℕ). IsJournal t s.journal (ended (timed lines))) first
@@ -91,11 +135,9 @@ module _ {D S : Type 0} (state : D → State) (tells : Bool) (left : S → Optio
       at (Err e) w ok k d lt = absurd (cc ok)
       at (Ok c) w ok k d lt =
           let same : c ≡ counted = cc ok in
-          let cs = each k (slice_index_or spindles k d) (there_at spindles k d lt) in
           let closable = closable_now state tells left config options start now b old new faults faults' printed printed' is result (served done first before moved from) in
-          let (p, keeper) = a_member new.keepers.items k (omega (arith, lt, count, closable.keepers.0)) in
-          let (l, lock) = a_member new.shared.spindles.items k (omega (arith, lt, count, closable.locks.spindle_count)) in
-          let journal = spindle_journal w.lines w.served before from.after w.from_start (served_moments config (windows (most_of config) (targets_of config) w.lines) w.served w.are) k (slice_index_or spindles k d) (lock_id l).base cs.entries p (omega (arith, lt, count, is.keepers.0)) keeper
-          (cs.stands l lock) (cs.accesses p keeper) (cs.keeper_part p keeper).mine in
+          let s = kept_by state config b new closable spindles count k (slice_index_or spindles k d) (there_at spindles k d lt) (each k (slice_index_or spindles k d) (there_at spindles k d lt)) in
+          let journal = spindle_journal w.lines w.served before from.after w.from_start (served_moments config (windows (most_of config) (targets_of config) w.lines) w.served w.are) k (slice_index_or spindles k d) s.base s.entries s.pass (omega (arith, lt, count, is.keepers.0)) s.keeper
+          s.stands s.others s.part.mine in
           subst (λ (x : Counted). IsJournal x.started (slice_index_or spindles k d).journal x.ended) same
           (subst (λ (t : ℕ). IsJournal t (slice_index_or spindles k d).journal c.ended) (sym w.started_) (subst (λ (t : ℕ). IsJournal (started (timed w.lines)) (slice_index_or spindles k d).journal t) (sym w.ended_) journal))

@@ -3,7 +3,7 @@ use Rattle.replay.proofs.Basics.{◌≡◌, ◌≢◌, ◌⊎◌, ◌++◌, ◌<
 use Rattle.replay.proofs.Basics.{sym, ap, subst, ◌∙◌, Option, Some, inl, inr, append-nil, length-append, arith, All, Contains, slice_get}
 use Rattle.replay.proofs.Basics.{slice_index_or, map-append}
 use Rattle.replay.proofs.Terms.{State, Began, Done, Needed, Started, Stayed, Use, needs_after, new_spindle, TraceLine, pieces_of, started}
-use Rattle.replay.proofs.Terms.{timed, keeper_uses, Entry, own, IsPartOf, lock_id, pass_lock, pass_mine, pass_number, has_token}
+use Rattle.replay.proofs.Terms.{timed, keeper_uses, Entry, own, IsPartOf, pass_lock, pass_mine, pass_number, has_token}
 use Rattle.replay.proofs.Terms.{operation_of, use_of, uses_of, SpindleView, StandsFor, SpindleBase, answers_by, BayState, most_of, Config}
 use Rattle.replay.proofs.Terms.{targets_of, shapes_of, IsClosedSpindle, IsClosable, IsRack, IsUnused, KeepToViews, Rack, FailToBegin}
 use Rattle.replay.proofs.Terms.{HasBegun, HasStayed, HaveBegun, HaveBegunVolumes, SpindlePass, Floor, Reclaim, Further, HasStarted}
@@ -11,7 +11,8 @@ use Rattle.replay.proofs.Terms.{ServedFromStart, ServedWindow, StartsOnce, WasNo
 use Rattle.replay.proofs.Terms.{none_further, AreWindowsOf, IsAccountBy, IsCutShort, column, started_uses, window_uses}
 use Rattle.wol_model.specs.Trace.{windows}
 use Rattle.replay.proofs.Accounts.{AreOthers, HasUsed, first_start, moments_of, named_users, others_access, own_uses, served_used, short_or_long, used_both}
-use Rattle.replay.proofs.RacksServed.{a_member, at_place, there_at}
+use Rattle.replay.proofs.Closed.{kept_by}
+use Rattle.replay.proofs.RacksServed.{at_place, there_at}
 use Rattle.replay.proofs.ToldAwake.{WasTold, all_told, begun_told, served_told, started_told, stayed_told, timeout_of, told_both, told_none}
 use Rattle.replay.proofs.Serving.{served_moments}
 use Rattle.replay.proofs.StationsRan.{EndsOn}
@@ -191,20 +192,14 @@ module _ {D : Type 0} (state : D → State) (config : Config) (views : ℕ → L
     (keep : KeepToViews views new) (spindles : List SpindleView) (count : length spindles ≡ length (shapes_of config)) (each : (k : ℕ) (s : SpindleView) → slice_get spindles k ≡ Some s → IsClosedSpindle new k s) where
   pub account_of : (k : ℕ) (s : SpindleView) → slice_get spindles k ≡ Some s → AccountOf config views old new k s
   account_of k s there =
-      let lt = (at_place spindles k s there).0 in
-      let cs = each k s there in
-      let (p, keeper) = a_member new.keepers.items k (omega (arith, lt, count, closable.keepers.0)) in
-      let (l, lock) = a_member new.shared.spindles.items k (omega (arith, lt, count, closable.locks.spindle_count)) in
-      let is_lock = closable.locks.spindles k l lock in
-      let stands = cs.stands l lock in
-      let own_lock : pass_lock p ≡ lock_id l = (closable.keepers.1 k l p lock keeper).own in
-      let less : k < length old.keepers.items = omega (arith, lt, count, is.keepers.0) in
+      let c = kept_by state config b new closable spindles count k s there (each k s there) in
+      let less : k < length old.keepers.items = (let lt = (at_place spindles k s there).0 in omega (arith, lt, count, is.keepers.0)) in
       record {
-        pass = p;
-        there = keeper;
+        pass = c.pass;
+        there = c.keeper;
         less = less;
-        so = λ us xs reached. account_reached config views k s (lock_id l).base cs.entries (slice_index_or old.keepers.items k p) p us xs (unused k p less) reached stands (cs.accesses p keeper) (cs.keeper_part p keeper)
-            (ap (λ x. x.base) own_lock) (stands.volume ∙ is_lock.volume) (stands.timeout ∙ is_lock.timeout_is) (cs.ended p keeper) (cs.users p keeper views keep);
+        so = λ us xs reached. account_reached config views k s c.base c.entries (slice_index_or old.keepers.items k c.pass) c.pass us xs (unused k c.pass less) reached c.stands c.others c.part
+            c.base_is c.volume c.timeout_is c.ended (c.users views keep);
       }
 
 -- the account starts with the first window

@@ -2,15 +2,16 @@
 use Rattle.replay.proofs.Basics.{◌≡◌, ◌≢◌, ◌++◌, ◌<◌, ◌-◌, ℕ, Bool, false, List, [], ◌∷◌, length, map, sym, ap, subst, ◌∙◌, Option, Some}
 use Rattle.replay.proofs.Basics.{append-nil, arith, All, Contains, slice_get, slice_index_or}
 use Rattle.replay.proofs.Terms.{Started, Use, needs_after, new_spindle, answers_by, uses_by, TraceLine, pieces_of, requests, started, timed}
-use Rattle.replay.proofs.Terms.{keeper_uses, Entry, own, IsPartOf, lock_id, pass_lock, pass_mine, pass_number, has_token, operation_of}
+use Rattle.replay.proofs.Terms.{keeper_uses, Entry, own, IsPartOf, pass_mine, pass_number, has_token, operation_of}
 use Rattle.replay.proofs.Terms.{use_of, uses_of, SpindleView, StandsFor, SpindleBase, targets_of, printed_names, summary_text, SpindlePass}
 use Rattle.replay.proofs.Terms.{Floor, State, BayState, Config, shapes_of, IsClosedSpindle, IsClosable, IsRack, IsUnused, KeepToViews, Rack}
 use Rattle.replay.proofs.Terms.{all_amounts, ServedFromStart, ServedWindow, AreWindowsOf, ServesWhole, IsAccount, IsAccountBy, IsSummary, column}
 use Rattle.replay.proofs.Terms.{Counted, Given, Options, most_of}
 use Rattle.wol_model.specs.Trace.{Window, windows}
-use Rattle.replay.proofs.Accounts.{AreOthers, first_start, moments_of, named_users, others_access, own_uses, served_used, used_back}
+use Rattle.replay.proofs.Accounts.{AreOthers, first_start, moments_of, named_users, others_access, own_uses, used_back}
 use Rattle.replay.proofs.AllAsked.{AreAllCounted}
-use Rattle.replay.proofs.RacksServed.{a_member, at_place}
+use Rattle.replay.proofs.Closed.{kept_by, served_mine}
+use Rattle.replay.proofs.RacksServed.{at_place}
 use Rattle.replay.proofs.Serving.{served_moments}
 use Rattle.replay.proofs.ToldAwake.{timeout_of}
 
@@ -59,12 +60,7 @@ module _ {D S : Type 0} (state : D → State) (tells : Bool) (left : S → Optio
       let none : pass_mine p ≡ [] = ap (λ (x : SpindlePass). pass_mine x) (sym was) ∙ (unused k p lt).mine in
       account_empty config views k s base entries (pass_number p) (started (timed lines)) awake stands others volume timeout_is answers ended users (mine ∙ none)
   spindle_account lines (w ∷ ss) f g served_ moments k s base entries p lt there stands others mine volume timeout_is answers ended users =
-      let used = served_used tells options.reclaim k w ss f old.keepers.items g new.keepers.items p served_ lt in
-      let at = (at_place new.keepers.items k p there).1 p in
-      let same : pass_number (slice_index_or old.keepers.items k p) ≡ pass_number p = sym used.number ∙ ap (λ (x : SpindlePass). pass_number x) at in
-      let uses = keeper_uses w.batch.moment (moments_of (w ∷ ss)) in
-      let all : pass_mine p ≡ map (λ (u : Use). (pass_number p, operation_of u)) uses =
-      ap (λ (x : SpindlePass). pass_mine x) (sym at) ∙ used.mine ∙ (λ i. (unused k p lt).mine i ++ map (λ (u : Use). (same i, operation_of u)) uses) in
+      let all = served_mine tells options.reclaim k w ss f old.keepers.items g new.keepers.items p served_ lt unused there in
       let first : w.batch.moment ≡ started (timed lines) = first_start (pieces_of (most_of config) (targets_of config)) (timed lines) w.batch.moment (moments_of ss) moments in
       account_kept config views k s base entries (pass_number p) (started (timed lines)) awake stands others volume timeout_is answers ended users w.batch.moment (moments_of ss)
       (subst (λ (t : ℕ). own (pass_number p) entries ≡ map (λ (u : Use). (pass_number p, operation_of u)) (keeper_uses t (moments_of (w ∷ ss)))) first (mine ∙ all))
@@ -74,17 +70,11 @@ module _ {D S : Type 0} (state : D → State) (tells : Bool) (left : S → Optio
     pub accounts_of : ((k : ℕ) (p : SpindlePass) (entries : List Entry) → k < length old.keepers.items → slice_get new.keepers.items k ≡ Some p → IsPartOf entries p
         → answers_by (timeout_of p) new_spindle (pass_number p) (uses_of entries) ≡ column k awake) → (k : ℕ) (s : SpindleView) → slice_get spindles k ≡ Some s → IsAccount config views k (started (timed lines)) (moments_of ss) awake s
     accounts_of told k s there =
-        let lt = (at_place spindles k s there).0 in
-        let cs = each k s there in
-        let (p, keeper) = a_member new.keepers.items k (omega (arith, lt, count, closable.keepers.0)) in
-        let (l, lock) = a_member new.shared.spindles.items k (omega (arith, lt, count, closable.locks.spindle_count)) in
-        let is_lock = closable.locks.spindles k l lock in
-        let stands = cs.stands l lock in
-        let own_lock : pass_lock p ≡ lock_id l = (closable.keepers.1 k l p lock keeper).own in
-        let less : k < length old.keepers.items = omega (arith, lt, count, is.keepers.0) in
-        spindle_account lines ss f g from_start (served_moments config (windows (most_of config) (targets_of config) lines) ss are) k s (lock_id l).base cs.entries p less keeper
-        stands (cs.accesses p keeper) (cs.keeper_part p keeper).mine (stands.volume ∙ is_lock.volume) (stands.timeout ∙ is_lock.timeout_is)
-        (subst (λ x. answers_by x.base.timeout new_spindle (pass_number p) (uses_of cs.entries) ≡ column k awake) own_lock (told k p cs.entries less keeper (cs.keeper_part p keeper))) (cs.ended p keeper) (cs.users p keeper views keep)
+        let c = kept_by state config b new closable spindles count k s there (each k s there) in
+        let less : k < length old.keepers.items = (let lt = (at_place spindles k s there).0 in omega (arith, lt, count, is.keepers.0)) in
+        spindle_account lines ss f g from_start (served_moments config (windows (most_of config) (targets_of config) lines) ss are) k s c.base c.entries c.pass less c.keeper
+        c.stands c.others c.part.mine c.volume c.timeout_is
+        (subst (λ (x : SpindleBase). answers_by x.timeout new_spindle (pass_number c.pass) (uses_of c.entries) ≡ column k awake) c.base_is (told k c.pass c.entries less c.keeper c.part)) c.ended (c.users views keep)
 
   module _ (f g : Floor D) (counted : Counted) (w : ServesWhole tells left config options start now f old.keepers.items g new.keepers.items counted faults faults' printed printed')
       (closable : IsClosable state config b new) (keep : KeepToViews views new) (spindles : List SpindleView) (count : length spindles ≡ length (shapes_of config)) (each : (k : ℕ) (s : SpindleView) → slice_get spindles k ≡ Some s → IsClosedSpindle new k s) where
