@@ -45,14 +45,7 @@ module _ {D : Type 0} (tells : Bool) (whole : Type 0) where
         work = λ unbroken. record { served = w.notes; closing = []; split = sym (append-nil w.notes); made = w.made; stops = w.stops; closes = refl };
         stays = λ off honest. w.stays honest;
       }
-      at reclaim.Between c = record {
-        more = w.more ++ turn_more tells w.middle e.worker c.before c.note c.turned;
-        notes = w.notes ++ c.note ∷ [];
-        gains = gains_both tells d.worker w.middle e.worker w.more (turn_more tells w.middle e.worker c.before c.note c.turned) w.notes (c.note ∷ []) w.gains (gains_turn tells w.middle e.worker c.before c.note c.turned);
-        work = λ unbroken. record { served = w.notes; closing = c.note ∷ []; split = refl; made = w.made; stops = w.stops; closes = (c.note, refl, closing_of e.fault w.middle e.worker c unbroken) };
-        stays = λ off honest. absurd (cc off);
-      }
-      at reclaim.Beside c = record {
+      at on c = record {
         more = w.more ++ turn_more tells w.middle e.worker c.before c.note c.turned;
         notes = w.notes ++ c.note ∷ [];
         gains = gains_both tells d.worker w.middle e.worker w.more (turn_more tells w.middle e.worker c.before c.note c.turned) w.notes (c.note ∷ []) w.gains (gains_turn tells w.middle e.worker c.before c.note c.turned);
