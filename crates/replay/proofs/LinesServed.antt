@@ -8,7 +8,7 @@ use Rattle.replay.proofs.Terms.{IsBatchOf, AreWindows, Cutting, HasCut, next_num
 use Rattle.replay.proofs.Terms.{HaveBegunVolumes, SpindlePass, AreSameButRoom, IsAsItWas, Floor, no_totals, HasGiven, HasGivenAll, Refuses}
 use Rattle.replay.proofs.Terms.{AreTotals, Further, ServedFromStart, ServedWindow, WasNotRun, begins_alone, fails_to_begin, is_none_served}
 use Rattle.replay.proofs.Terms.{none_further, AreServedOf, Closes, EndsIn, EndsWithWindow, GoesOn, HasBegunWindow, HasFailedToBegin}
-use Rattle.replay.proofs.Terms.{HasServed, ServesSome, StopsAfter, StopsAtLine, TakesOn, ServesWhole, WentWell, at_refusal, lines_of_window}
+use Rattle.replay.proofs.Terms.{HasServed, ServesSome, ServesWindows, StopsAfter, StopsAtLine, TakesOn, ServesWhole, WentWell, at_refusal, lines_of_window}
 use Rattle.replay.proofs.Terms.{lines_of_windows, opens, fault_of_trace, Counted, Given, Options, Session, Stop}
 use Rattle.wol_model.specs.Trace.{Window, windows}
 use Rattle.msr_trace.specs.declared.format.Line.{Line}
@@ -16,7 +16,7 @@ use Rattle.trace_gen.proofs.Fair.{no_volume}
 use Rattle.trace_windows.proofs.Joining.{next_timed, windows_blank, windows_close, windows_first, windows_join}
 use Rattle.trace_windows.proofs.Lying.{requests_lie}
 use Rattle.replay.proofs.Giving.{none_given}
-use Rattle.replay.proofs.Serving.{lines_of_more, served_more, served_none, served_of_more, some_served, totals_more, totals_none, well_more}
+use Rattle.replay.proofs.Serving.{all_went, lines_of_more, served_more, served_none, served_of_more, some_served, totals_more, totals_none, well_more}
 use Rattle.wol_model.specs.Trace as trace
 use Rattle.msr_trace.specs.declared.format.TraceFault.TheVariants as refusal
 use Rattle.replay.specs.declared.stop.Stop.TheVariants as stop
@@ -294,15 +294,8 @@ module _ {D S : Type 0} (tells : Bool) (left : S → Option (List ℕ)) (config 
     pub lacks_memory : (next : Given S) (further : List (Option TraceLine)) (g : Floor D) (qs : List SpindlePass) (faults'' : ℕ) (then : Option (List ℕ)) → HasGiven left (targets_of config) start next (so.run ++ (so.more ++ further)) → WasNotRun tells s.floor g
         → Further tells s.started s.floor s.keepers.items g qs → faults'' ≡ faults' → Keeps new then → ServesSome tells left config options start (stop.Fault Memory) next f ps g qs faults faults'' printed then
     lacks_memory next further g qs faults'' then has not_run begun calm keeps = record {
-      run = so.run;
-      more = so.more ++ further;
-      given = has;
-      earlier = so.ss;
-      last = [];
-      are = rw (append-nil so.ss, so.whole) so.are;
-      whole = λ some. ends_open left config start next so.run (so.more ++ further) (opens_more config so.run so.more further (so.opened (λ none. some (append-nil so.ss ∙ none))));
-      ahead = λ some. absurd (some refl);
-      well = so.well;
+      of = all_went left config start next so.run (so.more ++ further) has so.ss (rw so.whole so.are)
+          (λ some. ends_open left config start next so.run (so.more ++ further) (opens_more config so.run so.more further (so.opened some))) so.well;
       middle = s.floor;
       between = s.keepers.items;
       from_start = rw (append-nil so.ss) so.from_start;
@@ -318,15 +311,17 @@ module _ {D S : Type 0} (tells : Bool) (left : S → Option (List ℕ)) (config 
         → length more ≤ 1 → (h : HasServed tells options b s n) → StopsAfter e config options (record { batch = b; answer = h.answer }) faults' faults'' new then
         → ServesSome tells left config options start e next f ps n.floor n.keepers.items faults faults'' printed then
     stops_behind w b next more e n faults'' then of whole last has few h stops = record {
-      run = so.run ++ so.more;
-      more = more;
-      given = has;
-      earlier = so.ss;
-      last = record { batch = b; answer = h.answer } ∷ [];
-      are = rw whole (are_more w b of n h);
-      whole = λ some. last;
-      ahead = λ some. few;
-      well = so.well;
+      of = record {
+        run = so.run ++ so.more;
+        more = more;
+        given = has;
+        earlier = so.ss;
+        last = record { batch = b; answer = h.answer } ∷ [];
+        windows_ = rw whole (are_more w b of n h);
+        whole = λ some. last;
+        ahead = λ some. few;
+        well = so.well;
+      };
       middle = n.floor;
       between = n.keepers.items;
       from_start = from_start_more w b of n h;
@@ -365,12 +360,8 @@ module _ {D S : Type 0} (tells : Bool) (left : S → Option (List ℕ)) (config 
 
     -- all windows of the lines were served
     record AllServed (n : Session D) (faults'' : ℕ) (then : Option (List ℕ)) : Type 0 where
-      all : List ServedWindow
-      are_all : AreServedOf config (windows (most_of config) (targets_of config) (so.run ++ so.more)) all
-      all_well : AllByRecursion WentWell all
-      all_from : ServedFromStart tells options.reclaim all f ps n.floor n.keepers.items
-      all_totals : AreTotals all n.totals
-      all_printed : Appends printed then (joined_lines (lines_of_windows config options all))
+      all : ServesWindows tells config options (so.run ++ so.more) f ps n.floor n.keepers.items printed then
+      all_totals : AreTotals all.served n.totals
       all_calm : faults'' ≡ faults
 
     -- .. the last one too, if there is one
@@ -379,24 +370,28 @@ module _ {D S : Type 0} (tells : Bool) (left : S → Option (List ℕ)) (config 
 
     none_last : (n : Session D) (faults'' : ℕ) (then : Option (List ℕ)) → n ≡ s → faults'' ≡ faults' → Keeps new then → windows (most_of config) (targets_of config) (so.run ++ so.more) ≡ so.ws → AllServed n faults'' then
     none_last n faults'' then same calm keeps whole = record {
-      all = so.ss;
-      are_all = rw whole so.are;
-      all_well = so.well;
-      all_from = rw same so.from_start;
+      all = record {
+        served = so.ss;
+        are = rw whole so.are;
+        well = so.well;
+        from_start = rw same so.from_start;
+        prints = appends_kept printed new then (joined_lines (lines_of_windows config options so.ss)) so.prints keeps;
+      };
       all_totals = rw same so.totals_;
-      all_printed = appends_kept printed new then (joined_lines (lines_of_windows config options so.ss)) so.prints keeps;
       all_calm = calm ∙ so.calm;
     }
 
     one_last : (w : Window) (n : Session D) (faults'' : ℕ) (then : Option (List ℕ)) → windows (most_of config) (targets_of config) (so.run ++ so.more) ≡ so.ws ++ w ∷ []
         → IsBatchOf (most_of config) (targets_of config) (next_number (most_of config) (targets_of config) so.ws) w c.current → GoesOn tells config options c.current s n faults' faults'' new then → AllServed n faults'' then
     one_last w n faults'' then is of (h, well, calm, prints) = record {
-      all = so.ss ++ record { batch = c.current; answer = h.answer } ∷ [];
-      are_all = rw is (are_more w c.current of n h);
-      all_well = well_more WentWell so.ss (record { batch = c.current; answer = h.answer }) so.well well;
-      all_from = from_start_more w c.current of n h;
+      all = record {
+        served = so.ss ++ record { batch = c.current; answer = h.answer } ∷ [];
+        are = rw is (are_more w c.current of n h);
+        well = well_more WentWell so.ss (record { batch = c.current; answer = h.answer }) so.well well;
+        from_start = from_start_more w c.current of n h;
+        prints = prints_more w c.current of n h then prints;
+      };
       all_totals = totals_more so.ss (record { batch = c.current; answer = h.answer }) s.totals n.totals so.totals_ h.counted;
-      all_printed = prints_more w c.current of n h then prints;
       all_calm = calm ∙ so.calm;
     }
 
@@ -415,20 +410,12 @@ module _ {D S : Type 0} (tells : Bool) (left : S → Option (List ℕ)) (config 
     no_line next e n faults'' then ok other has refuses =
         let a = all_served n faults'' then ok in
         record {
-          run = so.run ++ so.more;
-          more = [];
-          given = rw (append-nil (so.run ++ so.more)) has;
-          earlier = a.all;
-          last = [];
-          are = rw (append-nil a.all) a.are_all;
-          whole = λ some. at_refusal e other refuses;
-          ahead = λ some. absurd (some refl);
-          well = a.all_well;
+          of = all_went left config start next (so.run ++ so.more) [] (rw (append-nil (so.run ++ so.more)) has) a.all.served a.all.are (λ some. at_refusal e other refuses) a.all.well;
           middle = n.floor;
           between = n.keepers.items;
-          from_start = rw (append-nil a.all) a.all_from;
+          from_start = rw (append-nil a.all.served) a.all.from_start;
           then = then;
-          printed_before = a.all_printed;
+          printed_before = a.all.prints;
           ends = (a.all_calm, keeps_same then, inl (e, other, refl, refl, refuses, refl, refl));
           further = none_further refl refl;
         }
@@ -444,10 +431,7 @@ module _ {D S : Type 0} (tells : Bool) (left : S → Option (List ℕ)) (config 
           lines = so.run ++ so.more;
           given = has;
           all = ends;
-          served = a.all;
-          are = a.are_all;
-          well = a.all_well;
-          from_start = a.all_from;
+          windows_ = a.all;
           totals_ = rw totals (record { reads = t.reads; writes = t.writes; home = t.home; log = t.log; drains = t.drains; blocks = t.blocks; records = t.records });
           line_count = rw totals so.cut.lines;
           blank = rw totals so.cut.blank;
@@ -457,5 +441,4 @@ module _ {D S : Type 0} (tells : Bool) (left : S → Option (List ℕ)) (config 
           started_ = began ∙ so.cut.started;
           ended_ = ended_ ∙ so.cut.ended;
           calm = a.all_calm;
-          prints = a.all_printed;
         }

@@ -5,7 +5,7 @@ use Rattle.replay.proofs.Basics.{All-map}
 use Rattle.replay.proofs.Terms.{State, Target, home_of, BayState, Config, lock_id, lock_passes, pass_number, IsPassOf, IsFree, Spindle}
 use Rattle.replay.proofs.Terms.{SpindleBase, Shared, IsShared, ManagerBase, Station, target_of, targets_of, shape_in, shapes_of}
 use Rattle.replay.proofs.Terms.{base_of_station, AreOut, AreRising, IsClosable, IsOpenBase, IsRack, AreLocks, IsImageOut, IsRest}
-use Rattle.replay.proofs.Terms.{OnlyAccess, ImageRest, Rack, Rest, VolumeFault, ManagerLock, SpindlePass, AreStations, first_closed}
+use Rattle.replay.proofs.Terms.{OnlyAccess, ImageRest, Rack, Rest, ManagerLock, SpindlePass, AreStations, first_closed}
 use Rattle.replay.proofs.Terms.{none_closed, CanServe, locks_of, AreSamePasses}
 use Rattle.turn_lock.specs.declared.lock.TurnLock.{TurnLock}
 use Rattle.rack.specs.Foreign.{AreForeign}
@@ -166,7 +166,7 @@ bases_of [] = refl
 bases_of (s ∷ ss) = ap (λ (l : List ManagerBase). base_of_station s ∷ l) (bases_of ss)
 
 pub rack_closable : {D : Type 0} (state : D → State) (config : Config) (b : BayState) (r : Rack D) → IsRack state config b r → IsClosable state config b r
-rack_closable state config b r is = record { out = is.out; locks = is.locks; keepers = is.keepers; stations = is.stations; rising = is.rising; bases = is.bases; rest = is.rest; foreign = is.foreign; accesses = is.accesses }
+rack_closable state config b r is = is.closable
 
 module _ {D : Type 0} (state : D → State) (config : Config) (b : BayState) (old new : Rack D) (is : IsClosable state config b old) (only : new ≡ record old { keepers = new.keepers; stations = new.stations })
     (can : CanServe config new.shared new.stations.items new.keepers.items) (locks : locks_of new.stations.items ≡ locks_of old.stations.items) (same : AreSamePasses old.keepers.items new.keepers.items) where

@@ -37,6 +37,7 @@ use Rattle.replay.proofs.PassesRuled.{IsRuled}
 use Rattle.replay.proofs.ReclaimPlaced.{counts_reclaimed, none_reclaimed}
 use Rattle.replay.proofs.RunLeft.{base_same}
 use Rattle.request_turns.specs.Turns.{began as pass_began}
+use Rattle.replay.proofs.Serving.{all_went}
 use Rattle.replay.proofs.StationsRan.{AreNumbered, EndsOn}
 use Rattle.replay.proofs.Accounts.{moments_of}
 use Rattle.replay.proofs.SummaryKept.{accounts_of, summary_now}
@@ -215,16 +216,8 @@ module _ {D S : Type 0} (T : Type 0) (state : D → State) (tells : Bool) (left 
       (no_requests (most_of config) (targets_of config)) options.reclaim in
       let is_none = none_is state tells config entry opened left_ r q (ap (λ (x : Rack D). x.rest) runs.same) counted_stations all_out began told_open Q told_left closed stations fresh unfaulty sound (ap (λ (x : Rack D). x.stations.items) runs.same) (no_requests (most_of config) (targets_of config)) options.reclaim in
       record {
-        run = [];
-        more = [];
-        given = subst (λ (g : Given S). HasGiven left (targets_of config) start g []) (sym runs.unread) (none_given left (targets_of config) start);
-        earlier = [];
-        last = [];
-        windows_ = no_windows config;
+        of = all_went left config start now [] [] (subst (λ (g : Given S). HasGiven left (targets_of config) start g []) (sym runs.unread) (none_given left (targets_of config) start)) [] (no_windows config) (λ some. absurd (some refl)) tt;
         one = omega arith;
-        whole = λ some. absurd (some refl);
-        ahead = λ some. absurd (some refl);
-        well = tt;
         asked = kept.asked;
         ends = memory;
         histories = kept.kept;
@@ -395,39 +388,32 @@ module _ {D S : Type 0} (T : Type 0) (state : D → State) (tells : Bool) (left 
       account_now : (k : ℕ) (s : SpindleView) → slice_get spindles k ≡ Some s → AccountOf config views r q k s
       account_now = account_of state config views opened r q is unused closable_now keep spindles count each
 
+      pass_at : (k : ℕ) (s : SpindleView) (a : AccountOf config views r q k s) → slice_index_or q.keepers.items k a.pass ≡ a.pass
+      pass_at k s a = (at_place q.keepers.items k a.pass a.there).1 a.pass
+
+      -- the accounts where a further window began at this moment
+      short : e ≡ stop.Fault Memory → (ends : EndsOn tells middle from.after) (moment : ℕ)
+          → ((k : ℕ) (s : SpindleView) → slice_get spindles k ≡ Some s → IsCutShort config views k moment (started_uses (started (timed lines)) moment (moments_of ss)) (column k (told_by ss middle ms served ends)) s)
+          ⊎ ((k : ℕ) (s : SpindleView) → slice_get spindles k ≡ Some s → IsAccountBy config views k (started_uses (started (timed lines)) moment (moments_of ss) ++ Began moment ∷ []) (column k (told_by ss middle ms served ends)) s) → DisksEnded ends
+      short is ends moment each = inr (at_9 is, record { spindles = spindles; count = sized; moment = moment; each = each })
+
       failed : e ≡ stop.Fault Memory → (ends : EndsOn tells middle from.after) → awake_last tells options.reclaim middle from.after ends ≡ [] → (moment : ℕ) (begun : List SpindlePass)
           → StartsOnce (not (is_none_served ss)) moment ms begun → FailToBegin moment begun q.keepers.items → DisksEnded ends
-      failed is ends none moment begun once fails = inr (
-        at_9 is,
-        record {
-          spindles = spindles;
-          count = sized;
-          moment = moment;
-          each = inl (λ k s there.
-              let a = account_now k s there in
-              let here : slice_index_or q.keepers.items k a.pass ≡ a.pass = (at_place q.keepers.items k a.pass a.there).1 a.pass in
-              subst (λ (l : List (List Bool)). IsCutShort config views k moment (started_uses (started (timed lines)) moment (moments_of ss)) (column k l) s) (sym (awake_alone ss middle ms served ends none))
-              (some_cut tells options.reclaim k (started (timed lines)) ss before r.keepers.items middle ms served a.less (first_is config lines ss are) moment begun once config views s q.keepers.items a.pass
-              (λ us xs reached. a.so us xs (subst (λ (p : SpindlePass). HasReached us xs (slice_index_or r.keepers.items k a.pass) p) here reached)) fails));
-        },
-      )
+      failed is ends none moment begun once fails = short is ends moment
+          (inl (λ k s there.
+          let a = account_now k s there in
+          subst (λ (l : List (List Bool)). IsCutShort config views k moment (started_uses (started (timed lines)) moment (moments_of ss)) (column k l) s) (sym (awake_alone ss middle ms served ends none))
+          (some_cut tells options.reclaim k (started (timed lines)) ss before r.keepers.items middle ms served a.less (first_is config lines ss are) moment begun once config views s q.keepers.items a.pass
+          (λ us xs reached. a.so us xs (subst (λ (p : SpindlePass). HasReached us xs (slice_index_or r.keepers.items k a.pass) p) (pass_at k s a) reached)) fails)))
 
       all_begun : e ≡ stop.Fault Memory → (ends : EndsOn tells middle from.after) (awake : List Bool) → awake_last tells options.reclaim middle from.after ends ≡ awake ∷ [] → (moment : ℕ) (begun : List SpindlePass)
           → StartsOnce (not (is_none_served ss)) moment ms begun → HaveBegun moment awake begun q.keepers.items → DisksEnded ends
-      all_begun is ends awake last moment begun once have = inr (
-        at_9 is,
-        record {
-          spindles = spindles;
-          count = sized;
-          moment = moment;
-          each = inr (λ k s there.
-              let a = account_now k s there in
-              let here : slice_index_or q.keepers.items k a.pass ≡ a.pass = (at_place q.keepers.items k a.pass a.there).1 a.pass in
-              subst (λ (l : List (List Bool)). IsAccountBy config views k (started_uses (started (timed lines)) moment (moments_of ss) ++ Began moment ∷ []) (column k l) s) (sym (awake_by ss middle ms served ends (awake ∷ []) last))
-              (a.so _ _ (subst (λ (p : SpindlePass). HasReached (started_uses (started (timed lines)) moment (moments_of ss) ++ Began moment ∷ []) (column k (awake_in tells options.reclaim ss before r.keepers.items middle ms served ++ awake ∷ [])) (slice_index_or r.keepers.items k a.pass) p) here
-              (all_reached tells options.reclaim k (started (timed lines)) ss before r.keepers.items middle ms served a.less (first_is config lines ss are) moment begun once awake q.keepers.items have a.pass))));
-        },
-      )
+      all_begun is ends awake last moment begun once have = short is ends moment
+          (inr (λ k s there.
+          let a = account_now k s there in
+          subst (λ (l : List (List Bool)). IsAccountBy config views k (started_uses (started (timed lines)) moment (moments_of ss) ++ Began moment ∷ []) (column k l) s) (sym (awake_by ss middle ms served ends (awake ∷ []) last))
+          (a.so _ _ (subst (λ (p : SpindlePass). HasReached (started_uses (started (timed lines)) moment (moments_of ss) ++ Began moment ∷ []) (column k (awake_in tells options.reclaim ss before r.keepers.items middle ms served ++ awake ∷ [])) (slice_index_or r.keepers.items k a.pass) p) (pass_at k s a)
+          (all_reached tells options.reclaim k (started (timed lines)) ss before r.keepers.items middle ms served a.less (first_is config lines ss are) moment begun once awake q.keepers.items have a.pass)))))
 
       disks_ended : (there : ((from.after ≡ middle) × (q.keepers.items ≡ ms)) ⊎ ((e ≡ stop.Fault Memory) × WasNotRun tells middle from.after)) (further : AllBegun)
           → DisksEnded (so_on (there_now there) further)
@@ -465,33 +451,25 @@ module _ {D S : Type 0} (T : Type 0) (state : D → State) (tells : Bool) (left 
         let there = ends_there T tells left config options start now entry opened left_ w.run w.more w.earlier w.middle w.between from.after q.keepers.items faults faults' w.then printed' e w.last w.ends in
         let on = ends_so tells options.reclaim (not (is_none_served (w.earlier ++ w.last))) w.middle w.between from.after q.keepers.items (there_now there) w.further in
         let kept = kept_served state tells config entry opened left_ r q rest_same counted_stations all_out began told_open Q told_left closed from.can.each fresh unfaulty sound options.reclaim before w.middle from.after r.keepers.items w.between moved from.moved_back from.locks numbers
-        w.run w.earlier w.last w.are w.well one w.from_start on in
+        w.run w.earlier w.last w.windows_ w.well one w.from_start on in
         let is_kept = kept_is state tells config entry opened left_ r q rest_same counted_stations all_out began told_open Q told_left closed from.can.each fresh unfaulty sound options.reclaim before w.middle from.after r.keepers.items w.between moved from.moved_back from.locks numbers
-        w.run w.earlier w.last w.are w.well one w.from_start on in
+        w.run w.earlier w.last w.windows_ w.well one w.from_start on in
         let awake = told_by (w.earlier ++ w.last) w.middle w.between w.from_start on in
         let worked = subst (λ (hs : List History). AreWorked options.reclaim (w.earlier ++ w.last) awake hs) (sym is_kept)
         (worked_by (w.earlier ++ w.last) w.middle w.between w.from_start on (owned_by tells config options.reclaim entry opened left_ w.run w.earlier w.last kept _ is_kept)) in
         record {
-          run = w.run;
-          more = w.more;
-          given = w.given;
-          earlier = w.earlier;
-          last = w.last;
-          windows_ = w.are;
+          of = w.of;
           one = one;
-          whole = w.whole;
-          ahead = w.ahead;
-          well = w.well;
           asked = kept.asked;
           ends = ends_stopped T tells left config options start now e w.run w.more w.last w.middle w.between from.after q.keepers.items faults faults' w.then printed' entry.faults left_.faults w.ends
-              (rise_by e w.run w.more w.earlier w.last w.middle w.between w.then w.ends w.from_start w.are);
+              (rise_by e w.run w.more w.earlier w.last w.middle w.between w.then w.ends w.from_start w.windows_);
           histories = kept.kept;
           are = kept.are;
           cause = λ v broken. rose_from entry.faults opened.faults left_.faults opening (kept.cause v broken);
-          part = λ v t is. (subst (λ (hs : List History). IsTrue (is_broken_at hs v)) (sym is_kept) (breaks_at _ v t (down_by e w.run w.more w.earlier w.last w.middle w.between w.then w.ends w.from_start w.are v t (cc is))));
+          part = λ v t is. (subst (λ (hs : List History). IsTrue (is_broken_at hs v)) (sym is_kept) (breaks_at _ v t (down_by e w.run w.more w.earlier w.last w.middle w.between w.then w.ends w.from_start w.windows_ v t (cc is))));
           named = λ v t is. (
               let one = came_at tells config q.rest.images.items opened left_ q.stations.items closed (answers_in (w.earlier ++ w.last)) (subst (λ (hs : List History). AreHistories (IsTrue tells) config (answers_in (w.earlier ++ w.last)) hs) is_kept kept.are)
-              new_ids v t (down_by e w.run w.more w.earlier w.last w.middle w.between w.then w.ends w.from_start w.are v t (cc is)) in
+              new_ids v t (down_by e w.run w.more w.earlier w.last w.middle w.between w.then w.ends w.from_start w.windows_ v t (cc is)) in
               (one.0, ap (λ (hs : List History). slice_get hs v) is_kept ∙ one.1, one.2, one.3, faulty_since tells config v one.0.base.view one.2 entry.told opened.told left_.told told_open one.4));
           spent = λ v is. spent_some T tells left config options start now entry opened left_ w.run w.more w.earlier w.middle w.between from.after q.keepers.items faults faults' w.then printed' e w.last w.ends kept v (cc is);
           open_ = λ telling. told_first (KeepsAllSound config) (AreAllOpen config) entry.told left_.told (sound telling) (open_ telling);
@@ -507,7 +485,7 @@ module _ {D S : Type 0} (T : Type 0) (state : D → State) (tells : Bool) (left 
           awake = awake;
           worked = worked;
           disks = subst (λ (hs : List History). HaveAccounts config (view_at hs) w.run (w.earlier ++ w.last) awake ⊎ ((status_in {T = T} (Err e) ≡ 9) × HaveShortAccounts config (view_at hs) w.run (w.earlier ++ w.last) awake)) (sym is_kept)
-              (disks_ended e (w.earlier ++ w.last) w.middle w.between w.from_start unused w.run w.are spindles count sized each there w.further);
+              (disks_ended e (w.earlier ++ w.last) w.middle w.between w.from_start unused w.run w.windows_ spindles count sized each there w.further);
           unbroken = λ is. absurd (stop_some T e is);
           marks = kept.marks;
           images = kept.images;
@@ -542,16 +520,8 @@ module _ {D S : Type 0} (T : Type 0) (state : D → State) (tells : Bool) (left 
         (closable_after state config opened r q (rack_closable state config opened r is) from.only from.can (from.locks ∙ moved.locks) from.same) keep spindles count each
         (keepers_told (w.served ++ []) from.after q.keepers.items from_start (inl refl) awake_same refl unused) all_asked sized in
         record {
-          run = w.lines;
-          more = [];
-          given = subst (λ (ls : List (Option TraceLine)). HasGiven left (targets_of config) start now ls) (sym (append-nil w.lines)) w.given;
-          earlier = w.served;
-          last = [];
-          windows_ = are;
+          of = all_went left config start now w.lines [] (subst (λ (ls : List (Option TraceLine)). HasGiven left (targets_of config) start now ls) (sym (append-nil w.lines)) w.given) w.served w.are (λ some. at_end w.all) w.well;
           one = omega arith;
-          whole = λ some. at_end w.all;
-          ahead = λ some. absurd (some refl);
-          well = w.well;
           asked = kept.asked;
           ends = ends_summed left config start now w.lines [] entry.faults left_.faults text done faults faults' faults'' printed' printed'' refl w.all w.calm prints;
           histories = kept.kept;

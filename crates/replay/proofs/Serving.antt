@@ -9,12 +9,30 @@ use Rattle.replay.proofs.Terms.{FailToBegin, HaveBegun, HaveBegunVolumes, HasRun
 use Rattle.replay.proofs.Terms.{was_read, was_written, was_logged, went_home, was_drained, AreSamePasses, AreTotals, HaveStarted}
 use Rattle.replay.proofs.Terms.{ServedFromStart, ServedWindow, StartsOnce, WasServed, WereServed, is_none_served, outcomes_in}
 use Rattle.replay.proofs.Terms.{AreServedFrom, AreServedOf, AreVolumes, EndsIn, Finishes, GoesOn, HasBegunWindow, HasFailedToBegin}
-use Rattle.replay.proofs.Terms.{HasServed, lines_of_window, lines_of_windows, Options, Session, Stop}
+use Rattle.replay.proofs.Terms.{HasServed, lines_of_window, lines_of_windows, Options, Session, Stop, AreWindowsOf, EndsWithWindow, Given}
+use Rattle.replay.proofs.Terms.{HasGiven, RunsLines, TraceLine, WentWell}
 use Rattle.wol_model.specs.Trace.{Window}
 use Rattle.trace_windows.specs.Requests.{requests_in}
 use Rattle.window_desks.specs.declared.request.Window.{Window as Answer}
 use Rattle.replay.proofs.Outcomes.{counted_both}
 use Rattle.replay.proofs.Waiting.{joined_both}
+
+-- ---- Lines
+
+-- all windows of these lines went well
+abbrev pub all_went : {S : Type 0} (left : S → Option (List ℕ)) (config : Config) (start now : Given S) (run more : List (Option TraceLine)) → HasGiven left (targets_of config) start now (run ++ more) → (ss : List ServedWindow) → AreWindowsOf config run ss
+    → ((ss ≡ [] → ⊥) → EndsWithWindow left config start now run more) → AllByRecursion WentWell ss → RunsLines left config start now
+all_went left config start now run more given ss are whole well = record {
+  run = run;
+  more = more;
+  given = given;
+  earlier = ss;
+  last = [];
+  windows_ = subst (λ (ws : List ServedWindow). AreWindowsOf config run ws) (sym (append-nil ss)) are;
+  whole = λ some. whole (λ none. some (append-nil ss ∙ none));
+  ahead = λ some. absurd (some refl);
+  well = well;
+}
 
 -- ---- Passes
 

@@ -66,7 +66,7 @@ pub use Rattle.replay.specs.Prints.{CutsLines, PrintsText, all_amounts, HandsOn,
 pub use Rattle.replay.specs.Replays.{Replays, status_in, Replayed, ran}
 pub use Rattle.replay.specs.Runs.{locks_of, RunsNone, ServesFrom, RunsIn, CanServe, closed, new_session, no_memory, served}
 pub use Rattle.replay.specs.Served.{ServedFromStart, ServedWindow, WasNotRun, outcomes_in, WasServed, WereServed, Further, StartsOnce, begins_alone, fails_to_begin, is_none_served, none_further, AreSamePasses, HasStarted, HaveStarted, AreTotals}
-pub use Rattle.replay.specs.Sessions.{WentWell, AreWindowsOf, EndsBy, ServesSome, ServesWhole, at_end, lines_of_window, AreVolumes, IsSession, AreServedOf, Closes, EndsIn, EndsWithWindow, GoesOn, HasBegunWindow, HasFailedToBegin, HasServed, StopsAfter, StopsAtLine, TakesOn, at_refusal, lines_of_windows, opens, AreServedFrom, Finishes}
+pub use Rattle.replay.specs.Sessions.{WentWell, AreWindowsOf, EndsBy, RunsLines, ServesSome, ServesWhole, ServesWindows, at_end, lines_of_window, AreVolumes, IsSession, AreServedOf, Closes, EndsIn, EndsWithWindow, GoesOn, HasBegunWindow, HasFailedToBegin, HasServed, StopsAfter, StopsAtLine, TakesOn, at_refusal, lines_of_windows, opens, AreServedFrom, Finishes}
 pub use Rattle.replay.specs.Stops.{fault_of_trace}
 pub use Rattle.replay.specs.Summed.{HaveAccounts, HaveShortAccounts, IsAccountBy, IsCutShort, IsSummaryOf, PrintsRun, column, lines_asked, of_all, of_none, started_uses, window_uses, IsAccount, IsSummary}
 pub use Rattle.replay.specs.Works.{AreClosings, AreWorked, AreWorks, AreBegun, IsClosing, IsWork, DrainsAlone, KeepsRecords, WorksAs, by_keeper}

@@ -1,9 +1,8 @@
 -- What replaying a trace on all volumes of a bay comes to, where all of them are open.
-use Rattle.std.specs.Prelude.{◌≡◌, ◌≢◌, ◌⊎◌, ◌≤◌, ◌^◌, ◌++◌, ℕ, Bool, false, List, [], length, Option, Result, Ok, Err, Some, IsTrue, slice_get}
-use Rattle.std.specs.List.{AllByRecursion}
+use Rattle.std.specs.Prelude.{◌≡◌, ◌⊎◌, ◌≤◌, ◌^◌, ◌++◌, ℕ, Bool, false, List, length, Option, Result, Ok, Err, Some, IsTrue, slice_get}
 use Rattle.wol_disk.specs.Disk.{Rose, State}
 use Rattle.wol_bay.specs.Bay.{BayState}
-use Rattle.wol_model.specs.Trace.{TraceLine, requests}
+use Rattle.wol_model.specs.Trace.{requests}
 use Rattle.wol_promise.specs.Policy.{PartName}
 use Rattle.run_laws.specs.Answers.{requests_in}
 use Rattle.wol_config.specs.declared.config.Config.{Config}
@@ -18,14 +17,12 @@ use Rattle.rack.specs.Closes.{HasFaultyPart, part_named}
 use Rattle.rack.specs.PoolUses.{ArePools, PassesEmpty, TakesFew}
 use Rattle.rack_parts.specs.declared.volume_fault.VolumeFault.{VolumeFault}
 use Rattle.replay.specs.Ended.{EndsFor}
-use Rattle.replay.specs.Givens.{HasGiven}
 use Rattle.replay.specs.Headlined.{AreAllOpen}
 use Rattle.replay.specs.Histories.{History, AreHistories, ArePlainMarks, BeginAsRead, CountAnswered, LeavesReclaimed, answers_in, is_broken_at, next_at, view_at}
 use Rattle.replay.specs.Leaves.{LeavesImages}
 use Rattle.replay.specs.NotOpened.{AsksNone, IsFirstClosed, LeavesBay}
 use Rattle.replay.specs.Placed.{CountsPlaced, CountsReclaimed}
-use Rattle.replay.specs.Served.{ServedWindow}
-use Rattle.replay.specs.Sessions.{AreWindowsOf, EndsWithWindow, WentWell}
+use Rattle.replay.specs.Sessions.{RunsLines}
 use Rattle.replay.specs.Summed.{HaveAccounts, HaveShortAccounts, IsSummaryOf, PrintsRun, lines_asked}
 use Rattle.replay.specs.Works.{AreWorked}
 use Rattle.replay.specs.declared.given.Given.{Given}
@@ -42,25 +39,14 @@ status_in (Err (stop.Fault f)) = status_of f
 
 -- ---- The whole
 
--- The lines `run` were run on the volumes of a bay, all of which were open, window by window:
--- `earlier` those after which the run went on, since nothing was refused in them, `last` the one in
--- which it ended, if it ended in one.
+-- Lines were run on the volumes of a bay, all of which were open.
 pub record Replays {S T : Type 0} (tells : Bool) (left : S → Option (List ℕ)) (config : Config)
     (options : Options) (start now : Given S) (old new : BayState) (result : Result T Stop)
     (sink sink' : ℕ)
     (printed printed' : Option (List ℕ)) : Type 0 where
-  pub run : List (Option TraceLine)
-  pub more : List (Option TraceLine)
-  pub given : HasGiven left (targets_of config) start now (run ++ more)
-  pub earlier : List ServedWindow
-  pub last : List ServedWindow
-  pub windows_ : AreWindowsOf config run (earlier ++ last)
+  pub of : RunsLines left config start now
+  pub open of use *
   pub one : length last ≤ 1
-  -- the last window that was served is whole, and behind the one in which the run ended at most one
-  -- line was read
-  pub whole : earlier ++ last ≢ [] → EndsWithWindow left config start now run more
-  pub ahead : last ≢ [] → length more ≤ 1
-  pub well : AllByRecursion WentWell earlier
   -- the requests of the windows are those of the lines
   pub asked : requests_in (answers_in (earlier ++ last))
       ≡ requests (most_of config) (targets_of config) run

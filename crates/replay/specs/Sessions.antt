@@ -218,6 +218,33 @@ StopsAtLine e tells config options ls ws line c s n faults faults' printed new =
     ⊎ ((w : Window) × (b : Batched) × Closes config ls ws line c w b
     × EndsIn e tells config options b s n faults faults' printed new)
 
+-- The lines `run` were run, window by window: `earlier` those after which the run went on, since
+-- nothing was refused in them, `last` the one in which it ended, if it ended in one.
+pub record RunsLines {S : Type 0} (left : S → Option (List ℕ)) (config : Config)
+    (start now : Given S) : Type 0 where
+  pub run : List (Option TraceLine)
+  pub more : List (Option TraceLine)
+  pub given : HasGiven left (targets_of config) start now (run ++ more)
+  pub earlier : List ServedWindow
+  pub last : List ServedWindow
+  pub windows_ : AreWindowsOf config run (earlier ++ last)
+  -- the last window that was served is whole, and behind the one in which the run ended at most one
+  -- line was read
+  pub whole : earlier ++ last ≢ [] → EndsWithWindow left config start now run more
+  pub ahead : last ≢ [] → length more ≤ 1
+  pub well : AllByRecursion WentWell earlier
+
+-- the windows of these lines were served, in none of them a request was refused, and the lines of
+-- all were printed
+pub record ServesWindows {D : Type 0} (tells : Bool) (config : Config) (options : Options)
+    (lines : List (Option TraceLine)) (f : Floor D) (ps : List SpindlePass) (g : Floor D)
+    (qs : List SpindlePass) (printed new : Option (List ℕ)) : Type 0 where
+  pub served : List ServedWindow
+  pub are : AreWindowsOf config lines served
+  pub well : AllByRecursion WentWell served
+  pub from_start : ServedFromStart tells options.reclaim served f ps g qs
+  pub prints : Appends printed new (joined_lines (lines_of_windows config options served))
+
 module _ {D S : Type 0} (tells : Bool) (left : S → Option (List ℕ)) (config : Config)
     (options : Options) (start : Given S) where
   -- The trace was served to its end.
@@ -227,10 +254,8 @@ module _ {D S : Type 0} (tells : Bool) (left : S → Option (List ℕ)) (config 
     pub lines : List (Option TraceLine)
     pub given : HasGiven left (targets_of config) start now lines
     pub all : HasGivenAll left (targets_of config) start now lines
-    pub served : List ServedWindow
-    pub are : AreWindowsOf config lines served
-    pub well : AllByRecursion WentWell served
-    pub from_start : ServedFromStart tells options.reclaim served f ps g qs
+    pub windows_ : ServesWindows tells config options lines f ps g qs printed new
+    pub open windows_ use *
     pub totals_ : AreTotals served counted.totals
     pub line_count : counted.totals.lines ≡ length lines
     pub blank : counted.totals.blank ≡ count_by is_none lines
@@ -240,7 +265,6 @@ module _ {D S : Type 0} (tells : Bool) (left : S → Option (List ℕ)) (config 
     pub started_ : counted.started ≡ started (timed lines)
     pub ended_ : counted.ended ≡ ended (timed lines)
     pub calm : faults' ≡ faults
-    pub prints : Appends printed new (joined_lines (lines_of_windows config options served))
 
   -- why a trace wasn't served to its end: behind the windows before, or in the last one
   abbrev pub EndsBy : Stop → (now : Given S) → (run more : List (Option TraceLine))
@@ -260,24 +284,12 @@ module _ {D S : Type 0} (tells : Bool) (left : S → Option (List ℕ)) (config 
       (g ≡ h) × (qs ≡ ms) × StopsAfter e config options s faults faults' printed new
   EndsBy e now run more (s ∷ t ∷ others) h ms g qs faults faults' printed new = ⊥
 
-  -- The trace wasn't served to its end. The lines `run` were run: their windows were served, and of
-  -- those before the last one all requests were answered.
+  -- The trace wasn't served to its end.
   pub record ServesSome (e : Stop) (now : Given S) (f : Floor D) (ps : List SpindlePass)
       (g : Floor D) (qs : List SpindlePass) (faults faults' : ℕ) (printed new : Option (List ℕ)) :
       Type 0 where
-    pub run : List (Option TraceLine)
-    pub more : List (Option TraceLine)
-    pub given : HasGiven left (targets_of config) start now (run ++ more)
-    -- the windows behind which the run went on, and the one behind which it ended, if it ended
-    -- behind one
-    pub earlier : List ServedWindow
-    pub last : List ServedWindow
-    pub are : AreWindowsOf config run (earlier ++ last)
-    -- the last window that was served is whole, and behind the one that ended the run at most one
-    -- line was read
-    pub whole : earlier ++ last ≢ [] → EndsWithWindow left config start now run more
-    pub ahead : last ≢ [] → length more ≤ 1
-    pub well : AllByRecursion WentWell earlier
+    pub of : RunsLines left config start now
+    pub open of use *
     pub middle : Floor D
     pub between : List SpindlePass
     pub from_start : ServedFromStart tells options.reclaim (earlier ++ last) f ps middle between
