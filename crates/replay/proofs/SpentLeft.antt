@@ -9,6 +9,7 @@ use Rattle.replay.proofs.Terms.{fault_of_window, first_refused, lacked_memory}
 use Rattle.replay.proofs.LastWindow.{closed_more}
 use Rattle.replay.proofs.PassesRuled.{IsRuled}
 use Rattle.replay.proofs.VersionsLeft.{next_at_most}
+use Rattle.request_turns.proofs.Gaining.{spent_more}
 use Rattle.manager.specs.declared.part.StepFault.TheVariants as step
 use Rattle.manager.specs.declared.part.ReadRefusal.TheVariants as read
 use Rattle.manager.specs.declared.part.WriteRefusal.TheVariants as write
@@ -80,18 +81,7 @@ none_flew : (o : Option (List Write)) → (is_some o ≡ true → ⊥) → o ≡
 none_flew None whole = refl
 none_flew (Some ws) whole = absurd (whole refl)
 
--- of these entries one left no version, before any call failed
-spent_more : (seen more : List Noted) → WasSpent seen → WasSpent (seen ++ more)
-spent_more seen more is = record {
-  front = is.front;
-  note = is.note;
-  later = is.later ++ more;
-  seen_is = ap (λ (notes : List Noted). notes ++ more) is.seen_is ∙ append_assoc is.front (is.note ∷ is.later) more;
-  unbroken = is.unbroken;
-  spent = is.spent;
-}
-
--- so the versions of the writes among them reach the end
+-- where one of these entries left no version, before any call failed, the versions of the writes among them reach the end
 spent_next : (l : Look) (notes : List Noted) → AreRuled l notes → AllByRecursion IsRuled notes → WasSpent notes → 2 ^ 63 ≤ l.next + logged_writes notes
 spent_next l notes rules all is =
     let least = next_at_most l is.front is.note is.later (subst (λ (ns : List Noted). AreRuled l ns) is.seen_is rules) (subst (λ (ns : List Noted). AllByRecursion IsRuled ns) is.seen_is all)
