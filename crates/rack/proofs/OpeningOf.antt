@@ -141,22 +141,22 @@ module _ {D : Type 0} (state : D → State) (config : Config) (valid : IsValid c
       go (Owned w) e = let n : w ≡ id = cc e in ap Owned n
 
   all_of_them : (x : owned.Owned) → IsOwnedIn (shapes_of config) images id x → Contains (all_owned state o.owned.items) x
-  all_of_them x owned =
-      let is = owned.segment in
+  all_of_them x reads_so =
+      let is = reads_so.segment in
       let out = image_out x.logger is.image is.there in
       let at_k = read_at x.logger out.0 out.1 in
       let same : shape_in config at_k.conf ≡ is.shape = same_Some (shape_in config at_k.conf) is.shape (sym at_k.shape_is ∙ is.shape_is) in
       let image : reads at_k.entry.blocks ≡ is.image = same_Some (reads at_k.entry.blocks) is.image (sym at_k.read ∙ is.there) in
       let few : (shape_in config at_k.conf).segments ≡ is.shape.segments = ap (λ (s : Shape). s.segments) same in
       let within = is.within in
-      let blocks : segment_of (shape_in config at_k.conf) (reads at_k.entry.blocks) x.index ≡ owned_block id ∷ owned.rest = (λ i. segment_of (same i) (image i) x.index) ∙ sym is.blocks_are ∙ owned.owner in
-      let says_so = head_of x.logger x.index out.0 at_k owned.rest (omega (arith, few, within)) blocks in
+      let blocks : segment_of (shape_in config at_k.conf) (reads at_k.entry.blocks) x.index ≡ owned_block id ∷ reads_so.rest = (λ i. segment_of (same i) (image i) x.index) ∙ sym is.blocks_are ∙ reads_so.owner in
+      let says_so = head_of x.logger x.index out.0 at_k reads_so.rest (omega (arith, few, within)) blocks in
       let place : IsOwnedPlace said id x.logger x.index = (at_k.saying, slice_get-get_or said x.logger None (here_within said x.logger at_k.saying at_k.said_is) ∙ ap Some at_k.said_is, says_so) in
       let from = of_map place_of o.owned.items (x.logger, x.index) (takes.owned.all x.logger x.index place) in
       let has : Contains (all_owned state o.owned.items) (owned_of state from.0) = in_map (owned_of state) o.owned.items from.0 from.1 in
       let of_part = Rattle.std.proofs.lemmas.List.Elements.All-contains (IsOwnedIn (shapes_of config) images id) (all_owned state o.owned.items) (owned_of state from.0) each_owned has in
       subst (λ (y : owned.Owned). Contains (all_owned state o.owned.items) y)
-      (same_owned (shapes_of config) images id (owned_of state from.0) x of_part owned (ap (λ (p : ℕ × ℕ). p.0) from.2) (ap (λ (p : ℕ × ℕ). p.1) from.2)) has
+      (same_owned (shapes_of config) images id (owned_of state from.0) x of_part reads_so (ap (λ (p : ℕ × ℕ). p.0) from.2) (ap (λ (p : ℕ × ℕ). p.1) from.2)) has
 
   pub opening_of : IsOpeningOf state config r.rest.images.items images id o
   opening_of =
