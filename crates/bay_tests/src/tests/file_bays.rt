@@ -1,6 +1,6 @@
 // Bays of one folder.
 use super::bay_calls::{reads, writes};
-use fixtures::{own_path, same};
+use fixtures::{folder_of_image, same};
 use std::fs;
 use std::fs::File;
 use std::process::id;
@@ -36,9 +36,7 @@ fn goes_out_once<R: Files<File = File>>(
 #[test]
 fn a_file_holds_its_image_and_goes_out_once_at_a_time(rt: HostRuntime) -> Result<(), Fail> {
     let alloc = rt.alloc();
-    let folder = own_path(&rt, "wol_bay", id(rt.process()))?;
-    let file = format!(in alloc; "{folder}/usr0.vol")?;
-    fs::create_dir(&rt, folder.as_str())?;
+    let (folder, file) = folder_of_image(&rt, "wol_bay", id(rt.process()))?;
     let mut one = FileBay::new(rt, alloc, folder.as_str());
     let mut two = FileBay::new(rt, alloc, folder.as_str());
     writes(&mut one, "usr0", 7, Ok(Ok(())))?;

@@ -1,6 +1,6 @@
 // Files of other lengths than an image's, and a file that can't be synced.
 use super::bay_calls::reads;
-use fixtures::{own_path, same};
+use fixtures::{folder_of_image, same};
 use std::fs;
 use std::os::unix::fs::symlink;
 use std::process::id;
@@ -11,9 +11,7 @@ use wol_disk::{Disk, Failed};
 #[test]
 fn a_file_of_another_length_is_no_image(rt: HostRuntime) -> Result<(), Fail> {
     let alloc = rt.alloc();
-    let folder = own_path(&rt, "wol_lengths", id(rt.process()))?;
-    let file = format!(in alloc; "{folder}/usr0.vol")?;
-    fs::create_dir(&rt, folder.as_str())?;
+    let (folder, file) = folder_of_image(&rt, "wol_lengths", id(rt.process()))?;
     let mut bay = FileBay::new(rt, alloc, folder.as_str());
     for bytes in [0, 511, 1000, 1024, 1536, 2047, 2049, 4096] {
         let content = vec![in alloc; 7u8; bytes]?;
@@ -35,9 +33,7 @@ fn a_file_of_another_length_is_no_image(rt: HostRuntime) -> Result<(), Fail> {
 #[test]
 fn a_sync_that_fails_is_told(rt: HostRuntime) -> Result<(), Fail> {
     let alloc = rt.alloc();
-    let folder = own_path(&rt, "wol_syncs", id(rt.process()))?;
-    let file = format!(in alloc; "{folder}/usr0.vol")?;
-    fs::create_dir(&rt, folder.as_str())?;
+    let (folder, file) = folder_of_image(&rt, "wol_syncs", id(rt.process()))?;
     symlink(&rt, "/proc/self/comm", file.as_str())?;
     let mut bay = FileBay::new(rt, alloc, folder.as_str());
     let mut parts = bay.attach("usr0", &[0])?;

@@ -18,16 +18,12 @@ const REST: u64 = u64::MAX;
 // A part of an image, and its calls in a command.
 type Part<'a> = (&'a str, u32, &'a [Faults<'a>]);
 
-// The label and view of an image, its home, and its first segments.
+// The label and view of an image, its home, and the first of its segments.
 const LABEL: u32 = 0;
 
 const HOME: u32 = 1;
 
-const SEGMENT_0: u32 = 2;
-
-const SEGMENT_1: u32 = 3;
-
-const SEGMENT_2: u32 = 4;
+const SEGMENTS: u32 = 2;
 
 // The calls that a command may make of a part, a source or the sink.
 const MOST_CALLS: u64 = 1000;
@@ -196,7 +192,7 @@ const IN_A_DRAIN: &[Part<'_>] = &[
     ("b", HOME, &[(REST, 4, "fault 4 b disk home")]),
     (
         "b",
-        SEGMENT_0,
+        SEGMENTS,
         &[
             (2, 6, "fault 6 a logger 1 missing"),
             (REST, 4, "fault 4 a disk segment 0 of b"),
@@ -216,7 +212,7 @@ const IN_A_FORMAT: &[Part<'_>] = &[
     ("b", HOME, &[(1, 4, "fault 4 b disk home")]),
     (
         "b",
-        SEGMENT_0,
+        SEGMENTS,
         &[(REST, 4, "fault 4 b disk segment 0 of b")],
     ),
 ];
@@ -229,12 +225,12 @@ fn each_call_of_a_disk_that_fails_in_a_format_is_told(rt: HostRuntime) -> Result
 const IN_A_CHECK: &[Part<'_>] = &[
     ("u", LABEL, &[(2, 4, "u disk label")]),
     ("u", HOME, &[(REST, 4, "u disk home")]),
-    ("u", SEGMENT_0, &[(2, 4, "u disk segment 0 of u")]),
+    ("u", SEGMENTS, &[(2, 4, "u disk segment 0 of u")]),
     ("w", LABEL, &[(2, 6, "w disk label")]),
     ("w", HOME, &[(REST, 4, "w disk home")]),
     (
         "w",
-        SEGMENT_0,
+        SEGMENTS,
         &[
             (2, 6, "w disk segment 0 of w"),
             (REST, 4, "u disk segment 0 of w"),
@@ -242,7 +238,7 @@ const IN_A_CHECK: &[Part<'_>] = &[
     ),
     (
         "w",
-        SEGMENT_1,
+        SEGMENTS + 1,
         &[
             (2, 6, "w disk segment 1 of w"),
             (REST, 4, "s disk segment 1 of w"),
@@ -250,7 +246,7 @@ const IN_A_CHECK: &[Part<'_>] = &[
     ),
     ("s", LABEL, &[(2, 4, "s disk label")]),
     ("s", HOME, &[(REST, 4, "s disk home")]),
-    ("s", SEGMENT_0, &[(2, 4, "s disk segment 0 of s")]),
+    ("s", SEGMENTS, &[(2, 4, "s disk segment 0 of s")]),
 ];
 
 #[test]
@@ -264,17 +260,17 @@ const MISSING: Faults<'_> = (2, 6, "fault 6 u logger 1 missing");
 const IN_A_CHANGE: &[Part<'_>] = &[
     ("u", LABEL, &[(2, 4, "fault 4 u disk label")]),
     ("u", HOME, &[(REST, 4, "fault 4 u disk home")]),
-    ("u", SEGMENT_0, &[(2, 4, "fault 4 u disk segment 0 of u")]),
+    ("u", SEGMENTS, &[(2, 4, "fault 4 u disk segment 0 of u")]),
     ("w", LABEL, &[MISSING]),
     ("w", HOME, &[(1, 4, "fault 4 w disk home")]),
     (
         "w",
-        SEGMENT_0,
+        SEGMENTS,
         &[MISSING, (REST, 4, "fault 4 u disk segment 0 of w")],
     ),
     (
         "w",
-        SEGMENT_1,
+        SEGMENTS + 1,
         &[MISSING, (REST, 4, "fault 4 s disk segment 1 of w")],
     ),
     ("s", HOME, &[(1, 4, "fault 4 s disk home")]),
@@ -298,17 +294,17 @@ const IN_A_CLEANING: &[Part<'_>] = &[
     ("w", LABEL, &[MISSING]),
     (
         "w",
-        SEGMENT_0,
+        SEGMENTS,
         &[MISSING, (REST, 4, "fault 4 u disk segment 0 of w")],
     ),
     (
         "w",
-        SEGMENT_1,
+        SEGMENTS + 1,
         &[MISSING, (REST, 4, "fault 4 s disk segment 1 of w")],
     ),
     (
         "w",
-        SEGMENT_2,
+        SEGMENTS + 2,
         &[MISSING, (REST, 4, "fault 4 u disk segment 2 of w")],
     ),
 ];
