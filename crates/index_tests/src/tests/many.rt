@@ -118,11 +118,8 @@ fn put_due(index: &mut Index, count: u64, lanes: &[bool], most: u64) -> u64
 #[test]
 fn a_drain_of_100_000_ends(rt: HostRuntime) -> Result<(), Fail> {
     let mut index = records(rt.alloc(), 100_000)?;
-    same(
-        &rt,
-        &drain(&mut index, 100_000, &[true; 3], 1_000_000),
-        &200_000,
-    );
+    let steps = drain(&mut index, 100_000, &[true; 3], 1_000_000);
+    same(&rt, &steps, &200_000);
     assert!(rt; index.is_empty());
     Ok(())
 }
@@ -131,11 +128,8 @@ fn a_drain_of_100_000_ends(rt: HostRuntime) -> Result<(), Fail> {
 #[test]
 fn records_on_a_sleeping_lane_are_passed_over(rt: HostRuntime) -> Result<(), Fail> {
     let mut index = records(rt.alloc(), 30_000)?;
-    same(
-        &rt,
-        &drain(&mut index, 30_000, &[false, true, true], 1_000_000),
-        &40_000,
-    );
+    let steps = drain(&mut index, 30_000, &[false, true, true], 1_000_000);
+    same(&rt, &steps, &40_000);
     same(&rt, &index.len(), &10_000);
     Ok(())
 }
@@ -144,16 +138,10 @@ fn records_on_a_sleeping_lane_are_passed_over(rt: HostRuntime) -> Result<(), Fai
 #[test]
 fn covered_records_are_passed_over(rt: HostRuntime) -> Result<(), Fail> {
     let mut index = records_twice(rt.alloc(), 100_000)?;
-    same(
-        &rt,
-        &put_due(&mut index, 200_000, &[true; 3], 1_000_000),
-        &100_000,
-    );
-    same(
-        &rt,
-        &drain(&mut index, 200_000, &[true; 3], 1_000_000),
-        &200_000,
-    );
+    let steps = put_due(&mut index, 200_000, &[true; 3], 1_000_000);
+    same(&rt, &steps, &100_000);
+    let steps = drain(&mut index, 200_000, &[true; 3], 1_000_000);
+    same(&rt, &steps, &200_000);
     assert!(rt; index.is_empty());
     Ok(())
 }

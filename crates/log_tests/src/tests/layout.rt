@@ -7,6 +7,14 @@ use log_layout::{
 };
 use wol_disk::Block;
 
+/// A label of 1,000 blocks and four segments.
+pub const LABEL: Label = Label {
+    id: 0,
+    home: 1_000,
+    segments: 4,
+    segment_blocks: 16,
+};
+
 /// These bytes, and zeros behind them.
 pub fn block(front: &[u8]) -> Block
     requires { length front.now ≤ 512 }
@@ -18,16 +26,10 @@ pub fn block(front: &[u8]) -> Block
 
 #[test]
 fn reads_and_writes_a_label(rt: HostRuntime) {
-    let label = Label {
-        id: 0,
-        home: 1_000,
-        segments: 4,
-        segment_blocks: 16,
-    };
     let b = block(b"WOLVOL01\0\0\0\0\xe8\x03\0\0\0\0\0\0\x04\0\0\0\x10\0\0\0");
-    assert!(rt; read_label(&b) == Some(label));
+    assert!(rt; read_label(&b) == Some(LABEL));
     let mut written = [0xff; 512];
-    write_label(&label, &mut written);
+    write_label(&LABEL, &mut written);
     assert!(rt; written == b);
     assert!(rt;
         read_label(&block(b"WOLVOL01\0\0\0\0\xe8\x03\0\0\0\0\0\0\x04\0\0\0\x03\0\0\0")) == None,

@@ -3,21 +3,14 @@ ghost use Rattle.spin_model.specs.Spun.{volume_of, disk_of, token_volume};
 ghost use Rattle.std.specs.Prelude.{◌≡◌, IfOk};
 ghost use Rattle.wol_disk.specs.Memory.{mem_state};
 
-use super::layout::block;
-use log_layout::{Label, View};
+use super::layout::{LABEL, block};
+use log_layout::View;
 use logger_view::{ViewFault, load, store_free, store_label, store_view};
 use spin_model::{Awake, Spindle, Spun};
 use std::alloc::Global;
 use std::process::Abort;
 use std::test::Fail;
 use wol_disk::{Failed, MemDisk, NoMemory};
-
-const LABEL: Label = Label {
-    id: 0,
-    home: 1_000,
-    segments: 4,
-    segment_blocks: 16,
-};
 
 // A part of volume 3 with two blocks of zeros.
 fn zeros(alloc: Global) -> Result<Spun<MemDisk>, NoMemory>

@@ -1,13 +1,12 @@
 // Groups: consecutive writes that go to a log together.
-use super::making::{apart, new_rig};
+use super::making::{apart, resting_rig};
 use log_segment::Item;
 use manager::{Place, Sources, WriteRefusal};
 use std::test::Fail;
 
 #[test]
 fn a_run_of_writes_goes_to_a_log_as_one(rt: HostRuntime) -> Result<(), Fail> {
-    let mut rig = new_rig(&rt, rt.alloc());
-    rig.begin(false, true);
+    let mut rig = resting_rig(&rt, rt.alloc());
     let items = [
         Item { lbn: 0, count: 1 },
         Item { lbn: 1, count: 1 },
@@ -25,8 +24,7 @@ fn a_run_of_writes_goes_to_a_log_as_one(rt: HostRuntime) -> Result<(), Fail> {
 
 #[test]
 fn what_would_go_home_joins_no_group(rt: HostRuntime) -> Result<(), Fail> {
-    let mut rig = new_rig(&rt, rt.alloc());
-    rig.begin(false, true);
+    let mut rig = resting_rig(&rt, rt.alloc());
     let first = rig.write(&rt, 0, &[[7; 512]]);
     rig.begin(true, true);
     let items = [Item { lbn: 0, count: 1 }, Item { lbn: 1, count: 1 }];
@@ -41,8 +39,7 @@ fn what_would_go_home_joins_no_group(rt: HostRuntime) -> Result<(), Fail> {
 
 #[test]
 fn a_group_ends_where_the_segment_has_no_room(rt: HostRuntime) -> Result<(), Fail> {
-    let mut rig = new_rig(&rt, rt.alloc());
-    rig.begin(false, true);
+    let mut rig = resting_rig(&rt, rt.alloc());
     let items = [Item { lbn: 0, count: 1 }; 16];
     let wrote = rig.write_run(&rt, &items, &[[7; 512]; 16]);
     let full = rig.write_run(&rt, &items[15..], &[[8; 512]]);
@@ -55,8 +52,7 @@ fn a_group_ends_where_the_segment_has_no_room(rt: HostRuntime) -> Result<(), Fai
 // One more is that of the scan that found the segment free, and two are those of its claim.
 #[test]
 fn eight_writes_to_a_log_take_two_syncs(rt: HostRuntime) -> Result<(), Fail> {
-    let mut rig = new_rig(&rt, rt.alloc());
-    rig.begin(false, true);
+    let mut rig = resting_rig(&rt, rt.alloc());
     let items = [Item { lbn: 0, count: 1 }; 8];
     let wrote = rig.write_run(&rt, &items, &[[7; 512]; 8]);
     let Some((index, part)) = apart(&rt, rt.alloc(), rig).held.pop() else {

@@ -83,8 +83,8 @@ fn sleeping<R: Abort + Wait>(
     (lock, keeper, pass)
 }
 
-/// A new rig, in which home's disk has gone to sleep and both disks count as awake.
-pub fn new_rig<R: Abort + Wait>(rt: &R, alloc: Global) -> Rig
+// A new rig, in which home's disk has gone to sleep and both disks count as awake.
+fn new_rig<R: Abort + Wait>(rt: &R, alloc: Global) -> Rig
     ensures { IsRig result }
 {
     let (home_lock, keeper, home_pass) = sleeping(rt, alloc);
@@ -104,6 +104,15 @@ pub fn new_rig<R: Abort + Wait>(rt: &R, alloc: Global) -> Rig
         own_pool,
         keeper,
     }
+}
+
+/// A new rig of which the logger alone counts as awake.
+pub fn resting_rig<R: Abort + Wait>(rt: &R, alloc: Global) -> Rig
+    ensures { IsRig result }
+{
+    let mut rig = new_rig(rt, alloc);
+    rig.begin(false, true);
+    rig
 }
 
 /// Takes it apart.

@@ -1,5 +1,5 @@
 // A write to the log of another volume while the disk of its own is asleep.
-use super::making::{apart, new_rig};
+use super::making::{apart, resting_rig};
 use manager::{Place, Sources};
 use std::test::Fail;
 use wol_model::Turned;
@@ -8,8 +8,7 @@ use wol_model::Turned;
 fn a_write_goes_to_the_log_of_an_awake_logger_and_home_stays_asleep(
     rt: HostRuntime,
 ) -> Result<(), Fail> {
-    let mut rig = new_rig(&rt, rt.alloc());
-    rig.begin(false, true);
+    let mut rig = resting_rig(&rt, rt.alloc());
     let wrote = rig.write(&rt, 0, &[[7; 512], [8; 512]]);
     let mut out = [[0; 512]; 2];
     let read = rig.read(&rt, 0, &mut out);

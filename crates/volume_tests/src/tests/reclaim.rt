@@ -1,7 +1,7 @@
 // Records that lie over one another go home, and what they keep is given up.
 ghost use Rattle.volume_tests.specs.Rigs.{IsRig};
 
-use super::making::{apart, new_rig};
+use super::making::{apart, resting_rig};
 use crate::rig::Rig;
 use garbage_list::may_go;
 use manager::{Place, Sources};
@@ -39,8 +39,7 @@ fn marks_of(index: &Index, version: u64) -> Option<Marks> {
 fn overlapping<R: Abort + Wait>(rt: &R, alloc: Global) -> Rig
     ensures { IsRig result }
 {
-    let mut rig = new_rig(rt, alloc);
-    rig.begin(false, true);
+    let mut rig = resting_rig(rt, alloc);
     let first = rig.write(rt, 1, &[[11; 512], [12; 512], [13; 512], [14; 512]]);
     let second = rig.write(rt, 2, &[[22; 512], [23; 512]]);
     assert!(rt; first == Ok(Place::Log { logger: 1 }));
@@ -145,8 +144,7 @@ fn two_versions_go_home_and_are_gone_in_order(rt: HostRuntime) -> Result<(), Fai
 fn a_block_that_was_overwritten_since_it_was_fetched_is_not_put_home(
     rt: HostRuntime,
 ) -> Result<(), Fail> {
-    let mut rig = new_rig(&rt, rt.alloc());
-    rig.begin(false, true);
+    let mut rig = resting_rig(&rt, rt.alloc());
     let first = rig.write(&rt, 5, &[[1; 512]]);
     rig.begin(true, true);
     let fetched = rig.fetch(&rt);
