@@ -5,17 +5,17 @@ use std::process::Abort;
 use std::test::Fail;
 use wol_io::{MemSink, MemSource};
 
-const EXPORT_NAME: u32 = 1;
-
-const ABORT: u32 = 2;
-
-const LIST: u32 = 3;
-
-const INFO: u32 = 6;
-
-const GO: u32 = 7;
-
-const STRUCTURED_REPLY: u32 = 8;
+// The options, by their numbers. `Other` is none that is known.
+#[derive(Clone, Copy)]
+enum Ask {
+    ExportName = 1,
+    Abort = 2,
+    List = 3,
+    Info = 6,
+    Go = 7,
+    StructuredReply = 8,
+    Other = 99,
+}
 
 // What a server sends first.
 const GREETING: [u8; 18] = *b"NBDMAGICIHAVEOPT\x00\x03";
@@ -28,31 +28,29 @@ const EXPORT: [u8; 12] = *b"\x00\x00\x00\x00\x00\x00\x00\x07\xd0\x00\x00\x0d";
 
 const SIZES: [u8; 14] = *b"\x00\x03\x00\x00\x02\x00\x00\x00\x10\x00\x02\x00\x00\x00";
 
-// An option's number and its data.
-type Asked<'a> = (u32, &'a [u8]);
+// A kind of reply: an option is done, an export's name or a fact on one follows, or an error.
+#[derive(Clone, Copy)]
+enum Kind {
+    Ack = 1,
+    Server,
+    About,
+    Unsupported = 0x8000_0001,
+    Invalid = 0x8000_0003,
+    Unknown = 0x8000_0006,
+}
 
-// The number of an option, the kind of a reply to it, and the reply's data.
-type Told<'a> = (u32, u32, &'a [u8]);
+// An option and its data.
+type Asked<'a> = (Ask, &'a [u8]);
 
-// A kind of reply that ends an option well, one that tells of an export, and errors.
-const ACK: u32 = 1;
-
-const SERVER: u32 = 2;
-
-const ABOUT: u32 = 3;
-
-const UNSUPPORTED: u32 = 0x8000_0001;
-
-const INVALID: u32 = 0x8000_0003;
-
-const UNKNOWN: u32 = 0x8000_0006;
+// An option, the kind of a reply to it, and the reply's data.
+type Told<'a> = (Ask, Kind, &'a [u8]);
 
 // A client's flags and options.
 fn asked_of(alloc: Global, flags: u8, options: &[Asked<'_>]) -> Result<Vec<u8>, AllocError> {
     let mut bytes = Vec::from_slice(alloc, &[0, 0, 0, flags])?;
-    for (number, data) in options {
+    for (option, data) in options {
         bytes.extend_from_slice(b"IHAVEOPT")?;
-        bytes.extend_from_slice(&number.to_be_bytes())?;
+        bytes.extend_from_slice(&(*option as u32).to_be_bytes())?;
         bytes.extend_from_slice(&(data.len().min(9_999) as u32).to_be_bytes())?;
         bytes.extend_from_slice(data)?;
     }
@@ -62,10 +60,10 @@ fn asked_of(alloc: Global, flags: u8, options: &[Asked<'_>]) -> Result<Vec<u8>, 
 // The replies to options.
 fn told_of(alloc: Global, replies: &[Told<'_>]) -> Result<Vec<u8>, AllocError> {
     let mut bytes = Vec::new(alloc);
-    for (number, kind, data) in replies {
+    for (option, kind, data) in replies {
         bytes.extend_from_slice(b"\0\x03\xe8\x89\x04\x55\x65\xa9")?;
-        bytes.extend_from_slice(&number.to_be_bytes())?;
-        bytes.extend_from_slice(&kind.to_be_bytes())?;
+        bytes.extend_from_slice(&(*option as u32).to_be_bytes())?;
+        bytes.extend_from_slice(&(*kind as u32).to_be_bytes())?;
         bytes.extend_from_slice(&(data.len().min(9_999) as u32).to_be_bytes())?;
         bytes.extend_from_slice(data)?;
     }
@@ -99,18 +97,18 @@ fn expect<R: Abort>(
 #[test]
 fn a_client_goes(rt: HostRuntime) -> Result<(), Fail> {
     let options: [Asked<'_>; 3] = [
-        (STRUCTURED_REPLY, b""),
-        (INFO, &USR0),
-        (GO, b"\x00\x00\x00\x00\x00\x00"),
+        (Ask::StructuredReply, b""),
+        (Ask::Info, &USR0),
+        (Ask::Go, b"\x00\x00\x00\x00\x00\x00"),
     ];
     let replies: [Told<'_>; 7] = [
-        (STRUCTURED_REPLY, UNSUPPORTED, b""),
-        (INFO, ABOUT, &EXPORT),
-        (INFO, ABOUT, &SIZES),
-        (INFO, ACK, b""),
-        (GO, ABOUT, &EXPORT),
-        (GO, ABOUT, &SIZES),
-        (GO, ACK, b""),
+        (Ask::StructuredReply, Kind::Unsupported, b""),
+        (Ask::Info, Kind::About, &EXPORT),
+        (Ask::Info, Kind::About, &SIZES),
+        (Ask::Info, Kind::Ack, b""),
+        (Ask::Go, Kind::About, &EXPORT),
+        (Ask::Go, Kind::About, &SIZES),
+        (Ask::Go, Kind::Ack, b""),
     ];
     let asked = asked_of(rt.alloc(), 3, &options)?;
     let told = told_of(rt.alloc(), &replies)?;
@@ -123,7 +121,7 @@ fn an_export_is_taken_by_its_name(rt: HostRuntime) -> Result<(), Fail> {
     let alloc = rt.alloc();
     let rows: [(u8, &[u8]); 4] = [(0, &[0; 124]), (1, &[0; 124]), (2, &[]), (3, &[])];
     for (flags, zeroes) in rows {
-        let asked = asked_of(alloc, flags, &[(EXPORT_NAME, b"usr0".as_slice())])?;
+        let asked = asked_of(alloc, flags, &[(Ask::ExportName, b"usr0".as_slice())])?;
         let mut told = Vec::from_slice(alloc, &EXPORT[2..])?;
         told.extend_from_slice(zeroes)?;
         expect(&rt, alloc, asked, &[], Shaken::Agreed, Some(&told))?;
@@ -134,23 +132,23 @@ fn an_export_is_taken_by_its_name(rt: HostRuntime) -> Result<(), Fail> {
 #[test]
 fn a_client_looks_and_goes_away(rt: HostRuntime) -> Result<(), Fail> {
     let options: [Asked<'_>; 7] = [
-        (LIST, b""),
-        (LIST, b"?"),
-        (INFO, b"\x00\x00\x00\x04web0\x00\x00"),
-        (GO, b"\x00\x00\x00\x05usr0\x00\x00"),
-        (GO, b"\x00\x00\x00\x04usr0\x00\x01\x00"),
-        (GO, b"\x00\x00\x00"),
-        (ABORT, b""),
+        (Ask::List, b""),
+        (Ask::List, b"?"),
+        (Ask::Info, b"\x00\x00\x00\x04web0\x00\x00"),
+        (Ask::Go, b"\x00\x00\x00\x05usr0\x00\x00"),
+        (Ask::Go, b"\x00\x00\x00\x04usr0\x00\x01\x00"),
+        (Ask::Go, b"\x00\x00\x00"),
+        (Ask::Abort, b""),
     ];
     let replies: [Told<'_>; 8] = [
-        (LIST, SERVER, b"\x00\x00\x00\x04usr0"),
-        (LIST, ACK, b""),
-        (LIST, INVALID, b""),
-        (INFO, UNKNOWN, b""),
-        (GO, INVALID, b""),
-        (GO, INVALID, b""),
-        (GO, INVALID, b""),
-        (ABORT, ACK, b""),
+        (Ask::List, Kind::Server, b"\x00\x00\x00\x04usr0"),
+        (Ask::List, Kind::Ack, b""),
+        (Ask::List, Kind::Invalid, b""),
+        (Ask::Info, Kind::Unknown, b""),
+        (Ask::Go, Kind::Invalid, b""),
+        (Ask::Go, Kind::Invalid, b""),
+        (Ask::Go, Kind::Invalid, b""),
+        (Ask::Abort, Kind::Ack, b""),
     ];
     let asked = asked_of(rt.alloc(), 3, &options)?;
     let told = told_of(rt.alloc(), &replies)?;
@@ -204,10 +202,10 @@ fn bytes_that_are_no_handshake_end_it(rt: HostRuntime) -> Result<(), Fail> {
     Ok(())
 }
 
-// An option that is none, with the most data, and one that ends a handshake.
-const OTHER: Asked<'_> = (99, &[7; 4096]);
+// An unknown option with the most data, and one that ends a handshake.
+const OTHER: Asked<'_> = (Ask::Other, &[7; 4096]);
 
-const GOES: Asked<'_> = (GO, &USR0);
+const GOES: Asked<'_> = (Ask::Go, &USR0);
 
 #[test]
 fn options_are_at_most_sixty_four(rt: HostRuntime) -> Result<(), Fail> {
