@@ -23,14 +23,7 @@ const NAMES: [&str; 3] = ["usr0", "web0", "src0"];
 const ZEROS: &str =
     "ok sha256 2d4da04b861bb9dbe77c871415931785a18138d6db035f1bbcd0cf8277c6fc23 records 0 segments 0";
 
-// A damaged head behind the segment's, which is that of a log of usr0.
-const BEHIND: Forged<'_> = Forged {
-    changes: &[],
-    troubles: [Some("damaged 1003 of web0"), None, None],
-    status: 5,
-};
-
-const IMAGES: [Forged<'_>; 13] = [
+const IMAGES: [Forged<'_>; 7] = [
     Forged {
         changes: &[],
         troubles: [None, None, None],
@@ -82,31 +75,10 @@ const IMAGES: [Forged<'_>; 13] = [
         ],
         status: 6,
     },
-    Forged {
-        changes: &[OWNED, ("web0", 1003, MANY)],
-        ..BEHIND
-    },
-    Forged {
-        changes: &[OWNED, ("web0", 1003, OTHER_MANY)],
-        ..BEHIND
-    },
-    Forged {
-        changes: &[OWNED, ("web0", 1003, PAST)],
-        ..BEHIND
-    },
-    Forged {
-        changes: &[OWNED, ("web0", 1003, OTHER_PAST)],
-        ..BEHIND
-    },
-    Forged {
-        changes: &[OWNED, ("web0", 1003, LONG)],
-        ..BEHIND
-    },
-    Forged {
-        changes: &[OWNED, ("web0", 1003, OTHER_LONG)],
-        ..BEHIND
-    },
 ];
+
+// Heads that are damaged, behind the segment's, which is that of a log of usr0.
+const HEADS: [&[u8]; 6] = [MANY, OTHER_MANY, PAST, OTHER_PAST, LONG, OTHER_LONG];
 
 // The commands that do nothing where a volume isn't in order.
 const NEED_ALL: [&str; 4] = [
@@ -182,6 +154,15 @@ fn try_image<R: Threads + Wait + Sync>(
 fn forged_images_are_told_by_each_command(rt: HostRuntime) -> Result<(), Fail> {
     for image in &IMAGES {
         try_image(&rt, rt.alloc(), image)?;
+    }
+    for head in HEADS {
+        let changes = [OWNED, ("web0", 1003, head)];
+        let image = Forged {
+            changes: &changes,
+            troubles: [Some("damaged 1003 of web0"), None, None],
+            status: 5,
+        };
+        try_image(&rt, rt.alloc(), &image)?;
     }
     Ok(())
 }

@@ -93,20 +93,17 @@ fn try_apart<R: Threads + Wait + Sync>(
     Ok(())
 }
 
-// The same, where a call of a part fails.
+// A call in which a call of a part fails.
 fn try_broken<R: Threads + Wait + Sync>(
     rt: &R,
     alloc: Global,
     config: &str,
-    rows: &[Broken<'_>],
+    broken: Broken<'_>,
 ) -> Result<(), Fail> {
-    for broken in rows {
-        let ((image, part, number), row) = *broken;
-        let mut bay = MemBay::new(alloc);
-        bay.plan(image, part, number)?;
-        try_call(rt, alloc, &mut bay, config, &(NONE, row))?;
-    }
-    Ok(())
+    let ((image, part, number), row) = broken;
+    let mut bay = MemBay::new(alloc);
+    bay.plan(image, part, number)?;
+    try_call(rt, alloc, &mut bay, config, &(NONE, row))
 }
 
 const CONFIG_0: Faults = Faults {
@@ -206,7 +203,10 @@ const SOLO_BROKEN: [Broken<'_>; 2] = [
 #[test]
 fn tells_a_source_a_sink_and_a_disk_that_fail(rt: HostRuntime) -> Result<(), Fail> {
     try_apart(&rt, rt.alloc(), "", &[], &SOLO_FAULTS)?;
-    try_broken(&rt, rt.alloc(), "", &SOLO_BROKEN)
+    for broken in SOLO_BROKEN {
+        try_broken(&rt, rt.alloc(), "", broken)?;
+    }
+    Ok(())
 }
 
 const NO_HOME: &str = config_text!(16: "usr0" of "usr" 0 4 "");
@@ -306,7 +306,9 @@ const TWO_MADE: Row<'_> = (
 #[test]
 fn formats_volumes(rt: HostRuntime) -> Result<(), Fail> {
     try_apart(&rt, rt.alloc(), TWO_VOLUMES, &[], &FORMAT_FAULTS)?;
-    try_broken(&rt, rt.alloc(), TWO_VOLUMES, &FORMAT_BROKEN)?;
+    for broken in FORMAT_BROKEN {
+        try_broken(&rt, rt.alloc(), TWO_VOLUMES, broken)?;
+    }
     let mut bay = MemBay::new(rt.alloc());
     bay.put("a", &[7; 600])?;
     try_all(
