@@ -40,6 +40,14 @@ impl Stream {
             Stream::Sink => 7,
         }
     }
+
+    /// How many calls of it a command makes at least.
+    pub fn least_calls(self) -> u64 {
+        match self {
+            Stream::Config | Stream::Trace => 11,
+            Stream::Sink => 1,
+        }
+    }
 }
 
 impl Failing<'_> {

@@ -1,7 +1,7 @@
 // Each call of a disk, of a source and of the sink fails alone.
 use super::calls::{Failing, Stream};
 use super::rows::{CLEANED, FORMATTED, RECLAIMED, Row, SMALL_DRAINED, keeping};
-use super::stops::{Remains, found, left_by, prepared, stopped, without_last_line};
+use super::stops::{Case, Remains, found, left_by, prepared, stopped, without_last_line};
 use fixtures::{Call, Left, RECLAIMS, holds_at, same, same_at};
 use std::alloc::Global;
 use std::sync::Wait;
@@ -32,13 +32,11 @@ const MOST_CALLS: u64 = 1000;
 fn failed<R: Threads + Wait + Sync>(
     rt: &R,
     alloc: Global,
-    row: &Row<'_>,
-    images: &[Vec<Block>],
+    case: Case<'_>,
     failing: Failing<'_>,
-    left: Left,
 ) -> Result<(u8, String), Fail> {
-    let stop = left_by(rt, alloc, row, row.call, images, failing, left)?;
-    let _places = found(rt, alloc, row, &stop.images)?;
+    let stop = left_by(rt, alloc, case, failing)?;
+    let _places = found(rt, alloc, case.row, &stop.images)?;
     Ok((stop.status, String::from_utf8_lossy(alloc, &stop.text)?))
 }
 
@@ -54,19 +52,19 @@ fn fault_at<'a>(faults: &[Faults<'a>], number: u64) -> Option<(u8, &'a str, bool
     None
 }
 
-// Each call of a part fails in turn.
+// Each call of a part fails in turn. It ends the same where a crash leaves all that the call did.
 fn try_part<R: Threads + Wait + Sync>(
     rt: &R,
     alloc: Global,
-    row: &Row<'_>,
-    images: &[Vec<Block>],
+    case: Case<'_>,
     part: Part<'_>,
 ) -> Result<(), Fail> {
-    let (words, (image, place, faults)) = (row.call.words, part);
+    let (words, (image, place, faults)) = (case.row.call.words, part);
+    let newest = Case::new(case.row, case.images, Left::AllNew);
     for number in 0..MOST_CALLS {
         let failing = Failing::Part(image, place, number);
-        let (status, text) = failed(rt, alloc, row, images, failing, Left::AllOld)?;
-        let (newer, _text) = failed(rt, alloc, row, images, failing, Left::AllNew)?;
+        let (status, text) = failed(rt, alloc, case, failing)?;
+        let (newer, _text) = failed(rt, alloc, newest, failing)?;
         same(&newer, &status)?;
         let (wanted, line, may_end) = fault_at(faults, number).unwrap_or((0, "", true));
         if may_end && status == 0 {
@@ -86,8 +84,9 @@ fn try_parts<R: Threads + Wait + Sync>(
     parts: &[Part<'_>],
 ) -> Result<(), Fail> {
     let images = prepared(rt, alloc, row)?;
+    let case = Case::new(row, &images, Left::AllOld);
     for part in parts {
-        try_part(rt, alloc, row, &images, *part)?;
+        try_part(rt, alloc, case, *part)?;
     }
     Ok(())
 }
@@ -108,25 +107,24 @@ fn is_told(stream: Stream, left: &Remains, whole: &Remains, images: &[Vec<Block>
     }
 }
 
-// Each call of a stream fails in turn, and there are so many at least.
+// Each call of a stream fails in turn.
 fn try_stream<R: Threads + Wait + Sync>(
     rt: &R,
     alloc: Global,
     row: &Row<'_>,
     stream: Stream,
-    least: u64,
 ) -> Result<(), Fail> {
     let words = row.call.words;
     let images = prepared(rt, alloc, row)?;
-    let whole = stopped(rt, alloc, row, row.call, &images, u64::MAX, Left::AllNew)?;
+    let case = Case::new(row, &images, Left::AllNew);
+    let whole = stopped(rt, alloc, case, u64::MAX)?;
     for number in 0..MOST_CALLS {
-        let failing = Failing::Stream(stream, number);
-        let left = left_by(rt, alloc, row, row.call, &images, failing, Left::AllNew)?;
+        let left = left_by(rt, alloc, case, Failing::Stream(stream, number))?;
         if stream != Stream::Config {
             let _places = found(rt, alloc, row, &left.images)?;
         }
         if left.status == 0 {
-            holds_at(number >= least, &words)?;
+            holds_at(number >= stream.least_calls(), &words)?;
             same_at(&left.text.as_slice(), &whole.text.as_slice(), &words)?;
             return Ok(());
         }
@@ -151,10 +149,10 @@ const OTHERS: [&str; 7] = [
 #[test]
 fn a_configuration_that_cannot_be_read_touches_nothing(rt: HostRuntime) -> Result<(), Fail> {
     for words in OTHERS {
-        try_stream(&rt, rt.alloc(), &keeping(words, &[]), Stream::Config, 11)?;
+        try_stream(&rt, rt.alloc(), &keeping(words, &[]), Stream::Config)?;
     }
     for row in &[FORMATTED, RECLAIMED, CLEANED] {
-        try_stream(&rt, rt.alloc(), row, Stream::Config, 11)?;
+        try_stream(&rt, rt.alloc(), row, Stream::Config)?;
     }
     Ok(())
 }
@@ -169,7 +167,7 @@ fn a_trace_that_cannot_be_read_further_was_run_so_far(rt: HostRuntime) -> Result
         ..keeping("whatif", &[])
     };
     for row in &[SMALL_DRAINED, RECLAIMED, compared] {
-        try_stream(&rt, rt.alloc(), row, Stream::Trace, 11)?;
+        try_stream(&rt, rt.alloc(), row, Stream::Trace)?;
     }
     Ok(())
 }
@@ -177,26 +175,26 @@ fn a_trace_that_cannot_be_read_further_was_run_so_far(rt: HostRuntime) -> Result
 #[test]
 fn an_output_that_is_refused_loses_nothing(rt: HostRuntime) -> Result<(), Fail> {
     for words in OTHERS {
-        try_stream(&rt, rt.alloc(), &keeping(words, &[]), Stream::Sink, 1)?;
+        try_stream(&rt, rt.alloc(), &keeping(words, &[]), Stream::Sink)?;
     }
     for row in &[SMALL_DRAINED, RECLAIMED, FORMATTED, CLEANED] {
-        try_stream(&rt, rt.alloc(), row, Stream::Sink, 1)?;
+        try_stream(&rt, rt.alloc(), row, Stream::Sink)?;
     }
     Ok(())
 }
 
+// The first calls of a part of `b`, which `a` opens.
+const NO_LOG: Faults<'_> = (2, 6, "fault 6 a logger 1 missing");
+
 const IN_A_DRAIN: &[Part<'_>] = &[
     ("a", LABEL, &[(2, 4, "fault 4 a disk label")]),
     ("a", HOME, &[(REST, 4, "fault 4 a disk home")]),
-    ("b", LABEL, &[(2, 6, "fault 6 a logger 1 missing")]),
+    ("b", LABEL, &[NO_LOG]),
     ("b", HOME, &[(REST, 4, "fault 4 b disk home")]),
     (
         "b",
         SEGMENTS,
-        &[
-            (2, 6, "fault 6 a logger 1 missing"),
-            (REST, 4, "fault 4 a disk segment 0 of b"),
-        ],
+        &[NO_LOG, (REST, 4, "fault 4 a disk segment 0 of b")],
     ),
 ];
 
@@ -210,11 +208,7 @@ const IN_A_FORMAT: &[Part<'_>] = &[
     ("a", HOME, &[(1, 4, "fault 4 a disk home")]),
     ("b", LABEL, &[(REST, 4, "fault 4 b disk label")]),
     ("b", HOME, &[(1, 4, "fault 4 b disk home")]),
-    (
-        "b",
-        SEGMENTS,
-        &[(REST, 4, "fault 4 b disk segment 0 of b")],
-    ),
+    ("b", SEGMENTS, &[(REST, 4, "fault 4 b disk segment 0 of b")]),
 ];
 
 #[test]
@@ -257,22 +251,27 @@ fn each_call_of_a_disk_that_fails_in_a_check_is_told(rt: HostRuntime) -> Result<
 // The first calls of a part of `w`, which the volume of another opens.
 const MISSING: Faults<'_> = (2, 6, "fault 6 u logger 1 missing");
 
+// The segments of `w` that have records of `u` and of `s`.
+const LOG_OF_U: Part<'_> = (
+    "w",
+    SEGMENTS,
+    &[MISSING, (REST, 4, "fault 4 u disk segment 0 of w")],
+);
+
+const LOG_OF_S: Part<'_> = (
+    "w",
+    SEGMENTS + 1,
+    &[MISSING, (REST, 4, "fault 4 s disk segment 1 of w")],
+);
+
 const IN_A_CHANGE: &[Part<'_>] = &[
     ("u", LABEL, &[(2, 4, "fault 4 u disk label")]),
     ("u", HOME, &[(REST, 4, "fault 4 u disk home")]),
     ("u", SEGMENTS, &[(2, 4, "fault 4 u disk segment 0 of u")]),
     ("w", LABEL, &[MISSING]),
     ("w", HOME, &[(1, 4, "fault 4 w disk home")]),
-    (
-        "w",
-        SEGMENTS,
-        &[MISSING, (REST, 4, "fault 4 u disk segment 0 of w")],
-    ),
-    (
-        "w",
-        SEGMENTS + 1,
-        &[MISSING, (REST, 4, "fault 4 s disk segment 1 of w")],
-    ),
+    LOG_OF_U,
+    LOG_OF_S,
     ("s", HOME, &[(1, 4, "fault 4 s disk home")]),
 ];
 
@@ -292,16 +291,8 @@ const IN_A_CLEANING: &[Part<'_>] = &[
     ("u", LABEL, &[(2, 4, "fault 4 u disk label")]),
     ("u", HOME, &[(1, 4, "fault 4 u disk home")]),
     ("w", LABEL, &[MISSING]),
-    (
-        "w",
-        SEGMENTS,
-        &[MISSING, (REST, 4, "fault 4 u disk segment 0 of w")],
-    ),
-    (
-        "w",
-        SEGMENTS + 1,
-        &[MISSING, (REST, 4, "fault 4 s disk segment 1 of w")],
-    ),
+    LOG_OF_U,
+    LOG_OF_S,
     (
         "w",
         SEGMENTS + 2,

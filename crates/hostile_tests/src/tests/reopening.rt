@@ -1,7 +1,7 @@
 // Disks that stop once more while what a stop left is looked at.
 use super::rows::Row;
-use super::stops::{checked, stopped};
-use fixtures::{Left, asked, holds_at, same_at};
+use super::stops::{Case, checked, stopped};
+use fixtures::{asked, holds_at, same_at};
 use std::alloc::Global;
 use std::sync::Wait;
 use std::test::Fail;
@@ -9,19 +9,18 @@ use std::thread::Threads;
 use wol_disk::Block;
 
 // Wherever a `check` of these images is stopped, a further one prints what an unstopped one prints.
-fn try_images<R: Threads + Wait + Sync>(
-    rt: &R,
-    alloc: Global,
-    row: &Row<'_>,
-    images: &[Vec<Block>],
-    left: Left,
-) -> Result<(), Fail> {
-    let check = asked("check");
+fn try_images<R: Threads + Wait + Sync>(rt: &R, alloc: Global, case: Case<'_>) -> Result<(), Fail> {
+    let Case { row, images, left } = case;
     let words = row.call.words;
+    let check = Row {
+        call: asked("check"),
+        ..*row
+    };
+    let case = Case::new(&check, images, left);
     let text = checked(rt, alloc, row, images)?;
-    let whole = stopped(rt, alloc, row, check, images, u64::MAX, left)?;
+    let whole = stopped(rt, alloc, case, u64::MAX)?;
     for calls in 0..whole.passed {
-        let stop = stopped(rt, alloc, row, check, images, calls, left)?;
+        let stop = stopped(rt, alloc, case, calls)?;
         let at = format!(in alloc; "{words} {calls} {left:?}: {}", stop.status)?;
         holds_at(matches!(stop.status, 4 | 5 | 6), &at)?;
         let again = checked(rt, alloc, row, &stop.images)?;
@@ -34,16 +33,14 @@ fn try_images<R: Threads + Wait + Sync>(
 pub fn try_choice<R: Threads + Wait + Sync>(
     rt: &R,
     alloc: Global,
-    row: &Row<'_>,
-    images: &[Vec<Block>],
-    left: Left,
+    case: Case<'_>,
 ) -> Result<(), Fail> {
-    let whole = stopped(rt, alloc, row, row.call, images, u64::MAX, left)?;
+    let whole = stopped(rt, alloc, case, u64::MAX)?;
     let mut last: Vec<Vec<Block>> = Vec::new(alloc);
     for calls in 0..=whole.passed {
-        let stop = stopped(rt, alloc, row, row.call, images, calls, left)?;
+        let stop = stopped(rt, alloc, case, calls)?;
         if stop.images != last {
-            try_images(rt, alloc, row, &stop.images, left)?;
+            try_images(rt, alloc, Case::new(case.row, &stop.images, case.left))?;
         }
         last = stop.images;
     }

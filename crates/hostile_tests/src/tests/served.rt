@@ -2,7 +2,7 @@
 // a buffer of 32 MiB, so there is one of each kind.
 use super::calls::{Failing, Stream};
 use super::rows::{Row, keeping};
-use super::stops::{Look, Remains, found, left_by, prepared, stopped, try_row};
+use super::stops::{Case, Look, Remains, found, left_by, prepared, stopped, try_row};
 use fixtures::{
     CHOICES, Call, DISC, Data, Exchange, FLUSH, Left, NO_DATA, READ, WRITE, ask_all, holds_at,
     reply_all, same, same_at,
@@ -11,7 +11,6 @@ use std::alloc::Global;
 use std::sync::Wait;
 use std::test::Fail;
 use std::thread::Threads;
-use wol_disk::Block;
 
 // The first write joins what is in a log, the second goes home, the third finds the log full.
 const EXCHANGES: [Exchange<'_>; 6] = [
@@ -104,10 +103,10 @@ struct Texts {
     told: Vec<u8>,
 }
 
-// A session on volumes: what the client gets where nothing fails, and how much of that comes before the replies.
+// A session in a case: what the client gets where nothing fails, and how much of that comes before the replies.
 #[derive(Clone, Copy)]
 struct Session<'a> {
-    row: Row<'a>,
+    case: Case<'a>,
     wanted: &'a [u8],
     told: usize,
 }
@@ -126,19 +125,15 @@ fn texts_of(alloc: Global, opening: &Opening<'_>) -> Result<Texts, Fail> {
     Ok(Texts { asked, told })
 }
 
-// The session of these words, which gets so many bytes before the replies.
-fn session_of<'a>(words: &'a str, told: usize, texts: &'a Texts) -> Session<'a> {
-    Session {
-        row: Row {
-            call: Call {
-                words,
-                trace: &texts.asked,
-            },
-            lines: LINES,
-            ..keeping(words, &[])
+// A session of these words.
+fn row_of<'a>(words: &'a str, texts: &'a Texts) -> Row<'a> {
+    Row {
+        call: Call {
+            words,
+            trace: &texts.asked,
         },
-        wanted: &texts.told,
-        told,
+        lines: LINES,
+        ..keeping(words, &[])
     }
 }
 
@@ -182,7 +177,7 @@ fn place_of<R: Threads + Wait + Sync>(
     session: &Session<'_>,
     left: &Remains,
 ) -> Result<usize, Fail> {
-    let places = found(rt, alloc, &session.row, &left.images)?;
+    let places = found(rt, alloc, session.case.row, &left.images)?;
     let (_, replies) = session.parts(&left.text);
     let (Some(place), Some((least, most))) = (places.first(), BEHIND.get(answered(replies))) else {
         return Err(Fail::from("no volume"));
@@ -197,18 +192,16 @@ fn try_choice<R: Threads + Wait + Sync>(
     rt: &R,
     alloc: Global,
     session: &Session<'_>,
-    images: &[Vec<Block>],
-    left: Left,
 ) -> Result<(), Fail> {
-    let row = &session.row;
-    let whole = stopped(rt, alloc, row, row.call, images, u64::MAX, left)?;
+    let case = session.case;
+    let whole = stopped(rt, alloc, case, u64::MAX)?;
     same(&whole.status, &0)?;
     same(&whole.text.as_slice(), &session.wanted)?;
     same(&place_of(rt, alloc, session, &whole)?, &5)?;
     let mut before = 0;
     for calls in 0..whole.passed {
-        let stop = stopped(rt, alloc, row, row.call, images, calls, left)?;
-        let at = format!(in alloc; "{calls} {left:?}: {}", stop.status)?;
+        let stop = stopped(rt, alloc, case, calls)?;
+        let at = format!(in alloc; "{calls} {:?}: {}", case.left, stop.status)?;
         same_at(&stop.passed, &calls, &at)?;
         holds_at(session.is_told(&stop), &at)?;
         let place = place_of(rt, alloc, session, &stop)?;
@@ -223,13 +216,10 @@ fn try_stream<R: Threads + Wait + Sync>(
     rt: &R,
     alloc: Global,
     session: &Session<'_>,
-    images: &[Vec<Block>],
     stream: Stream,
 ) -> Result<(), Fail> {
-    let row = &session.row;
     for number in 0..MOST_CALLS {
-        let failing = Failing::Stream(stream, number);
-        let left = left_by(rt, alloc, row, row.call, images, failing, Left::AllNew)?;
+        let left = left_by(rt, alloc, session.case, Failing::Stream(stream, number))?;
         let place = place_of(rt, alloc, session, &left)?;
         let at = format!(in alloc; "{stream:?} {number}")?;
         if left.status == 0 {
@@ -263,15 +253,12 @@ fn try_part<R: Threads + Wait + Sync>(
     rt: &R,
     alloc: Global,
     session: &Session<'_>,
-    images: &[Vec<Block>],
     part: Part<'_>,
-    left: Left,
 ) -> Result<(), Fail> {
     let (image, place, _, _) = part;
-    let row = &session.row;
     for number in 0..MOST_CALLS {
         let failing = Failing::Part(image, place, number);
-        let stop = left_by(rt, alloc, row, row.call, images, failing, left)?;
+        let stop = left_by(rt, alloc, session.case, failing)?;
         let status = status_at(part, number);
         let at = format!(in alloc; "{image} {place} {number}")?;
         same_at(&stop.status, &status, &at)?;
@@ -292,32 +279,56 @@ enum Fault {
     Part,
 }
 
-// Each such fault in a session that begins so.
-fn try_session<R: Threads + Wait + Sync>(
+// What is left of the disks by the crashes behind such a fault.
+fn choices_of(fault: Fault) -> &'static [Left] {
+    match fault {
+        Fault::Disks => &CHOICES,
+        Fault::Stream => &[Left::AllNew],
+        Fault::Part => &[Left::AllOld, Left::AllNew],
+    }
+}
+
+// Each such fault in a session.
+fn try_fault<R: Threads + Wait + Sync>(
     rt: &R,
     alloc: Global,
-    opening: &Opening<'_>,
+    session: Session<'_>,
     fault: Fault,
 ) -> Result<(), Fail> {
-    let texts = texts_of(alloc, opening)?;
-    let session = session_of(opening.words, opening.told.len(), &texts);
-    let images = prepared(rt, alloc, &session.row)?;
     match fault {
-        Fault::Disks => {
-            for left in CHOICES {
-                try_choice(rt, alloc, &session, &images, left)?;
-            }
-        }
+        Fault::Disks => try_choice(rt, alloc, &session)?,
         Fault::Stream => {
             for stream in [Stream::Config, Stream::Trace, Stream::Sink] {
-                try_stream(rt, alloc, &session, &images, stream)?;
+                try_stream(rt, alloc, &session, stream)?;
             }
         }
         Fault::Part => {
             for part in PARTS {
-                try_part(rt, alloc, &session, &images, part, Left::AllOld)?;
-                try_part(rt, alloc, &session, &images, part, Left::AllNew)?;
+                try_part(rt, alloc, &session, part)?;
             }
+        }
+    }
+    Ok(())
+}
+
+// So in sessions that begin so, with each choice of what is left.
+fn try_sessions<R: Threads + Wait + Sync>(
+    rt: &R,
+    alloc: Global,
+    openings: &[Opening<'_>],
+    fault: Fault,
+) -> Result<(), Fail> {
+    for opening in openings {
+        let texts = texts_of(alloc, opening)?;
+        let row = row_of(opening.words, &texts);
+        let images = prepared(rt, alloc, &row)?;
+        for left in choices_of(fault) {
+            let session = Session {
+                case: Case::new(&row, &images, *left),
+                wanted: &texts.told,
+                told: opening.told.len(),
+            };
+            try_fault(rt, alloc, session, fault)?;
         }
     }
     Ok(())
@@ -325,24 +336,22 @@ fn try_session<R: Threads + Wait + Sync>(
 
 #[test]
 fn a_session_whose_disks_stop_keeps_what_was_answered(rt: HostRuntime) -> Result<(), Fail> {
-    try_session(&rt, rt.alloc(), &AT_ONCE, Fault::Disks)?;
-    try_session(&rt, rt.alloc(), &SHAKEN, Fault::Disks)
+    try_sessions(&rt, rt.alloc(), &[AT_ONCE, SHAKEN], Fault::Disks)
 }
 
 #[test]
 fn a_client_that_fails_has_what_was_answered(rt: HostRuntime) -> Result<(), Fail> {
-    try_session(&rt, rt.alloc(), &AT_ONCE, Fault::Stream)?;
-    try_session(&rt, rt.alloc(), &SHAKEN, Fault::Stream)
+    try_sessions(&rt, rt.alloc(), &[AT_ONCE, SHAKEN], Fault::Stream)
 }
 
 #[test]
 fn each_call_of_a_disk_that_fails_in_a_session_is_told(rt: HostRuntime) -> Result<(), Fail> {
-    try_session(&rt, rt.alloc(), &AT_ONCE, Fault::Part)
+    try_sessions(&rt, rt.alloc(), &[AT_ONCE], Fault::Part)
 }
 
 #[test]
 fn a_check_that_stops_changes_nothing_after_a_session(rt: HostRuntime) -> Result<(), Fail> {
     let texts = texts_of(rt.alloc(), &AT_ONCE)?;
-    let session = session_of(AT_ONCE.words, AT_ONCE.told.len(), &texts);
-    try_row(&rt, rt.alloc(), &session.row, Look::StoppedChecks)
+    let row = row_of(AT_ONCE.words, &texts);
+    try_row(&rt, rt.alloc(), &row, Look::StoppedChecks)
 }

@@ -1,7 +1,7 @@
 // A disk that stops while the lines of one volume are run on it.
 use super::calls::{Failing, Stream};
 use super::rows::Row;
-use super::stops::{Remains, left_by, prepared, stopped};
+use super::stops::{Case, Remains, left_by, prepared, stopped};
 use fixtures::{CHOICES, Call, Left, holds_at, same, same_at};
 use std::alloc::Global;
 use std::sync::Wait;
@@ -92,12 +92,13 @@ fn reads(text: &[u8]) -> usize {
 
 fn try_choice<R: Threads + Wait + Sync>(rt: &R, alloc: Global, left: Left) -> Result<(), Fail> {
     let images = prepared(rt, alloc, &SOLO)?;
-    let whole = stopped(rt, alloc, &SOLO, SOLO.call, &images, u64::MAX, left)?;
+    let case = Case::new(&SOLO, &images, left);
+    let whole = stopped(rt, alloc, case, u64::MAX)?;
     same(&(whole.status, found(&whole.images)?), &(0, 6))?;
     same(&whole.text.as_slice(), &PRINTED)?;
     let mut before = 0;
     for calls in 0..whole.passed {
-        let stop = stopped(rt, alloc, &SOLO, SOLO.call, &images, calls, left)?;
+        let stop = stopped(rt, alloc, case, calls)?;
         same(&(stop.status, stop.passed), &(4, calls))?;
         holds_at(stop.text.ends_with(b"fault 4 solo disk home\n"), &calls)?;
         let place = found(&stop.images)?;
@@ -126,7 +127,7 @@ fn failed<R: Threads + Wait + Sync>(
     failing: Failing<'_>,
 ) -> Result<Remains, Fail> {
     let images = prepared(rt, alloc, &SOLO)?;
-    left_by(rt, alloc, &SOLO, SOLO.call, &images, failing, Left::AllNew)
+    left_by(rt, alloc, Case::new(&SOLO, &images, Left::AllNew), failing)
 }
 
 #[test]

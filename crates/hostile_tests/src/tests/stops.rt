@@ -2,13 +2,27 @@
 use super::calls::{Failing, make_call, plan};
 use super::reopening;
 use super::rows::{CLEANED, DRAINED, FORMATTED, KEEPING, RECLAIMED, Row, SMALL_DRAINED, keeping};
-use fixtures::{CHOICES, Call, Left, asked, bay_of, crash, holds_at, images_of, same_at};
+use fixtures::{CHOICES, Left, asked, bay_of, crash, holds_at, images_of, same_at};
 use std::alloc::Global;
 use std::sync::{Arc, Wait};
 use std::test::Fail;
 use std::thread::Threads;
 use wol_bay::MemBay;
 use wol_disk::{Block, Fuse};
+
+/// A row over images, and what a crash leaves of them.
+#[derive(Clone, Copy)]
+pub struct Case<'a> {
+    pub row: &'a Row<'a>,
+    pub images: &'a [Vec<Block>],
+    pub left: Left,
+}
+
+impl<'a> Case<'a> {
+    pub fn new(row: &'a Row<'a>, images: &'a [Vec<Block>], left: Left) -> Self {
+        Case { row, images, left }
+    }
+}
 
 /// What is left of a call around which something fails.
 #[derive(Drop)]
@@ -41,16 +55,14 @@ pub fn prepared<R: Threads + Wait + Sync>(
     images_of(alloc, &mut bay, row.volumes)
 }
 
-/// A call around which something fails, and then a crash of the disks. `Left::AllNew` leaves what the call did.
+/// The row's call, around which something fails, and then a crash of the disks. `Left::AllNew` leaves what the call did.
 pub fn left_by<R: Threads + Wait + Sync>(
     rt: &R,
     alloc: Global,
-    row: &Row<'_>,
-    call: Call<'_>,
-    images: &[Vec<Block>],
+    case: Case<'_>,
     failing: Failing<'_>,
-    left: Left,
 ) -> Result<Remains, Fail> {
+    let Case { row, images, left } = case;
     let calls = match failing {
         Failing::Disks(calls) => calls,
         _ => u64::MAX,
@@ -59,7 +71,7 @@ pub fn left_by<R: Threads + Wait + Sync>(
     let mut bay = bay_of(alloc, row.volumes, images)?;
     plan(&mut bay, failing)?;
     bay.set_fuse(Some(Arc::try_clone(&fuse)?));
-    let (status, text) = make_call(rt, alloc, &mut bay, row.config, call, failing)?;
+    let (status, text) = make_call(rt, alloc, &mut bay, row.config, row.call, failing)?;
     crash(alloc, &mut bay, row.volumes, left)?;
     bay.set_fuse(None);
     let images = images_of(alloc, &mut bay, row.volumes)?;
@@ -71,18 +83,14 @@ pub fn left_by<R: Threads + Wait + Sync>(
     })
 }
 
-/// A call over disks that stop after so many calls, and then crash.
+/// The row's call over disks that stop after so many calls, and then crash.
 pub fn stopped<R: Threads + Wait + Sync>(
     rt: &R,
     alloc: Global,
-    row: &Row<'_>,
-    call: Call<'_>,
-    images: &[Vec<Block>],
+    case: Case<'_>,
     calls: u64,
-    left: Left,
 ) -> Result<Remains, Fail> {
-    let failing = Failing::Disks(calls);
-    left_by(rt, alloc, row, call, images, failing, left)
+    left_by(rt, alloc, case, Failing::Disks(calls))
 }
 
 /// What `check` prints of images.
@@ -146,7 +154,8 @@ fn try_again<R: Threads + Wait + Sync>(
     if row.again.is_empty() {
         return Ok(());
     }
-    let again = stopped(rt, alloc, row, row.call, images, u64::MAX, Left::AllOld)?;
+    let case = Case::new(row, images, Left::AllOld);
+    let again = stopped(rt, alloc, case, u64::MAX)?;
     let at = format!(in alloc; "{} {}", row.call.words, again.status)?;
     holds_at(row.again.contains(&again.status), &at)?;
     let places = found(rt, alloc, row, &again.images)?;
@@ -159,19 +168,14 @@ fn tells_each(words: &str) -> bool {
     words == "check" || words == "dump"
 }
 
-// Stops at each call of a disk, with one choice of what is left.
-fn try_choice<R: Threads + Wait + Sync>(
-    rt: &R,
-    alloc: Global,
-    row: &Row<'_>,
-    images: &[Vec<Block>],
-    left: Left,
-) -> Result<(), Fail> {
+// Stops at each call of a disk.
+fn try_choice<R: Threads + Wait + Sync>(rt: &R, alloc: Global, case: Case<'_>) -> Result<(), Fail> {
+    let Case { row, images, left } = case;
     let words = row.call.words;
-    let whole = stopped(rt, alloc, row, row.call, images, u64::MAX, left)?;
+    let whole = stopped(rt, alloc, case, u64::MAX)?;
     let mut before = found(rt, alloc, row, images)?;
     for calls in 0..whole.passed {
-        let stop = stopped(rt, alloc, row, row.call, images, calls, left)?;
+        let stop = stopped(rt, alloc, case, calls)?;
         let at = format!(in alloc; "{words} {calls} {left:?}: {}", stop.status)?;
         holds_at(matches!(stop.status, 4 | 6), &at)?;
         same_at(&stop.passed, &calls, &at)?;
@@ -207,9 +211,10 @@ pub fn try_row<R: Threads + Wait + Sync>(
 ) -> Result<(), Fail> {
     let images = prepared(rt, alloc, row)?;
     for left in CHOICES {
+        let case = Case::new(row, &images, left);
         match look {
-            Look::Volumes => try_choice(rt, alloc, row, &images, left)?,
-            Look::StoppedChecks => reopening::try_choice(rt, alloc, row, &images, left)?,
+            Look::Volumes => try_choice(rt, alloc, case)?,
+            Look::StoppedChecks => reopening::try_choice(rt, alloc, case)?,
         }
     }
     Ok(())
