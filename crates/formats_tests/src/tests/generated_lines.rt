@@ -1,5 +1,5 @@
 // The first lines of a seed, as they are written.
-use fixtures::{THREE, generated_text, same};
+use fixtures::{THREE, generated_text, same, same_text};
 use std::test::Fail;
 use trace_gen::Gen;
 use wol_config::read_config;
@@ -8,11 +8,7 @@ use wol_config::read_config;
 fn first_line_of_seed_0(rt: HostRuntime) -> Result<(), Fail> {
     let config = read_config(rt.alloc(), THREE.as_bytes())?;
     let text = generated_text(rt.alloc(), &config, 0, 1)?;
-    same(
-        &text.as_slice(),
-        &b"128166372000147231,web,0,Write,227328,6144,1000\n".as_slice(),
-    )?;
-    Ok(())
+    same_text(&text, b"128166372000147231,web,0,Write,227328,6144,1000\n")
 }
 
 // The sixth line comes whole seconds after the fifth.
@@ -27,8 +23,7 @@ fn six_lines_of_seed_0(rt: HostRuntime) -> Result<(), Fail> {
 128166372001316401,usr,0,Read,337920,5120,1000
 128166372811316401,src,0,Write,39936,1536,1000
 ";
-    same(&text.as_slice(), &expected.as_slice())?;
-    Ok(())
+    same_text(&text, expected)
 }
 
 #[test]

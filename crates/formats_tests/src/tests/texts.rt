@@ -1,13 +1,17 @@
 // Texts that were worked out by hand from the formats.
+ghost use Rattle.std.specs.Prelude.{◌≡◌, length, IfOk};
+
 use energy::Amounts;
-use fixtures::{NOTHING_REPLAYED, OFFLOADS_RECLAIMED, THREE, same};
+use fixtures::{NOTHING_REPLAYED, OFFLOADS_RECLAIMED, THREE, same_text};
 use msr_trace::BadLine;
 use report::{
     Fault, Totals, Trouble, fault_text, format_line, read_line_text, solo_line, summary,
     trouble_text,
 };
+use std::alloc::Global;
+use std::process::Abort;
 use std::test::Fail;
-use wol_config::{ConfigFault, Key, read_config};
+use wol_config::{Config, ConfigFault, Key, read_config};
 
 const NOTHING: Totals = Totals {
     lines: 0,
@@ -70,23 +74,29 @@ const TURNED: [Amounts; 3] = [
     },
 ];
 
+// The configuration of `THREE`.
+fn three_volumes(rt: &impl Abort, alloc: Global) -> Result<Config, Fail>
+    ensures { IfOk result (λ config. length config.volumes.items ≡ 3) }
+{
+    let config = read_config(alloc, THREE.as_bytes())?;
+    assert!(rt; config.volumes.len() == 3);
+    Ok(config)
+}
+
 #[test]
 fn sums_up_runs(rt: HostRuntime) -> Result<(), Fail> {
-    let config = read_config(rt.alloc(), THREE.as_bytes())?;
-    assert!(rt; config.volumes.len() == 3);
+    let config = three_volumes(&rt, rt.alloc())?;
     let mut out = Vec::new(rt.alloc());
     summary(&NOTHING, &config.volumes, &[UNUSED; 3], &mut out)?;
-    same(&out.as_slice(), &NOTHING_REPLAYED)?;
+    same_text(&out, NOTHING_REPLAYED)?;
     let mut out = Vec::new(rt.alloc());
     summary(&RECLAIMED, &config.volumes, &TURNED, &mut out)?;
-    same(&out.as_slice(), &OFFLOADS_RECLAIMED)?;
-    Ok(())
+    same_text(&out, OFFLOADS_RECLAIMED)
 }
 
 #[test]
 fn tells_reads_and_requests(rt: HostRuntime) -> Result<(), Fail> {
-    let config = read_config(rt.alloc(), THREE.as_bytes())?;
-    assert!(rt; config.volumes.len() == 3);
+    let config = three_volumes(&rt, rt.alloc())?;
     let totals = Totals {
         lines: 2,
         reads: 1,
@@ -98,23 +108,20 @@ fn tells_reads_and_requests(rt: HostRuntime) -> Result<(), Fail> {
     read_line_text(Some(&config.volumes[1].name), 3, 16, 2, 4, &mut out)?;
     format_line(&config.volumes[0].name, 1066, &mut out)?;
     solo_line(&totals, &mut out)?;
-    same(
-        &out.as_slice(),
-        &b"read 2 0 1 1
+    same_text(
+        &out,
+        b"read 2 0 1 1
 read 3 web0 16 2 4
 format usr0 blocks 1066
 solo lines 2 blank 0 skipped 0 reads 1 writes 1
-"
-            .as_slice(),
-    )?;
-    Ok(())
+",
+    )
 }
 
 #[test]
 fn tells_what_is_wrong_with_volumes(rt: HostRuntime) -> Result<(), Fail> {
-    let config = read_config(rt.alloc(), THREE.as_bytes())?;
+    let config = three_volumes(&rt, rt.alloc())?;
     let volumes = config.volumes.as_slice();
-    assert!(rt; volumes.len() == 3);
     let mut out = Vec::new(rt.alloc());
     let twins = Trouble::Twins {
         first_volume: 1,
@@ -125,18 +132,16 @@ fn tells_what_is_wrong_with_volumes(rt: HostRuntime) -> Result<(), Fail> {
     trouble_text(volumes, &twins, &mut out)?;
     trouble_text(volumes, &Trouble::LoggerMissing { id: 1 }, &mut out)?;
     trouble_text(volumes, &Trouble::Absent, &mut out)?;
-    same(
-        &out.as_slice(),
-        &b"twins 1003 of web0 and 1005 of web0logger 1 missingabsent".as_slice(),
-    )?;
-    Ok(())
+    same_text(
+        &out,
+        b"twins 1003 of web0 and 1005 of web0logger 1 missingabsent",
+    )
 }
 
 #[test]
 fn tells_faults(rt: HostRuntime) -> Result<(), Fail> {
-    let config = read_config(rt.alloc(), THREE.as_bytes())?;
+    let config = three_volumes(&rt, rt.alloc())?;
     let volumes = config.volumes.as_slice();
-    assert!(rt; volumes.len() == 3);
     let mut out = Vec::new(rt.alloc());
     fault_text(
         volumes,
@@ -189,9 +194,9 @@ fn tells_faults(rt: HostRuntime) -> Result<(), Fail> {
         &mut out,
     )?;
     fault_text(volumes, &Fault::Versions { volume: 0 }, &mut out)?;
-    same(
-        &out.as_slice(),
-        &b"fault 5 web0 damaged 0 of web0
+    same_text(
+        &out,
+        b"fault 5 web0 damaged 0 of web0
 fault 3 line 1 kind
 fault 5 usr0 length 1000
 fault 2 config out of range home_blocks
@@ -199,8 +204,6 @@ fault 2 config missing segment_blocks
 fault 8 trace
 fault 4 solo disk home
 fault 11 versions usr0
-"
-            .as_slice(),
-    )?;
-    Ok(())
+",
+    )
 }
