@@ -1,5 +1,6 @@
 mod clean_rows;
 mod command_stops;
+mod commands;
 mod gates;
 mod grouping;
 mod helping;

@@ -4,8 +4,8 @@ ghost use Rattle.wol_bay.specs.Bay.{outs};
 ghost use Rattle.wol_bay.specs.MemBay.{mem_bay_state};
 ghost use Rattle.wol_config.specs.Configs.{IsValid};
 
-use super::volumes::{checked, off_loaded, parts, status_of};
-use cleaning::clean_volumes;
+use super::commands::{Command, ended};
+use super::volumes::{checked, off_loaded, parts};
 use fixtures::{LAYERS, OFFLOADS, OVERLAPPING, THREE, config_text};
 use std::alloc::Global;
 use std::process::Abort;
@@ -13,24 +13,7 @@ use std::sync::Wait;
 use std::test::Fail;
 use std::thread::Threads;
 use wol_bay::MemBay;
-use wol_config::{Config, read_config};
-use wol_io::MemSink;
-
-/// The status of a cleaning, and what is printed of it.
-pub(crate) fn cleaned<R: Wait>(
-    rt: &R,
-    alloc: Global,
-    config: &Config,
-    bay: &mut MemBay,
-) -> Result<(u8, Vec<u8>), Fail>
-    requires valid { IsValid config.now }
-    requires none { outs (mem_bay_state bay.old) ≡ Some [] }
-    ensures none { outs (mem_bay_state bay.new) ≡ Some [] }
-{
-    let mut out = MemSink::new(alloc, None);
-    let status = status_of(clean_volumes(rt, alloc, config, bay, &mut out));
-    Ok((status, Vec::from_slice(alloc, out.bytes())?))
-}
+use wol_config::Config;
 
 // Volumes to which a trace was written, what a cleaning prints of them, and what one behind it. A check's first line has these numbers
 // before and behind, and else the same bytes; the other lines are the same.
@@ -109,7 +92,7 @@ fn try_lines<R: Abort + Wait>(
     requires none { outs (mem_bay_state bay.old) ≡ Some [] }
     ensures none { outs (mem_bay_state bay.new) ≡ Some [] }
 {
-    let (status, text) = cleaned(rt, alloc, config, bay)?;
+    let (status, text) = ended(rt, alloc, config, bay, &Command::Clean)?;
     assert!(rt;
         status == 0 && text.as_slice() == lines,
         "{status} {text:?}"
@@ -122,8 +105,7 @@ fn try_row<R: Abort + Threads + Wait + Sync>(
     alloc: Global,
     row: &Row<'_>,
 ) -> Result<(), Fail> {
-    let config = read_config(alloc, row.config.as_bytes())?;
-    let mut bay = off_loaded(rt, alloc, &config, row.trace)?;
+    let (config, mut bay) = off_loaded(rt, alloc, row.config, row.trace)?;
     let before = checked(rt, alloc, &config, &mut bay)?;
     try_lines(rt, alloc, &config, &mut bay, row.first)?;
     let behind = checked(rt, alloc, &config, &mut bay)?;

@@ -1,11 +1,5 @@
 // Disks that stop while volumes are cleaned or a view is changed, and what is there behind it.
-ghost use Rattle.std.specs.Prelude.{◌≡◌, [], Some};
-ghost use Rattle.wol_bay.specs.Bay.{outs};
-ghost use Rattle.wol_bay.specs.MemBay.{mem_bay_state};
-ghost use Rattle.wol_config.specs.Configs.{IsValid};
-
-use super::clean_rows::cleaned;
-use super::view_rows::{add, ask, remove};
+use super::commands::{Command, add, ended, remove};
 use super::volumes::{checked, crash, off_loaded, parts, stop_after};
 use fixtures::{CHOICES, Left, ONE_LOGGED, OVERLAPPING, TWO, Volume, config_text};
 use std::alloc::Global;
@@ -14,15 +8,6 @@ use std::sync::Wait;
 use std::test::Fail;
 use std::thread::Threads;
 use view_commands::Order;
-use wol_bay::MemBay;
-use wol_config::{Config, read_config};
-
-// A command: a cleaning, or a change of a view.
-#[derive(Clone, Copy)]
-enum Command<'a> {
-    Clean,
-    Change(Order<'a>),
-}
 
 // A command on two volumes to which a trace was written.
 #[derive(Clone, Copy)]
@@ -76,47 +61,26 @@ fn changing<'a>(order: Order<'a>, printed: &'a [u8], behind: &'a [u8]) -> Row<'a
     }
 }
 
-// The status of a command, and what it prints.
-fn ended<R: Wait>(
-    rt: &R,
-    alloc: Global,
-    config: &Config,
-    bay: &mut MemBay,
-    command: &Command<'_>,
-) -> Result<(u8, Vec<u8>), Fail>
-    requires valid { IsValid config.now }
-    requires none { outs (mem_bay_state bay.old) ≡ Some [] }
-    ensures none { outs (mem_bay_state bay.new) ≡ Some [] }
-{
-    match command {
-        Command::Clean => cleaned(rt, alloc, config, bay),
-        Command::Change(order) => ask(rt, alloc, config, bay, order),
-    }
-}
-
 // A command over disks that stop after so many calls, and once more after a crash that left this: the status, how many calls passed, and
 // the status of the second time. The first volume has the array from before.
 fn stopped<R: Abort + Threads + Wait + Sync>(
     rt: &R,
     alloc: Global,
-    config: &Config,
     row: &Row<'_>,
     calls: u64,
     left: Left,
-) -> Result<(u8, u64, u8), Fail>
-    requires { IsValid config.now }
-{
-    let mut bay = off_loaded(rt, alloc, config, row.trace)?;
-    let before = checked(rt, alloc, config, &mut bay)?;
+) -> Result<(u8, u64, u8), Fail> {
+    let (config, mut bay) = off_loaded(rt, alloc, row.config, row.trace)?;
+    let before = checked(rt, alloc, &config, &mut bay)?;
     let (array, _others) = parts(rt, &before, DIGEST, row.before);
     let fuse = stop_after(alloc, &mut bay, calls)?;
-    let (status, text) = ended(rt, alloc, config, &mut bay, &row.command)?;
+    let (status, text) = ended(rt, alloc, &config, &mut bay, &row.command)?;
     assert!(rt; status != 0 || text.as_slice() == row.printed);
     crash(alloc, &mut bay, &row.volumes, left)?;
-    let after = checked(rt, alloc, config, &mut bay)?;
+    let after = checked(rt, alloc, &config, &mut bay)?;
     assert!(rt; after.starts_with(array), "{calls} {left:?}");
-    let (again, _text) = ended(rt, alloc, config, &mut bay, &row.command)?;
-    let last = checked(rt, alloc, config, &mut bay)?;
+    let (again, _text) = ended(rt, alloc, &config, &mut bay, &row.command)?;
+    let last = checked(rt, alloc, &config, &mut bay)?;
     let (kept, _others) = parts(rt, &last, DIGEST, row.behind);
     assert!(rt; kept == array, "{calls} {left:?}");
     Ok((status, fuse.passed(), again))
@@ -129,9 +93,8 @@ fn try_each<R: Abort + Threads + Wait + Sync>(
     row: &Row<'_>,
     left: Left,
 ) -> Result<(), Fail> {
-    let config = read_config(alloc, row.config.as_bytes())?;
     for calls in 0..1000 {
-        let (status, passed, again) = stopped(rt, alloc, &config, row, calls, left)?;
+        let (status, passed, again) = stopped(rt, alloc, row, calls, left)?;
         assert!(rt;
             matches!(status, 0 | 4 | 6) && row.again.contains(&again),
             "{status} {again}"

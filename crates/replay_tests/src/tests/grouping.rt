@@ -1,7 +1,7 @@
 // Writes in a row that go to a log together.
 use super::gates::Counting;
 use super::stopping::{Stops, alone, stopped, try_stops};
-use super::volumes::{formatted, run};
+use super::volumes::{laid_out, run};
 use fixtures::{APART, Left, TOGETHER, config_text};
 use request_workers::Reclaim;
 use std::test::Fail;
@@ -52,8 +52,7 @@ fn writes_of_a_window_share_their_syncs(rt: HostRuntime) -> Result<(), Fail> {
 #[test]
 fn each_request_of_a_group_passes_the_gate_once(rt: HostRuntime) -> Result<(), Fail> {
     let alloc = rt.alloc();
-    let config = read_config(alloc, GROUPED.config.as_bytes())?;
-    let mut bay = formatted(&rt, alloc, &config);
+    let (config, mut bay) = laid_out(&rt, alloc, GROUPED.config)?;
     let gate = Counting::new();
     let options = alone(Reclaim::Off);
     let (status, _out) = run(&rt, alloc, &config, &mut bay, TOGETHER, options, &gate)?;

@@ -1,13 +1,12 @@
 // A helper that reclaims beside the requests of a window.
 use super::gates::Awaiting;
 use super::several::{between, stands_in};
-use super::volumes::{formatted, run};
+use super::volumes::{laid_out, run};
 use fixtures::THREE;
 use replay::Options;
 use request_workers::Reclaim;
 use std::sync::Arc;
 use std::test::Fail;
-use wol_config::read_config;
 use wol_disk::Fuse;
 
 // The write is logged, since the disk of its volume sleeps. The read of another block wakes that disk, and in the next window a
@@ -22,8 +21,7 @@ const WAKES: &[u8] = b"128166372000000000,web,0,Read,0,512,100
 #[test]
 fn a_helper_works_beside_the_requests(rt: HostRuntime) -> Result<(), Fail> {
     let alloc = rt.alloc();
-    let config = read_config(alloc, THREE.as_bytes())?;
-    let mut bay = formatted(&rt, alloc, &config);
+    let (config, mut bay) = laid_out(&rt, alloc, THREE)?;
     let fuse = Arc::new(alloc, Fuse::new(u64::MAX))?;
     bay.set_fuse(Some(Arc::try_clone(&fuse)?));
     let gate = Awaiting::new(&fuse);

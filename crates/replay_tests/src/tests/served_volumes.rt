@@ -5,7 +5,7 @@ ghost use Rattle.wol_bay.specs.MemBay.{mem_bay_state};
 ghost use Rattle.wol_config.specs.Configs.{IsValid};
 
 use super::several::stands_in;
-use super::volumes::{checked, formatted, off_loaded};
+use super::volumes::{checked, formatted, laid_out, off_loaded};
 use fixtures::{
     DISC, DRAINING, Data, Exchange, FLUSH, NO_DATA, ONE_LOGGED, READ, THREE, WRITE, ask_all,
     asked_of, replies_of, reply_all,
@@ -126,8 +126,7 @@ const WRITTEN_AND_READ: [&[Exchange<'_>]; 2] = [
 
 #[test]
 fn what_one_session_writes_another_reads(rt: HostRuntime) -> Result<(), Fail> {
-    let config = read_config(rt.alloc(), THREE.as_bytes())?;
-    let mut bay = formatted(&rt, rt.alloc(), &config);
+    let (config, mut bay) = laid_out(&rt, rt.alloc(), THREE)?;
     exchange_all(&rt, rt.alloc(), &config, &mut bay, &WRITTEN_AND_READ)
 }
 
@@ -183,8 +182,7 @@ const STANDING: [&[Exchange<'_>]; 2] = [
 
 #[test]
 fn earlier_pieces_stand_where_a_disk_fails(rt: HostRuntime) -> Result<(), Fail> {
-    let config = read_config(rt.alloc(), THREE.as_bytes())?;
-    let mut bay = formatted(&rt, rt.alloc(), &config);
+    let (config, mut bay) = laid_out(&rt, rt.alloc(), THREE)?;
     bay.plan("usr0", 1, SECOND_WRITE)?;
     exchange_all(&rt, rt.alloc(), &config, &mut bay, &STANDING)
 }
@@ -225,8 +223,7 @@ fn refuse<R: Abort + Wait>(
 #[test]
 fn sessions_end_with_their_statuses(rt: HostRuntime) -> Result<(), Fail> {
     let alloc = rt.alloc();
-    let config = read_config(alloc, THREE.as_bytes())?;
-    let mut bay = formatted(&rt, alloc, &config);
+    let (config, mut bay) = laid_out(&rt, alloc, THREE)?;
     refuse(&rt, alloc, &config, &mut bay, &REFUSED)?;
     let mut nothing = MemBay::new(alloc);
     refuse(&rt, alloc, &config, &mut nothing, &LOOKED_FOR)
@@ -249,8 +246,7 @@ src0 ok sha256 2d4da04b861bb9dbe77c871415931785a18138d6db035f1bbcd0cf8277c6fc23 
 #[test]
 fn a_check_shows_what_a_session_wrote(rt: HostRuntime) -> Result<(), Fail> {
     let alloc = rt.alloc();
-    let config = read_config(alloc, THREE.as_bytes())?;
-    let mut bay = formatted(&rt, alloc, &config);
+    let (config, mut bay) = laid_out(&rt, alloc, THREE)?;
     exchange(&rt, alloc, &config, &mut bay, AT_USR0, &WRITTEN)?;
     let text = checked(&rt, alloc, &config, &mut bay)?;
     assert!(rt; text.as_slice() == CHECKED.as_bytes(), "{text:?}");
@@ -277,8 +273,7 @@ const SHAKEN: [Exchange<'_>; 2] = [
 #[test]
 fn a_client_shakes_and_is_served(rt: HostRuntime) -> Result<(), Fail> {
     let alloc = rt.alloc();
-    let config = read_config(alloc, THREE.as_bytes())?;
-    let mut bay = formatted(&rt, alloc, &config);
+    let (config, mut bay) = laid_out(&rt, alloc, THREE)?;
     let mut asked = Vec::from_slice(alloc, GOES)?;
     ask_all(&mut asked, &SHAKEN)?;
     let mut told = Vec::from_slice(alloc, GREETING)?;
@@ -306,9 +301,8 @@ const MET_BY_A_DRAIN: [Exchange<'_>; 2] = [
 #[test]
 fn a_write_that_finds_no_room_is_met_by_a_drain(rt: HostRuntime) -> Result<(), Fail> {
     let alloc = rt.alloc();
-    let config = read_config(alloc, DRAINING.as_bytes())?;
     // the first volume's block lies in the one segment there is, which is full
-    let mut bay = off_loaded(&rt, alloc, &config, ONE_LOGGED)?;
+    let (config, mut bay) = off_loaded(&rt, alloc, DRAINING, ONE_LOGGED)?;
     let before = checked(&rt, alloc, &config, &mut bay)?;
     assert!(rt; before.starts_with(b"a ok sha256 "));
     assert!(rt; stands_in(&before, b" records 1 segments 1\nb ok"));

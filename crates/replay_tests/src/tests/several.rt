@@ -4,7 +4,7 @@ ghost use Rattle.replay.specs.Sessions.{AreOptions};
 ghost use Rattle.std.specs.Prelude.{◌≡◌, ◌≤◌};
 
 use super::gates::Holding;
-use super::volumes::{formatted, run, status_of};
+use super::volumes::{laid_out, run, status_of};
 use fixtures::{
     AT_ONCE, Change, DRAINING, DRAINS, Formatted, LAST_VERSION, OFFLOADS, OFFLOADS_KEPT,
     OFFLOADS_READ, ONE_LOGGED, READ_AND_WRITE, THREE, WEB0, generated_text, put,
@@ -45,8 +45,7 @@ fn printed<R: Abort + Threads + Wait + Sync>(
 ) -> Result<MemSink, Fail>
     requires { AreOptions options }
 {
-    let config = read_config(alloc, config.as_bytes())?;
-    let mut bay = formatted(rt, alloc, &config);
+    let (config, mut bay) = laid_out(rt, alloc, config)?;
     let (status, out) = run(rt, alloc, &config, &mut bay, trace, options, &NoGate)?;
     assert_eq!(rt; status, 0);
     Ok(out)
@@ -85,8 +84,7 @@ fn records_are_kept_where_nothing_is_reclaimed(rt: HostRuntime) -> Result<(), Fa
 #[test]
 fn volumes_are_served_side_by_side(rt: HostRuntime) -> Result<(), Fail> {
     let alloc = rt.alloc();
-    let config = read_config(alloc, THREE.as_bytes())?;
-    let mut bay = formatted(&rt, alloc, &config);
+    let (config, mut bay) = laid_out(&rt, alloc, THREE)?;
     let gate = Holding::new();
     let (status, _out) = run(&rt, alloc, &config, &mut bay, AT_ONCE, between(3), &gate)?;
     assert_eq!(&rt; status, 0);
@@ -97,8 +95,7 @@ fn volumes_are_served_side_by_side(rt: HostRuntime) -> Result<(), Fail> {
 #[test]
 fn no_version_comes_after_the_last(rt: HostRuntime) -> Result<(), Fail> {
     let alloc = rt.alloc();
-    let config = read_config(alloc, THREE.as_bytes())?;
-    let mut bay = formatted(&rt, alloc, &config);
+    let (config, mut bay) = laid_out(&rt, alloc, THREE)?;
     put(alloc, &mut bay, &WEB0, LAST_VERSION)?;
     let (status, out) = run(
         &rt,
@@ -140,8 +137,7 @@ total wakes 0 sleeps 1 energy 1320000
 #[test]
 fn a_segment_that_holds_nothing_goes_to_its_pool(rt: HostRuntime) -> Result<(), Fail> {
     let alloc = rt.alloc();
-    let config = read_config(alloc, DRAINING.as_bytes())?;
-    let mut bay = formatted(&rt, alloc, &config);
+    let (config, mut bay) = laid_out(&rt, alloc, DRAINING)?;
     put(alloc, &mut bay, &OWNED, &[OWNER])?;
     let (status, out) = run(
         &rt,
@@ -198,8 +194,7 @@ fn soaked<R: Abort + Threads + Wait + Sync>(
     requires workers { (1 ≤ workers) × (workers ≤ 64) }
     requires new { IsNew given }
 {
-    let config = read_config(alloc, THREE.as_bytes())?;
-    let mut bay = formatted(rt, alloc, &config);
+    let (config, mut bay) = laid_out(rt, alloc, THREE)?;
     let mut out = MemSink::new(alloc, None);
     let mut given = given;
     let options = Options {

@@ -17,7 +17,7 @@ use std::sync::{Arc, Wait};
 use std::test::Fail;
 use std::thread::Threads;
 use wol_bay::MemBay;
-use wol_config::Config;
+use wol_config::{Config, read_config};
 use wol_disk::Fuse;
 use wol_io::{Gate, MemSink, MemSource, NoGate};
 
@@ -29,6 +29,19 @@ pub(crate) fn formatted<R: Abort>(rt: &R, alloc: Global, config: &Config) -> Mem
     let mut bay = MemBay::new(alloc);
     assert!(rt; format(alloc, &mut bay, config).is_ok());
     bay
+}
+
+/// A configuration of this text, and the bay of its volumes, which were formatted.
+pub(crate) fn laid_out<R: Abort>(
+    rt: &R,
+    alloc: Global,
+    text: &str,
+) -> Result<(Config, MemBay), Fail>
+    ensures { IfOk result (λ r. IsValid r.0 × (outs (mem_bay_state r.1) ≡ Some [])) }
+{
+    let config = read_config(alloc, text.as_bytes())?;
+    let bay = formatted(rt, alloc, &config);
+    Ok((config, bay))
 }
 
 /// The status of a run over the volumes of a bay, and what it prints. The bytes of the trace come one by one.
@@ -64,26 +77,25 @@ pub(crate) fn status_of(answer: Result<(), Stop>) -> u8 {
     }
 }
 
-/// Formatted volumes to which a trace was written, with nothing reclaimed.
+/// A configuration of this text, and the bay of its volumes, to which a trace was written with nothing reclaimed.
 pub(crate) fn off_loaded<R: Abort + Threads + Wait + Sync>(
     rt: &R,
     alloc: Global,
-    config: &Config,
+    text: &str,
     trace: &[u8],
-) -> Result<MemBay, Fail>
-    requires { IsValid config.now }
-    ensures { IfOk result (λ bay. outs (mem_bay_state bay) ≡ Some []) }
+) -> Result<(Config, MemBay), Fail>
+    ensures { IfOk result (λ r. IsValid r.0 × (outs (mem_bay_state r.1) ≡ Some [])) }
 {
-    let mut bay = formatted(rt, alloc, config);
+    let (config, mut bay) = laid_out(rt, alloc, text)?;
     let options = Options {
         workers: 1,
         sharing: Sharing::WherePays,
         reclaim: Reclaim::Off,
         each: false,
     };
-    let (status, _out) = run(rt, alloc, config, &mut bay, trace, options, &NoGate)?;
+    let (status, _out) = run(rt, alloc, &config, &mut bay, trace, options, &NoGate)?;
     assert!(rt; status == 0);
-    Ok(bay)
+    Ok((config, bay))
 }
 
 /// The lines of a check.
