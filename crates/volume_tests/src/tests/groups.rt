@@ -4,14 +4,14 @@ use log_segment::Item;
 use manager::{Place, Sources, WriteRefusal};
 use std::test::Fail;
 
+const FIRST: Item = Item { lbn: 0, count: 1 };
+
+const SECOND: Item = Item { lbn: 1, count: 1 };
+
 #[test]
 fn a_run_of_writes_goes_to_a_log_as_one(rt: HostRuntime) -> Result<(), Fail> {
     let mut rig = resting_rig(&rt, rt.alloc());
-    let items = [
-        Item { lbn: 0, count: 1 },
-        Item { lbn: 1, count: 1 },
-        Item { lbn: 0, count: 1 },
-    ];
+    let items = [FIRST, SECOND, FIRST];
     let wrote = rig.write_run(&rt, &items, &[[7; 512], [8; 512], [9; 512]]);
     let mut out = [[0; 512]; 2];
     let read = rig.read(&rt, 0, &mut out);
@@ -27,7 +27,7 @@ fn what_would_go_home_joins_no_group(rt: HostRuntime) -> Result<(), Fail> {
     let mut rig = resting_rig(&rt, rt.alloc());
     let first = rig.write(&rt, 0, &[[7; 512]]);
     rig.begin(true, true);
-    let items = [Item { lbn: 0, count: 1 }, Item { lbn: 1, count: 1 }];
+    let items = [FIRST, SECOND];
     let logged = rig.write_run(&rt, &items, &[[8; 512], [9; 512]]);
     let gone = rig.write_run(&rt, &items[1..], &[[9; 512]]);
     let _remains = apart(&rt, rt.alloc(), rig);
@@ -40,9 +40,8 @@ fn what_would_go_home_joins_no_group(rt: HostRuntime) -> Result<(), Fail> {
 #[test]
 fn a_group_ends_where_the_segment_has_no_room(rt: HostRuntime) -> Result<(), Fail> {
     let mut rig = resting_rig(&rt, rt.alloc());
-    let items = [Item { lbn: 0, count: 1 }; 16];
-    let wrote = rig.write_run(&rt, &items, &[[7; 512]; 16]);
-    let full = rig.write_run(&rt, &items[15..], &[[8; 512]]);
+    let wrote = rig.write_run(&rt, &[FIRST; 16], &[[7; 512]; 16]);
+    let full = rig.write_run(&rt, &[FIRST], &[[8; 512]]);
     let _remains = apart(&rt, rt.alloc(), rig);
     assert!(rt; wrote == Ok((15, Place::Log { logger: 1 })));
     assert!(rt; full == Err(WriteRefusal::Full));
@@ -53,8 +52,7 @@ fn a_group_ends_where_the_segment_has_no_room(rt: HostRuntime) -> Result<(), Fai
 #[test]
 fn eight_writes_to_a_log_take_two_syncs(rt: HostRuntime) -> Result<(), Fail> {
     let mut rig = resting_rig(&rt, rt.alloc());
-    let items = [Item { lbn: 0, count: 1 }; 8];
-    let wrote = rig.write_run(&rt, &items, &[[7; 512]; 8]);
+    let wrote = rig.write_run(&rt, &[FIRST; 8], &[[7; 512]; 8]);
     let Some((index, part)) = apart(&rt, rt.alloc(), rig).held.pop() else {
         return Err(Fail::from("no segment"));
     };
