@@ -152,17 +152,15 @@ fn twenty_turns<R: Threads + Wait + Sync>(
 }
 
 fn counted_within<R: Threads + Wait + Sync>(rt: &R, alloc: Global) -> Option<u64> {
-    match TurnLock::new(alloc, Counter { count: 0 }, 1, 0) {
-        Ok((lock, mut passes)) => {
-            let Some(pass) = passes.pop() else {
-                unreachable!()
-            };
-            passes.push_reserved(twenty_turns(rt, alloc, &lock, pass));
-            let counter = lock.close(passes);
-            Some(counter.count)
-        }
-        Err((_, _)) => None,
-    }
+    let Ok((lock, mut passes)) = TurnLock::new(alloc, Counter { count: 0 }, 1, 0) else {
+        return None;
+    };
+    let Some(pass) = passes.pop() else {
+        unreachable!()
+    };
+    passes.push_reserved(twenty_turns(rt, alloc, &lock, pass));
+    let counter = lock.close(passes);
+    Some(counter.count)
 }
 
 #[test]
