@@ -80,15 +80,23 @@ fn drop_scattered(index: &mut Index, count: u64)
     }
 }
 
-// Gives up what may go, and puts home what is due, the least version first, until neither is left on a lane
-// that is awake. Says how many calls that took.
-fn drain(index: &mut Index, count: u64, lanes: &[bool], most: u64) -> u64
+// How many calls a drain makes at most.
+const MOST_CALLS: u64 = 1_000_000;
+
+// Puts home what is due, the least version first, until nothing is due on a lane that is awake; where it also gives up, what
+// may go goes first. Says how many calls that took.
+fn drain(index: &mut Index, count: u64, lanes: &[bool], gives_up: bool) -> u64
     requires below { AreBelow count index.old.entries }
     requires lanes { 3 ≤ length lanes.now }
     ensures { AreBelow count index.new.entries }
 {
-    for step in 0..most {
-        if let Some(version) = next_to_go(index, lanes) {
+    for step in 0..MOST_CALLS {
+        let going = if gives_up {
+            next_to_go(index, lanes)
+        } else {
+            None
+        };
+        if let Some(version) = going {
             let _ = give_up(index, count, version);
         } else if let Some(version) = next_due(index, lanes) {
             let _ = put_home(index, count, version);
@@ -96,29 +104,13 @@ fn drain(index: &mut Index, count: u64, lanes: &[bool], most: u64) -> u64
             return step;
         }
     }
-    most
-}
-
-// Puts home what is due, the least version first, until nothing is. Says how many calls that took.
-fn put_due(index: &mut Index, count: u64, lanes: &[bool], most: u64) -> u64
-    requires below { AreBelow count index.old.entries }
-    requires lanes { 3 ≤ length lanes.now }
-    ensures { AreBelow count index.new.entries }
-{
-    for step in 0..most {
-        if let Some(version) = next_due(index, lanes) {
-            let _ = put_home(index, count, version);
-        } else {
-            return step;
-        }
-    }
-    most
+    MOST_CALLS
 }
 
 #[test]
 fn a_drain_of_100_000_ends(rt: HostRuntime) -> Result<(), Fail> {
     let mut index = records(rt.alloc(), 100_000)?;
-    let steps = drain(&mut index, 100_000, &[true; 3], 1_000_000);
+    let steps = drain(&mut index, 100_000, &[true; 3], true);
     same(&rt, &steps, &200_000);
     assert!(rt; index.is_empty());
     Ok(())
@@ -128,7 +120,7 @@ fn a_drain_of_100_000_ends(rt: HostRuntime) -> Result<(), Fail> {
 #[test]
 fn records_on_a_sleeping_lane_are_passed_over(rt: HostRuntime) -> Result<(), Fail> {
     let mut index = records(rt.alloc(), 30_000)?;
-    let steps = drain(&mut index, 30_000, &[false, true, true], 1_000_000);
+    let steps = drain(&mut index, 30_000, &[false, true, true], true);
     same(&rt, &steps, &40_000);
     same(&rt, &index.len(), &10_000);
     Ok(())
@@ -138,9 +130,9 @@ fn records_on_a_sleeping_lane_are_passed_over(rt: HostRuntime) -> Result<(), Fai
 #[test]
 fn covered_records_are_passed_over(rt: HostRuntime) -> Result<(), Fail> {
     let mut index = records_twice(rt.alloc(), 100_000)?;
-    let steps = put_due(&mut index, 200_000, &[true; 3], 1_000_000);
+    let steps = drain(&mut index, 200_000, &[true; 3], false);
     same(&rt, &steps, &100_000);
-    let steps = drain(&mut index, 200_000, &[true; 3], 1_000_000);
+    let steps = drain(&mut index, 200_000, &[true; 3], true);
     same(&rt, &steps, &200_000);
     assert!(rt; index.is_empty());
     Ok(())
