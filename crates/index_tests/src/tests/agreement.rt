@@ -129,23 +129,6 @@ fn find_the_same(index: &Index, list: &[Item], dice: &mut Dice, next: u64) -> bo
         && index.len() == list.len() as u64
 }
 
-// A random call that changes both.
-fn change_one(
-    index: &mut Index,
-    list: &mut Vec<Item>,
-    dice: &mut Dice,
-    next: u64,
-) -> Result<(), NoMemory>
-    requires { AreBelow next index.old.entries }
-    ensures { AreBelow (next + 1) index.new.entries }
-{
-    if list.len() < MOST && dice.below(4) == 0 {
-        return add_both(index, list, dice, next);
-    }
-    change_both(index, list, dice, next);
-    Ok(())
-}
-
 // A random change, and whether both say the same then.
 fn step(
     index: &mut Index,
@@ -157,7 +140,11 @@ fn step(
     requires few { next ≤ 10000 }
     ensures { AreBelow (next + 1) index.new.entries }
 {
-    change_one(index, list, dice, next)?;
+    if list.len() < MOST && dice.below(4) == 0 {
+        add_both(index, list, dice, next)?;
+    } else {
+        change_both(index, list, dice, next);
+    }
     let place = dice.below(list.len() as u64 + 1) as usize;
     let same = place == list.len() || agree_at(index, list, place);
     Ok(same && find_the_same(index, list, dice, next + 1))
