@@ -242,8 +242,8 @@ module _ {D : Type 0} (tells : Bool) (state : D → State) (words : List (List �
           → ((j : ℕ) (v : VolumeConf) → slice_get config.volumes.items j ≡ Some v → image_here out j ≡ None → (e : VolumeFault) × RefusesVolume tells state config out before.bay after.bay j v e)
           → (IsTrue tells → IfSome before.bay.told (λ t. WereThere config out t)) → RefusesVolume tells state config out before.bay after.bay k conf f
           → ((j : ℕ) → j < k → IsTrue tells → IfSome before.bay.told (λ images. IsOpened config out images j)) → (trouble_status (trouble_of f) ≡ 4 → Rose before.bay.faults after.bay.faults) → Cause (trouble_status (trouble_of f))
-      refused_cause config has k conf out f conf_is missing there refused first =
-          trouble_cause for_config for_bay (trouble_of f) (record { config = config; has = has; volume = k; conf = conf; conf_is = conf_is; out = out; missing = missing; there = there; fault = f; refused = refused; status_is = refl; first = first })
+      refused_cause config has k conf out f conf_is missing there refuses first =
+          trouble_cause for_config for_bay (trouble_of f) (record { config = config; has = has; volume = k; conf = conf; conf_is = conf_is; out = out; missing = missing; there = there; fault = f; refused = refuses; status_is = refl; first = first })
 
       -- the first volume that isn't open, and why it isn't
       closed_cause : (config : Config) → HasConfig before.config.bytes config → (k : ℕ) (f : VolumeFault) → IsFirstClosed tells state config before.bay after.bay k f → Cause (trouble_status (trouble_of f))

@@ -127,14 +127,14 @@ module _ {D : Type 0} (tells : Bool) (state : D → State) (words : List (List �
   ]
 
   replay_unconfigured : (how : _) → IsReplayOf tells state before after status how → (bytes : List ℕ) → before.config.bytes ≡ Some bytes → HasNoConfig (Some bytes) → TellsNoConfig status
-  replay_unconfigured (how, start) (inl run) bytes told none = absurd (never_had _ bytes told none run.config run.has)
+  replay_unconfigured (how, start) (inl run) bytes told none = absurd (never_had _ bytes told none run.over.config run.over.has)
   replay_unconfigured (how, start) (inr unread) bytes told none = elim (wanted_or_sink unread.text unread.wanted status _ _ unread.ends) [
     | inr seven ↦ inr (inl seven)
     | inl same ↦ of_unread _ bytes told none _ _ unread.text unread.wanted status unread.untouched.line_ same
   ]
 
   comparison_unconfigured : IsComparisonOf before after status → (bytes : List ℕ) → before.config.bytes ≡ Some bytes → HasNoConfig (Some bytes) → TellsNoConfig status
-  comparison_unconfigured (inl run) bytes told none = absurd (never_had _ bytes told none run.config run.has)
+  comparison_unconfigured (inl run) bytes told none = absurd (never_had _ bytes told none run.over.config run.over.has)
   comparison_unconfigured (inr unread) bytes told none = elim (wanted_or_sink unread.text unread.wanted status _ _ unread.ends) [
     | inr seven ↦ inr (inl seven)
     | inl same ↦ of_unread _ bytes told none _ _ unread.text unread.wanted status unread.line_ same
@@ -152,7 +152,7 @@ module _ {D : Type 0} (tells : Bool) (state : D → State) (words : List (List �
   view_unconfigured (verb, named) (inr unread) bytes told none = not_begun_unconfigured unread bytes told none
 
   clean_unconfigured : IsCleaningOf tells state before after status → (bytes : List ℕ) → before.config.bytes ≡ Some bytes → HasNoConfig (Some bytes) → TellsNoConfig status
-  clean_unconfigured (inl run) bytes told none = absurd (never_had _ bytes told none run.config run.has)
+  clean_unconfigured (inl run) bytes told none = absurd (never_had _ bytes told none run.over.config run.over.has)
   clean_unconfigured (inr unread) bytes told none = not_begun_unconfigured unread bytes told none
 
   serving_unconfigured : (how : Beginning × List ℕ) → IsServingOf tells state before after status how → (bytes : List ℕ) → before.config.bytes ≡ Some bytes → HasNoConfig (Some bytes) → TellsNoConfig status

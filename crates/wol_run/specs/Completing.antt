@@ -29,12 +29,12 @@ pub record HasSoundImages (tells : Bool) (left : Option (List ℕ)) (bay : BaySt
 -- Nothing stands in the way of a command on the volumes: the images are sound for the
 -- configuration, which is one, and no call of its source, of the bay or of the sink failed.
 pub record IsUnhindered (tells : Bool) (left : Option (List ℕ)) (faults faults' : ℕ)
-    (old new : BayState) (sink sink' : ℕ) : Type 0 where
+    (old new : BayState) (out out' : ℕ) : Type 0 where
   pub images : HasSoundImages tells left old
   pub configured : IsConfigured left
   pub source : ¬ Rose faults faults'
   pub bay : ¬ Rose old.faults new.faults
-  pub sink : ¬ Rose sink sink'
+  pub sink : ¬ Rose out out'
 
 -- the versions that a volume began with suffice for its writes in these lines
 abbrev pub HasVersions : Config → Base → List (Option TraceLine) → Type 0
