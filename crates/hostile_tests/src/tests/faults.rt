@@ -32,7 +32,7 @@ const MOST_CALLS: u64 = 1000;
 fn failed<R: Threads + Wait + Sync>(
     rt: &R,
     alloc: Global,
-    case: Case<'_>,
+    case: Case<'_, '_, '_>,
     failing: Failing<'_>,
 ) -> Result<(u8, String), Fail> {
     let stop = left_by(rt, alloc, case, failing)?;
@@ -56,11 +56,12 @@ fn fault_at<'a>(faults: &[Faults<'a>], number: u64) -> Option<(u8, &'a str, bool
 fn try_part<R: Threads + Wait + Sync>(
     rt: &R,
     alloc: Global,
-    case: Case<'_>,
+    case: Case<'_, '_, '_>,
     part: Part<'_>,
 ) -> Result<(), Fail> {
-    let (words, (image, place, faults)) = (case.row.call.words, part);
-    let newest = Case::new(case.row, case.images, Left::AllNew);
+    let Case { row, images, .. } = case;
+    let (words, (image, place, faults)) = (row.call.words, part);
+    let newest = Case::new(row, images, Left::AllNew);
     for number in 0..MOST_CALLS {
         let failing = Failing::Part(image, place, number);
         let (status, text) = failed(rt, alloc, case, failing)?;

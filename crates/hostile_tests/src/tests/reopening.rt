@@ -9,7 +9,11 @@ use std::thread::Threads;
 use wol_disk::Block;
 
 // Wherever a `check` of these images is stopped, a further one prints what an unstopped one prints.
-fn try_images<R: Threads + Wait + Sync>(rt: &R, alloc: Global, case: Case<'_>) -> Result<(), Fail> {
+fn try_images<R: Threads + Wait + Sync>(
+    rt: &R,
+    alloc: Global,
+    case: Case<'_, '_, '_>,
+) -> Result<(), Fail> {
     let Case { row, images, left } = case;
     let words = row.call.words;
     let check = Row {
@@ -33,7 +37,7 @@ fn try_images<R: Threads + Wait + Sync>(rt: &R, alloc: Global, case: Case<'_>) -
 pub fn try_choice<R: Threads + Wait + Sync>(
     rt: &R,
     alloc: Global,
-    case: Case<'_>,
+    case: Case<'_, '_, '_>,
 ) -> Result<(), Fail> {
     let whole = stopped(rt, alloc, case, u64::MAX)?;
     let mut last: Vec<Vec<Block>> = Vec::new(alloc);

@@ -106,7 +106,7 @@ struct Texts {
 // A session in a case: what the client gets where nothing fails, and how much of that comes before the replies.
 #[derive(Clone, Copy)]
 struct Session<'a> {
-    case: Case<'a>,
+    case: Case<'a, 'a, 'a>,
     wanted: &'a [u8],
     told: usize,
 }

@@ -12,14 +12,14 @@ use wol_disk::{Block, Fuse};
 
 /// A row over images, and what a crash leaves of them.
 #[derive(Clone, Copy)]
-pub struct Case<'a> {
-    pub row: &'a Row<'a>,
-    pub images: &'a [Vec<Block>],
+pub struct Case<'r, 'w, 'i> {
+    pub row: &'r Row<'w>,
+    pub images: &'i [Vec<Block>],
     pub left: Left,
 }
 
-impl<'a> Case<'a> {
-    pub fn new(row: &'a Row<'a>, images: &'a [Vec<Block>], left: Left) -> Self {
+impl<'r, 'w, 'i> Case<'r, 'w, 'i> {
+    pub fn new(row: &'r Row<'w>, images: &'i [Vec<Block>], left: Left) -> Self {
         Case { row, images, left }
     }
 }
@@ -59,7 +59,7 @@ pub fn prepared<R: Threads + Wait + Sync>(
 pub fn left_by<R: Threads + Wait + Sync>(
     rt: &R,
     alloc: Global,
-    case: Case<'_>,
+    case: Case<'_, '_, '_>,
     failing: Failing<'_>,
 ) -> Result<Remains, Fail> {
     let Case { row, images, left } = case;
@@ -87,7 +87,7 @@ pub fn left_by<R: Threads + Wait + Sync>(
 pub fn stopped<R: Threads + Wait + Sync>(
     rt: &R,
     alloc: Global,
-    case: Case<'_>,
+    case: Case<'_, '_, '_>,
     calls: u64,
 ) -> Result<Remains, Fail> {
     left_by(rt, alloc, case, Failing::Disks(calls))
@@ -169,7 +169,11 @@ fn tells_each(words: &str) -> bool {
 }
 
 // Stops at each call of a disk.
-fn try_choice<R: Threads + Wait + Sync>(rt: &R, alloc: Global, case: Case<'_>) -> Result<(), Fail> {
+fn try_choice<R: Threads + Wait + Sync>(
+    rt: &R,
+    alloc: Global,
+    case: Case<'_, '_, '_>,
+) -> Result<(), Fail> {
     let Case { row, images, left } = case;
     let words = row.call.words;
     let whole = stopped(rt, alloc, case, u64::MAX)?;
