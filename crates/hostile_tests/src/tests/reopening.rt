@@ -14,21 +14,23 @@ fn try_images<R: Threads + Wait + Sync>(
     alloc: Global,
     case: Case<'_, '_, '_>,
 ) -> Result<(), Fail> {
-    let Case { row, images, left } = case;
-    let words = row.call.words;
+    let row = case.row;
     let check = Row {
         call: asked("check"),
         ..*row
     };
-    let case = Case::new(&check, images, left);
-    let text = checked(rt, alloc, row, images)?;
-    let whole = stopped(rt, alloc, case, u64::MAX)?;
+    let again = Case::new(&check, case.images, case.left);
+    let text = checked(rt, alloc, row, case.images)?;
+    let whole = stopped(rt, alloc, again, u64::MAX)?;
     for calls in 0..whole.passed {
-        let stop = stopped(rt, alloc, case, calls)?;
-        let at = format!(in alloc; "{words} {calls} {left:?}: {}", stop.status)?;
+        let stop = stopped(rt, alloc, again, calls)?;
+        let at = format!(in alloc;
+            "{} {calls} {:?}: {}",
+            row.call.words, case.left, stop.status
+        )?;
         holds_at(matches!(stop.status, 4 | 5 | 6), &at)?;
-        let again = checked(rt, alloc, row, &stop.images)?;
-        same_at(&again.as_str(), &text.as_str(), &at)?;
+        let further = checked(rt, alloc, row, &stop.images)?;
+        same_at(&further.as_str(), &text.as_str(), &at)?;
     }
     Ok(())
 }
