@@ -1,5 +1,5 @@
 -- A lane gave up blocks of one record: what the manager is then, clause by clause.
-use Rattle.std.proofs.Common.{◌≡◌, ◌+◌, ◌≢◌, ◌<◌, ◌≤◌, ◌^◌, ℕ, zero, suc, Bool, true, false, cond, not, ◌&&◌, List, [], ◌∷◌, ◌++◌, map, length, Option, None, Some, Ok, Err, refl, sym, ap, subst, ◌∙◌, arith, eqb, bit_and, get_or}
+use Rattle.std.proofs.Common.{◌≡◌, ◌+◌, ◌≢◌, ◌<◌, ◌≤◌, ◌^◌, ℕ, zero, suc, Bool, true, false, cond, not, ◌&&◌, List, [], ◌∷◌, ◌++◌, map, length, Option, None, Some, Result, Ok, Err, refl, sym, ap, subst, ◌∙◌, arith, eqb, bit_and, get_or}
 use Rattle.std.specs.Prelude.{IsTrue, slice_get, slice_set, remove, filter, is_none, IfSome, is_some}
 use Rattle.std.specs.Int.{bit_not, w128}
 use Rattle.std.specs.List.{AllByRecursion, list_any, range_with_len}
@@ -28,6 +28,7 @@ use Rattle.log_layout.specs.declared.record.RecHead.{RecHead}
 use Rattle.logger.specs.Lanes.{IsLane, HoldsAll, IsSameLane, HasUsed, IsTrimmable, Trimmed, in_place, to_pool, not_freed, held_in, taken_in, pool_of, logger_of}
 use Rattle.logger.specs.declared.lane.HeldSegment.{HeldSegment}
 use Rattle.logger.specs.declared.lane.Lane.{Lane}
+use Rattle.logger.specs.declared.lane.Spot.{Spot}
 use Rattle.logger.proofs.Indexes.{lacks_removed}
 use Rattle.manager.specs.Causes.{PartRose}
 use Rattle.manager.specs.Offers.{ChangesLane}
@@ -119,6 +120,14 @@ lane_in {state = state} {m = m} {version = version} {r = r} call l is = (spot_in
 pub record AreGoing {D : Type 0} (m : Manager D) (version given : ℕ) : Type 0 where
   pub fits : given < 2 ^ 128
   pub mask : IfSome (entry_at m.index.entries version) (λ e. IsMask e.listed.first (goes (listed_in m.index.entries) e.listed) given)
+
+-- one spot can be trimmed where another, the same, can, and was trimmed
+pub trimmable_at : {D : Type 0} {l : Lane D} {spot there : Spot} → spot ≡ there → IsTrimmable l there → IsTrimmable l spot
+trimmable_at {l = l} is = subst (λ (s : Spot). IsTrimmable l s) (sym is)
+
+pub trimmed_at : {D T E : Type 0} {state : D → State} {old new : Lane D} {spot there : Spot} {head : RecordHead} {keep : ℕ} {res : Result T E} → spot ≡ there
+    → Trimmed state old new spot head keep res → Trimmed state old new there head keep res
+trimmed_at {state = state} {old = old} {new = new} {head = head} {keep = keep} {res = res} is = subst (λ (s : Spot). Trimmed state old new s head keep res) is
 
 -- what became of its lane
 pub record HasTurned {D : Type 0} (state : D → State) (old new : Lane D) : Type 0 where

@@ -17,9 +17,10 @@ use Rattle.wol_promise.specs.Stands.{IsWhole, IsDataOf}
 use Rattle.wol_promise.proofs.Lists.{all_member, member_of}
 use Rattle.spin_model.specs.declared.spun.Spun.{Spun}
 use Rattle.log_segment.specs.Segment.{Holds, blocks_of, owner_of}
-use Rattle.logger.specs.Lanes.{AreWhole, ReadFrom, held_in}
+use Rattle.logger.specs.Lanes.{AreWhole, IsReadable, ReadFrom, held_in}
 use Rattle.logger.specs.declared.lane.HeldSegment.{HeldSegment}
 use Rattle.logger.specs.declared.lane.Lane.{Lane}
+use Rattle.logger.specs.declared.lane.Spot.{Spot}
 use Rattle.block_cells.specs.declared.record.Rec.{Rec}
 use Rattle.redirect_map.specs.Index.{entry_at, IsAnswer, IsIndex, IsRecordOf}
 use Rattle.manager.specs.Reclaim.{AreOf, HasFetched}
@@ -174,6 +175,15 @@ all_blocks n xs is = ap (λ (k : ℕ). take k xs) is ∙ whole xs
 on_ok_late : {T E A : Type 0} (P : Type 0) (r : Result T E) → (A → OnOk r P) → OnOk r (A → P)
 on_ok_late P (Ok x) so = so
 on_ok_late P (Err e) so = tt
+
+-- one spot can be read where another, the same, can
+pub readable_at : {D : Type 0} {l : Lane D} {spot there : Spot} {skip count : ℕ} → spot ≡ there → IsReadable l there skip count → IsReadable l spot skip count
+readable_at {l = l} {skip = skip} {count = count} is = subst (λ (s : Spot). IsReadable l s skip count) (sym is)
+
+-- a read at one spot is one at another, the same
+pub read_at : {D T E : Type 0} {state : D → State} {l l' : Lane D} {spot there : Spot} {skip : ℕ} {before after_ : List Block} {res : Result T E} → spot ≡ there
+    → ReadFrom state l l' spot skip before after_ res → ReadFrom state l l' there skip before after_ res
+read_at {state = state} {l = l} {l' = l'} {skip = skip} {before = before} {after_ = after_} {res = res} is = subst (λ (s : Spot). ReadFrom state l l' s skip before after_ res) is
 
 -- what is read is the data of the version
 pub data_blocks : {D T E U F : Type 0} (state : D → State) (m : Manager D) (ready : IsReady state m) (up : m.down ≡ None) (version : ℕ) (r : Rec) (index : IsIndex m.index.entries) (found : Found m.index.entries version r)

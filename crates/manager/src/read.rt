@@ -36,6 +36,16 @@ fn at_part(part: Part, answer: Result<(), Failed>) -> Result<(), Part>
     }
 }
 
+// Where the log has the record that the index lists so.
+pub(crate) fn spot_of(listed: &Rec) -> Spot
+    ensures { result ≡ record { segment = listed.now.segment; pos = listed.now.pos } }
+{
+    Spot {
+        segment: listed.segment,
+        pos: listed.pos,
+    }
+}
+
 impl<D: Disk> Manager<D> {
     /// Reads the blocks from block `lbn` of the volume on: each as its newest record in a log has it, or as home has it
     /// where no record covers it. Only the disks that have them are woken. Tells how many blocks came from home and
@@ -131,10 +141,7 @@ impl<D: Disk> Manager<D> {
         let place = record.lane as usize;
         self.ups[place] = true;
         let lane = &mut self.lanes[place];
-        let spot = Spot {
-            segment: record.segment,
-            pos: record.pos,
-        };
+        let spot = spot_of(record);
         let segment = Part::Segment {
             volume: lane.logger(),
             index: record.segment,
@@ -171,10 +178,7 @@ impl<D: Disk> Manager<D> {
         let place = record.lane as usize;
         self.ups[place] = true;
         let lane = &mut self.lanes[place];
-        let spot = Spot {
-            segment: record.segment,
-            pos: record.pos,
-        };
+        let spot = spot_of(record);
         let segment = Part::Segment {
             volume: lane.logger(),
             index: record.segment,

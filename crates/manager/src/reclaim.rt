@@ -12,10 +12,11 @@ ghost use Rattle.wol_model.specs.Index.{listed_in, is_due, has_going};
 ghost use Rattle.wol_model.specs.Log.{has_bit};
 ghost use Rattle.wol_promise.specs.Ruled.{Noted};
 
+use crate::read::spot_of;
 use crate::{Manager, Part, StepFault};
 use garbage_list::may_go;
 use listed_records::{forget, head_of};
-use logger::{Shared, Spot};
+use logger::Shared;
 use std::sync::Wait;
 use volume_parts::put_at;
 use wol_disk::{Block, Disk, Failed};
@@ -171,10 +172,7 @@ impl<D: Disk> Manager<D> {
         let place = record.lane as usize;
         self.ups[place] = true;
         let lane = &mut self.lanes[place];
-        let spot = Spot {
-            segment: record.segment,
-            pos: record.pos,
-        };
+        let spot = spot_of(&record);
         let segment = Part::Segment {
             volume: lane.logger(),
             index: record.segment,

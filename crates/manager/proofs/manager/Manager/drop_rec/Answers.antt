@@ -1,5 +1,5 @@
 -- What may go of a record is given up.
-use Rattle.std.proofs.Common.{◌≡◌, ◌<◌, ◌^◌, Bool, true, length, refl, sym, ap, ◌∙◌, arith}
+use Rattle.std.proofs.Common.{◌≡◌, ◌<◌, Bool, true, length, refl, sym, ap, ◌∙◌, arith}
 use Rattle.std.specs.Prelude.{◌↔◌}
 use Rattle.redirect_map.specs.Index.{entry_at}
 use Rattle.wol_model.specs.Index.{Indexed, listed_in, has_going}
@@ -7,7 +7,7 @@ use Rattle.logger.specs.Lanes.{IsAt}
 use Rattle.volume_parts.proofs.Calm.{calm_trim}
 use Rattle.manager.proofs.Calm.{none_lane}
 use Rattle.listed_records.proofs.Elements.{refill_set, all_at}
-use Rattle.manager.proofs.DropCall.{IsFound, found_as, lane_in, AreGoing, HasTurned, old_lane, spot_ready, version_ready, count_ready, range_ready, its_head, its_owner, proper_keep, given_entries, gone_is, ready_then, ready_broke, dropped_then, keeps_then, stops_then, dropped_broke, cause_broke, stands_broke, stops_broke}
+use Rattle.manager.proofs.DropCall.{IsFound, found_as, lane_in, AreGoing, HasTurned, trimmable_at, trimmed_at, old_lane, spot_ready, version_ready, count_ready, range_ready, its_head, its_owner, proper_keep, given_entries, gone_is, ready_then, ready_broke, dropped_then, keeps_then, stops_then, dropped_broke, cause_broke, stands_broke, stops_broke}
 use Rattle.manager.proofs.FetchRec.{lane_within}
 use Rattle.listed_records.proofs.Entries.{some_of}
 use Rattle.manager.proofs.ReadyLanes.{at_lane}
@@ -53,7 +53,7 @@ trim-requires g c =
     record {
       lane = was.lane;
       at = all_at (IsAt c.args.shared.now) m.lanes.items r.lane l here c.requires.at.lanes_;
-      spot = spot_ready call goes here;
+      spot = trimmable_at c.spot_of-spot.ensures (spot_ready call goes here);
       head = c.head_of-head.ensures.head;
       owner = its_owner call goes c.head_of-head.result c.head_of-head.ensures.value ∙ sym was.owner;
       keep = proper_keep call goes c.head_of-head.result c.head_of-head.ensures.value
@@ -71,7 +71,7 @@ returns-in-Ok g c =
     let m = c.args.self.now in let r = c.in-Some-find.record in let l = c.index_mut-lane.result.now in let l' = c.trim.new.self in
     let p = goal.at.returns-in-Ok g c in let call = found g p.In-Some-find in let goes = going g p.After-may_go-given in
     let here = lane_in call c.index_mut-lane.result.now c.index_mut-lane.ensures.value in let turn = turned g p.After-trim in
-    let head_is = its_head call goes c.head_of-head.result c.head_of-head.ensures.value in let moved = c.in-Ok.ensures.moved in
+    let head_is = its_head call goes c.head_of-head.result c.head_of-head.ensures.value in let moved = trimmed_at c.spot_of-spot.ensures c.in-Ok.ensures.moved in
     let flags = refill_set m.ups.items c.deref_mut.result.now r.lane true c.deref_mut.ensures.value in let entries = c.trim-in-Ok.ensures.entries ∙ given_entries call goes in
     record {
       ready = ready_then call goes here turn c.in-Ok.field-0 _ head_is moved c.trim-in-Ok.new.self _ entries flags;
@@ -92,7 +92,7 @@ returns-in-Err g c =
     let m = c.args.self.now in let r = c.in-Some-find.record in
     let p = goal.at.returns-in-Err g c in let call = found g p.In-Some-find in let goes = going g p.After-may_go-given in
     let here = lane_in call c.index_mut-lane.result.now c.index_mut-lane.ensures.value in let turn = turned g p.After-trim in
-    let head_is = its_head call goes c.head_of-head.result c.head_of-head.ensures.value in let moved = c.in-Err.ensures.moved in
+    let head_is = its_head call goes c.head_of-head.result c.head_of-head.ensures.value in let moved = trimmed_at c.spot_of-spot.ensures c.in-Err.ensures.moved in
     let flags = refill_set m.ups.items c.deref_mut.result.now r.lane true c.deref_mut.ensures.value in
     record {
       ready = ready_broke call goes here turn c.in-Err.field-0 _ head_is moved c.logger.result c.logger.ensures _ flags;

@@ -9,6 +9,7 @@ use Rattle.logger.specs.Lanes.{IsAt}
 use Rattle.manager.specs.Seen.{down_of, look_of_manager}
 use Rattle.manager.specs.Stands.{IsReady, IsReadyLane}
 use Rattle.volume_parts.proofs.Calm.{calm_read}
+use Rattle.manager.proofs.FetchRec.{readable_at, read_at}
 use Rattle.manager.proofs.Calm.{none_lane, segment_rose}
 use Rattle.listed_records.proofs.Elements.{refill_set, all_at}
 use Rattle.manager.proofs.ReadContent.{log_content}
@@ -54,7 +55,7 @@ pub read-answer-requires-clause-spot : goal.read-answer-requires-clause-spot
 read-answer-requires-clause-spot g c =
     let m = c.args.self.now in
     let s = spotted_in g.D.Disk.state m c.requires.serves.ready c.requires.serves.up c.args.record.now c.args.lbn (length c.args.out.now) c.requires.some c.requires.source c.index_mut-lane.result.now c.index_mut-lane.ensures.value in
-    record { place = s.spot.place; segment = s.spot.segment; there = s.spot.there; named = s.spot.index; whole = s.spot.segment_whole; fits = s.fits }
+    readable_at c.spot_of-spot.ensures (record { place = s.spot.place; segment = s.spot.segment; there = s.spot.there; named = s.spot.index; whole = s.spot.segment_whole; fits = s.fits })
 
 pub returns-clause-run : goal.returns-clause-run
 returns-clause-run g c =
@@ -80,7 +81,7 @@ returns-clause-run g c =
 
 pub returns-clause-content : goal.returns-clause-content
 returns-clause-content g c told b notes keeps =
-    let m = c.args.self.now in let state = g.D.Disk.state in let r = c.args.record.now in let l = c.index_mut-lane.result.now in let moved = c.read-answer.ensures.moved in
+    let m = c.args.self.now in let state = g.D.Disk.state in let r = c.args.record.now in let l = c.index_mut-lane.result.now in let moved = read_at c.spot_of-spot.ensures c.read-answer.ensures.moved in
     let t = g.met.D.Disk.told told m.home.inner in
     let s = spotted_in state m c.requires.serves.ready c.requires.serves.up r c.args.lbn (length c.args.out.now) c.requires.some c.requires.source l c.index_mut-lane.ensures.value in
     let long : length t.0 ≡ (state m.home.inner).size = (g.met.D.Disk.sound m.home.inner).each_block t.0 t.1 in
@@ -89,13 +90,13 @@ returns-clause-content g c told b notes keeps =
 
 pub returns-clause-cause : goal.returns-clause-cause
 returns-clause-cause g c =
-    let m = c.args.self.now in let state = g.D.Disk.state in let k = c.args.record.now.lane in let l = c.index_mut-lane.result.now in let l' = c.read-answer.new.self in let moved = c.read-answer.ensures.moved in
+    let m = c.args.self.now in let state = g.D.Disk.state in let k = c.args.record.now.lane in let l = c.index_mut-lane.result.now in let l' = c.read-answer.new.self in let moved = read_at c.spot_of-spot.ensures c.read-answer.ensures.moved in
     let s = spotted_in state m c.requires.serves.ready c.requires.serves.up c.args.record.now c.args.lbn (length c.args.out.now) c.requires.some c.requires.source l c.index_mut-lane.ensures.value in
     err_like _ c.read-answer.result c.at_part.result c.at_part.ensures.like c.at_part.ensures.part moved.cause (λ rose. segment_rose state m.lanes.items _ k moved.place l l' moved.old_segment moved.new_segment s.spot.lane_is refl moved.there moved.held _ _ c.logger.ensures (sym moved.named) rose)
 
 pub returns-clause-calm : goal.returns-clause-calm
 returns-clause-calm g c =
-    let m = c.args.self.now in let state = g.D.Disk.state in let k = c.args.record.now.lane in let l = c.index_mut-lane.result.now in let l' = c.read-answer.new.self in let moved = c.read-answer.ensures.moved in
+    let m = c.args.self.now in let state = g.D.Disk.state in let k = c.args.record.now.lane in let l = c.index_mut-lane.result.now in let l' = c.read-answer.new.self in let moved = read_at c.spot_of-spot.ensures c.read-answer.ensures.moved in
     let s = spotted_in state m c.requires.serves.ready c.requires.serves.up c.args.record.now c.args.lbn (length c.args.out.now) c.requires.some c.requires.source l c.index_mut-lane.ensures.value in
     let was = all_at (IsReadyLane state m.id m.most) m.lanes.items k l s.spot.lane_is c.requires.serves.ready.ready.each in
     on_ok_like c.read-answer.result c.at_part.result c.at_part.ensures.like (λ same. none_lane state m _ c.requires.serves.ready refl k l l' s.spot.lane_is refl (calm_read state l l' _ _ _ _ c.read-answer.result was.lane moved same)) moved.calm

@@ -10,7 +10,7 @@ use Rattle.volume_parts.proofs.Calm.{calm_read}
 use Rattle.manager.proofs.Calm.{none_lane, segment_rose}
 use Rattle.listed_records.proofs.Elements.{refill_set, all_at}
 use Rattle.listed_records.proofs.Entries.{found_of}
-use Rattle.manager.proofs.FetchRec.{spot_of, spot_in, data_blocks}
+use Rattle.manager.proofs.FetchRec.{spot_of, spot_in, readable_at, read_at, data_blocks}
 use Rattle.volume_parts.proofs.PartReads.{lane_read, whole_after, counted_after, stays_after, on_ok_like, err_like}
 use Rattle.manager.proofs.ReadRuns.{ready_after}
 use Rattle.manager.proofs.ReadThrough.{through_lane}
@@ -47,7 +47,7 @@ pub read-answer-requires-clause-spot : goal.read-answer-requires-clause-spot
 read-answer-requires-clause-spot g c =
     let m = c.args.self.now in let r = c.args.record.now in let l = c.index_mut-lane.result.now in
     let s = spot_in g.D.Disk.state m c.requires.serves.ready c.requires.serves.up r.version r c.requires.index (found_of m.index.entries r.version r c.requires.there) l c.index_mut-lane.ensures.value in
-    record { place = s.place; segment = s.segment; there = s.there; named = s.index; whole = s.segment_whole; fits = let f = s.fits in let n = c.requires.count in omega arith }
+    readable_at c.spot_of-spot.ensures (record { place = s.place; segment = s.segment; there = s.there; named = s.index; whole = s.segment_whole; fits = let f = s.fits in let n = c.requires.count in omega arith })
 
 pub returns-clause-ready : goal.returns-clause-ready
 returns-clause-ready g c =
@@ -77,20 +77,20 @@ returns-clause-fetched g c =
 
 pub returns-clause-content : goal.returns-clause-content
 returns-clause-content g c b notes keeps =
-    let m = c.args.self.now in let state = g.D.Disk.state in let r = c.args.record.now in let l = c.index_mut-lane.result.now in let l' = c.read-answer.new.self in let moved = c.read-answer.ensures.moved in
+    let m = c.args.self.now in let state = g.D.Disk.state in let r = c.args.record.now in let l = c.index_mut-lane.result.now in let l' = c.read-answer.new.self in let moved = read_at c.spot_of-spot.ensures c.read-answer.ensures.moved in
     let f = found_of m.index.entries r.version r c.requires.there in
     let s = spot_in state m c.requires.serves.ready c.requires.serves.up r.version r c.requires.index f l c.index_mut-lane.ensures.value in
     data_blocks state m c.requires.serves.ready c.requires.serves.up r.version r c.requires.index f g.D.Disk.tells b notes keeps c.args.out.now c.read-answer.new.out c.requires.count l l' c.read-answer.result c.at_part.result c.at_part.ensures.like s moved
 
 pub returns-clause-cause : goal.returns-clause-cause
 returns-clause-cause g c =
-    let m = c.args.self.now in let state = g.D.Disk.state in let r = c.args.record.now in let k = r.lane in let l = c.index_mut-lane.result.now in let l' = c.read-answer.new.self in let moved = c.read-answer.ensures.moved in
+    let m = c.args.self.now in let state = g.D.Disk.state in let r = c.args.record.now in let k = r.lane in let l = c.index_mut-lane.result.now in let l' = c.read-answer.new.self in let moved = read_at c.spot_of-spot.ensures c.read-answer.ensures.moved in
     let s = spot_in state m c.requires.serves.ready c.requires.serves.up r.version r c.requires.index (found_of m.index.entries r.version r c.requires.there) l c.index_mut-lane.ensures.value in
     err_like _ c.read-answer.result c.at_part.result c.at_part.ensures.like c.at_part.ensures.part moved.cause (λ rose. segment_rose state m.lanes.items _ k moved.place l l' moved.old_segment moved.new_segment s.lane_is refl moved.there moved.held _ _ c.logger.ensures (sym moved.named) rose)
 
 pub returns-clause-calm : goal.returns-clause-calm
 returns-clause-calm g c =
-    let m = c.args.self.now in let state = g.D.Disk.state in let r = c.args.record.now in let k = r.lane in let l = c.index_mut-lane.result.now in let l' = c.read-answer.new.self in let moved = c.read-answer.ensures.moved in
+    let m = c.args.self.now in let state = g.D.Disk.state in let r = c.args.record.now in let k = r.lane in let l = c.index_mut-lane.result.now in let l' = c.read-answer.new.self in let moved = read_at c.spot_of-spot.ensures c.read-answer.ensures.moved in
     let s = spot_in state m c.requires.serves.ready c.requires.serves.up r.version r c.requires.index (found_of m.index.entries r.version r c.requires.there) l c.index_mut-lane.ensures.value in
     let was = all_at (IsReadyLane state m.id m.most) m.lanes.items k l s.lane_is c.requires.serves.ready.ready.each in
     on_ok_like c.read-answer.result c.at_part.result c.at_part.ensures.like (λ same. none_lane state m _ c.requires.serves.ready refl k l l' s.lane_is refl (calm_read state l l' _ _ _ _ c.read-answer.result was.lane moved same)) moved.calm
