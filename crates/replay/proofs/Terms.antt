@@ -11,9 +11,9 @@ pub use Rattle.wol_model.specs.declared.trace.Kind.{Kind}
 pub use Rattle.wol_promise.proofs.ReadCode.{noted_is_back}
 pub use Rattle.wol_promise.specs.Code.{noted_of}
 pub use Rattle.wol_promise.specs.Outcomes.{Answered, AreOutcomes, answered_in, of_volume, Unanswered, WasRead, WasWritten, is_answered, AreWritten, IsWriteOf, mark_in}
-pub use Rattle.wol_promise.specs.Policy.{Look, AreWrites, IsReclaim, AreReclaims, placed, place_of, version_at, IsIdleLook, PartName}
+pub use Rattle.wol_promise.specs.Policy.{Look, AreWrites, placed, place_of, version_at, IsIdleLook, PartName}
 pub use Rattle.wol_promise.specs.Report.{logged_writes, by_worker, drains, is_drained_write, HasNoHelp, LeavesIdle, AreGone, blocks_put_home, put_home_by, home_writes}
-pub use Rattle.wol_promise.specs.Ruled.{Noted, AreRuled, IsKeep, IsStep, entries_of, last_look, IsDrained}
+pub use Rattle.wol_promise.specs.Ruled.{Noted, AreRuled, IsStep, entries_of, last_look, IsDrained}
 pub use Rattle.wol_promise.specs.Run.{joined_lines, KeepsSound, read_text}
 pub use Rattle.wol_promise.specs.Spindle.{keeper_uses}
 pub use Rattle.wol_promise.specs.Stands.{HasHistory}

@@ -2,13 +2,12 @@
 use Rattle.replay.proofs.Basics.{◌≡◌, ◌≤◌, ◌+◌, ℕ, List, [], ◌∷◌, ◌++◌, Option, None, Some, refl, ap, ◌∙◌, inl, inr, arith, cond, is_some}
 use Rattle.replay.proofs.Basics.{count_by, AllByRecursion, sum_by-append}
 use Rattle.replay.proofs.Terms.{Write, Operation, Wrote, Read, Kept, Broke, flight_from, flight_of, written_by, writes, Look, AreWrites}
-use Rattle.replay.proofs.Terms.{IsReclaim, AreReclaims, placed, place_of, version_at, logged_writes, Noted, AreRuled, IsKeep, IsStep}
+use Rattle.replay.proofs.Terms.{placed, place_of, version_at, logged_writes, Noted, AreRuled, IsStep}
 use Rattle.replay.proofs.Terms.{entries_of}
 use Rattle.wol_model.specs.Placing.{Home, Log, Full}
 use Rattle.replay.proofs.PassesRuled.{IsRuled}
 use Rattle.wol_model.specs.Placing as placing
-use Rattle.wol_promise.specs.Policy as policy
-use Rattle.wol_promise.specs.Ruled as ruled
+use Rattle.wol_promise.proofs.DownAndNext.{keep_same}
 
 versioned : List Write → ℕ
 versioned ws = count_by (λ (w : Write). is_some w.version) ws
@@ -36,21 +35,6 @@ module _ (passed : List ℕ) where
       by (Log lane) not is rest = let a = split in let b = one (Some l.next) is in omega (arith, a, b, rest)
       by Full not is rest = absurd (not refl)
 
-reclaim_next : (l m : Look) → IsReclaim l m → m.next ≡ l.next
-reclaim_next l m (policy.puts_home k put e up at due is) = ap (λ (x : Look). x.next) is
-reclaim_next l m (policy.gives_up k e at there is) = ap (λ (x : Look). x.next) is
-
-reclaims_next : (l m : Look) → AreReclaims l m → m.next ≡ l.next
-reclaims_next l m (policy.none x) = refl
-reclaims_next l m (policy.more x k y first rest) = reclaims_next k m rest ∙ reclaim_next l k first
-
-keep_next : (passed : List ℕ) (pass : ℕ) (l m : Look) → IsKeep passed pass l m → m.next ≡ l.next
-keep_next passed pass l m (ruled.same is) = ap (λ (x : Look). x.next) is
-keep_next passed pass l m (ruled.refused w client drain) = ap (λ (x : Look). x.next) drain.bare
-keep_next passed pass l m (ruled.flags is long so) = ap (λ (x : Look). x.next) so
-keep_next passed pass l m (ruled.helped is step) = reclaim_next l m step
-keep_next passed pass l m (ruled.reclaimed is steps) = reclaims_next l m steps
-
 step_next : (n : Noted) (pass : ℕ) (o : Operation) (l m : Look) → IsStep n pass o l m → ((ws : List Write) → o ≡ Broke ws → ⊥) → m.next ≡ l.next + versioned (written_by o)
 unfolding versioned
 step_next n pass (Read first reply) l m step whole = ap (λ (x : Look). x.next) step.1 ∙ omega arith
@@ -62,7 +46,7 @@ step_next n pass (Wrote ws) l m step whole = elim step [
       let none : versioned ws ≡ 0 = ap versioned d.only ∙ ap (λ (o : Option ℕ). 0 + cond (is_some o) 1 0) d.home in
       omega (arith, next, none)
 ]
-step_next n pass Kept l m step whole = keep_next n.passed pass l m step.1 ∙ omega arith
+step_next n pass Kept l m step whole = (keep_same n.passed pass l m step.1).1 ∙ omega arith
 step_next n pass (Broke ws) l m step whole = absurd (whole ws refl)
 
 -- ---- All entries

@@ -1,34 +1,18 @@
 -- Once a call failed each entry that follows the rules leaves the same part down.
-use Rattle.std.proofs.Common.{◌≡◌, ◌++◌, ◌∷◌, [], ℕ, List, None, map, refl, sym, ap, subst, ◌∙◌, append_assoc}
+use Rattle.std.proofs.Common.{◌≡◌, ◌++◌, ◌∷◌, [], List, None, map, refl, sym, subst, ◌∙◌, append_assoc}
 use Rattle.std.specs.Prelude.{IsTrue}
 use Rattle.std.specs.List.{AllByRecursion}
 use Rattle.wol_model.specs.History.{Entry, Operation, Wrote, Read, Kept, Broke, flight_from, flight_of, IsKept, BreaksOnce}
-use Rattle.wol_promise.specs.Policy.{Look, IsReclaim, AreReclaims}
-use Rattle.wol_promise.specs.Policy as policy
-use Rattle.wol_promise.specs.Ruled.{Noted, entries_of, IsKeep, IsStep, AreRuled, last_look}
-use Rattle.wol_promise.specs.Ruled as ruled
+use Rattle.wol_promise.specs.Policy.{Look}
+use Rattle.wol_promise.specs.Ruled.{Noted, entries_of, IsStep, AreRuled, last_look}
+use Rattle.wol_promise.proofs.DownAndNext.{keep_same}
 
 -- no entry of these is anything but Kept
 abbrev AreKept : List Noted → Type 0
 AreKept notes = AllByRecursion IsKept (map (λ (e : Entry). e.operation) (entries_of notes))
 
-reclaim_down : (l m : Look) → IsReclaim l m → m.down ≡ l.down
-reclaim_down l m (policy.puts_home k put e up at due is) = ap (λ (x : Look). x.down) is
-reclaim_down l m (policy.gives_up k e at there is) = ap (λ (x : Look). x.down) is
-
-reclaims_down : (l m : Look) → AreReclaims l m → m.down ≡ l.down
-reclaims_down l m (policy.none x) = refl
-reclaims_down l m (policy.more x k y first rest) = reclaims_down k m rest ∙ reclaim_down l k first
-
-keep_down : (passed : List ℕ) (pass : ℕ) (l m : Look) → IsKeep passed pass l m → m.down ≡ l.down
-keep_down passed pass l m (ruled.same is) = ap (λ (x : Look). x.down) is
-keep_down passed pass l m (ruled.refused w by drain) = ap (λ (x : Look). x.down) drain.bare
-keep_down passed pass l m (ruled.flags is long so) = ap (λ (x : Look). x.down) so
-keep_down passed pass l m (ruled.helped is step) = reclaim_down l m step
-keep_down passed pass l m (ruled.reclaimed is steps) = reclaims_down l m steps
-
 step_down : (n : Noted) (o : Operation) (l m : Look) → IsKept o → IsStep n n.entry.pass o l m → m.down ≡ l.down
-step_down n Kept l m kept step = keep_down n.passed n.entry.pass l m step.1
+step_down n Kept l m kept step = (keep_same n.passed n.entry.pass l m step.1).0
 step_down n (Wrote ws) l m kept step = absurd kept
 step_down n (Read first reply) l m kept step = absurd kept
 step_down n (Broke ws) l m kept step = absurd kept

@@ -28,6 +28,7 @@ pub mod LogOfOneSegment
 pub mod PlacingRules
 pub mod OpenedManager
 pub mod WhatIsRefused
+pub mod DownAndNext
 pub mod DownStays
 pub mod Woken
 pub mod Lowering
