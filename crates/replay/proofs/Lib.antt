@@ -54,6 +54,7 @@ pub mod RunCompleted
 pub mod WritesPlaced
 pub mod ReclaimCounted
 pub mod KeeperIdle
+pub mod VolumesRan
 pub mod ReclaimPlaced
 pub mod ReclaimedLeft
 pub mod HeadlineKept

@@ -10,12 +10,13 @@ use Rattle.replay.proofs.Terms.{home_by_pass, records_add_up, nothing_more, AreH
 use Rattle.replay.proofs.Terms.{Desk, Floor, Reclaim, all_added, IsClosedVolume, AreUnused, IsUnused, base_of_station, ImageRest}
 use Rattle.replay.proofs.Terms.{most_count, History, is_broken, CountsReclaimed, ServedFromStart, ServedWindow}
 use Rattle.replay.proofs.EntriesOwn.{all_of_three}
-use Rattle.replay.proofs.HistoriesLeft.{IsHistoryAt, histories_count, histories_of, history_at}
+use Rattle.replay.proofs.HistoriesLeft.{histories_count, histories_of, history_at}
 use Rattle.replay.proofs.KeeperIdle.{IsIdlePass, IsKeeperIdle, all_others_idle, ended_idle, idle_through, own_joined}
 use Rattle.replay.proofs.PassesRuled.{IsRuled}
 use Rattle.replay.proofs.RacksServed.{a_member, at_place, mapped, there_at, unmapped}
 use Rattle.replay.proofs.ReclaimCounted.{AreFree, HaveCounted, IsReady, no_fewer, ready_still, served_desks, served_reclaimed}
 use Rattle.replay.proofs.StationsRan.{AreNumbered, EndsOn, moved_at, worker_same}
+use Rattle.replay.proofs.VolumesRan.{HasRan, has_ran}
 
 -- ---- Sums
 
@@ -172,33 +173,23 @@ module _ {D : Type 0} (tells : Bool) (mode : Reclaim) (config : Config) (out : L
   hs_count = histories_count tells config out opened left_ news closed ∙ same
 
   module _ (k : ℕ) (h : History) (here : slice_get hs k ≡ Some h) where
-    at_ : IsHistoryAt tells config out opened left_ news k h
+    ran : HasRan tells config out opened left_ olds news k h
     unfolding hs
-    at_ = history_at tells config out opened left_ news closed k h here
+    ran = has_ran tells config out opened left_ olds news closed same k h here
 
-    abbrev new : Station D
-    new = at_.station
+    open ran use {old, new, is_old, is_new, its, is_left}
 
     abbrev es : List Entry
-    es = at_.closed.entries
-
-    less : k < length olds
-    less = let lt = (at_place news k new at_.there).0 in omega (arith, lt, same)
-
-    was : (s : Station D) × (slice_get olds k ≡ Some s)
-    was = a_member olds k less
-
-    abbrev old : Station D
-    old = was.0
+    es = its.entries
 
     notes_are : h.notes ≡ notes_of es
-    notes_are = ap (λ (x : History). x.notes) at_.is
+    notes_are = ap (λ (x : History). x.notes) is_left
 
     look_is : h.base.look ≡ (base_of_station new).volume.began.look
-    look_is = ap (λ (x : History). x.base.look) at_.is
+    look_is = ap (λ (x : History). x.base.look) is_left
 
     bases : (began old.worker ≡ (base_of_station new).volume.began) × (began old.helper ≡ (base_of_station new).volume.began) × (began new.keeper ≡ (base_of_station new).volume.began)
-    bases = looks k old new was.1 at_.there
+    bases = looks k old new is_old is_new
 
     own_of : (n : ℕ) (p : ManagerPass D) → pass_number p ≡ n → own (pass_number p) es ≡ pass_mine p → own n es ≡ pass_mine p
     own_of n p is mine = ap (λ (x : ℕ). own x es) (sym is) ∙ mine
@@ -207,22 +198,22 @@ module _ {D : Type 0} (tells : Bool) (mode : Reclaim) (config : Config) (out : L
     worker_then q there =
         let (x, desk_there, made) = unmapped (λ (d : Desk D). d.worker) middle.desks.items k q there in
         let (lt, place) = at_place middle.desks.items k x desk_there in
-        let now = worker_same tells mode ss olds news before middle after ps qs moved back unused served ends k old new was.1 at_.there (numbers k old was.1) in
+        let now = worker_same tells mode ss olds news before middle after ps qs moved back unused served ends k old new is_old is_new (numbers k old is_old) in
         sym made ∙ ap (λ (d : Desk D). d.worker) (sym (place _)) ∙ sym now
 
     helper_then : (q : ManagerPass D) → slice_get middle.helpers.items k ≡ Some q → q ≡ new.helper
     helper_then q there =
-        let made : slice_get middle.helpers.items k ≡ Some new.helper = ap (λ x. slice_get x.items k) middle_helpers ∙ ap (λ l. slice_get l k) back.helpers ∙ mapped (λ (s : Station D). s.helper) news k new at_.there in
+        let made : slice_get middle.helpers.items k ≡ Some new.helper = ap (λ x. slice_get x.items k) middle_helpers ∙ ap (λ l. slice_get l k) back.helpers ∙ mapped (λ (s : Station D). s.helper) news k new is_new in
         cc (sym there ∙ made)
 
     worker_was : (p : ManagerPass D) → slice_get (workers_of before) k ≡ Some p → p ≡ old.worker
     worker_was p there =
-        let made : slice_get (workers_of before) k ≡ Some old.worker = ap (λ l. slice_get l k) moved.workers ∙ mapped (λ (s : Station D). s.worker) olds k old was.1 in
+        let made : slice_get (workers_of before) k ≡ Some old.worker = ap (λ l. slice_get l k) moved.workers ∙ mapped (λ (s : Station D). s.worker) olds k old is_old in
         cc (sym there ∙ made)
 
     helper_was : (p : ManagerPass D) → slice_get before.helpers.items k ≡ Some p → p ≡ old.helper
     helper_was p there =
-        let made : slice_get before.helpers.items k ≡ Some old.helper = ap (λ l. slice_get l k) moved.helpers ∙ mapped (λ (s : Station D). s.helper) olds k old was.1 in
+        let made : slice_get before.helpers.items k ≡ Some old.helper = ap (λ l. slice_get l k) moved.helpers ∙ mapped (λ (s : Station D). s.helper) olds k old is_old in
         cc (sym there ∙ made)
 
     worker_adds : (worth : Bool → Look → Look → ℕ) (p q : ManagerPass D) → slice_get (workers_of before) k ≡ Some p → slice_get (workers_of middle) k ≡ Some q → added_between worth p q ≡ added_up worth worker h.base.look h.notes
@@ -230,8 +221,8 @@ module _ {D : Type 0} (tells : Bool) (mode : Reclaim) (config : Config) (out : L
         let (lt, place) = at_place (workers_of middle) k q last in
         let honest = subst (λ (x : ManagerPass D). IsHonest tells x) (place q ∙ worker_then q last) (ready_then.workers k q lt) in
         (λ i. added_between worth (worker_was p first i) (worker_then q last i))
-        ∙ own_added tells worth worker old.worker new.worker es (base_of_station new).volume.began.look (unused_at k old was.1).0 honest (numbers k old was.1).0 (new_numbers k new at_.there).0 (ap (λ x. x.look) bases.0)
-        at_.closed.worker_part.seen (own_of worker new.worker (new_numbers k new at_.there).0 at_.closed.worker_part.mine)
+        ∙ own_added tells worth worker old.worker new.worker es (base_of_station new).volume.began.look (unused_at k old is_old).0 honest (numbers k old is_old).0 (new_numbers k new is_new).0 (ap (λ x. x.look) bases.0)
+        its.worker_part.seen (own_of worker new.worker (new_numbers k new is_new).0 its.worker_part.mine)
         ∙ (λ i. added_up worth worker (sym look_is i) (sym notes_are i))
 
     helper_adds : (worth : Bool → Look → Look → ℕ) (p q : ManagerPass D) → slice_get before.helpers.items k ≡ Some p → slice_get middle.helpers.items k ≡ Some q → added_between worth p q ≡ added_up worth helper h.base.look h.notes
@@ -239,22 +230,22 @@ module _ {D : Type 0} (tells : Bool) (mode : Reclaim) (config : Config) (out : L
         let (lt, place) = at_place middle.helpers.items k q last in
         let honest = subst (λ (x : ManagerPass D). IsHonest tells x) (place q ∙ helper_then q last) (ready_then.helpers k q lt) in
         (λ i. added_between worth (helper_was p first i) (helper_then q last i))
-        ∙ own_added tells worth helper old.helper new.helper es (base_of_station new).volume.began.look (unused_at k old was.1).1 honest (numbers k old was.1).1 (new_numbers k new at_.there).1 (ap (λ x. x.look) bases.1)
-        at_.closed.helper_part.seen (own_of helper new.helper (new_numbers k new at_.there).1 at_.closed.helper_part.mine)
+        ∙ own_added tells worth helper old.helper new.helper es (base_of_station new).volume.began.look (unused_at k old is_old).1 honest (numbers k old is_old).1 (new_numbers k new is_new).1 (ap (λ x. x.look) bases.1)
+        its.helper_part.seen (own_of helper new.helper (new_numbers k new is_new).1 its.helper_part.mine)
         ∙ (λ i. added_up worth helper (sym look_is i) (sym notes_are i))
 
     others_idle_here : AreOthersIdle h.base.look h.notes
     others_idle_here =
-        let (d, desk_there) = a_member before.desks.items k (let sized = desks_of olds before moved in omega (arith, less, sized)) in
-        let first = moved_at olds before moved k old was.1 d old.worker in
-        let last = moved_at news after back k new at_.there d old.worker in
-        let begin = subst (λ (x : ManagerPass D). IsIdlePass x) (sym first.keeper_is) (idle_unused old.keeper (numbers k old was.1).2 (unused_at k old was.1).2) in
-        let end = ended_idle tells mode k old.worker (numbers k old was.1).0 ss before ps middle qs after served ends (first.keeper, begin) in
+        let (d, desk_there) = a_member before.desks.items k (let sized = desks_of olds before moved in let less = (at_place olds k old is_old).0 in omega (arith, less, sized)) in
+        let first = moved_at olds before moved k old is_old d old.worker in
+        let last = moved_at news after back k new is_new d old.worker in
+        let begin = subst (λ (x : ManagerPass D). IsIdlePass x) (sym first.keeper_is) (idle_unused old.keeper (numbers k old is_old).2 (unused_at k old is_old).2) in
+        let end = ended_idle tells mode k old.worker (numbers k old is_old).0 ss before ps middle qs after served ends (first.keeper, begin) in
         let idle = subst (λ (x : ManagerPass D). IsIdlePass x) last.keeper_is end.1 in
-        let all = idle_through new.keeper es idle at_.closed.keeper_part.seen (own_of keeper new.keeper (new_numbers k new at_.there).2 at_.closed.keeper_part.mine) in
+        let all = idle_through new.keeper es idle its.keeper_part.seen (own_of keeper new.keeper (new_numbers k new is_new).2 its.keeper_part.mine) in
         let kept = subst (λ (l : Look). IsKeeperIdle l (notes_of es)) (ap (λ x. x.look) bases.2) all in
         subst (λ (l : Look). AreOthersIdle l h.notes) (sym look_is) (subst (λ (ns : List Noted). AreOthersIdle (base_of_station new).volume.began.look ns) (sym notes_are)
-        (all_others_idle (base_of_station new).volume.began.look es at_.closed.no_more kept))
+        (all_others_idle (base_of_station new).volume.began.look es its.no_more kept))
 
   pub others_idle : (k : ℕ) (h : History) → slice_get (histories_of tells config out opened left_ news closed) k ≡ Some h → AreOthersIdle h.base.look h.notes
   unfolding hs

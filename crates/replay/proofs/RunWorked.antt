@@ -1,5 +1,5 @@
 -- What the worker and the keeper of each closed volume did in the windows of a run.
-use Rattle.replay.proofs.Basics.{◌≡◌, ◌≢◌, ◌==◌, ◌<◌, ◌≤◌, ◌⊎◌, ◌++◌, ℕ, Bool, false, List, [], ◌∷◌, length, map, refl, sym, ap}
+use Rattle.replay.proofs.Basics.{◌≡◌, ◌≢◌, ◌==◌, ◌≤◌, ◌⊎◌, ◌++◌, ℕ, Bool, false, List, [], ◌∷◌, length, map, refl, sym, ap}
 use Rattle.replay.proofs.Basics.{subst, ◌∙◌, Option, None, Some, is_some, length-append, inl, inr, arith, All, IsTrue, slice_get}
 use Rattle.replay.proofs.Basics.{slice_index_or, AllByRecursion, filter, option_map_or}
 use Rattle.replay.proofs.Terms.{BayState, Write, Kept, flight_of, helper, keeper, worker, noted_of, Look, HasNoHelp, by_worker, IsDrained}
@@ -9,12 +9,13 @@ use Rattle.replay.proofs.Terms.{nothing_more, IsMoved, Desk, Floor, Reclaim, IsC
 use Rattle.replay.proofs.Terms.{base_of_station, ImageRest, History, is_broken, is_broken_at, ServedFromStart, ServedWindow, WentWell}
 use Rattle.replay.proofs.Terms.{AreBegun, AreWorked, AreWorks, DrainsAlone, KeepsRecords, WorksAs, by_keeper}
 use Rattle.replay.proofs.EntriesOwn.{OfEntry, all_of_three, coded_all, noted_all, notes_back}
-use Rattle.replay.proofs.HistoriesLeft.{IsHistoryAt, histories_of, history_at}
+use Rattle.replay.proofs.HistoriesLeft.{histories_of}
 use Rattle.replay.proofs.KeeperIdle.{none_first, own_joined}
-use Rattle.replay.proofs.RacksServed.{a_member, at_place}
+use Rattle.replay.proofs.RacksServed.{at_place}
 use Rattle.replay.proofs.ReclaimPlaced.{honest_unused, none_noted, others_idle}
 use Rattle.replay.proofs.ReclaimedLeft.{own_noted}
 use Rattle.replay.proofs.StationsRan.{AreNumbered, EndsOn, desk, first, moved_at, worker_same}
+use Rattle.replay.proofs.VolumesRan.{HasRan, has_ran}
 use Rattle.replay.proofs.UnbrokenServed.{IsWholeNote, MakesWhole, served_whole, whole_flight}
 use Rattle.replay.proofs.WindowBroken.{broken_in}
 use Rattle.replay.proofs.WorksServed.{BeginsOn, WorksOn, all_begins, awake_count, awake_few, awake_in, awake_last, served_works}
@@ -68,42 +69,32 @@ module _ {D : Type 0} (tells : Bool) (mode : Reclaim) (config : Config) (out : L
   told_more = refl
 
   module _ (k : ℕ) (h : History) (here : slice_get (histories_of tells config out opened left_ news closed) k ≡ Some h) (owner : h.base.owner ≡ k) (none : mode ≢ reclaim.Beside → HasNoHelp h.notes) where
-    at_ : IsHistoryAt tells config out opened left_ news k h
-    at_ = history_at tells config out opened left_ news closed k h here
+    ran : HasRan tells config out opened left_ olds news k h
+    ran = has_ran tells config out opened left_ olds news closed same k h here
 
-    abbrev new : Station D
-    new = at_.station
+    open ran use {old, new, is_old, is_new, its, is_left}
 
     abbrev es : List Entry
-    es = at_.closed.entries
-
-    less : k < length olds
-    less = let lt = (at_place news k new at_.there).0 in omega (arith, lt, same)
-
-    was : (s : Station D) × (slice_get olds k ≡ Some s)
-    was = a_member olds k less
-
-    abbrev old : Station D
-    old = was.0
+    es = its.entries
 
     unused_here : IsUnused old.worker × IsUnused old.helper × IsUnused old.keeper
-    unused_here = let (lt, is) = at_place olds k old was.1 in subst (λ (x : Station D). IsUnused x.worker × IsUnused x.helper × IsUnused x.keeper) (is old) (unused k old lt)
+    unused_here = let (lt, is) = at_place olds k old is_old in subst (λ (x : Station D). IsUnused x.worker × IsUnused x.helper × IsUnused x.keeper) (is old) (unused k old lt)
 
     bases : (began old.worker ≡ (base_of_station new).volume.began) × (began old.helper ≡ (base_of_station new).volume.began) × (began new.keeper ≡ (base_of_station new).volume.began)
-    bases = looks k old new was.1 at_.there
+    bases = looks k old new is_old is_new
 
     base_is : (base_of_station new).volume.began ≡ h.base
-    base_is = sym (ap (λ (x : History). x.base) at_.is)
+    base_is = sym (ap (λ (x : History). x.base) is_left)
 
     -- the notes of one pass, by what it made
     own_are : (n : ℕ) (p : ManagerPass D) (notes : List Noted) → pass_number p ≡ n → own (pass_number p) es ≡ pass_mine p → pass_mine p ≡ map coded notes → filter (λ (m : Noted). m.entry.pass == n) h.notes ≡ notes
     own_are n p notes is mine made =
-        ap (λ (x : History). filter (λ (m : Noted). m.entry.pass == n) x.notes) at_.is ∙ own_noted n es ∙ ap notes_of (ap (λ (x : ℕ). own x es) (sym is) ∙ mine ∙ made) ∙ notes_back notes
+        ap (λ (x : History). filter (λ (m : Noted). m.entry.pass == n) x.notes) is_left ∙ own_noted n es ∙ ap notes_of (ap (λ (x : ℕ). own x es) (sym is) ∙ mine ∙ made) ∙ notes_back notes
 
     -- ---- The worker
 
     its_desk : Desk D
-    its_desk = desk tells mode ss olds news before middle after ps qs moved back unused served ends k old new was.1 at_.there (numbers k old was.1)
+    its_desk = desk tells mode ss olds news before middle after ps qs moved back unused served ends k old new is_old is_new (numbers k old is_old)
 
     abbrev Whole : Type 0
     Whole = IsTrue (is_broken h) → ⊥
@@ -111,9 +102,9 @@ module _ {D : Type 0} (tells : Bool) (mode : Reclaim) (config : Config) (out : L
     works : WorksOn tells Whole mode k ss old.worker new.worker
     unfolding its_desk
     works =
-        let at_first = first tells mode ss olds news before middle after ps qs moved back unused served ends k old new was.1 at_.there (numbers k old was.1) in
-        let at_last = worker_same tells mode ss olds news before middle after ps qs moved back unused served ends k old new was.1 at_.there (numbers k old was.1) in
-        let on = served_works tells Whole mode k its_desk ss before ps middle qs served at_first.desk (subst (λ (x : ManagerPass D). IsFree x) (sym at_first.worker_is) (free k old was.1).0) in
+        let at_first = first tells mode ss olds news before middle after ps qs moved back unused served ends k old new is_old is_new (numbers k old is_old) in
+        let at_last = worker_same tells mode ss olds news before middle after ps qs moved back unused served ends k old new is_old is_new (numbers k old is_old) in
+        let on = served_works tells Whole mode k its_desk ss before ps middle qs served at_first.desk (subst (λ (x : ManagerPass D). IsFree x) (sym at_first.worker_is) (free k old is_old).0) in
         subst (λ (x : ManagerPass D). WorksOn tells Whole mode k ss old.worker x) (sym at_last) (subst (λ (x : ManagerPass D). WorksOn tells Whole mode k ss x (slice_index_or middle.desks.items k its_desk).worker) at_first.worker_is on)
 
     worker_made : pass_mine new.worker ≡ map coded works.notes
@@ -121,18 +112,18 @@ module _ {D : Type 0} (tells : Bool) (mode : Reclaim) (config : Config) (out : L
 
     worker_is : AreWorks mode h.base.view k Whole ss (by_worker h.notes)
     worker_is =
-        let whole = λ (w : Whole) (broken : IsBroken (notes_seen new.worker)). w (subst (λ (x : History). IsTrue (is_broken x)) (sym at_.is) (broken_in (pass_seen new.worker) es at_.closed.worker_part.seen broken)) in
+        let whole = λ (w : Whole) (broken : IsBroken (notes_seen new.worker)). w (subst (λ (x : History). IsTrue (is_broken x)) (sym is_left) (broken_in (pass_seen new.worker) es its.worker_part.seen broken)) in
         subst (λ (view : List ℕ). AreWorks mode view k Whole ss (by_worker h.notes)) (ap (λ b. b.view) (bases.0 ∙ base_is))
-        (subst (λ (ns : List Noted). AreWorks mode (began old.worker).view k Whole ss ns) (sym (own_are worker new.worker works.notes (new_numbers k new at_.there).0 at_.closed.worker_part.mine worker_made)) (works.works whole))
+        (subst (λ (ns : List Noted). AreWorks mode (began old.worker).view k Whole ss ns) (sym (own_are worker new.worker works.notes (new_numbers k new is_new).0 its.worker_part.mine worker_made)) (works.works whole))
 
     -- ---- The keeper
 
     begins : BeginsOn told_awake old.keeper new.keeper
     unfolding told_awake
     begins =
-        let at_first = moved_at olds before moved k old was.1 its_desk old.worker in
-        let at_last = moved_at news after back k new at_.there its_desk old.worker in
-        let on = all_begins tells mode k old.worker (numbers k old was.1).0 ss before ps middle qs served after ends (at_first.keeper, ap (λ (x : ManagerPass D). pass_number x) at_first.keeper_is ∙ (numbers k old was.1).2) in
+        let at_first = moved_at olds before moved k old is_old its_desk old.worker in
+        let at_last = moved_at news after back k new is_new its_desk old.worker in
+        let on = all_begins tells mode k old.worker (numbers k old is_old).0 ss before ps middle qs served after ends (at_first.keeper, ap (λ (x : ManagerPass D). pass_number x) at_first.keeper_is ∙ (numbers k old is_old).2) in
         subst (λ (x : ManagerPass D). BeginsOn (awake_in tells mode ss before ps middle qs served ++ awake_last tells mode middle after ends) old.keeper x) at_last.keeper_is
         (subst (λ (x : ManagerPass D). BeginsOn (awake_in tells mode ss before ps middle qs served ++ awake_last tells mode middle after ends) x (slice_index_or after.keepers.items k old.worker)) at_first.keeper_is on)
 
@@ -143,7 +134,7 @@ module _ {D : Type 0} (tells : Bool) (mode : Reclaim) (config : Config) (out : L
     keeper_is =
         let base : began old.keeper ≡ h.base = sym (ap (λ x. x.base.volume.began) begins.same.0) ∙ bases.2 ∙ base_is in
         subst (λ (n : ℕ). AreBegun n h.base.view told_awake (by_keeper h.notes)) owner (subst (λ b. AreBegun b.owner b.view told_awake (by_keeper h.notes)) base
-        (subst (λ (ns : List Noted). AreBegun (began old.keeper).owner (began old.keeper).view told_awake ns) (sym (own_are keeper new.keeper begins.notes (new_numbers k new at_.there).2 at_.closed.keeper_part.mine keeper_made)) begins.begun))
+        (subst (λ (ns : List Noted). AreBegun (began old.keeper).owner (began old.keeper).view told_awake ns) (sym (own_are keeper new.keeper begins.notes (new_numbers k new is_new).2 its.keeper_part.mine keeper_made)) begins.begun))
 
     -- ---- Where nothing is reclaimed
 
@@ -161,23 +152,23 @@ module _ {D : Type 0} (tells : Bool) (mode : Reclaim) (config : Config) (out : L
         seen = works.gains.seen ∙ ap (λ (l : List Entry). l ++ works.more) unused_here.0.seen
 
         rest : List Entry
-        rest = at_.closed.worker_part.seen.0
+        rest = its.worker_part.seen.0
 
         entries : es ≡ works.more ++ rest
-        entries = sym at_.closed.worker_part.seen.1 ∙ ap (λ (l : List Entry). l ++ rest) seen
+        entries = sym its.worker_part.seen.1 ∙ ap (λ (l : List Entry). l ++ rest) seen
 
         none_behind : own worker rest ≡ []
         none_behind =
             let all : own (pass_number new.worker) (pass_seen new.worker) ++ own (pass_number new.worker) rest ≡ own (pass_number new.worker) (pass_seen new.worker)
-            = sym (own_joined (pass_number new.worker) (pass_seen new.worker) rest) ∙ ap (own (pass_number new.worker)) at_.closed.worker_part.seen.1 ∙ at_.closed.worker_part.mine ∙ sym honest in
-            subst (λ (n : ℕ). own n rest ≡ []) (new_numbers k new at_.there).0 (nothing_more (own (pass_number new.worker) (pass_seen new.worker)) (own (pass_number new.worker) rest) all)
+            = sym (own_joined (pass_number new.worker) (pass_seen new.worker) rest) ∙ ap (own (pass_number new.worker)) its.worker_part.seen.1 ∙ its.worker_part.mine ∙ sym honest in
+            subst (λ (n : ℕ). own n rest ≡ []) (new_numbers k new is_new).0 (nothing_more (own (pass_number new.worker) (pass_seen new.worker)) (own (pass_number new.worker) rest) all)
 
         front : KeptStay h.base.look (notes_of works.more)
         front = subst (λ (l : Look). KeptStay l (notes_of works.more)) (ap (λ (x : List Entry). last_look (began old.worker).look (notes_of x)) unused_here.0.seen ∙ ap (λ b. b.look) (bases.0 ∙ base_is))
             (works.stays off (honest_unused tells old.worker unused_here.0))
 
         stays : KeptStay h.base.look h.notes
-        stays = subst (λ (ns : List Noted). KeptStay h.base.look ns) (sym (ap (λ (x : History). x.notes) at_.is ∙ ap notes_of entries ∙ notes_joined works.more rest))
+        stays = subst (λ (ns : List Noted). KeptStay h.base.look ns) (sym (ap (λ (x : History). x.notes) is_left ∙ ap notes_of entries ∙ notes_joined works.more rest))
             (kept_join h.base.look (notes_of works.more) (notes_of rest) front (kept_rest (last_look h.base.look (notes_of works.more)) rest none_behind))
 
     -- ---- Where all windows went well
@@ -185,23 +176,23 @@ module _ {D : Type 0} (tells : Bool) (mode : Reclaim) (config : Config) (out : L
     unbroken : AllByRecursion WentWell ss → after ≡ middle → flight_of (entries_of h.notes) ≡ None
     unfolding its_desk
     unbroken well no_more =
-        let at_first = first tells mode ss olds news before middle after ps qs moved back unused served ends k old new was.1 at_.there (numbers k old was.1) in
-        let at_last = moved_at news after back k new at_.there its_desk old.worker in
-        let same_worker = worker_same tells mode ss olds news before middle after ps qs moved back unused served ends k old new was.1 at_.there (numbers k old was.1) in
-        let all = served_whole tells mode k its_desk old.worker (numbers k old was.1).0 ss before ps middle qs served well (record {
+        let at_first = first tells mode ss olds news before middle after ps qs moved back unused served ends k old new is_old is_new (numbers k old is_old) in
+        let at_last = moved_at news after back k new is_new its_desk old.worker in
+        let same_worker = worker_same tells mode ss olds news before middle after ps qs moved back unused served ends k old new is_old is_new (numbers k old is_old) in
+        let all = served_whole tells mode k its_desk old.worker (numbers k old is_old).0 ss before ps middle qs served well (record {
           desks = at_first.desk;
           helpers = at_first.helper;
           keepers = at_first.keeper;
-          helper_is = ap (λ (x : ManagerPass D). pass_number x) at_first.helper_is ∙ (numbers k old was.1).1;
-          keeper_is = ap (λ (x : ManagerPass D). pass_number x) at_first.keeper_is ∙ (numbers k old was.1).2;
+          helper_is = ap (λ (x : ManagerPass D). pass_number x) at_first.helper_is ∙ (numbers k old is_old).1;
+          keeper_is = ap (λ (x : ManagerPass D). pass_number x) at_first.keeper_is ∙ (numbers k old is_old).2;
         }) in
-        let number = new_numbers k new at_.there in
+        let number = new_numbers k new is_new in
         let helper_then : slice_index_or middle.helpers.items k old.worker ≡ new.helper = ap (λ (f : Floor D). slice_index_or f.helpers.items k old.worker) (sym no_more) ∙ at_last.helper_is in
         let keeper_then : slice_index_or middle.keepers.items k old.worker ≡ new.keeper = ap (λ (f : Floor D). slice_index_or f.keepers.items k old.worker) (sym no_more) ∙ at_last.keeper_is in
-        subst (λ (x : History). flight_of (entries_of x.notes) ≡ None) (sym at_.is) (whole_flight (notes_of es) (noted_all IsWholeNote es (all_of_three (OfEntry IsWholeNote) es at_.closed.no_more
-        (of_pass worker old.worker new.worker _ _ at_first.worker_is (sym same_worker) all.worker_ unused_here.0 number.0 at_.closed.worker_part.mine)
-        (of_pass helper old.helper new.helper _ _ at_first.helper_is helper_then all.helper_ unused_here.1 number.1 at_.closed.helper_part.mine)
-        (of_pass keeper old.keeper new.keeper _ _ at_first.keeper_is keeper_then all.keeper_ unused_here.2 number.2 at_.closed.keeper_part.mine))))
+        subst (λ (x : History). flight_of (entries_of x.notes) ≡ None) (sym is_left) (whole_flight (notes_of es) (noted_all IsWholeNote es (all_of_three (OfEntry IsWholeNote) es its.no_more
+        (of_pass worker old.worker new.worker _ _ at_first.worker_is (sym same_worker) all.worker_ unused_here.0 number.0 its.worker_part.mine)
+        (of_pass helper old.helper new.helper _ _ at_first.helper_is helper_then all.helper_ unused_here.1 number.1 its.helper_part.mine)
+        (of_pass keeper old.keeper new.keeper _ _ at_first.keeper_is keeper_then all.keeper_ unused_here.2 number.2 its.keeper_part.mine))))
       where
         of_pass : (n : ℕ) (p q x y : ManagerPass D) → x ≡ p → y ≡ q → MakesWhole x y → IsUnused p → pass_number q ≡ n → own (pass_number q) es ≡ pass_mine q → AllByRecursion (OfEntry IsWholeNote) (own n es)
         of_pass n p q x y first_is last_is made none number mine =
