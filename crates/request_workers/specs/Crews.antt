@@ -42,11 +42,12 @@ module _ {T : Type 0} where
   abbrev pub AreToldFrom : ℕ → List (Errands T) → List (Worker T) → Type 0
   AreToldFrom = AllFrom IsTold
 
-  -- .. from the first on
+  -- each of them waits, from the first errand on
   abbrev pub AreWaiting : List (Errands T) → List (Worker T) → Type 0
   AreWaiting es ws = (k : ℕ) (e : Errands T) (w : Worker T) → k < length ws
       → IsWaiting (slice_index_or es k e) (slice_index_or ws k w)
 
+  -- each of them was told that nothing more comes, from the first errand on
   abbrev pub AreTold : List (Errands T) → List (Worker T) → Type 0
   AreTold es ws = (k : ℕ) (e : Errands T) (w : Worker T) → k < length ws
       → IsTold (slice_index_or es k e) (slice_index_or ws k w)
