@@ -100,7 +100,7 @@ check_commands() {
 check_crates() {
     local crate
     while read -r crate; do
-        grep -q "\b$crate\b" docs/ARCHITECTURE.md || echo "docs/ARCHITECTURE.md has no floor for $crate"
+        grep -q "\b$crate\b" docs/ARCHITECTURE.md || echo "docs/ARCHITECTURE.md has no layer for $crate"
         grep -q "\b$crate\b" docs/PROOF.md || echo "docs/PROOF.md doesn't have $crate"
         grep -q "^| $crate |" CONTRIBUTING.md || echo "CONTRIBUTING.md has no row for $crate"
     done < <(sed -n 's/^\([a-z_]*\)[ :].*/\1/p' crates.txt | grep -v '_tests$')
@@ -137,7 +137,7 @@ check_clauses() {
     done
     while read -r crate; do
         for label in $(section docs/PROOF.md "### Crate \`$crate\`" | told); do
-            grep -qw "$label" crates/"$crate"/src/*.rt || echo "docs/PROOF.md names $label of $crate, which isn't there"
+            grep -qE "\b(requires|ensures|ghost|fn|struct|enum|trait) $label\b" crates/"$crate"/src/*.rt || echo "docs/PROOF.md names $label of $crate, which isn't there"
         done
     done < <(awk '/^### Crate / { gsub(/[^a-z_]/, "", $3); print $3 }' docs/PROOF.md)
 }
