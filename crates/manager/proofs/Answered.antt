@@ -84,7 +84,7 @@ module _ {D : Type 0} (count : ℕ) where
             before.each k r o n (sym (get_other rooms lane k No (λ e. other (sym e))) ∙ is_r) is_o (sym (ap (λ (l : List (Lane D)). slice_get l k) change.set ∙ get_other mid lane k change.after (λ e. other (sym e))) ∙ is_n)
 
     -- one took the write
-    pub one_takes : ChangesLane HasTakenWrite lane mid new → HaveAnswered count (λ k. lane == k) rooms old new
+    pub one_takes : ChangesLane (HasTakenWrite count) lane mid new → HaveAnswered count (λ k. lane == k) rooms old new
     one_takes change = record {
       noted = before.noted;
       same = ap length change.set ∙ (length-set mid lane change.after ∙ before.same);
@@ -93,11 +93,11 @@ module _ {D : Type 0} (count : ℕ) where
           (λ other. subst (λ (t : Bool). HasAnswered count t r o n) (sym other.0) (elsewhere k r o n is_r is_o is_n other.1)) (eqb_tells lane k);
     }
       where
-        at_lane : (k : ℕ) (r : Room) (o n : Lane D) → slice_get rooms k ≡ Some r → slice_get old k ≡ Some o → slice_get new k ≡ Some n → lane ≡ k → (r ≡ Unknown) × HasTakenWrite o n
+        at_lane : (k : ℕ) (r : Room) (o n : Lane D) → slice_get rooms k ≡ Some r → slice_get old k ≡ Some o → slice_get new k ≡ Some n → lane ≡ k → (r ≡ Unknown) × HasTakenWrite count o n
         at_lane k r o n is_r is_o is_n here =
             let first : change.before ≡ o = before.each lane Unknown o change.before unknown (ap (slice_get old) here ∙ is_o) change.there in
             let last : change.after ≡ n = same_Some change.after n (sym (get_set mid lane change.before change.after change.there) ∙ (sym (ap (λ (l : List (Lane D)). slice_get l lane) change.set) ∙ (ap (slice_get new) here ∙ is_n))) in
-            (same_Some r Unknown (sym is_r ∙ (sym (ap (slice_get rooms) here) ∙ unknown)), subst (λ (x : Lane D). HasTakenWrite x n) first (subst (λ (x : Lane D). HasTakenWrite change.before x) last change.change))
+            (same_Some r Unknown (sym is_r ∙ (sym (ap (slice_get rooms) here) ∙ unknown)), subst (λ (x : Lane D). HasTakenWrite count x n) first (subst (λ (x : Lane D). HasTakenWrite count change.before x) last change.change))
 
         elsewhere : (k : ℕ) (r : Room) (o n : Lane D) → slice_get rooms k ≡ Some r → slice_get old k ≡ Some o → slice_get new k ≡ Some n → (lane ≡ k → ⊥) → HasAnswered count false r o n
         elsewhere k r o n is_r is_o is_n other =

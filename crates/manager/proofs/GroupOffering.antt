@@ -33,7 +33,7 @@ use Rattle.wol_promise.specs.Ruled.{Noted, HasPassed, entries_of, IsStep, last_l
 use Rattle.wol_promise.specs.Stands.{Upholds}
 use Rattle.wol_promise.proofs.Lists.{all_push, all_member, all_map, all_mapped, all_back, member_of}
 use Rattle.wol_promise.proofs.OneMore.{last_more}
-use Rattle.logger.specs.Lanes.{IsLane, HoldsAll, IsHeld, IsSameLane, AreWhole, held_in, taken_in, lane_owner, logger_of, segments_in, pool_of, pool_blocks, first_count}
+use Rattle.logger.specs.Lanes.{IsLane, HoldsAll, IsHeld, IsSameLane, AreWhole, HasNoRoom, held_in, taken_in, lane_owner, logger_of, segments_in, pool_of, pool_blocks, first_count}
 use Rattle.logger.specs.declared.lane.HeldSegment.{HeldSegment}
 use Rattle.logger.specs.declared.lane.Lane.{Lane}
 use Rattle.logger.specs.declared.lane.Spot.{Spot}
@@ -68,17 +68,17 @@ use Rattle.manager.specs.declared.part.Part.TheVariants as part
 
 -- ---- What a write asked of a pool
 
-taken_same : {D : Type 0} (old new : Lane D) → HasTakenWrite old new → nones_in (pass_mine (pool_of old)) ≤ nones_in (pass_mine (pool_of new))
-taken_same old new took = by took.pool
+taken_same : {D : Type 0} (count : ℕ) (old new : Lane D) → HasTakenWrite count old new → nones_in (pass_mine (pool_of old)) ≤ nones_in (pass_mine (pool_of new))
+taken_same count old new took = by took.pool
   where
-    by : (pass_mine (pool_of new) ≡ pass_mine (pool_of old)) ⊎ ((index : ℕ) × (pass_mine (pool_of new) ≡ pass_mine (pool_of old) ++ (pass_number (pool_of old), Rattle.seg_pool.specs.Operations.operation_of (Took (Some index))) ∷ [])) → nones_in (pass_mine (pool_of old)) ≤ nones_in (pass_mine (pool_of new))
+    by : (pass_mine (pool_of new) ≡ pass_mine (pool_of old)) ⊎ ((index : ℕ) × (pass_mine (pool_of new) ≡ pass_mine (pool_of old) ++ (pass_number (pool_of old), Rattle.seg_pool.specs.Operations.operation_of (Took (Some index))) ∷ []) × HasNoRoom count (held_in old)) → nones_in (pass_mine (pool_of old)) ≤ nones_in (pass_mine (pool_of new))
     by (inl same) = let e = ap nones_in same in omega (arith, e)
     by (inr gave) = let e = ap nones_in gave.1 ∙ nones_some (pass_mine (pool_of old)) (pass_number (pool_of old)) gave.0 in omega (arith, e)
 
-took_one : {D : Type 0} (old new : Lane D) → HasTakenWrite old new → takes_in (pass_mine (pool_of new)) ≤ takes_in (pass_mine (pool_of old)) + 1
-took_one old new took = by took.pool
+took_one : {D : Type 0} (count : ℕ) (old new : Lane D) → HasTakenWrite count old new → takes_in (pass_mine (pool_of new)) ≤ takes_in (pass_mine (pool_of old)) + 1
+took_one count old new took = by took.pool
   where
-    by : (pass_mine (pool_of new) ≡ pass_mine (pool_of old)) ⊎ ((index : ℕ) × (pass_mine (pool_of new) ≡ pass_mine (pool_of old) ++ (pass_number (pool_of old), Rattle.seg_pool.specs.Operations.operation_of (Took (Some index))) ∷ [])) → takes_in (pass_mine (pool_of new)) ≤ takes_in (pass_mine (pool_of old)) + 1
+    by : (pass_mine (pool_of new) ≡ pass_mine (pool_of old)) ⊎ ((index : ℕ) × (pass_mine (pool_of new) ≡ pass_mine (pool_of old) ++ (pass_number (pool_of old), Rattle.seg_pool.specs.Operations.operation_of (Took (Some index))) ∷ []) × HasNoRoom count (held_in old)) → takes_in (pass_mine (pool_of new)) ≤ takes_in (pass_mine (pool_of old)) + 1
     by (inl same) = let e = ap takes_in same in omega (arith, e)
     by (inr gave) = let e = ap takes_in gave.1 ∙ takes_some (pass_mine (pool_of old)) (pass_number (pool_of old)) gave.0 in omega (arith, e)
 
@@ -180,15 +180,15 @@ module _ {D : Type 0} (state : D → State) (m : Manager D) (k : ℕ) (old new :
 
   -- ---- Its records are listed
 
-  module _ (spot : Spot) (put : PutIn state old new total news (Ok spot)) (recs : List Rec) (recs_is : recs ≡ recs_at m.next items k spot.segment spot.pos) where
-    whole_then : PutIn state old new total news (Ok spot) → AreWhole (held_in new)
-    whole_then (to_held i o n at room held grown is) = subst AreWhole (sym held) (all_set (λ (h : HeldSegment D). IsWhole h.segment) (held_in old) i n was_whole grown.whole)
-    whole_then (to_new f n blank held claimed is) = subst AreWhole (sym held) (all_push (λ (h : HeldSegment D). IsWhole h.segment) (held_in old) n was_whole claimed.whole)
+  module _ (spot : Spot) (put : PutIn state old new (first_count items) total news (Ok spot)) (recs : List Rec) (recs_is : recs ≡ recs_at m.next items k spot.segment spot.pos) where
+    whole_then : PutIn state old new (first_count items) total news (Ok spot) → AreWhole (held_in new)
+    whole_then (to_held i o n one at room held grown is) = subst AreWhole (sym held) (all_set (λ (h : HeldSegment D). IsWhole h.segment) (held_in old) i n was_whole grown.whole)
+    whole_then (to_new f n none blank held claimed is) = subst AreWhole (sym held) (all_push (λ (h : HeldSegment D). IsWhole h.segment) (held_in old) n was_whole claimed.whole)
 
-    stays : PutIn state old new total news (Ok spot) → (h : HeldSegment D) → Contains (held_in old) h → (n : HeldSegment D) × Contains (held_in new) n × (n.index ≡ h.index) × (blocks_of n.segment ≡ blocks_of h.segment)
-    stays (to_held i o n at room held grown is) h has =
+    stays : PutIn state old new (first_count items) total news (Ok spot) → (h : HeldSegment D) → Contains (held_in old) h → (n : HeldSegment D) × Contains (held_in new) n × (n.index ≡ h.index) × (blocks_of n.segment ≡ blocks_of h.segment)
+    stays (to_held i o n one at room held grown is) h has =
         let s = stays_set (held_in old) i o n at grown.index (blocks_same o n i at held) h has in (s.0, subst (λ (hs : List (HeldSegment D)). Contains hs s.0) (sym held) s.1, s.2, s.3)
-    stays (to_new f n blank held claimed is) h has = let s = stays_push (held_in old) n h has in (s.0, subst (λ (hs : List (HeldSegment D)). Contains hs s.0) (sym held) s.1, s.2, s.3)
+    stays (to_new f n none blank held claimed is) h has = let s = stays_push (held_in old) n h has in (s.0, subst (λ (hs : List (HeldSegment D)). Contains hs s.0) (sym held) s.1, s.2, s.3)
 
     -- the segment that has them
     record Its : Type 0 where
@@ -198,8 +198,8 @@ module _ {D : Type 0} (state : D → State) (m : Manager D) (k : ℕ) (old new :
       behind : 1 ≤ spot.pos
       within : spot.pos + length items + count_of items ≤ blocks_of segment.segment
 
-    its : PutIn state old new total news (Ok spot) → Its
-    its (to_held i o n at room held grown is) = record {
+    its : PutIn state old new (first_count items) total news (Ok spot) → Its
+    its (to_held i o n one at room held grown is) = record {
       segment = n;
       there = subst (λ (hs : List (HeldSegment D)). Contains hs n) (sym held) (member_of (slice_set (held_in old) i n) n i (get_set (held_in old) i o n at));
       index = grown.index ∙ sym is.0;
@@ -209,7 +209,7 @@ module _ {D : Type 0} (state : D → State) (m : Manager D) (k : ℕ) (old new :
       where
         was : IsHeld state (logger_of old) (lane_owner old) (segments_in old) (pool_of old) o
         was = all_at (IsHeld state (logger_of old) (lane_owner old) (segments_in old) (pool_of old)) (held_in old) i o at was_lane.lane.each
-    its (to_new f n blank held claimed is) = record {
+    its (to_new f n none blank held claimed is) = record {
       segment = n;
       there = subst (λ (hs : List (HeldSegment D)). Contains hs n) (sym held) (Contains-push (held_in old) n);
       index = sym is.0;
@@ -267,12 +267,12 @@ module _ {D : Type 0} (state : D → State) (m : Manager D) (k : ℕ) (old new :
     abbrev Was : HeldSegment D → Type 0
     Was h = valid_of h.segment ≡ entries_at k h.index m.index.entries
 
-    counted_then : PutIn state old new total news (Ok spot) → AllByRecursion Counted (held_in new)
-    counted_then (to_held i o n at room held grown is) = subst (AllByRecursion Counted) (sym held) (held_set Counted (held_in old) i n
+    counted_then : PutIn state old new (first_count items) total news (Ok spot) → AllByRecursion Counted (held_in new)
+    counted_then (to_held i o n one at room held grown is) = subst (AllByRecursion Counted) (sym held) (held_set Counted (held_in old) i n
         (λ l h other there. all_at Was (held_in old) l h there was_counted ∙ sym (others k h.index (inr (λ e. other (same_place (λ (g : HeldSegment D). g.index) (held_in old) (map (λ (t : ℕ × FreeSegment D). t.0) (option_to_list (taken_in old))) l i h o was_lane.lane.apart there at (sym e ∙ is.0))))))
         (let g : valid_of n.segment ≡ valid_of o.segment + length news = grown.valid in let w : valid_of o.segment ≡ entries_at k o.index m.index.entries = all_at Was (held_in old) i o at was_counted in
         let e : entries_at k n.index m.index.entries ≡ entries_at k o.index m.index.entries = ap (λ (x : ℕ). entries_at k x m.index.entries) grown.index in omega (arith, g, w, e, news_long, theirs n.index (is.0 ∙ sym grown.index))))
-    counted_then (to_new f n blank held claimed is) = subst (AllByRecursion Counted) (sym held) (all_push Counted (held_in old) n (olds (held_in old) fresh was_counted)
+    counted_then (to_new f n none blank held claimed is) = subst (AllByRecursion Counted) (sym held) (all_push Counted (held_in old) n (olds (held_in old) fresh was_counted)
         (let v : valid_of n.segment ≡ length news = claimed.valid in let z = none_there (λ (e : Indexed). eqb e.listed.lane k && eqb e.index n.index) m.index.entries (all_map (IsPlacedIn m.lanes.items) (λ (e : Indexed). (eqb e.listed.lane k && eqb e.index n.index) ≡ false) elsewhere m.index.entries (ready.up up).placed) in
         omega (arith, v, z, news_long, theirs n.index is.0)))
       where
@@ -315,11 +315,11 @@ module _ {D : Type 0} (state : D → State) (m : Manager D) (k : ℕ) (old new :
   -- ---- What it stands for
 
   -- one segment more was taken at most
-  took_few : {tells : Bool} (b : ManagerBase) (notes : List Noted) → Keeps tells state m b notes → (v : Vec (Lane D) Global) → v.items ≡ slice_set m.lanes.items k new → HasTakenWrite old new → (next : ℕ) (down : Option Part)
+  took_few : {tells : Bool} (b : ManagerBase) (notes : List Noted) → Keeps tells state m b notes → (v : Vec (Lane D) Global) → v.items ≡ slice_set m.lanes.items k new → HasTakenWrite (first_count items) old new → (next : ℕ) (down : Option Part)
       → m.next + cond {A = ℕ} (is_some m.down) 1 0 + 1 ≤ next + cond {A = ℕ} (is_some down) 1 0 → takes_of v.items b.lanes + b.volume.began.next ≤ next + cond (is_some down) 1 0
   took_few b notes kp v lanes took next down most =
       let few = kp.taken in
-      let s = takes_of_set m.lanes.items b.lanes k 1 old new lane (took_one old new took) in
+      let s = takes_of_set m.lanes.items b.lanes k 1 old new lane (took_one (first_count items) old new took) in
       let e = ap (λ (l : List (Lane D)). takes_of l b.lanes) lanes in
       omega (arith, few, s, e, most)
 
@@ -345,22 +345,22 @@ module _ {D : Type 0} (state : D → State) (m : Manager D) (k : ℕ) (old new :
     look = last_more b.volume.began.look notes nt ∙ look;
   }
 
-  module _ (tells : Bool) (told : IsTrue tells → (d : D) → TellsContent (state d)) (sound : (d : D) → IsDisk (state d)) (room : next' ≤ 2 ^ 63) (took : HasTakenWrite old new)
+  module _ (tells : Bool) (told : IsTrue tells → (d : D) → TellsContent (state d)) (sound : (d : D) → IsDisk (state d)) (room : next' ≤ 2 ^ 63) (took : HasTakenWrite (first_count items) old new)
       (b : ManagerBase) (notes : List Noted) (nt : Noted) (client : nt.entry.pass ≡ worker) (kp : Keeps tells state m b notes) where
     -- answered
     module _ (spot : Spot) (recs : List Rec) (recs_is : recs ≡ recs_at m.next items k spot.segment spot.pos) (wrote : nt.entry.operation ≡ Wrote (log_writes m.next items from)) (step : IsTrue nt.ruled → IsStep nt nt.entry.pass nt.entry.operation (last_look b.volume.began.look notes) nt.look)
         (look : nt.look ≡ (let l : Look = record { home_up = m.home_up; ups = slice_set m.ups.items k true; next = next'; listed = listed_in (entered_all m.index.entries recs); down = down_of m.down } in l)) where
-      written_pieces : PutIn state old new total news (Ok spot) → Pieces tells state m b (notes ++ nt ∷ []) (slice_set m.lanes.items k new) (entered_all m.index.entries recs) next' (slice_set m.ups.items k true) m.down
-      written_pieces (to_held i o n at free held grown is) = group_put tells state m b notes kp up k old new lane is_lane same i o n at held grown.index items some from are enough nt client untaken free room grown.ok grown.whole
+      written_pieces : PutIn state old new (first_count items) total news (Ok spot) → Pieces tells state m b (notes ++ nt ∷ []) (slice_set m.lanes.items k new) (entered_all m.index.entries recs) next' (slice_set m.ups.items k true) m.down
+      written_pieces (to_held i o n one at free held grown is) = group_put tells state m b notes kp up k old new lane is_lane same i o n at held grown.index items some from are enough nt client untaken free room grown.ok grown.whole
           (all_at (λ (h : HeldSegment D). IsWhole h.segment) (held_in old) i o at was_whole) recs (recs_is ∙ (λ t. recs_at m.next items k (is.0 t) (is.1 t))) wrote step look
-      written_pieces (to_new f n blank held claimed is) = group_claimed tells state m b notes kp up k old new lane is_lane same untaken n held items some from are enough space nt client room
+      written_pieces (to_new f n none blank held claimed is) = group_claimed tells state m b notes kp up k old new lane is_lane same untaken n held items some from are enough space nt client room
           (λ t. let c = claimed.claimed (told t f.part.inner).0 (told t f.part.inner).1 in (c.0, c.1, c.2, c.4)) (λ t. claimed.ok (told t f.part.inner).0 (told t f.part.inner).1) claimed.whole
           recs (recs_is ∙ (λ t. recs_at m.next items k (is.0 t) (is.1 t))) wrote step look
 
-      pub group_stands : PutIn state old new total news (Ok spot) → (v : Vec (Lane D) Global) (index : Contents) (ups : List Bool) → v.items ≡ slice_set m.lanes.items k new → index.entries ≡ entered_all m.index.entries recs → ups ≡ slice_set m.ups.items k true
+      pub group_stands : PutIn state old new (first_count items) total news (Ok spot) → (v : Vec (Lane D) Global) (index : Contents) (ups : List Bool) → v.items ≡ slice_set m.lanes.items k new → index.entries ≡ entered_all m.index.entries recs → ups ≡ slice_set m.ups.items k true
           → IsReady state (record m { lanes = v; index = index; next = next'; ups = record { items = ups } }) → HasPassed (nones_at v.items b.lanes) (notes ++ nt ∷ [])
           → Stands tells state (record m { lanes = v; index = index; next = next'; ups = record { items = ups } }) b (notes ++ nt ∷ [])
-      group_stands put v index ups lanes entries flags is_ready passed = stands_so tells b notes nt kp v index next' ups m.down lanes (taken_same old new took)
+      group_stands put v index ups lanes entries flags is_ready passed = stands_so tells b notes nt kp v index next' ups m.down lanes (taken_same (first_count items) old new took)
           (subst (λ (u : List Bool). Pieces tells state m b (notes ++ nt ∷ []) (slice_set m.lanes.items k new) index.entries next' u m.down) (sym flags)
           (subst (λ (es : List Indexed). Pieces tells state m b (notes ++ nt ∷ []) (slice_set m.lanes.items k new) es next' (slice_set m.ups.items k true) m.down) (sym entries) (written_pieces put)))
           is_ready passed (took_few b notes kp v lanes took next' m.down (omega (arith, some)))
@@ -370,28 +370,28 @@ module _ {D : Type 0} (state : D → State) (m : Manager D) (k : ℕ) (old new :
 
     -- a call failed
     module _ (refusal : ℕ × Failed) (broke : nt.entry.operation ≡ Broke (log_writes m.next items from)) (unruled : nt.after_drain ≡ false) where
-      failed_pieces : PutIn state old new total news (Err refusal) → Pieces tells state m b (notes ++ nt ∷ []) (slice_set m.lanes.items k new) m.index.entries m.next m.ups.items (Some (part.Segment (logger_of old) refusal.0))
-      failed_pieces (to_held i o n at free held grown is) = subst (λ (x : ℕ). Pieces tells state m b (notes ++ nt ∷ []) (slice_set m.lanes.items k new) m.index.entries m.next m.ups.items (Some (part.Segment (logger_of old) x))) (sym is)
+      failed_pieces : PutIn state old new (first_count items) total news (Err refusal) → Pieces tells state m b (notes ++ nt ∷ []) (slice_set m.lanes.items k new) m.index.entries m.next m.ups.items (Some (part.Segment (logger_of old) refusal.0))
+      failed_pieces (to_held i o n one at free held grown is) = subst (λ (x : ℕ). Pieces tells state m b (notes ++ nt ∷ []) (slice_set m.lanes.items k new) m.index.entries m.next m.ups.items (Some (part.Segment (logger_of old) x))) (sym is)
           (group_put_failed tells state m b notes kp up k old new lane is_lane same i o n at held grown.index items some from are enough nt client untaken sound grown.any_moment grown.broken grown.cause broke unruled)
-      failed_pieces (to_new f n blank held claimed is) = subst (λ (x : ℕ). Pieces tells state m b (notes ++ nt ∷ []) (slice_set m.lanes.items k new) m.index.entries m.next m.ups.items (Some (part.Segment (logger_of old) x))) (sym is)
+      failed_pieces (to_new f n none blank held claimed is) = subst (λ (x : ℕ). Pieces tells state m b (notes ++ nt ∷ []) (slice_set m.lanes.items k new) m.index.entries m.next m.ups.items (Some (part.Segment (logger_of old) x))) (sym is)
           (group_claim_failed tells state m b notes kp up k old new lane is_lane same untaken n held items some from are enough space nt client sound f (λ t. claimed.any_moment (told t f.part.inner).0 (told t f.part.inner).1) claimed.broken claimed.cause broke unruled)
 
-      pub group_stands_failed : PutIn state old new total news (Err refusal) → (v : Vec (Lane D) Global) → v.items ≡ slice_set m.lanes.items k new
+      pub group_stands_failed : PutIn state old new (first_count items) total news (Err refusal) → (v : Vec (Lane D) Global) → v.items ≡ slice_set m.lanes.items k new
           → IsReady state (record m { lanes = v; down = Some (part.Segment (logger_of old) refusal.0) }) → HasPassed (nones_at v.items b.lanes) (notes ++ nt ∷ []) → nt.look ≡ look_of_manager (record m { down = Some (part.Segment (logger_of old) refusal.0) })
           → Stands tells state (record m { lanes = v; down = Some (part.Segment (logger_of old) refusal.0) }) b (notes ++ nt ∷ [])
-      group_stands_failed put v lanes is_ready passed look = stands_so tells b notes nt kp v m.index m.next m.ups.items (Some (part.Segment (logger_of old) refusal.0)) lanes (taken_same old new took) (failed_pieces put) is_ready passed
+      group_stands_failed put v lanes is_ready passed look = stands_so tells b notes nt kp v m.index m.next m.ups.items (Some (part.Segment (logger_of old) refusal.0)) lanes (taken_same (first_count items) old new took) (failed_pieces put) is_ready passed
           (took_few b notes kp v lanes took m.next (Some (part.Segment (logger_of old) refusal.0)) (let none = ap (λ (o : Option Part). cond {A = ℕ} (is_some o) 1 0) up in omega (arith, none))) kp.still look
 
   -- ---- Stopped at any moment, and why it failed
 
-  pub group_stops_put : {res : Result Spot (ℕ × Failed)} (tells : Bool) (told : IsTrue tells → (d : D) → TellsContent (state d)) (sound : (d : D) → IsDisk (state d)) → (put : PutIn state old new total news res) → (m' : Manager D) → m'.lanes.items ≡ slice_set m.lanes.items k new → m'.home ≡ m.home
+  pub group_stops_put : {res : Result Spot (ℕ × Failed)} (tells : Bool) (told : IsTrue tells → (d : D) → TellsContent (state d)) (sound : (d : D) → IsDisk (state d)) → (put : PutIn state old new (first_count items) total news res) → (m' : Manager D) → m'.lanes.items ≡ slice_set m.lanes.items k new → m'.home ≡ m.home
       → IsTrue tells → (b : ManagerBase) (notes : List Noted) → Keeps tells state m b notes → Stops state m m' (put_claimed put) b notes (log_writes m.next items from)
-  group_stops_put tells told sound (to_held i o n at free held grown is) m' lanes home t b notes kp = group_held_stops tells state sound t m b notes kp up k old new lane m' lanes home is_lane same items from are enough i o n at held grown.index grown.any_moment
-  group_stops_put tells told sound (to_new f n blank held claimed is) m' lanes home t b notes kp = group_claim_stops tells state sound t m b notes kp up k old new lane m' lanes home is_lane same items from are enough untaken f n held (claimed.any_moment (told t f.part.inner).0 (told t f.part.inner).1)
+  group_stops_put tells told sound (to_held i o n one at free held grown is) m' lanes home t b notes kp = group_held_stops tells state sound t m b notes kp up k old new lane m' lanes home is_lane same items from are enough i o n at held grown.index grown.any_moment
+  group_stops_put tells told sound (to_new f n none blank held claimed is) m' lanes home t b notes kp = group_claim_stops tells state sound t m b notes kp up k old new lane m' lanes home is_lane same items from are enough untaken f n held (claimed.any_moment (told t f.part.inner).0 (told t f.part.inner).1)
 
-  pub group_cause : (refusal : ℕ × Failed) → PutIn state old new total news (Err refusal) → (m' : Manager D) → m'.lanes.items ≡ slice_set m.lanes.items k new → PartRoseOrClaimed state m m' (part.Segment (logger_of old) refusal.0)
-  group_cause refusal (to_held i o n at free held grown is) m' lanes = inl (segment_rose state m.lanes.items m'.lanes.items k i old new o n lane lanes at held _ _ refl is grown.cause)
-  group_cause refusal (to_new f n blank held claimed is) m' lanes = inr (record {
+  pub group_cause : (refusal : ℕ × Failed) → PutIn state old new (first_count items) total news (Err refusal) → (m' : Manager D) → m'.lanes.items ≡ slice_set m.lanes.items k new → PartRoseOrClaimed state m m' (part.Segment (logger_of old) refusal.0)
+  group_cause refusal (to_held i o n one at free held grown is) m' lanes = inl (segment_rose state m.lanes.items m'.lanes.items k i old new o n lane lanes at held _ _ refl is grown.cause)
+  group_cause refusal (to_new f n none blank held claimed is) m' lanes = inr (record {
     lane = lane_since m.lanes.items m'.lanes.items k old new (logger_of old) lane lanes refl;
     free = f;
     segment = n;
@@ -448,14 +448,14 @@ module _ {D : Type 0} (state : D → State) (m : Manager D) (k : ℕ) (old new :
     abbrev offered_news : List Record
     offered_news = group_of (lane_owner old) m.next gs from
 
-    pub offered_position : (spot : Spot) → PutIn state old new (room_for gs) offered_news (Ok spot) → spot.pos + length gs + count_of gs ≤ 65536
+    pub offered_position : (spot : Spot) → PutIn state old new (first_count gs) (room_for gs) offered_news (Ok spot) → spot.pos + length gs + count_of gs ≤ 65536
     offered_position spot put = group_position state m k old new lane is_lane same all untaken gs some from are_gs enough_gs space ready up spot put (recs_at m.next gs k spot.segment spot.pos) refl
 
     -- the manager with n versions more
     abbrev then_ : (v : Vec (Lane D) Global) (index : Contents) (ups : List Bool) → ℕ → Manager D
     then_ v index ups count = record m { lanes = v; index = index; next = m.next + count; ups = record { items = ups } }
 
-    module _ (spot : Spot) (put : PutIn state old new (room_for gs) offered_news (Ok spot)) (v : Vec (Lane D) Global) (index : Contents) (ups : List Bool) (lanes : v.items ≡ slice_set m.lanes.items k new)
+    module _ (spot : Spot) (put : PutIn state old new (first_count gs) (room_for gs) offered_news (Ok spot)) (v : Vec (Lane D) Global) (index : Contents) (ups : List Bool) (lanes : v.items ≡ slice_set m.lanes.items k new)
         (entries : index.entries ≡ entered_all m.index.entries (recs_at m.next gs k spot.segment spot.pos)) (flags : ups ≡ slice_set m.ups.items k true) (room : m.next + n ≤ 2 ^ 63) where
       ready_long : IsReady state (then_ v index ups (length gs))
       ready_long = group_ready state m k old new lane is_lane same all untaken gs some from are_gs enough_gs space ready up spot put (recs_at m.next gs k spot.segment spot.pos) refl v index ups lanes entries flags (let l = gs_long in omega arith)
@@ -467,7 +467,7 @@ module _ {D : Type 0} (state : D → State) (m : Manager D) (k : ℕ) (old new :
       offered_look = (λ i. record { home_up = m.home_up; ups = flags i; next = m.next + sym gs_long i; listed = listed_in (entries i); down = down_of m.down })
           ∙ group_look_woken m.next gs from m.index.entries m.home_up m.ups.items (down_of m.down) k spot.segment spot.pos some enough_gs
 
-      pub offered_stands : (tells : Bool) (told : IsTrue tells → (d : D) → TellsContent (state d)) (sound : (d : D) → IsDisk (state d)) (took : HasTakenWrite old new)
+      pub offered_stands : (tells : Bool) (told : IsTrue tells → (d : D) → TellsContent (state d)) (sound : (d : D) → IsDisk (state d)) (took : HasTakenWrite (first_count gs) old new)
           (b : ManagerBase) (notes : List Noted) (nt : Noted) → nt.entry.pass ≡ worker → Keeps tells state m b notes → nt.entry.operation ≡ Wrote (log_writes m.next gs from)
           → (IsTrue nt.ruled → IsStep nt nt.entry.pass nt.entry.operation (last_look b.volume.began.look notes) nt.look) → nt.look ≡ look_of_manager (then_ v index ups n) → HasPassed (nones_at v.items b.lanes) (notes ++ nt ∷ [])
           → Stands tells state (then_ v index ups n) b (notes ++ nt ∷ [])
@@ -478,17 +478,17 @@ module _ {D : Type 0} (state : D → State) (m : Manager D) (k : ℕ) (old new :
           put v index ups lanes entries flags ready_long passed)
 
     module _ (tells : Bool) (told : IsTrue tells → (d : D) → TellsContent (state d)) (sound : (d : D) → IsDisk (state d)) where
-      pub offered_failed : (room : m.next + n ≤ 2 ^ 63) (took : HasTakenWrite old new) (b : ManagerBase) (notes : List Noted) (nt : Noted) → nt.entry.pass ≡ worker → Keeps tells state m b notes
-          → (refusal : ℕ × Failed) → nt.entry.operation ≡ Broke (log_writes m.next gs from) → nt.after_drain ≡ false → PutIn state old new (room_for gs) offered_news (Err refusal)
+      pub offered_failed : (room : m.next + n ≤ 2 ^ 63) (took : HasTakenWrite (first_count gs) old new) (b : ManagerBase) (notes : List Noted) (nt : Noted) → nt.entry.pass ≡ worker → Keeps tells state m b notes
+          → (refusal : ℕ × Failed) → nt.entry.operation ≡ Broke (log_writes m.next gs from) → nt.after_drain ≡ false → PutIn state old new (first_count gs) (room_for gs) offered_news (Err refusal)
           → (v : Vec (Lane D) Global) → v.items ≡ slice_set m.lanes.items k new → HasPassed (nones_at v.items b.lanes) (notes ++ nt ∷ []) → nt.look ≡ look_of_manager (record m { down = Some (part.Segment (logger_of old) refusal.0) })
           → Stands tells state (record m { lanes = v; down = Some (part.Segment (logger_of old) refusal.0) }) b (notes ++ nt ∷ [])
       offered_failed room took b notes nt client kp refusal broke unruled put v lanes passed look =
           group_stands_failed state m k old new lane is_lane same all untaken gs some from are_gs enough_gs space ready up tells told sound (let l = gs_long in omega arith) took b notes nt client kp
           refusal broke unruled put v lanes (offered_unready v lanes (part.Segment (logger_of old) refusal.0)) passed look
 
-      pub offered_stops : {res : Result Spot (ℕ × Failed)} → (put : PutIn state old new (room_for gs) offered_news res) → (m' : Manager D) → m'.lanes.items ≡ slice_set m.lanes.items k new → m'.home ≡ m.home
+      pub offered_stops : {res : Result Spot (ℕ × Failed)} → (put : PutIn state old new (first_count gs) (room_for gs) offered_news res) → (m' : Manager D) → m'.lanes.items ≡ slice_set m.lanes.items k new → m'.home ≡ m.home
           → IsTrue tells → (b : ManagerBase) (notes : List Noted) → Keeps tells state m b notes → Stops state m m' (put_claimed put) b notes (log_writes m.next gs from)
       offered_stops put m' lanes home = group_stops_put state m k old new lane is_lane same all untaken gs some from are_gs enough_gs space ready up tells told sound put m' lanes home
 
-    pub offered_cause : (refusal : ℕ × Failed) → PutIn state old new (room_for gs) offered_news (Err refusal) → (m' : Manager D) → m'.lanes.items ≡ slice_set m.lanes.items k new → PartRoseOrClaimed state m m' (part.Segment (logger_of old) refusal.0)
+    pub offered_cause : (refusal : ℕ × Failed) → PutIn state old new (first_count gs) (room_for gs) offered_news (Err refusal) → (m' : Manager D) → m'.lanes.items ≡ slice_set m.lanes.items k new → PartRoseOrClaimed state m m' (part.Segment (logger_of old) refusal.0)
     offered_cause = group_cause state m k old new lane is_lane same all untaken gs some from are_gs enough_gs space ready up

@@ -285,7 +285,7 @@ module _ {D : Type 0} (tells : Bool) (state : D → State) (shared : Shared D) (
     -- ---- a lane took it
 
     module _ (lane : ℕ) (unknown : slice_get now.rooms.items lane ≡ Some Unknown) (answer : IsLogAnswer (map logger_of now.lanes.items) lane r) (in_log : ruled_place old now first blocks ≡ InLog lane)
-        (change : ChangesLane HasTakenWrite lane now.lanes.items new.lanes.items) where
+        (change : ChangesLane (HasTakenWrite (length blocks)) lane now.lanes.items new.lanes.items) where
       place_log : ruled_place old new first blocks ≡ InLog lane
       place_log = rule_same ∙ in_log
 

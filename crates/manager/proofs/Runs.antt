@@ -17,6 +17,7 @@ use Rattle.offload_policy.specs.declared.Room.TheVariants.{Unknown}
 use Rattle.logger.specs.Lanes.{logger_of, first_count}
 use Rattle.logger.specs.declared.shared.Shared.{Shared}
 use Rattle.manager.specs.Answers.{home_write, log_write, written, IsPlaceOf}
+use Rattle.manager.specs.Offers.{HasTakenWrite, ChangesLane}
 use Rattle.manager.specs.Seen.{down_of, look_of_manager}
 use Rattle.manager.specs.Stands.{Leaves, LeavesPassing, IsNote, nones_at, passed_in}
 use Rattle.manager.specs.Stops.{Stops, StopsWith, StopsClaiming, TellsClaim}
@@ -43,18 +44,23 @@ use Rattle.wol_model.specs.Placing as placing
 use Rattle.manager.specs.declared.part.Part.TheVariants as part
 use Rattle.manager.specs.declared.part.Place.TheVariants as place
 
+-- the first item's blocks are as many as it says
+pub first_blocks_long : (items : List Item) (from : List Block) → count_of items ≤ length from → length (first_blocks items from) ≡ first_count items
+first_blocks_long [] from enough = refl
+first_blocks_long (i ∷ items) from enough = first_long i items from enough
+
 -- ---- To a log
 
 -- what a lane takes of a front, it takes of the whole
-pub taken_of_front : {D : Type 0} (tells : Bool) (state : D → State) (lane : ℕ) (items : List Item) (from : List Block) (k : ℕ) (ran : Ran) (old new : Manager D) → k ≤ length items
+pub taken_of_front : {D : Type 0} (tells : Bool) (state : D → State) (lane : ℕ) (items : List Item) (from : List Block) (k : ℕ) (ran : Ran) (old new : Manager D) → 1 ≤ k → k ≤ length items
     → HasTakenRun tells state lane (take k items) from ran old new → HasTakenRun tells state lane items from ran old new
-taken_of_front tells state lane items from k ran old new le t =
+taken_of_front tells state lane items from k ran old new one le t =
     let few = of_front ran.items k items le t.tried.1 in
     let same : take ran.items (take k items) ≡ take ran.items items = take_front ran.items k items few in record {
       tried = (t.tried.0, at_most ran.items k (length items) few le);
       answer = t.answer;
       rest = t.rest;
-      lanes = t.lanes;
+      lanes = subst (λ (c : ℕ). ChangesLane (HasTakenWrite c) lane old.lanes.items new.lanes.items) (first_of_take items k one) t.lanes;
       stands = subst (λ (gs : List Item). LeavesPassing tells state old new (run_written (log_writes old.next gs from) ran.answer) worker) same t.stands;
       look = subst (λ (gs : List Item). OnOk ran.answer (look_of_manager new ≡ placed_all (InLog lane) (look_of_manager old) (log_writes old.next gs from))) same t.look;
       next = t.next;
@@ -136,12 +142,16 @@ module _ {D : Type 0} (tells : Bool) (state : D → State) (shared : Shared D) (
     are_told_now : log_writes now.next gs from ≡ run_writes old.next gs from answer
     are_told_now = (λ i. log_writes (next_same i) gs from) ∙ are_told
 
+    -- the first item's blocks are as many as it says
+    by_blocks : ChangesLane (HasTakenWrite (length (first_blocks items from))) lane now.lanes.items new.lanes.items
+    by_blocks = subst (λ (c : ℕ). ChangesLane (HasTakenWrite c) lane now.lanes.items new.lanes.items) (sym (first_blocks_long items from enough)) t.lanes
+
     pub run_logged : HasRun tells state items from n answer (ruled_run old new items from) old new
     run_logged = record {
       are = record { within = t.tried.1; some = λ _. t.tried.0; home = λ home. absurd (not_home (map logger_of now.lanes.items) lane answer t.answer home) };
       stands = λ b notes nt client note k. t.stands b notes passed nt client
           (subst (λ (ws : List Write). IsNote (last_look b.volume.began.look notes) (run_written ws answer) passed (look_of_manager new) nt) (sym are_told_now) note)
-          (passed_log tells state shared (first_lbn items) (first_blocks items from) old now a new answer rooms lane unknown t.answer in_log t.lanes b notes nt note.passed_is k) (a.keeps b notes k);
+          (passed_log tells state shared (first_lbn items) (first_blocks items from) old now a new answer rooms lane unknown t.answer in_log by_blocks b notes nt note.passed_is k) (a.keeps b notes k);
       rule = subst (λ (ws : List Write). AreWrites passed (look_of_manager old) ws (placed_all (ruled_run old new items from) (look_of_manager old) ws)) are_told
           (subst (λ (p : placing.Place). AreWrites passed (look_of_manager old) (log_writes old.next gs from) (placed_all p (look_of_manager old) (log_writes old.next gs from))) (sym rule_is) writes_are);
       look = subst (λ (ws : List Write). OnOk answer (look_of_manager new ≡ placed_all (ruled_run old new items from) (look_of_manager old) ws)) are_told (look_on answer t.look);
@@ -253,11 +263,6 @@ module _ {D : Type 0} (tells : Bool) (state : D → State) (items : List Item) (
     claims = claims;
     any_moment = moments;
   }
-
--- the first item's blocks are as many as it says
-pub first_blocks_long : (items : List Item) (from : List Block) → count_of items ≤ length from → length (first_blocks items from) ≡ first_count items
-first_blocks_long [] from enough = refl
-first_blocks_long (i ∷ items) from enough = first_long i items from enough
 
 -- the first item is the first of each front
 first_front : (m : ℕ) (items : List Item) (from : List Block) → 1 ≤ m → (first_lbn (take m items) ≡ first_lbn items) × (first_blocks (take m items) from ≡ first_blocks items from)

@@ -109,7 +109,7 @@ pub record HasTakenRun {D : Type 0} (tells : Bool) (state : D → State) (lane :
     ups = new.ups;
     down = new.down;
   }
-  pub lanes : ChangesLane HasTakenWrite lane old.lanes.items new.lanes.items
+  pub lanes : ChangesLane (HasTakenWrite (first_count items)) lane old.lanes.items new.lanes.items
   pub stands : LeavesPassing tells state old new
       (run_written (log_writes old.next (take ran.items items) from) ran.answer) worker
   pub look : OnOk ran.answer (look_of_manager new ≡ placed_all (InLog lane) (look_of_manager old)

@@ -57,10 +57,10 @@ module _ {D : Type 0} (state : D → State) where
   calm_read o n spot skip before after res is r calm = subst (AreCalm state (held_in o)) (sym r.held)
       (calm_set (held_in o) (map (λ (t : ℕ × FreeSegment D). t.0) (option_to_list (taken_in o))) r.place r.old_segment r.new_segment is.apart r.there r.index calm)
 
-  pub calm_put : (o n : Lane D) (count : ℕ) (added : List Record) (spot : Spot) → IsLane state o → IsLane state n → PutIn state o n count added (Ok spot) → AreCalm state (held_in o) (held_in n)
-  calm_put o n count added spot was is (to_held i old new at space held grown spot_is) = subst (AreCalm state (held_in o)) (sym held)
+  pub calm_put : {first : ℕ} (o n : Lane D) (count : ℕ) (added : List Record) (spot : Spot) → IsLane state o → IsLane state n → PutIn state o n first count added (Ok spot) → AreCalm state (held_in o) (held_in n)
+  calm_put o n count added spot was is (to_held i old new one at space held grown spot_is) = subst (AreCalm state (held_in o)) (sym held)
       (calm_set (held_in o) (map (λ (t : ℕ × FreeSegment D). t.0) (option_to_list (taken_in o))) i old new was.apart at grown.index grown.calm)
-  calm_put o n count added spot was is (to_new f new blank held claimed spot_is) =
+  calm_put o n count added spot was is (to_new f new none blank held claimed spot_is) =
       calm_among (held_in n) (map (λ (t : ℕ × FreeSegment D). t.0) (option_to_list (taken_in n))) is.apart (held_in o) (held_in n)
       (λ s has. subst (λ (hs : List (HeldSegment D)). Contains hs s) (sym held) (Contains-append_left (held_in o) (new ∷ []) s has)) (λ t has. has)
 

@@ -58,16 +58,16 @@ done_so (Ok x) p done = p
 done_so (Err e) p done = absurd (false≢true done)
 
 -- the part that a write claimed, if it claimed one
-abbrev pub put_claimed : {D : Type 0} {state : D → State} {old new : Lane D} {count : ℕ} {added : List Record} {res : Result Spot (ℕ × Failed)} → PutIn state old new count added res → Option (Spun D)
-put_claimed (to_held i o n at space held grown is) = None
-put_claimed (to_new f n blank held claimed is) = Some (free_part f)
+abbrev pub put_claimed : {D : Type 0} {state : D → State} {old new : Lane D} {first count : ℕ} {added : List Record} {res : Result Spot (ℕ × Failed)} → PutIn state old new first count added res → Option (Spun D)
+put_claimed (to_held i o n one at space held grown is) = None
+put_claimed (to_new f n none blank held claimed is) = Some (free_part f)
 
 module _ {D : Type 0} (tells : Bool) (state : D → State) (told : IsTrue tells → (d : D) → TellsContent (state d)) where
-  pub put_tells : (lanes : List (Lane D)) (k : ℕ) (old new : Lane D) → slice_get lanes k ≡ Some old → (count : ℕ) (added : List Record) (res : Result Spot (ℕ × Failed)) (put : PutIn state old new count added res)
+  pub put_tells : {first : ℕ} (lanes : List (Lane D)) (k : ℕ) (old new : Lane D) → slice_get lanes k ≡ Some old → (count : ℕ) (added : List Record) (res : Result Spot (ℕ × Failed)) (put : PutIn state old new first count added res)
       → (lanes' : List (Lane D)) → lanes' ≡ slice_set lanes k new → TellsClaim tells state (IsOk res) lanes lanes' (put_claimed put)
-  put_tells lanes k old new lane count added res (to_held i o n at space held grown is) lanes' set =
+  put_tells lanes k old new lane count added res (to_held i o n one at space held grown is) lanes' set =
       no_more_set lanes k old new lanes' lane set (ap (map (λ (h : HeldSegment D). h.index)) held ∙ map_set (λ (h : HeldSegment D). h.index) (held_in old) i o n at grown.index)
-  put_tells lanes k old new lane count added res (to_new f n blank held claimed is) lanes' set = record {
+  put_tells lanes k old new lane count added res (to_new f n none blank held claimed is) lanes' set = record {
     place = k;
     before = old;
     after = new;

@@ -428,8 +428,8 @@ untaken_set {D} state id most lanes k new ready is = let all = all_map (IsReadyL
     none_taken 0 lanes all ∙ sym (none_taken 0 (slice_set lanes k new) (all_set (λ (l : Lane D). taken_in l ≡ None) lanes k new all is))
 
 -- the logger of the lane that took the write is that of its place
-pub logger_at : {D : Type 0} (k logger : ℕ) (old new : List (Lane D)) → ChangesLane HasTakenWrite k old new → IfSome (slice_get new k) (λ l. logger ≡ logger_of l) → slice_get (map logger_of old) k ≡ Some logger
-logger_at {D} k logger old new change is =
+pub logger_at : {D : Type 0} (count k logger : ℕ) (old new : List (Lane D)) → ChangesLane (HasTakenWrite count) k old new → IfSome (slice_get new k) (λ l. logger ≡ logger_of l) → slice_get (map logger_of old) k ≡ Some logger
+logger_at {D} count k logger old new change is =
     let now : slice_get new k ≡ Some change.after = ap (λ (l : List (Lane D)). slice_get l k) change.set ∙ get_set old k change.before change.after change.there in
     let same : logger ≡ logger_of change.after = (let P : Option (Lane D) → Type 0 = λ o. IfSome o (λ l. logger ≡ logger_of l) in subst P now is) in
     slice_get-map logger_of old k ∙ ap (option_map logger_of) change.there ∙ ap Some (sym change.change.same.logger ∙ sym same)

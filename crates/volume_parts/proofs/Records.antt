@@ -13,7 +13,7 @@ use Rattle.wol_disk.specs.Disk.{Block, State}
 use Rattle.wol_model.specs.Index.{Listed, Indexed, listed_in}
 use Rattle.log_segment.specs.Records.{group_of, count_of, new_head, AreItems, new_record}
 use Rattle.log_segment.specs.declared.item.Item.{Item}
-use Rattle.logger.specs.Lanes.{first_count, IsLane, IsHeld, IsTaken, IsSameLane, IsFirstWithRoom, IsFit, HasRoom, HasUsed, Secured, had_room, asked, Wrote, to_held, to_taken, Claimed, IsSpot, held_in, taken_in, lane_owner, logger_of, pool_blocks, segments_in, pool_of, spindle_of}
+use Rattle.logger.specs.Lanes.{first_count, IsLane, IsHeld, IsTaken, IsSameLane, IsFirstWithRoom, IsFit, HasNoRoom, HasRoom, HasUsed, Secured, had_room, asked, Wrote, to_held, to_taken, Claimed, IsSpot, held_in, taken_in, lane_owner, logger_of, pool_blocks, segments_in, pool_of, spindle_of}
 use Rattle.offload_policy.specs.Placing.{may_hold}
 use Rattle.offload_policy.specs.declared.Room.{Room}
 use Rattle.offload_policy.specs.declared.Room.TheVariants.{Unknown}
@@ -43,7 +43,7 @@ use Rattle.wol_model.specs.Journal.{Needed, Done}
 use Rattle.seg_pool.specs.declared.base.PoolBase.{PoolBase}
 use Rattle.log_segment.specs.Segment.{IsBlank, room_of}
 use Rattle.log_segment.specs.declared.free.FreeSegment.{FreeSegment}
-use Rattle.logger.proofs.Rooms.{decide_room, not_both}
+use Rattle.logger.proofs.Rooms.{decide_room, not_both, same_first}
 use Rattle.logger.specs.declared.lane.HeldSegment.{HeldSegment}
 use Rattle.logger.specs.declared.lane.Lane.{Lane}
 use Rattle.logger.specs.declared.lane.Spot.{Spot}
@@ -426,9 +426,9 @@ module _ {D : Type 0} (state : D → State) (old mid new : Lane D) (held : held_
       let is : IsTaken state (logger_of mid) (segments_in mid) (pool_of mid) (index, f) = (let P : Option (ℕ × FreeSegment D) → Type 0 = λ t. IfSome t (IsTaken state (logger_of mid) (segments_in mid) (pool_of mid)) in subst P taken is_lane.unclaimed) in
       subst (λ (l : ℕ). IsBlank state l (pool_blocks old) f) same.logger (subst (λ (n : ℕ). IsBlank state (logger_of mid) n f) (ap (λ (q : LockId PoolBase). q.base.blocks) same.pool.0) is.blank)
 
-  pub group_in : (added : List Record) (res : Result Spot (ℕ × Failed)) → Wrote state mid new count added res → PutIn state old new total added res
-  group_in added res (to_held k o n first at now taken grown spot) = puts.to_held k o n (ap (λ (hs : List (HeldSegment D)). slice_get hs k) (sym held) ∙ at) (room_in k o first at) (now ∙ ap (λ (hs : List (HeldSegment D)). slice_set hs k n) held) grown spot
-  group_in added res (to_taken index f n none taken now named untaken claimed spot) = puts.to_new f n (blank_in index f taken) (now ∙ ap (λ (hs : List (HeldSegment D)). hs ++ n ∷ []) held)
+  pub group_in : (added : List Record) (res : Result Spot (ℕ × Failed)) → Wrote state mid new count added res → PutIn state old new count total added res
+  group_in added res (to_held k o n first at now taken grown spot) = puts.to_held k o n (subst (λ (hs : List (HeldSegment D)). IsFirstWithRoom count hs k) held first) (ap (λ (hs : List (HeldSegment D)). slice_get hs k) (sym held) ∙ at) (room_in k o first at) (now ∙ ap (λ (hs : List (HeldSegment D)). slice_set hs k n) held) grown spot
+  group_in added res (to_taken index f n none taken now named untaken claimed spot) = puts.to_new f n (subst (HasNoRoom count) held none) (blank_in index f taken) (now ∙ ap (λ (hs : List (HeldSegment D)). hs ++ n ∷ []) held)
       (subst (λ (o : ℕ). Claimed state o f n.segment added res) same.owner claimed) (subst (λ (i : ℕ). IsSpot i 1 res) (sym named) spot)
 
   -- it has so much room
@@ -466,8 +466,9 @@ module _ {D : Type 0} (state : D → State) (old mid new : Lane D) (count : ℕ)
   pool_gave None some pool = absurd (let no = some in cc)
   pool_gave (Some t) some pool = (t.0, pool)
 
-  pub group_taken : IsSameLane old mid → pass_mine (spindle_of mid) ≡ pass_mine (spindle_of old) → IsSameLane mid new → HasUsed mid new → pass_mine (pool_of new) ≡ pass_mine (pool_of mid) → HasTakenWrite old new
-  group_taken was spins same used pool = record {
+  pub group_taken : IsSameLane old mid → pass_mine (spindle_of mid) ≡ pass_mine (spindle_of old) → IsSameLane mid new → HasUsed mid new → pass_mine (pool_of new) ≡ pass_mine (pool_of mid)
+      → held_in mid ≡ held_in old → (added : List Record) (res : Result Spot (ℕ × Failed)) → Wrote state mid new count added res → HasTakenWrite count old new
+  group_taken was spins same used pool held added res wrote = record {
     same = record {
       logger = same.logger ∙ was.logger;
       owner = same.owner ∙ was.owner;
@@ -477,8 +478,14 @@ module _ {D : Type 0} (state : D → State) (old mid new : Lane D) (count : ℕ)
     };
     used = used ∙ (λ i. spins i ++ (was.spindle.1 i, spindle.operation_of Needed) ∷ (was.spindle.1 i, spindle.operation_of Done) ∷ []);
     pool = by secured;
+    first = λ k one. changed k (subst (λ (hs : List (HeldSegment D)). IsFirstWithRoom count hs k) (sym held) one) wrote;
   }
     where
-      by : Secured old mid count answer → (pass_mine (pool_of new) ≡ pass_mine (pool_of old)) ⊎ ((index : ℕ) × (pass_mine (pool_of new) ≡ pass_mine (pool_of old) ++ (pass_number (pool_of old), operation_of (Took (Some index))) ∷ []))
+      by : Secured old mid count answer → (pass_mine (pool_of new) ≡ pass_mine (pool_of old)) ⊎ ((index : ℕ) × (pass_mine (pool_of new) ≡ pass_mine (pool_of old) ++ (pass_number (pool_of old), operation_of (Took (Some index))) ∷ []) × HasNoRoom count (held_in old))
       by (had_room has is none kept) = inl (pool ∙ kept)
-      by (asked full is gave) = let g = pool_gave (taken_in mid) (sym is ∙ yes) gave in inr (g.0, pool ∙ g.1)
+      by (asked full is gave) = let g = pool_gave (taken_in mid) (sym is ∙ yes) gave in inr (g.0, pool ∙ g.1, full)
+
+      changed : (k : ℕ) → IsFirstWithRoom count (held_in mid) k → Wrote state mid new count added res → (h : HeldSegment D) × (held_in new ≡ slice_set (held_in old) k h)
+      changed k one (to_held j o n first at now taken_is grown spot) =
+          (n, now ∙ (λ i. slice_set (held i) (same_first count (held_in mid) j k first one i) n))
+      changed k one (to_taken index f n none taken_is now named untaken claimed spot) = absurd (not_both count (held_in mid) (k, one) none)

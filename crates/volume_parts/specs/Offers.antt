@@ -5,7 +5,8 @@ use Rattle.std.specs.List.{range_with_len}
 use Rattle.turn_lock.specs.Passes.{pass_number, pass_mine}
 use Rattle.seg_pool.specs.Holders.{Took, Gave}
 use Rattle.seg_pool.specs.Operations.{operation_of}
-use Rattle.logger.specs.Lanes.{IsSameLane, HasUsed, HasNoRoom, held_in, taken_in, pool_of, spindle_of}
+use Rattle.logger.specs.Lanes.{IsSameLane, HasUsed, HasNoRoom, IsFirstWithRoom, held_in, taken_in, pool_of, spindle_of}
+use Rattle.logger.specs.declared.lane.HeldSegment.{HeldSegment}
 use Rattle.logger.specs.declared.lane.Lane.{Lane}
 use Rattle.offload_policy.specs.Placing.{may_hold}
 use Rattle.offload_policy.specs.declared.Room.{Room}
@@ -25,14 +26,18 @@ pub record IsTurnedAway {D : Type 0} (count : ℕ) (old new : Lane D) : Type 0 w
       ≡ pass_mine (pool_of old) ++ (pass_number (pool_of old), operation_of (Took None)) ∷ []
 
 -- It took the write, whatever its disk answered: its spindle was needed once, and its pool wasn't
--- asked or gave a segment.
-pub record HasTakenWrite {D : Type 0} (old new : Lane D) : Type 0 where
+-- asked, or gave a segment since no held one has room for so many blocks. Where some have it, the
+-- first of these alone changed.
+pub record HasTakenWrite {D : Type 0} (count : ℕ) (old new : Lane D) : Type 0 where
   pub same : IsSameLane old new
   pub used : HasUsed old new
   pub pool : (pass_mine (pool_of new) ≡ pass_mine (pool_of old))
       ⊎ ((index : ℕ) × (pass_mine (pool_of new)
       ≡ pass_mine (pool_of old)
-      ++ (pass_number (pool_of old), operation_of (Took (Some index))) ∷ []))
+      ++ (pass_number (pool_of old), operation_of (Took (Some index))) ∷ [])
+      × HasNoRoom count (held_in old))
+  pub first : (k : ℕ) → IsFirstWithRoom count (held_in old) k
+      → (h : HeldSegment D) × (held_in new ≡ slice_set (held_in old) k h)
 
 -- of these lanes the one at place k changed so, and no other
 pub record ChangesLane {D : Type 0} (Change : Lane D → Lane D → Type 0) (k : ℕ)
@@ -64,7 +69,7 @@ is_in_log k Nowhere = false
 -- noted, or it is as it was.
 abbrev pub HasAnswered : {D : Type 0} → (count : ℕ) → (took : Bool) → Room → (old new : Lane D)
     → Type 0
-HasAnswered count true r old new = (r ≡ Unknown) × HasTakenWrite old new
+HasAnswered count true r old new = (r ≡ Unknown) × HasTakenWrite count old new
 HasAnswered count false No old new = IsTurnedAway count old new
 HasAnswered count false Unknown old new = new ≡ old
 HasAnswered count false Yes old new = ⊥

@@ -118,8 +118,8 @@ fn first_fitting(room: u32, items: &[Item]) -> Fitting
     }
 }
 
-/// Writes records to this lane, as many of the items as the segment has room for that takes the first, where the lane has room for that
-/// one, or where its pool gives a segment in this call.
+/// Writes records to this lane, as many of the items as the segment has room for that takes the first: the first held one with
+/// room for that item, or, where none has it, one that its pool gives in this call.
 pub fn put_group<R: Wait, D: Disk>(
     rt: &R,
     shared: &Shared<D>,
@@ -142,10 +142,10 @@ pub fn put_group<R: Wait, D: Disk>(
     ensures none { taken_in lane.new ≡ None }
     ensures all { HoldsAll lane.old → HoldsAll lane.new }
     ensures turn { MatchOption result (IsTurnedAway (first_count items.now) lane.old lane.new)
-        (λ _. HasTakenWrite lane.old lane.new) }
+        (λ _. HasTakenWrite (first_count items.now) lane.old lane.new) }
     ensures count { IfSome result (λ r. (1 ≤ r.0) × (r.0 ≤ length items.now)) }
     ensures fits { IfSome result (λ r. room_for (take r.0 items.now) + 2 ≤ pool_blocks lane.old) }
-    ensures put { IfSome result (λ r. PutIn D.state lane.old lane.new
+    ensures put { IfSome result (λ r. PutIn D.state lane.old lane.new (first_count items.now)
         (room_for (take r.0 items.now))
         (group_of (lane_owner lane.old) version (take r.0 items.now) from.now) r.1) }
 {

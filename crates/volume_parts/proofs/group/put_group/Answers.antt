@@ -9,6 +9,8 @@ use Rattle.logger.specs.Lanes.{HasRoom, IsFit, Secured, Wrote, first_count, held
 use Rattle.turn_lock.specs.LockIds.{LockId}
 use Rattle.seg_pool.specs.declared.base.PoolBase.{PoolBase}
 use Rattle.volume_parts.specs.Joining.{room_for}
+use Rattle.volume_parts.specs.Offers.{HasTakenWrite}
+use Rattle.volume_parts.specs.Puts.{PutIn}
 use Rattle.volume_parts.proofs.Records.{first_fits, group_in, group_taken, group_untaken, group_within, first_at, first_item, first_of_take, group_cut, items_front}
 use Rattle.volume_parts.proofs.group.put_group.Goals as goal
 
@@ -49,11 +51,12 @@ pub returns-clause-put : goal.returns-clause-put
 returns-clause-put g c =
     let state = g.D.Disk.state in let old = c.args.lane.now in let mid = c.secure.new.self in let new = c.write_group-written.new.self in let s = c.secure.ensures in let w = c.write_group-written.ensures in
     let n = c.first_fitting-fitting.result.items in let items = c.args.items.now in let from = c.args.from.now in let f = first_at items (record { lbn = 0; count = 0 }) c.requires.some in
-    group_in state old mid new s.held s.lane s.same (first_count (take n items)) c.fit.result (room_for (take n items)) (subst (λ (k : ℕ). IsFit k c.fit.result mid) (sym (first_of_take items n c.first_fitting-fitting.ensures.some ∙ f)) c.fit.ensures) c.first_fitting-fitting.ensures.fits
+    subst (λ (k : ℕ). PutIn state old new k (room_for (take n items)) (group_of (lane_owner old) c.args.version (take n items) from) c.write_group-written.result) (first_of_take items n c.first_fitting-fitting.ensures.some)
+    (group_in state old mid new s.held s.lane s.same (first_count (take n items)) c.fit.result (room_for (take n items)) (subst (λ (k : ℕ). IsFit k c.fit.result mid) (sym (first_of_take items n c.first_fitting-fitting.ensures.some ∙ f)) c.fit.ensures) c.first_fitting-fitting.ensures.fits
     (group_of (lane_owner old) c.args.version (take n items) from) c.write_group-written.result
     (subst (λ (added : List Record). Wrote state mid new (first_count (take n items)) added c.write_group-written.result)
     (ap (λ (k : ℕ). group_of (lane_owner mid) c.args.version (take n items) (take k from)) c.first_fitting-fitting.ensures.blocks ∙ group_cut (lane_owner mid) c.args.version (take n items) from ∙ ap (λ (o : ℕ). group_of o c.args.version (take n items) from) s.same.owner)
-    w.moved)
+    w.moved))
 
 pub returns-clause-fits : goal.returns-clause-fits
 returns-clause-fits g c =
@@ -83,4 +86,6 @@ pub returns-clause-turn : goal.returns-clause-turn
 returns-clause-turn g c =
     let old = c.args.lane.now in let mid = c.secure.new.self in let new = c.write_group-written.new.self in let s = c.secure.ensures in let w = c.write_group-written.ensures in
     let n = c.first_fitting-fitting.result.items in let items = c.args.items.now in let f = first_at items (record { lbn = 0; count = 0 }) c.requires.some in
-    group_taken g.D.Disk.state old mid new (first_count (take n items)) c.secure.result (subst (λ (k : ℕ). Secured old mid k c.secure.result) (sym (first_of_take items n c.first_fitting-fitting.ensures.some ∙ f)) s.moved) c.if-not-secure.false s.same s.spindle w.same w.used w.pool
+    subst (λ (k : ℕ). HasTakenWrite k old new) (first_of_take items n c.first_fitting-fitting.ensures.some)
+    (group_taken g.D.Disk.state old mid new (first_count (take n items)) c.secure.result (subst (λ (k : ℕ). Secured old mid k c.secure.result) (sym (first_of_take items n c.first_fitting-fitting.ensures.some ∙ f)) s.moved) c.if-not-secure.false s.same s.spindle w.same w.used w.pool
+    s.held _ c.write_group-written.result w.moved)

@@ -10,6 +10,7 @@ use Rattle.logger.specs.Lanes.{logger_of, lane_owner, first_count}
 use Rattle.logger.specs.declared.lane.Spot.{Spot}
 use Rattle.manager.specs.Causes.{PartRoseOrClaimed}
 use Rattle.manager.specs.Joining.{room_for}
+use Rattle.manager.specs.Offers.{HasTakenWrite}
 use Rattle.manager.specs.Puts.{PutIn}
 use Rattle.manager.specs.Seen.{look_of_manager}
 use Rattle.manager.specs.Stands.{Stands, IsHome, IsReady, IsReadyLane}
@@ -25,6 +26,7 @@ use Rattle.manager.proofs.Bounds.{take_below, take_room, few_room, two_more}
 use Rattle.volume_parts.proofs.Calm.{calm_put}
 use Rattle.manager.proofs.Calm.{lane_at, none_lane}
 use Rattle.volume_parts.proofs.Claims.{put_claimed, put_tells}
+use Rattle.volume_parts.proofs.Records.{first_of_take}
 use Rattle.listed_records.proofs.Elements.{refill_set, all_at}
 use Rattle.manager.proofs.GroupOffering.{all_taken_front, items_small, first_few, offered_unready, offered_position, offered_ready, offered_look, offered_stands, offered_failed, offered_stops, offered_cause}
 use Rattle.manager.proofs.ReadyLanes.{at_lane}
@@ -41,10 +43,15 @@ there g c =
 
 -- what it wrote, by its answer
 put_as : (g : given.Over) (c : In-Some g) (q : Result Spot (ℕ × Failed)) → c.in-Some.written ≡ q
-    → PutIn g.D.Disk.state c.index_mut-reached.result.now c.put_group.new.lane (room_for (take c.in-Some.count c.args.items.now)) (group_of (lane_owner c.index_mut-reached.result.now) c.args.self.now.next (take c.in-Some.count c.args.items.now) c.args.from.now) q
+    → PutIn g.D.Disk.state c.index_mut-reached.result.now c.put_group.new.lane (first_count (take c.in-Some.count c.args.items.now)) (room_for (take c.in-Some.count c.args.items.now)) (group_of (lane_owner c.index_mut-reached.result.now) c.args.self.now.next (take c.in-Some.count c.args.items.now) c.args.from.now) q
 put_as g c q is =
     let old = c.index_mut-reached.result.now in let items = take c.in-Some.count c.args.items.now in
-    subst (λ (r : Result Spot (ℕ × Failed)). PutIn g.D.Disk.state old c.put_group.new.lane (room_for items) (group_of (lane_owner old) c.args.self.now.next items c.args.from.now) r) is c.in-Some.ensures.put
+    subst (λ (r : Result Spot (ℕ × Failed)). PutIn g.D.Disk.state old c.put_group.new.lane (first_count items) (room_for items) (group_of (lane_owner old) c.args.self.now.next items c.args.from.now) r) is
+    (subst (λ (k : ℕ). PutIn g.D.Disk.state old c.put_group.new.lane k (room_for items) (group_of (lane_owner old) c.args.self.now.next items c.args.from.now) c.in-Some.written) (sym (first_of_take c.args.items.now c.in-Some.count c.in-Some.ensures.count.0)) c.in-Some.ensures.put)
+
+-- what became of its lane, by the first of the items that it took
+took_as : (g : given.Over) (c : In-Some g) → HasTakenWrite (first_count (take c.in-Some.count c.args.items.now)) c.index_mut-reached.result.now c.put_group.new.lane
+took_as g c = subst (λ (k : ℕ). HasTakenWrite k c.index_mut-reached.result.now c.put_group.new.lane) (sym (first_of_take c.args.items.now c.in-Some.count c.in-Some.ensures.count.0)) c.in-Some.ensures.turn
 
 pub put_group-requires-clause-items : goal.put_group-requires-clause-items
 put_group-requires-clause-items g c =
@@ -115,7 +122,7 @@ returns-in-Ok g c =
       stands = λ b notes passed nt client note has kp.
           offered_stands state m c.args.lane old new lane e.lane s.turn.same e.all e.none c.requires.run.serves.ready items n s.count.0 s.count.1 c.args.from.now c.requires.run.each c.requires.run.blocks s.fits c.requires.run.serves.up c.in-Ok.spot put
           v c.list_group.new.index _ refl c.list_group.ensures (refill_set m.ups.items c.deref_mut.result.now c.args.lane true c.deref_mut.ensures.value) room
-          tells g.met.D.Disk.told g.met.D.Disk.sound s.turn b notes nt client kp note.operation_is note.follows note.look_is has;
+          tells g.met.D.Disk.told g.met.D.Disk.sound (took_as g at.In-Some) b notes nt client kp note.operation_is note.follows note.look_is has;
       look = offered_look state m c.args.lane old new lane e.lane s.turn.same e.all e.none c.requires.run.serves.ready items n s.count.0 s.count.1 c.args.from.now c.requires.run.each c.requires.run.blocks s.fits c.requires.run.serves.up c.in-Ok.spot put v c.list_group.new.index _ refl c.list_group.ensures (refill_set m.ups.items c.deref_mut.result.now c.args.lane true c.deref_mut.ensures.value) room;
       next = refl;
       fault = refl;
@@ -145,7 +152,7 @@ returns-in-Err g c =
       stands = λ b notes passed nt client note has kp.
           subst (λ (x : ℕ). Stands tells state (record m { lanes = v; down = Some (part.Segment x c.in-Err.index) }) b (notes ++ nt ∷ [])) (sym c.logger-logger.ensures)
           (offered_failed state m c.args.lane old new lane e.lane s.turn.same e.all e.none c.requires.run.serves.ready items n s.count.0 s.count.1 c.args.from.now c.requires.run.each c.requires.run.blocks s.fits c.requires.run.serves.up
-          tells g.met.D.Disk.told g.met.D.Disk.sound room s.turn b notes nt client kp (c.in-Err.index, c.in-Err.field-0-1) note.operation_is note.drain put v refl has
+          tells g.met.D.Disk.told g.met.D.Disk.sound room (took_as g at.In-Some) b notes nt client kp (c.in-Err.index, c.in-Err.field-0-1) note.operation_is note.drain put v refl has
           (note.look_is ∙ ap (λ (x : ℕ). look_of_manager (record m { down = Some (part.Segment x c.in-Err.index) })) c.logger-logger.ensures));
       look = tt;
       next = omega arith;

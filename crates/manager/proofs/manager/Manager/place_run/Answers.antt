@@ -14,7 +14,7 @@ use Rattle.offload_policy.specs.declared.Room.TheVariants.{Unknown, Yes}
 use Rattle.offload_policy.specs.declared.Step.TheVariants.{Ask, Full}
 use Rattle.manager.specs.Answers.{home_write}
 use Rattle.manager.specs.Groups.{AreItemsOf, first_lbn, first_blocks, ruled_run}
-use Rattle.manager.specs.Offers.{IsTurnedAway, ChangesLane}
+use Rattle.manager.specs.Offers.{IsTurnedAway, HasTakenWrite, ChangesLane}
 use Rattle.manager.specs.Seen.{look_of_manager}
 use Rattle.manager.specs.Stands.{passed_in}
 use Rattle.manager.specs.Writing.{HaveAnswered, takes_at}
@@ -84,12 +84,13 @@ returns-in-Some-clause-placing g c =
     let lbn = first_lbn c.args.items.now in let blocks = first_blocks c.args.items.now c.args.from.now in
     let rooms = ap (λ (m : Manager g.row.D.Denot). m.rooms.items) t.rest in
     let asked = unknown_at now.home_up c.args.covered now.ups.items c.deref.result.now now.rooms.items c.deref-in-asking.result.now c.in-Ask.lane c.in-Ask.ensures.value c.deref-in-asking.ensures.0 in
+    let lanes = subst (λ (k : ℕ). ChangesLane (HasTakenWrite k) c.in-Ask.lane now.lanes.items new.lanes.items) (sym (first_blocks_long c.args.items.now c.args.from.now c.requires.run.blocks)) t.lanes in
     let led = place_led g.D.Disk.tells g.D.Disk.state c.args.shared.now lbn blocks c.args.self.now now a (Ask c.in-Ask.lane) c.args.covered c.deref.result.now c.deref-in-asking.result.now c.in-Ask.ensures.value c.deref.ensures.0 c.deref-in-asking.ensures.0 c.requires.covered in
     record {
-      placed = placed_log g.D.Disk.tells g.D.Disk.state c.args.shared.now lbn blocks c.args.self.now now a new answer rooms c.in-Ask.lane asked t.answer led t.lanes;
+      placed = placed_log g.D.Disk.tells g.D.Disk.state c.args.shared.now lbn blocks c.args.self.now now a new answer rooms c.in-Ask.lane asked t.answer led lanes;
       answered = subst (λ (k : ℕ). HaveAnswered k (takes_at (ruled_run c.args.self.now new c.args.items.now c.args.from.now) answer) new.rooms.items c.args.self.now.lanes.items new.lanes.items) (first_blocks_long c.args.items.now c.args.from.now c.requires.run.blocks)
-          (answered_log g.D.Disk.tells g.D.Disk.state c.args.shared.now lbn blocks c.args.self.now now a new answer rooms c.in-Ask.lane asked t.answer led t.lanes);
-      waking = waking_log g.D.Disk.tells g.D.Disk.state c.args.shared.now lbn blocks c.args.self.now now a new answer rooms c.in-Ask.lane asked t.answer led t.lanes (ap (λ (m : Manager g.row.D.Denot). m.spindle) t.rest);
+          (answered_log g.D.Disk.tells g.D.Disk.state c.args.shared.now lbn blocks c.args.self.now now a new answer rooms c.in-Ask.lane asked t.answer led lanes);
+      waking = waking_log g.D.Disk.tells g.D.Disk.state c.args.shared.now lbn blocks c.args.self.now now a new answer rooms c.in-Ask.lane asked t.answer led lanes (ap (λ (m : Manager g.row.D.Denot). m.spindle) t.rest);
     }
 
 pub returns-in-Some-clause-fault : goal.returns-in-Some-clause-fault

@@ -53,7 +53,7 @@ returns-clause-offered g c = let e = c.in-Some.ensures in record {
   ready = e.ready;
   at = e.at;
   turned_away = λ none. let no : true ≡ false = none in absurd (cc);
-  taken = taken_of_front g.D.Disk.tells g.D.Disk.state c.args.lane c.args.items.now c.args.from.now c.together-joining.result c.in-Some.ran c.args.self.now c.offer_group.new.self c.together-joining.ensures.most e.taken;
+  taken = taken_of_front g.D.Disk.tells g.D.Disk.state c.args.lane c.args.items.now c.args.from.now c.together-joining.result c.in-Some.ran c.args.self.now c.offer_group.new.self c.together-joining.ensures.some c.together-joining.ensures.most e.taken;
 }
 
 pub returns-clause-joins : goal.returns-clause-joins
