@@ -106,7 +106,7 @@ untold_versions [] = refl
 untold_versions (e ∷ es) = ap (λ l. e.listed.version ∷ l) (untold_versions es)
 
 module _ {D : Type 0} (tells : Bool) (state : D → State) (shared : Shared D) (o n : Opening D) (want : n.want ≡ o.want) (view : n.view ≡ o.view) (present : n.present ≡ o.present) (label : n.label ≡ o.label) (most : n.most ≡ o.most) (r : Recovered)
-    (rec : IsRecovered tells state shared o n r) (valid : IsViewList n.view) (lanes : Vec (Lane D) Global) (held : AreHeld state shared n.want.id n.most n.owned.items r.scans.items n.lanes.items lanes.items) where
+    (rec : IsRecovered tells state shared o n r) (valid : IsViewList n.view) (lanes : Vec (Lane D) Global) (held : AreHeld state shared n.owned.items r.scans.items n.lanes.items lanes.items) where
   abbrev all_gs : List (Seg D)
   all_gs = gs tells state shared o n want view present label most r rec valid lanes.items held
 
@@ -335,7 +335,7 @@ module _ {D : Type 0} (tells : Bool) (state : D → State) (shared : Shared D) (
 
   module _ (sound : (p : Spun D) → IsDisk (state_of state p)) (told : IsTrue tells → (p : Spun D) → TellsContent (state_of state p)) (back : IsHandedBack tells state shared o n) where
     same_lanes : AllZip IsSameLane o.lanes.items lanes.items
-    same_lanes = zip_then (IsUsedLane state shared o.want.id o.most) (HoldsItsOwn state shared n.want.id n.most n.owned.items held.segments) IsSameLane (λ x y z u h. then_same state x y z u.same h.same) o.lanes.items n.lanes.items lanes.items back.lanes held.each
+    same_lanes = zip_then (IsUsedLane state shared o.want.id o.most) (HoldsItsOwn state shared n.owned.items held.segments) IsSameLane (λ x y z u h. then_same state x y z u.same h.same) o.lanes.items n.lanes.items lanes.items back.lanes held.each
 
     arrays : List Block
     arrays = cond tells (recovered_of o.want.id (read_of (state_of state o.home)) (all_owned state o.owned.items)) (replicate o.want.home [])
@@ -368,7 +368,7 @@ module _ {D : Type 0} (tells : Bool) (state : D → State) (shared : Shared D) (
     }
 
     given_all : AllZip (HasGiven o.owned.items back.fates) o.lanes.items lanes.items
-    given_all = zip_then (HasGiven o.owned.items back.fates) (HoldsItsOwn state shared n.want.id n.most n.owned.items held.segments) (HasGiven o.owned.items back.fates) (λ x y z given h. h.pool ∙ given) o.lanes.items n.lanes.items lanes.items back.pools held.each
+    given_all = zip_then (HasGiven o.owned.items back.fates) (HoldsItsOwn state shared n.owned.items held.segments) (HasGiven o.owned.items back.fates) (λ x y z given h. h.pool ∙ given) o.lanes.items n.lanes.items lanes.items back.pools held.each
 
     finish : (ws : List Write) (array : List Block) → (b : IsBeginning state n r all_gs tells ws array) → array ≡ arrays → ws ≡ records → (IsTrue tells → array ≡ recovered_of o.want.id (read_of (state_of state o.home)) (all_owned state o.owned.items)) → (IsTrue tells → ws ≡ writes_in o.want.id (all_owned state o.owned.items))
         → (IsTrue tells → r.next ≡ next_version (records_in o.want.id (all_owned state o.owned.items))) → length r.index.entries ≡ length ws

@@ -80,13 +80,13 @@ module _ {D : Type 0} where
       at rest false k is = let r = rest k is in (suc r.0, r.1)
 
 -- each segment that a lane holds has the count that it had when the opening began
-pub held_calm : {D : Type 0} (state : D → State) (shared : Shared D) (o : Opening D) (id most : ℕ) (os read : List (OwnedPart D)) (all scans : List Scan) (old new : List (Lane D)) → AreInOrder (map place_of o.owned.items)
-    → os ≡ thinned read all → AllZip (IsSameOwned state) o.owned.items read → AllZip (IsSettledPart state) o.owned.items read → AreHeld state shared id most os scans old new
+pub held_calm : {D : Type 0} (state : D → State) (shared : Shared D) (o : Opening D) (os read : List (OwnedPart D)) (all scans : List Scan) (old new : List (Lane D)) → AreInOrder (map place_of o.owned.items)
+    → os ≡ thinned read all → AllZip (IsSameOwned state) o.owned.items read → AllZip (IsSettledPart state) o.owned.items read → AreHeld state shared os scans old new
     → (p : OwnedPart D) (l : Lane D) (h : HeldSegment D) → Contains o.owned.items p → Contains new l → Contains (held_in l) h → logger_of l ≡ p.logger → h.index ≡ p.index
     → (disk_of state h.segment).faults ≡ (state_of state p.part).faults
-held_calm {D} state shared o id most os read all scans old new order left same settled_ held p l h has_p has_l has_h logger index =
+held_calm {D} state shared o os read all scans old new order left same settled_ held p l h has_p has_l has_h logger index =
     let at_l = get_of new l has_l in
-    let own = zip_back (HoldsItsOwn state shared id most os held.segments) old new at_l.0 l held.each at_l.1 in
+    let own = zip_back (HoldsItsOwn state shared os held.segments) old new at_l.0 l held.each at_l.1 in
     let at_h = get_of (held_in l) h has_h in
     let one = part_on state (logger_of l) os scans held.segments held.adopted at_h.0 h (ap (λ (hs : List (HeldSegment D)). slice_get hs at_h.0) (sym own.2.held) ∙ at_h.1) in
     let j = from_thinned read all one.k one.part (ap (λ (qs : List (OwnedPart D)). slice_get qs one.k) (sym left) ∙ one.there) in

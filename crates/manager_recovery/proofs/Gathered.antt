@@ -127,7 +127,7 @@ module _ {D : Type 0} (tells : Bool) (state : D → State) (shared : Shared D) (
       let two = subst (AllZip (IsScanned state o.want.id o.want.home) n.owned.items) (sym rec.left_scans) one in
       subst (λ (w : _). AllZip (IsScanned state w.id w.home) n.owned.items r.scans.items) (sym want) two
 
-  module _ (valid : IsViewList n.view) (lanes : List (Lane D)) (held : AreHeld state shared n.want.id n.most n.owned.items r.scans.items n.lanes.items lanes) where
+  module _ (valid : IsViewList n.view) (lanes : List (Lane D)) (held : AreHeld state shared n.owned.items r.scans.items n.lanes.items lanes) where
     abbrev pub gs : List (Seg D)
     gs = segs_of n.owned.items r.scans.items held.segments
 
@@ -146,14 +146,14 @@ module _ {D : Type 0} (tells : Bool) (state : D → State) (shared : Shared D) (
     rising_entries : AreRising (map (λ (e : Indexed). e.listed.version) r.index.entries)
     rising_entries = let x = rec.index in subst AreRising (sym (ap (map (λ (e : Indexed). e.listed.version)) x.is ∙ entry_versions x.sorted)) x.are_sorted.rising
 
-    lane_now : (old new : Lane D) → IsOpeningLane state shared n.want.id n.most old × HoldsOwned n.owned.items old → HoldsItsOwn state shared n.want.id n.most n.owned.items held.segments old new → IsLaneNow state shared n.want.id n.most gs new
+    lane_now : (old new : Lane D) → IsOpeningLane state shared n.want.id n.most old × HoldsOwned n.owned.items old → HoldsItsOwn state shared n.owned.items held.segments old new → IsLaneNow state shared n.want.id n.most gs new
     lane_now old new was has = record {
       lane = has.lane;
       at = has.at;
       owner = has.same.owner ∙ was.0.owner;
       untaken = has.taken ∙ was.0.untaken;
       long = let l = was.0.long in subst (λ (b : ℕ). n.most + 2 ≤ b) (ap (λ (i : LockId PoolBase). i.base.blocks) (sym has.same.pool.0)) l;
-      all = holds_own state shared n.want.id n.most n.owned.items r.scans.items held.segments old new held.adopted has was.1;
+      all = holds_own state shared n.owned.items r.scans.items held.segments old new held.adopted has was.1;
       held = has.held ∙ held_segs state (logger_of new) n.owned.items r.scans.items held.segments held.adopted;
     }
 
@@ -179,8 +179,8 @@ module _ {D : Type 0} (tells : Bool) (state : D → State) (shared : Shared D) (
       can = rec.open_;
       view_ok = valid;
       loggers_before = loggers_are state shared n rec.open_ names_still.1;
-      loggers = loggers_same state shared n.want.id n.most n.owned.items held.segments n.lanes.items lanes held.each ∙ loggers_are state shared n rec.open_ names_still.1;
-      each = zip_seconds (HoldsItsOwn state shared n.want.id n.most n.owned.items held.segments) (λ (l : Lane D). IsOpeningLane state shared n.want.id n.most l × HoldsOwned n.owned.items l) (IsLaneNow state shared n.want.id n.most gs) lane_now n.lanes.items lanes
+      loggers = loggers_same state shared n.owned.items held.segments n.lanes.items lanes held.each ∙ loggers_are state shared n rec.open_ names_still.1;
+      each = zip_seconds (HoldsItsOwn state shared n.owned.items held.segments) (λ (l : Lane D). IsOpeningLane state shared n.want.id n.most l × HoldsOwned n.owned.items l) (IsLaneNow state shared n.want.id n.most gs) lane_now n.lanes.items lanes
           (all_both (IsOpeningLane state shared n.want.id n.most) (HoldsOwned n.owned.items) n.lanes.items rec.open_.lanes rec.open_.all) held.each;
       all = gathered_all;
       order = subst AreInOrder (places_segs state n.owned.items r.scans.items held.segments held.adopted) rec.open_.in_order;

@@ -98,10 +98,10 @@ module _ {D : Type 0} (state : D → State) where
       at true e rest = ((λ same. other.0 (sym (eqb-true p.logger o.logger e)) (same ∙ all.0.index)), rest)
       at false e rest = rest
 
-module _ {D : Type 0} (state : D → State) (shared : Shared D) (id most : ℕ) where
+module _ {D : Type 0} (state : D → State) (shared : Shared D) where
   module _ (os : List (OwnedPart D)) (scans : List Scan) (hs : List (HeldSegment D)) (all : AreAdopted state os scans hs) (o : OwnedPart D) (h : HeldSegment D) where
     -- a lane of another logger holds no more
-    other_lane : (x l : Lane D) → (logger_of l ≡ o.logger → ⊥) → HoldsItsOwn state shared id most os hs x l → HoldsItsOwn state shared id most (os ++ o ∷ []) (hs ++ h ∷ []) x l
+    other_lane : (x l : Lane D) → (logger_of l ≡ o.logger → ⊥) → HoldsItsOwn state shared os hs x l → HoldsItsOwn state shared (os ++ o ∷ []) (hs ++ h ∷ []) x l
     other_lane x l other has = record {
       lane = has.lane;
       at = has.at;
@@ -111,7 +111,7 @@ module _ {D : Type 0} (state : D → State) (shared : Shared D) (id most : ℕ) 
       pool = has.pool;
     }
 
-    other_lanes : (logger : ℕ) → logger ≡ o.logger → (olds news : List (Lane D)) → AllByRecursion (λ (v : ℕ). logger ≢ v) (map logger_of news) → AllZip (HoldsItsOwn state shared id most os hs) olds news → AllZip (HoldsItsOwn state shared id most (os ++ o ∷ []) (hs ++ h ∷ [])) olds news
+    other_lanes : (logger : ℕ) → logger ≡ o.logger → (olds news : List (Lane D)) → AllByRecursion (λ (v : ℕ). logger ≢ v) (map logger_of news) → AllZip (HoldsItsOwn state shared os hs) olds news → AllZip (HoldsItsOwn state shared (os ++ o ∷ []) (hs ++ h ∷ [])) olds news
     other_lanes logger on [] [] apart zip = tt
     other_lanes logger on [] (n ∷ news) apart zip = absurd zip
     other_lanes logger on (x ∷ olds) [] apart zip = absurd zip
@@ -122,17 +122,17 @@ module _ {D : Type 0} (state : D → State) (shared : Shared D) (id most : ℕ) 
     apart_at v (n ∷ news) zero l is apart = subst (λ (q : Lane D). v ≢ logger_of q) (same_Some n l is) apart.0
     apart_at v (n ∷ news) (suc place) l is apart = apart_at v news place l is apart.1
 
-    pub lanes_more : (olds news : List (Lane D)) (place : ℕ) (l m : Lane D) → AreApart (map logger_of news) → slice_get news place ≡ Some l → logger_of l ≡ o.logger → AllZip (HoldsItsOwn state shared id most os hs) olds news
-        → ((x : Lane D) → HoldsItsOwn state shared id most os hs x l → HoldsItsOwn state shared id most (os ++ o ∷ []) (hs ++ h ∷ []) x m) → AllZip (HoldsItsOwn state shared id most (os ++ o ∷ []) (hs ++ h ∷ [])) olds (slice_set news place m)
+    pub lanes_more : (olds news : List (Lane D)) (place : ℕ) (l m : Lane D) → AreApart (map logger_of news) → slice_get news place ≡ Some l → logger_of l ≡ o.logger → AllZip (HoldsItsOwn state shared os hs) olds news
+        → ((x : Lane D) → HoldsItsOwn state shared os hs x l → HoldsItsOwn state shared (os ++ o ∷ []) (hs ++ h ∷ []) x m) → AllZip (HoldsItsOwn state shared (os ++ o ∷ []) (hs ++ h ∷ [])) olds (slice_set news place m)
     lanes_more [] [] place l m apart is on zip so = absurd (none-some l is)
     lanes_more [] (n ∷ news) place l m apart is on zip so = absurd zip
     lanes_more (x ∷ olds) [] place l m apart is on zip so = absurd zip
     lanes_more (x ∷ olds) (n ∷ news) zero l m apart is on zip so = let same = same_Some n l is in
-        (so x (subst (HoldsItsOwn state shared id most os hs x) same zip.0), other_lanes (logger_of n) (ap logger_of same ∙ on) olds news apart.0 zip.1)
+        (so x (subst (HoldsItsOwn state shared os hs x) same zip.0), other_lanes (logger_of n) (ap logger_of same ∙ on) olds news apart.0 zip.1)
     lanes_more (x ∷ olds) (n ∷ news) (suc place) l m apart is on zip so =
         (other_lane x n (λ e. apart_at (logger_of n) news place l is apart.0 (e ∙ sym on)) zip.0, lanes_more olds news place l m apart.1 is on zip.1 so)
 
-  pub loggers_same : (os : List (OwnedPart D)) (hs : List (HeldSegment D)) (olds news : List (Lane D)) → AllZip (HoldsItsOwn state shared id most os hs) olds news → map logger_of news ≡ map logger_of olds
+  pub loggers_same : (os : List (OwnedPart D)) (hs : List (HeldSegment D)) (olds news : List (Lane D)) → AllZip (HoldsItsOwn state shared os hs) olds news → map logger_of news ≡ map logger_of olds
   loggers_same os hs [] [] zip = refl
   loggers_same os hs [] (n ∷ news) zip = absurd zip
   loggers_same os hs (x ∷ olds) [] zip = absurd zip
@@ -146,7 +146,7 @@ pub record IsHeldTo {D : Type 0} (state : D → State) (shared : Shared D) (o n 
   pub left : reverse n.owned.items ≡ drop k o.owned.items
   pub segments : List (HeldSegment D)
   pub adopted : AreAdopted state (take k o.owned.items) (take k scans) segments
-  pub each : AllZip (HoldsItsOwn state shared o.want.id o.most (take k o.owned.items) segments) o.lanes.items n.lanes.items
+  pub each : AllZip (HoldsItsOwn state shared (take k o.owned.items) segments) o.lanes.items n.lanes.items
 
 module _ {D : Type 0} (state : D → State) (shared : Shared D) (o : Opening D) (can : CanOpen state shared o) (named : IsNamesAnswer o None) (scans : List Scan) (scanned : AllZip (IsScanned state o.want.id o.want.home) o.owned.items scans) where
   pub none_held : (n : Opening D) → n ≡ record o { owned = n.owned } → reverse n.owned.items ≡ o.owned.items → IsHeldTo state shared o n scans 0
@@ -156,8 +156,8 @@ module _ {D : Type 0} (state : D → State) (shared : Shared D) (o : Opening D) 
         left = left;
         segments = [];
         adopted = tt;
-        each = subst (AllZip (HoldsItsOwn state shared o.want.id o.most [] []) o.lanes.items) (ap (λ (v : _). v.items) (sym lanes))
-            (zip_same (HoldsItsOwn state shared o.want.id o.most [] []) (IsOpeningLane state shared o.want.id o.most)
+        each = subst (AllZip (HoldsItsOwn state shared [] []) o.lanes.items) (ap (λ (v : _). v.items) (sym lanes))
+            (zip_same (HoldsItsOwn state shared [] []) (IsOpeningLane state shared o.want.id o.most)
             (λ l is. record { lane = is.lane; at = is.at; same = record { logger = refl; owner = refl; segments = refl; pool = (refl, refl); spindle = (refl, refl) }; held = is.bare; taken = refl; pool = refl }) o.lanes.items can.lanes);
       }
 
@@ -194,7 +194,7 @@ module _ {D : Type 0} (state : D → State) (shared : Shared D) (o : Opening D) 
       pub was_lane : slice_get o.lanes.items place ≡ Some before
       pub lane_is : slice_get n.lanes.items place ≡ Some lane
       pub on : logger_of lane ≡ x.logger
-      pub holds_own : HoldsItsOwn state shared o.want.id o.most (take k o.owned.items) inv.segments before lane
+      pub holds_own : HoldsItsOwn state shared (take k o.owned.items) inv.segments before lane
       pub ready : IsOpeningLane state shared o.want.id o.most before
       pub held : IsHeldIn state x before
 
@@ -205,16 +205,16 @@ module _ {D : Type 0} (state : D → State) (shared : Shared D) (o : Opening D) 
     place_within place found =
         let w = found_lane place found in
         let lt = slice_get_within o.lanes.items place w.0 w.1 in
-        let long = zip_long (HoldsItsOwn state shared o.want.id o.most (take k o.owned.items) inv.segments) o.lanes.items n.lanes.items inv.each in
+        let long = zip_long (HoldsItsOwn state shared (take k o.owned.items) inv.segments) o.lanes.items n.lanes.items inv.each in
         omega (arith, lt, long)
 
     pub lane_of : (place : ℕ) → position (λ (id : ℕ). eqb id x.logger) n.view ≡ Some place → (l : Lane D) → l ≡ slice_index_or n.lanes.items place l → IsLaneOf place l
     lane_of place found l read =
         let w = found_lane place found in
-        let z = zip_at (HoldsItsOwn state shared o.want.id o.most (take k o.owned.items) inv.segments) o.lanes.items n.lanes.items place inv.each (slice_get_within o.lanes.items place w.0 w.1) in
+        let z = zip_at (HoldsItsOwn state shared (take k o.owned.items) inv.segments) o.lanes.items n.lanes.items place inv.each (slice_get_within o.lanes.items place w.0 w.1) in
         let first : z.0 ≡ w.0 = same_Some z.0 w.0 (sym z.2 ∙ w.1) in
         let is : l ≡ z.1 = read_at n.lanes.items place l z.1 z.3 read in
-        let has : HoldsItsOwn state shared o.want.id o.most (take k o.owned.items) inv.segments z.0 l = subst (HoldsItsOwn state shared o.want.id o.most (take k o.owned.items) inv.segments z.0) (sym is) z.4 in
+        let has : HoldsItsOwn state shared (take k o.owned.items) inv.segments z.0 l = subst (HoldsItsOwn state shared (take k o.owned.items) inv.segments z.0) (sym is) z.4 in
         let on : logger_of z.0 ≡ x.logger = ap logger_of first ∙ w.2 in record {
           before = z.0;
           was_lane = z.2;
@@ -255,10 +255,10 @@ module _ {D : Type 0} (state : D → State) (shared : Shared D) (o : Opening D) 
       pub held_next : AreApart o.view → (h : HeldSegment D) → IsAdopted state x next.scan h → (m : Lane D) → IsLane state m → IsSameLane l m → held_in m ≡ held_in l ++ h ∷ [] → taken_in m ≡ taken_in l → pass_mine (pool_of m) ≡ pass_mine (pool_of l)
           → (t : Opening D) → t ≡ record n { lanes = t.lanes; owned = t.owned } → t.lanes.items ≡ slice_set n.lanes.items place m → t.owned.items ≡ rest → IsHeldTo state shared o t scans (suc k)
       held_next apart h adopted m is same held taken pool t t_same lanes owned =
-          let os = o.owned.items in let R = HoldsItsOwn state shared o.want.id o.most in
+          let os = o.owned.items in let R = HoldsItsOwn state shared in
           let front : take (suc k) os ≡ take k os ++ x ∷ [] = front_at os k x next.part_is in
           let scans_front : take (suc k) scans ≡ take k scans ++ next.scan ∷ [] = front_at scans k next.scan next.scan_is in
-          let loggers : AreApart (map logger_of n.lanes.items) = subst AreApart (sym (loggers_same state shared o.want.id o.most (take k os) inv.segments o.lanes.items n.lanes.items inv.each ∙ loggers_are state shared o can named.1)) apart in
+          let loggers : AreApart (map logger_of n.lanes.items) = subst AreApart (sym (loggers_same state shared (take k os) inv.segments o.lanes.items n.lanes.items inv.each ∙ loggers_are state shared o can named.1)) apart in
           let here : (y : Lane D) → R (take k os) inv.segments y l → R (take k os ++ x ∷ []) (inv.segments ++ h ∷ []) y m = λ y has.
           let logger : logger_of m ≡ x.logger = same.logger ∙ at.on in record {
             lane = is;
@@ -269,7 +269,7 @@ module _ {D : Type 0} (state : D → State) (shared : Shared D) (o : Opening D) 
             taken = taken ∙ has.taken;
             pool = pool ∙ has.pool;
           } in
-          let each = lanes_more state shared o.want.id o.most (take k os) (take k scans) inv.segments inv.adopted x h o.lanes.items n.lanes.items place l m loggers at.lane_is at.on inv.each here in record {
+          let each = lanes_more state shared (take k os) (take k scans) inv.segments inv.adopted x h o.lanes.items n.lanes.items place l m loggers at.lane_is at.on inv.each here in record {
             same = t_same ∙ ap (λ (q : Opening D). record q { lanes = t.lanes; owned = t.owned }) inv.same;
             left = ap reverse owned ∙ next.behind;
             segments = inv.segments ++ h ∷ [];
@@ -293,7 +293,7 @@ module _ {D : Type 0} (state : D → State) (shared : Shared D) (o : Opening D) 
       let past : length o.owned.items ≤ k = drop_nothing o.owned.items k (sym inv.left ∙ ap reverse none) in
       omega (arith, long, past, more)
 
-  pub all_held_then : (n : Opening D) (k : ℕ) → IsHeldTo state shared o n scans k → length scans ≤ k → AreHeld state shared o.want.id o.most o.owned.items scans o.lanes.items n.lanes.items
+  pub all_held_then : (n : Opening D) (k : ℕ) → IsHeldTo state shared o n scans k → length scans ≤ k → AreHeld state shared o.owned.items scans o.lanes.items n.lanes.items
   all_held_then n k inv past =
       let os = o.owned.items in
       let long = zip_long (IsScanned state o.want.id o.want.home) os scans scanned in
@@ -301,5 +301,5 @@ module _ {D : Type 0} (state : D → State) (shared : Shared D) (o : Opening D) 
       let all : take k scans ≡ scans = take_past scans k past in record {
         segments = inv.segments;
         adopted = subst (λ (l : List (OwnedPart D)). AreAdopted state l scans inv.segments) parts (subst (λ (l : List Scan). AreAdopted state (take k os) l inv.segments) all inv.adopted);
-        each = subst (λ (l : List (OwnedPart D)). AllZip (HoldsItsOwn state shared o.want.id o.most l inv.segments) o.lanes.items n.lanes.items) parts inv.each;
+        each = subst (λ (l : List (OwnedPart D)). AllZip (HoldsItsOwn state shared l inv.segments) o.lanes.items n.lanes.items) parts inv.each;
       }

@@ -95,8 +95,8 @@ module _ {D : Type 0} (state : D → State) where
       (λ e. subst (AmongIf h (held_on v os hs) i) (sym (eq-eqb o.logger v (sym (ap (λ (p : ℕ × ℕ). p.0) e)))) (inl (ap (λ (p : ℕ × ℕ). p.1) e ∙ sym adopted.0.index)))
       (λ more. among_behind h (held_on v os hs) i (eqb o.logger v) (held_among os ss hs v i adopted.1 more)) among
 
-  pub holds_own : (shared : Shared D) (id most : ℕ) (os : List (OwnedPart D)) (ss : List Scan) (hs : List (HeldSegment D)) (old new : Lane D) → AreAdopted state os ss hs → HoldsItsOwn state shared id most os hs old new → HoldsOwned os old → HoldsAll new
-  holds_own shared id most os ss hs old new adopted own all i holding =
+  pub holds_own : (shared : Shared D) (os : List (OwnedPart D)) (ss : List Scan) (hs : List (HeldSegment D)) (old new : Lane D) → AreAdopted state os ss hs → HoldsItsOwn state shared os hs old new → HoldsOwned os old → HoldsAll new
+  holds_own shared os ss hs old new adopted own all i holding =
       let idx : List (HeldSegment D) → List ℕ = map (λ (h : HeldSegment D). h.index) in
       let among = held_among os ss hs (logger_of old) i adopted (among_contains (map place_of os) (logger_of old, i) (all i (sym (same_holds old new own.same own.pool i) ∙ holding))) in
       let there : Contains (idx (held_on (logger_of new) os hs)) i = contains_among (idx (held_on (logger_of new) os hs)) i (subst (λ (v : ℕ). IsAmong (idx (held_on v os hs)) i) (sym own.same.logger) among) in

@@ -261,7 +261,7 @@ held_on logger (o ∷ os) (h ∷ hs) =
     if o.logger == logger then h ∷ held_on logger os hs else held_on logger os hs
 
 -- a lane holds the segments of its logger, in order
-pub record HoldsItsOwn {D : Type 0} (state : D → State) (shared : Shared D) (id most : ℕ)
+pub record HoldsItsOwn {D : Type 0} (state : D → State) (shared : Shared D)
     (os : List (OwnedPart D)) (hs : List (HeldSegment D)) (old new : Lane D) : Type 0 where
   pub lane : IsLane state new
   pub at : IsAt shared new
@@ -271,11 +271,11 @@ pub record HoldsItsOwn {D : Type 0} (state : D → State) (shared : Shared D) (i
   pub pool : HasGivenNone old new
 
 -- all lanes do
-pub record AreHeld {D : Type 0} (state : D → State) (shared : Shared D) (id most : ℕ)
-    (os : List (OwnedPart D)) (scans : List Scan) (old new : List (Lane D)) : Type 0 where
+pub record AreHeld {D : Type 0} (state : D → State) (shared : Shared D) (os : List (OwnedPart D))
+    (scans : List Scan) (old new : List (Lane D)) : Type 0 where
   pub segments : List (HeldSegment D)
   pub adopted : AreAdopted state os scans segments
-  pub each : AllZip (HoldsItsOwn state shared id most os segments) old new
+  pub each : AllZip (HoldsItsOwn state shared os segments) old new
 
 -- ---- By version
 

@@ -20,8 +20,8 @@ pub fn hold_all<D: Disk>(shared: &Shared<D>, opening: &mut Opening<D>, scans: &[
     ensures same { opening.new
         ≡ record opening.old { lanes = opening.new.lanes; owned = opening.new.owned } }
     ensures none { opening.new.owned.items ≡ [] }
-    ensures held { AreHeld D.state shared.now opening.old.want.id opening.old.most
-        opening.old.owned.items scans.now opening.old.lanes.items opening.new.lanes.items }
+    ensures held { AreHeld D.state shared.now opening.old.owned.items scans.now
+        opening.old.lanes.items opening.new.lanes.items }
 {
     let _ = shared;
     opening.owned.reverse();
