@@ -33,9 +33,9 @@ use Rattle.manager.specs.Seen.{look_of_manager}
 use Rattle.manager.specs.Stands.{opened}
 use Rattle.manager_recovery.specs.Owned.{IsListedOf, Owned, read_of, owned_of, all_owned, records_in, writes_in, recovered_of}
 use Rattle.manager_recovery.specs.Left.{HasGiven, IsUsedLane, IsHandedBack}
-use Rattle.manager_recovery.specs.Opened.{Opens, IsInLane, StandsInOwned, base_at_opening, lane_at_opening, untold_write}
+use Rattle.manager_recovery.specs.Opened.{Opens, IsInLane, HoldsInOrder, StandsInOwned, base_at_opening, lane_at_opening, untold_write}
 use Rattle.manager_recovery.proofs.Gifts.{counts_takes}
-use Rattle.manager_recovery.proofs.InLanes.{all_in_lanes}
+use Rattle.manager_recovery.proofs.InLanes.{all_in_lanes, all_in_order}
 use Rattle.manager_recovery.specs.Recovery.{IsRecovered}
 use Rattle.manager_recovery.specs.Scanned.{AreHeld, HoldsItsOwn, has_some, thinned}
 use Rattle.manager_recovery.specs.declared.opening.Opening.{Opening}
@@ -389,6 +389,7 @@ module _ {D : Type 0} (tells : Bool) (state : D → State) (shared : Shared D) (
       pools = given_all;
       takes = counts_takes o.owned.items back.fates (lane_at_opening tells state o (opened n.want.id n.home n.spindle lanes r.index r.next n.most)) (λ l. refl) o.lanes.items lanes.items given_all;
       held = subst (AllByRecursion (IsInLane lanes.items)) back.owned (all_in_lanes state shared n r lanes.items all_gs c n.owned.items r.scans.items held.segments held.adopted refl);
+      order = subst (λ (os : List (OwnedPart D)). AllByRecursion (HoldsInOrder os) lanes.items) back.owned (all_in_order state shared n.owned.items r.scans.items held.segments held.adopted n.lanes.items lanes.items held.each);
       parts = back.parts;
     }
 

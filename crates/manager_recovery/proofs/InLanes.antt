@@ -1,7 +1,7 @@
--- The lanes hold the segments that were handed on.
-use Rattle.std.proofs.Common.{◌≡◌, inl, inr, ℕ, zero, suc, eqb, eq-eqb, List, [], ◌∷◌, map, Some, refl, sym, subst}
-use Rattle.std.specs.Prelude.{slice_get}
-use Rattle.std.specs.List.{AllByRecursion}
+-- The lanes hold the segments that were handed on, each lane those of its logger in order.
+use Rattle.std.proofs.Common.{◌≡◌, inl, inr, ℕ, zero, suc, Bool, true, false, cond, eqb, eq-eqb, List, [], ◌∷◌, map, Some, refl, sym, subst}
+use Rattle.std.specs.Prelude.{slice_get, filter, ◌==◌}
+use Rattle.std.specs.List.{AllByRecursion, AllZip}
 use Rattle.std.proofs.lemmas.Option.{same_Some, none-some, get_or_from_slice_get}
 use Rattle.wol_disk.specs.Disk.{State, IsAmong}
 use Rattle.log_scan.specs.declared.Scan.{Scan}
@@ -9,8 +9,8 @@ use Rattle.logger.specs.Lanes.{logger_of, held_in}
 use Rattle.logger.specs.declared.lane.HeldSegment.{HeldSegment}
 use Rattle.logger.specs.declared.lane.Lane.{Lane}
 use Rattle.logger.specs.declared.shared.Shared.{Shared}
-use Rattle.manager_recovery.specs.Opened.{IsInLane}
-use Rattle.manager_recovery.specs.Scanned.{AreAdopted, lane_of}
+use Rattle.manager_recovery.specs.Opened.{IsInLane, IsHeldAs, HoldsInOrder}
+use Rattle.manager_recovery.specs.Scanned.{AreAdopted, HoldsItsOwn, held_on, lane_of}
 use Rattle.manager_recovery.specs.declared.opening.Opening.{Opening}
 use Rattle.manager_recovery.specs.declared.opening.OwnedPart.{OwnedPart}
 use Rattle.manager_recovery.specs.declared.volume.Recovered.{Recovered}
@@ -18,6 +18,31 @@ use Rattle.manager_recovery.proofs.ByLogger.{on, all_among, among_map, filter_am
 use Rattle.manager_recovery.proofs.Lists.{all_get, within}
 use Rattle.manager_recovery.proofs.OpenedKeeps.{IsGathered, IsLaneNow}
 use Rattle.manager_recovery.proofs.Segs.{Seg, IsSeg, segs_of, logger_of_seg, lane_named}
+
+module _ {D : Type 0} (state : D → State) where
+  -- those on one logger, and what is held of them
+  held_as : (v : ℕ) (os : List (OwnedPart D)) (ss : List Scan) (hs : List (HeldSegment D)) → AreAdopted state os ss hs → AllZip IsHeldAs (filter (λ (o : OwnedPart D). o.logger == v) os) (held_on v os hs)
+  held_as v [] [] [] adopted = tt
+  held_as v [] [] (h ∷ hs) adopted = absurd adopted
+  held_as v [] (s ∷ ss) hs adopted = absurd adopted
+  held_as v (o ∷ os) [] hs adopted = absurd adopted
+  held_as v (o ∷ os) (s ∷ ss) [] adopted = absurd adopted
+  held_as v (o ∷ os) (s ∷ ss) (h ∷ hs) adopted = at (eqb o.logger v) (held_as v os ss hs adopted.1)
+    where
+      at : (t : Bool) → AllZip IsHeldAs (filter (λ (q : OwnedPart D). q.logger == v) os) (held_on v os hs)
+          → AllZip IsHeldAs (cond t (o ∷ filter (λ (q : OwnedPart D). q.logger == v) os) (filter (λ (q : OwnedPart D). q.logger == v) os)) (cond t (h ∷ held_on v os hs) (held_on v os hs))
+      at true rest = (record { index = adopted.0.index; part = adopted.0.part }, rest)
+      at false rest = rest
+
+  -- each lane holds its own in order
+  pub all_in_order : (shared : Shared D) (os : List (OwnedPart D)) (ss : List Scan) (hs : List (HeldSegment D)) → AreAdopted state os ss hs → (olds news : List (Lane D)) → AllZip (HoldsItsOwn state shared os hs) olds news → AllByRecursion (HoldsInOrder os) news
+  all_in_order shared os ss hs adopted [] [] zip = tt
+  all_in_order shared os ss hs adopted [] (n ∷ news) zip = absurd zip
+  all_in_order shared os ss hs adopted (x ∷ olds) [] zip = absurd zip
+  all_in_order shared os ss hs adopted (x ∷ olds) (n ∷ news) zip = (
+    subst (AllZip IsHeldAs (filter (λ (o : OwnedPart D). o.logger == logger_of n) os)) (sym zip.0.held) (held_as (logger_of n) os ss hs adopted),
+    all_in_order shared os ss hs adopted olds news zip.1,
+  )
 
 lane_at : {D : Type 0} (lanes : List (Lane D)) (k v : ℕ) → slice_get (map logger_of lanes) k ≡ Some v → (l : Lane D) × (slice_get lanes k ≡ Some l) × (logger_of l ≡ v)
 lane_at [] k v is = absurd (none-some v is)

@@ -1,5 +1,5 @@
 -- The manager of a volume that was opened.
-use Rattle.std.specs.Prelude.{◌≡◌, ℕ, Bool, List, [], None, Some, Contains, IsTrue, cond, length, map, replicate, slice_get}
+use Rattle.std.specs.Prelude.{◌≡◌, ◌==◌, ℕ, Bool, List, [], None, Some, Contains, IsTrue, cond, filter, length, map, replicate, slice_get}
 use Rattle.std.specs.List.{AllByRecursion, AllZip}
 use Rattle.wol_disk.specs.Disk.{State}
 use Rattle.turn_lock.specs.Passes.{IsSamePass, pass_lock, pass_mine, pass_number}
@@ -117,6 +117,16 @@ pub record IsInLane {D : Type 0} (lanes : List (Lane D)) (o : OwnedPart D) : Typ
   pub index : segment.index ≡ o.index
   pub part : part_of segment.segment ≡ o.part
 
+-- an owned segment, held
+pub record IsHeldAs {D : Type 0} (o : OwnedPart D) (h : HeldSegment D) : Type 0 where
+  pub index : h.index ≡ o.index
+  pub part : part_of h.segment ≡ o.part
+
+-- the lane holds those of these segments that lie on its logger, in the same order, and no others
+abbrev pub HoldsInOrder : {D : Type 0} → List (OwnedPart D) → Lane D → Type 0
+HoldsInOrder {D} os l =
+    AllZip IsHeldAs (filter (λ (o : OwnedPart D). o.logger == logger_of l) os) (held_in l)
+
 -- The manager stands for that beginning and no entries, over the locks and passes of the opening.
 pub record Opens {D : Type 0} (tells : Bool) (state : D → State) (shared : Shared D) (o : Opening D)
     (m : Manager D) : Type 0 where
@@ -135,6 +145,7 @@ pub record Opens {D : Type 0} (tells : Bool) (state : D → State) (shared : Sha
   -- its lanes hold the segments that were handed on
   pub fates : List (Fate D)
   pub held : AllByRecursion (IsInLane m.lanes.items) (kept_of fates)
+  pub order : AllByRecursion (HoldsInOrder (kept_of fates)) m.lanes.items
   -- and their passes gave the others to the pools
   pub pools : AllZip (HasGiven o.owned.items fates) o.lanes.items m.lanes.items
   -- they took none: the base counts what they took before
