@@ -153,12 +153,12 @@ end_push from (j ∷ items) i = end_push (j.lbn + j.count) items i
 -- they end behind where they begin
 end_behind : (covered : ℕ → Bool) (es : List Listed) (most from : ℕ) (items : List Item) → AreNext covered es most from items → from ≤ end_of from items
 end_behind covered es most from [] are = omega arith
-end_behind covered es most from (i ∷ items) are = let rest = end_behind covered es most (i.lbn + i.count) items are.1 in let low = are.0.low in omega (arith, rest, low)
+end_behind covered es most from (i ∷ items) are = let rest = end_behind covered es most (i.lbn + i.count) items are.1 in let low = are.0.ahead.low in omega (arith, rest, low)
 
 pub end_past : (covered : ℕ → Bool) (es : List Listed) (most from : ℕ) (items : List Item) → 1 ≤ length items → AreNext covered es most from items → from < end_of from items
 end_past covered es most from [] some are = absurd (omega (arith, some))
-end_past covered es most from (i ∷ items) some are = let rest = end_behind covered es most (i.lbn + i.count) items are.1 in let low = are.0.low in let one = are.0.some in omega (arith, rest, low, one)
+end_past covered es most from (i ∷ items) some are = let rest = end_behind covered es most (i.lbn + i.count) items are.1 in let low = are.0.ahead.low in let one = are.0.ahead.some in omega (arith, rest, low, one)
 
 pub next_small : (covered : ℕ → Bool) (es : List Listed) (most from : ℕ) (items : List Item) → most ≤ 128 → AreNext covered es most from items → AllByRecursion (λ (i : Item). i.count ≤ 128) items
 next_small covered es most from [] small are = tt
-next_small covered es most from (i ∷ items) small are = ((let f = are.0.few in omega (arith, f, small)), next_small covered es most (i.lbn + i.count) items small are.1)
+next_small covered es most from (i ∷ items) small are = ((let f = are.0.ahead.few in omega (arith, f, small)), next_small covered es most (i.lbn + i.count) items small are.1)

@@ -23,7 +23,7 @@ use Rattle.redirect_map.specs.Index.{IsEntry, IsIndex}
 use Rattle.manager.specs.Stands.{IsInVolume, IsReady}
 use Rattle.manager.specs.declared.manager.Manager.{Manager}
 use Rattle.manager.proofs.RunSources.{same_version}
-use Rattle.log_cleaner.specs.Chunks.{AreNext, AreTidyBelow, IsChunk, IsNext, IsTidy, IsUppermost, KeepsJust, KeepsNone, NoneHomed, end_of, is_within}
+use Rattle.log_cleaner.specs.Chunks.{AreNext, AreTidyBelow, IsAhead, IsChunk, IsNext, IsTidy, IsUppermost, KeepsJust, KeepsNone, NoneHomed, end_of, is_within}
 use Rattle.log_cleaner.specs.Cleans.{CanClean, HasCleaned, IsChunkOf, IsLeftUntidy, IsOfUntidy, TellsCleaned, copied_blocks, covered_in}
 use Rattle.log_cleaner.specs.Copies.{AreCopies}
 use Rattle.log_cleaner.specs.Steps.{AreCopiesAt, AreCoveredIn, HasBroken, HasCopied, HasRewritten, IsCopyAt, IsRefused, KeepsTidy, Rewrites, Settles, TidiesAll, ended, is_broken, rewritten, written_of}
@@ -226,7 +226,7 @@ record Upto (covered : ℕ → Bool) (olds : List Listed) (most next from : ℕ)
   behind : AllByRecursion (λ (w : Write). w.first < from) copies
   stays : (f c : ℕ) → 1 ≤ c → from ≤ f → IsTidy olds f c → IsTidy es f c
 
-module _ (covered : ℕ → Bool) (es : List Listed) (most from : ℕ) (i : Item) (n : IsNext covered es most from i) where
+module _ (covered : ℕ → Bool) (most from : ℕ) (i : Item) (n : IsAhead covered most from i) where
   next_here : covered i.lbn ≡ true
   next_here = n.run i.lbn (omega arith) (let s = n.some in omega (arith, s))
 
@@ -248,28 +248,28 @@ upto_more : (covered : ℕ → Bool) (olds : List Listed) (most next from : ℕ)
     → (i : Item) → IsNext covered olds most from i → i.lbn + i.count ≤ 2 ^ 32 → (w : Write) → IsCopyAt i.lbn i.count (next + length copies) w → Upto covered olds most next (i.lbn + i.count) (listing l lane w) (copies ++ w ∷ [])
 upto_more covered olds most next from l lane copies u unhomed below i n size w is = record {
   chunks = chunks_more covered olds most next i.lbn i.count copies (w ∷ []) u.chunks chunk n.untidy behind_later (omega arith) (is, tt);
-  few = let f = u.few in let e = blocks_more copies w in let c = is.count_is in let low = n.low in omega (arith, f, e, c, low);
+  few = let f = u.few in let e = blocks_more copies w in let c = is.count_is in let low = n.ahead.low in omega (arith, f, e, c, low);
   within = size;
-  upper = one_more covered olds most from i n (λ first c. (version : ℕ) × IsUppermost (listing l lane w) version first c) chunk
+  upper = one_more covered most from i n.ahead (λ first c. (version : ℕ) × IsUppermost (listing l lane w) version first c) chunk
       (λ x lt inside. let o = u.upper x lt inside in (o.0, o.1, o.2, o.3, o.4, (o.5.0, others_upper l lane i.lbn i.count (next + length copies) w unhomed is o.5.0 o.0 o.1 (λ y within. apart_from x lt o.0 o.1 o.2 o.3 o.4 y within) o.5.1)))
       (l.next, newest_upper l lane i.lbn i.count (next + length copies) w unhomed is below);
   cut = λ here. cut_behind covered most i.lbn i.count chunk here;
   behind = all_push (λ (v : Write). v.first < i.lbn + i.count) copies w
-      (all_map (λ (v : Write). v.first < from) (λ (v : Write). v.first < i.lbn + i.count) (λ v lt. let low = n.low in omega (arith, lt, low)) copies u.behind) (let f = is.first_is in let s = n.some in omega (arith, f, s));
+      (all_map (λ (v : Write). v.first < from) (λ (v : Write). v.first < i.lbn + i.count) (λ v lt. let low = n.ahead.low in omega (arith, lt, low)) copies u.behind) (let f = is.first_is in let s = n.ahead.some in omega (arith, f, s));
   stays = λ f c least le x. others_tidy l lane i.lbn i.count (next + length copies) w unhomed is f c (λ y inside. Rattle.log_cleaner.proofs.Tidying.not_so (is_within i.lbn i.count y) (λ at.
-      let v = inside_of f c y inside in let k = inside_of i.lbn i.count y at in let a = v.0 in let h = k.1 in omega (arith, a, h, le))) (u.stays f c least (let low = n.low in omega (arith, le, low)) x);
+      let v = inside_of f c y inside in let k = inside_of i.lbn i.count y at in let a = v.0 in let h = k.1 in omega (arith, a, h, le))) (u.stays f c least (let low = n.ahead.low in omega (arith, le, low)) x);
 }
   where
     chunk : IsChunk covered most i.lbn i.count
-    chunk = next_chunk covered olds most from i n u.cut
+    chunk = next_chunk covered most from i n.ahead u.cut
 
     behind_later : AllByRecursion (λ (v : Write). v.first < i.lbn) copies
-    behind_later = all_map (λ (v : Write). v.first < from) (λ (v : Write). v.first < i.lbn) (λ v lt. let low = n.low in omega (arith, lt, low)) copies u.behind
+    behind_later = all_map (λ (v : Write). v.first < from) (λ (v : Write). v.first < i.lbn) (λ v lt. let low = n.ahead.low in omega (arith, lt, low)) copies u.behind
 
     apart_from : (x : ℕ) → x < from → (f c : ℕ) → IsChunk covered most f c → f ≤ x → x < f + c → (y : ℕ) → is_within f c y ≡ true → is_within i.lbn i.count y ≡ false
     apart_from x lt f c k lo hi y inside = Rattle.log_cleaner.proofs.Tidying.not_so (is_within i.lbn i.count y) (λ at.
         let v = inside_of f c y inside in let z = inside_of i.lbn i.count y at in
-        let same = (same_chunk covered most f c i.lbn i.count y k chunk v.0 v.1 z.0 z.1).0 in let low = n.low in omega (arith, lt, lo, same, low))
+        let same = (same_chunk covered most f c i.lbn i.count y k chunk v.0 v.1 z.0 z.1).0 in let low = n.ahead.low in omega (arith, lt, lo, same, low))
 
 -- chunks more
 upto_all : (covered : ℕ → Bool) (olds : List Listed) (most next lane : ℕ) (items : List Item) (ws : List Write) (from : ℕ) (l : Look) (copies : List Write) → Upto covered olds most next from l.listed copies → NoneHomed l.listed
@@ -296,113 +296,95 @@ next_front covered es most zero from items are = tt
 next_front covered es most (suc k) from [] are = tt
 next_front covered es most (suc k) from (i ∷ items) are = (are.0, next_front covered es most k (i.lbn + i.count) items are.1)
 
--- where the same blocks are covered, and what was tidy behind a block is still
+-- where the same blocks are covered
+ahead_since : (covered before : ℕ → Bool) (most from : ℕ) (i : Item) → ((b : ℕ) → covered b ≡ before b) → IsAhead covered most from i → IsAhead before most from i
+ahead_since covered before most from i same n = record {
+  low = n.low;
+  bare = λ b l h. sym (same b) ∙ n.bare b l h;
+  some = n.some;
+  few = n.few;
+  run = λ b l h. sym (same b) ∙ n.run b l h;
+  ends = λ less. sym (same (i.lbn + i.count)) ∙ n.ends less;
+}
+
+-- and what was tidy behind a block is still
 next_since : (covered before : ℕ → Bool) (es olds : List Listed) (most from : ℕ) → ((b : ℕ) → covered b ≡ before b) → ((f c : ℕ) → 1 ≤ c → from ≤ f → IsTidy olds f c → IsTidy es f c)
     → (at : ℕ) → from ≤ at → (items : List Item) → AreNext covered es most at items → AreNext before olds most at items
 next_since covered before es olds most from same stays at le [] are = tt
 next_since covered before es olds most from same stays at le (i ∷ items) are =
     let n = are.0 in (
       record {
-        low = n.low;
-        bare = λ b l h. sym (same b) ∙ n.bare b l h;
-        some = n.some;
-        few = n.few;
-        run = λ b l h. sym (same b) ∙ n.run b l h;
-        ends = λ less. sym (same (i.lbn + i.count)) ∙ n.ends less;
-        untidy = λ t. n.untidy (stays i.lbn i.count n.some (let low = n.low in omega (arith, le, low)) t);
+        ahead = ahead_since covered before most at i same n.ahead;
+        untidy = λ t. n.untidy (stays i.lbn i.count n.ahead.some (let low = n.ahead.low in omega (arith, le, low)) t);
       },
-      next_since covered before es olds most from same stays (i.lbn + i.count) (let low = n.low in omega (arith, le, low)) items are.1,
+      next_since covered before es olds most from same stays (i.lbn + i.count) (let low = n.ahead.low in omega (arith, le, low)) items are.1,
     )
 
 -- ---- Chunks that a manager covers
 
 module _ {D : Type 0} (state : D → State) (m : Manager D) (ready : IsReady state m) (es : List Listed) (most : ℕ) where
-  next_inside : (from : ℕ) (i : Item) → IsNext (covered_in m) es most from i → (b : ℕ) → is_within i.lbn i.count b ≡ true → covered_in m b ≡ true
+  next_inside : (from : ℕ) (i : Item) → IsAhead (covered_in m) most from i → (b : ℕ) → is_within i.lbn i.count b ≡ true → covered_in m b ≡ true
   next_inside from i n b is = let w = inside_of i.lbn i.count b is in n.run b w.0 w.1
 
-  next_fits : (from : ℕ) (i : Item) → IsNext (covered_in m) es most from i → i.lbn + i.count ≤ (state_of state m.home).size
+  next_fits : (from : ℕ) (i : Item) → IsAhead (covered_in m) most from i → i.lbn + i.count ≤ (state_of state m.home).size
   next_fits from i n = chunk_fits state m i.lbn i.count ready n.some (next_inside from i n)
 
   pub next_items : (from : ℕ) (items : List Item) → AreNext (covered_in m) es most from items → AreItemsOf most (state_of state m.home).size items
   next_items from [] are = tt
-  next_items from (i ∷ items) are = (record { some = are.0.some; few = are.0.few; within = next_fits from i are.0 }, next_items (i.lbn + i.count) items are.1)
+  next_items from (i ∷ items) are = (record { some = are.0.ahead.some; few = are.0.ahead.few; within = next_fits from i are.0.ahead }, next_items (i.lbn + i.count) items are.1)
 
   pub next_covered_in : (from : ℕ) (items : List Item) → AreNext (covered_in m) es most from items → AreCoveredIn m items
   next_covered_in from [] are = tt
-  next_covered_in from (i ∷ items) are = (next_inside from i are.0, next_covered_in (i.lbn + i.count) items are.1)
+  next_covered_in from (i ∷ items) are = (next_inside from i are.0.ahead, next_covered_in (i.lbn + i.count) items are.1)
 
   next_sizes : (from : ℕ) (items : List Item) → AreNext (covered_in m) es most from items → AllByRecursion (λ (i : Item). i.lbn + i.count ≤ 2 ^ 32) items
   next_sizes from [] are = tt
-  next_sizes from (i ∷ items) are = ((let fits = next_fits from i are.0 in let small = ready.ready.home_small.1 in omega (arith, fits, small)), next_sizes (i.lbn + i.count) items are.1)
+  next_sizes from (i ∷ items) are = ((let fits = next_fits from i are.0.ahead in let small = ready.ready.home_small.1 in omega (arith, fits, small)), next_sizes (i.lbn + i.count) items are.1)
 
   pub next_few : (from : ℕ) (items : List Item) → most ≤ 128 → AreNext (covered_in m) es most from items → count_of items ≤ 128 * length items
   next_few from [] small are = omega arith
-  next_few from (i ∷ items) small are = let rest = next_few (i.lbn + i.count) items small are.1 in let e = count_more i items in let f = are.0.few in omega (arith, rest, e, f, small)
+  next_few from (i ∷ items) small are = let rest = next_few (i.lbn + i.count) items small are.1 in let e = count_more i items in let f = are.0.ahead.few in omega (arith, rest, e, f, small)
 
 -- ---- The next chunk
 
--- the blocks from lbn on are the next chunk, tidy or not
-pub record IsMet (covered : ℕ → Bool) (most from lbn count : ℕ) : Type 0 where
-  pub low : from ≤ lbn
-  pub bare : (x : ℕ) → from ≤ x → x < lbn → covered x ≡ false
-  pub some : 1 ≤ count
-  pub few : count ≤ most
-  pub run : (x : ℕ) → lbn ≤ x → x < lbn + count → covered x ≡ true
-  pub ends : count < most → covered (lbn + count) ≡ false
-
-pub met_of : {covered : ℕ → Bool} {es : List Listed} {most from : ℕ} {i : Item} → IsNext covered es most from i → IsMet covered most from i.lbn i.count
-met_of n = record { low = n.low; bare = n.bare; some = n.some; few = n.few; run = n.run; ends = n.ends }
-
 module _ {D : Type 0} (tells : Bool) (state : D → State) (most : ℕ) (old now : Manager D) (copied from : ℕ) (settled : Bool) (can : CanClean old) (copies : List Write) (b : Between tells state most old now copied from settled copies)
-    (ready : IsReady state now) (lbn count : ℕ) (met : IsMet (covered_in now) most from lbn count) where
+    (ready : IsReady state now) (i : Item) (met : IsAhead (covered_in now) most from i) where
   same_cover : (x : ℕ) → covered_in now x ≡ covered_in old x
   same_cover x = b.done.copied.goes_on.covered x
 
-  abbrev pub first_one : Item
-  first_one = record { lbn = lbn; count = count }
+  pub end_within : i.lbn + i.count ≤ 2 ^ 32
+  end_within = let fits = chunk_fits state now i.lbn i.count ready met.some (λ x is. let w = inside_of i.lbn i.count x is in met.run x w.0 w.1) in let small = ready.ready.home_small.1 in omega (arith, fits, small)
 
-  pub end_within : lbn + count ≤ 2 ^ 32
-  end_within = let fits = chunk_fits state now lbn count ready met.some (λ x is. let w = inside_of lbn count x is in met.run x w.0 w.1) in let small = ready.ready.home_small.1 in omega (arith, fits, small)
-
-  pub between_tidy : IsTidy (listed_in now.index.entries) lbn count → Between tells state most old now copied (lbn + count) settled copies
+  pub between_tidy : IsTidy (listed_in now.index.entries) i.lbn i.count → Between tells state most old now copied (i.lbn + i.count) settled copies
   between_tidy t = record {
     done = b.done;
     count = b.count;
     few = let f = b.few in omega (arith, f, met.low);
     within = end_within;
-    upper = one_more_old (λ first n. (version : ℕ) × IsUppermost (listed_in now.index.entries) version first n) b.upper (t.version, upper_of_tidy (listed_in now.index.entries) lbn count t);
+    upper = one_more_old (λ first n. (version : ℕ) × IsUppermost (listed_in now.index.entries) version first n) b.upper (t.version, upper_of_tidy (listed_in now.index.entries) i.lbn i.count t);
     tidy = λ yes_. one_more_old (λ first n. IsTidy (listed_in now.index.entries) first n) (b.tidy yes_) t;
     some = b.some;
-    cut = λ is. cut_behind (covered_in old) most lbn count chunk is;
-    behind = all_map (λ (w : Write). w.first < from) (λ (w : Write). w.first < lbn + count) (λ w lt. omega (arith, lt, met.low)) copies b.behind;
+    cut = λ is. cut_behind (covered_in old) most i.lbn i.count chunk is;
+    behind = all_map (λ (w : Write). w.first < from) (λ (w : Write). w.first < i.lbn + i.count) (λ w lt. omega (arith, lt, met.low)) copies b.behind;
     stays = λ f c least le. b.stays f c least (omega (arith, le, met.low));
   }
     where
-      -- it is the next one, but for being tidy
-      as_next : IsNext (covered_in old) [] most from first_one
-      as_next = record {
-        low = met.low;
-        bare = λ x l h. sym (same_cover x) ∙ met.bare x l h;
-        some = met.some;
-        few = met.few;
-        run = λ x l h. sym (same_cover x) ∙ met.run x l h;
-        ends = λ less. sym (same_cover (lbn + count)) ∙ met.ends less;
-        untidy = λ tidy. all_member (λ (e : Listed). ⊥) [] tidy.one.record_ tt tidy.one.listed;
-      }
+      ahead : IsAhead (covered_in old) most from i
+      ahead = ahead_since (covered_in now) (covered_in old) most from i same_cover met
 
-      chunk : IsChunk (covered_in old) most lbn count
-      chunk = next_chunk (covered_in old) [] most from first_one as_next b.cut
+      chunk : IsChunk (covered_in old) most i.lbn i.count
+      chunk = next_chunk (covered_in old) most from i ahead b.cut
 
-      one_more_old : (P : ℕ → ℕ → Type 0) → ((x : ℕ) → x < from → covered_in old x ≡ true → (first : ℕ) × (c : ℕ) × IsChunk (covered_in old) most first c × (first ≤ x) × (x < first + c) × P first c) → P lbn count
-          → (x : ℕ) → x < lbn + count → covered_in old x ≡ true → (first : ℕ) × (c : ℕ) × IsChunk (covered_in old) most first c × (first ≤ x) × (x < first + c) × P first c
-      one_more_old P before now_ = one_more (covered_in old) [] most from first_one as_next P chunk before now_
+      one_more_old : (P : ℕ → ℕ → Type 0) → ((x : ℕ) → x < from → covered_in old x ≡ true → (first : ℕ) × (c : ℕ) × IsChunk (covered_in old) most first c × (first ≤ x) × (x < first + c) × P first c) → P i.lbn i.count
+          → (x : ℕ) → x < i.lbn + i.count → covered_in old x ≡ true → (first : ℕ) × (c : ℕ) × IsChunk (covered_in old) most first c × (first ≤ x) × (x < first + c) × P first c
+      one_more_old P before now_ = one_more (covered_in old) most from i ahead P chunk before now_
 
-  module _ (untidy : IsTidy (listed_in now.index.entries) lbn count → ⊥) (rest : List Item) (more : AreNext (covered_in now) (listed_in now.index.entries) most (lbn + count) rest) (new : Manager D) where
+  module _ (untidy : IsTidy (listed_in now.index.entries) i.lbn i.count → ⊥) (rest : List Item) (more : AreNext (covered_in now) (listed_in now.index.entries) most (i.lbn + i.count) rest) (new : Manager D) where
     abbrev pub items : List Item
-    items = first_one ∷ rest
+    items = i ∷ rest
 
     pub are_next : AreNext (covered_in now) (listed_in now.index.entries) most from items
-    are_next = (record { low = met.low; bare = met.bare; some = met.some; few = met.few; run = met.run; ends = met.ends; untidy = untidy }, more)
+    are_next = (record { ahead = met; untidy = untidy }, more)
 
     -- among the records at the beginning too
     were_next : AreNext (covered_in old) (listed_in old.index.entries) most from items
@@ -430,19 +412,19 @@ module _ {D : Type 0} (tells : Bool) (state : D → State) (most : ℕ) (old now
 
     abbrev left_untidy : settled ≡ true → new.index.entries ≡ now.index.entries → IsLeftUntidy (covered_in old) most (listed_in new.index.entries) copies
     left_untidy yes_ same = record {
-      first = lbn;
-      count = count;
-      chunk = next_chunk (covered_in old) (listed_in old.index.entries) most from first_one were_next.0 b.cut;
-      before = subst (λ (es : List Indexed). AreTidyBelow (covered_in old) most lbn (listed_in es)) (sym same) (tidy_before yes_);
+      first = i.lbn;
+      count = i.count;
+      chunk = next_chunk (covered_in old) most from i were_next.0.ahead b.cut;
+      before = subst (λ (es : List Indexed). AreTidyBelow (covered_in old) most i.lbn (listed_in es)) (sym same) (tidy_before yes_);
       behind = behind_later;
-      untidy = λ t. untidy (subst (λ (es : List Indexed). IsTidy (listed_in es) lbn count) same t);
+      untidy = λ t. untidy (subst (λ (es : List Indexed). IsTidy (listed_in es) i.lbn i.count) same t);
     }
       where
-        tidy_before : settled ≡ true → AreTidyBelow (covered_in old) most lbn (listed_in now.index.entries)
+        tidy_before : settled ≡ true → AreTidyBelow (covered_in old) most i.lbn (listed_in now.index.entries)
         tidy_before yes_ x lt is = ⊎_elim (λ l. b.tidy yes_ x l is) (λ g. absurd (clash (covered_in old x) is (sym (same_cover x) ∙ met.bare x g lt))) (cases_lt x from)
 
-        behind_later : AllByRecursion (λ (w : Write). w.first < lbn) copies
-        behind_later = all_map (λ (w : Write). w.first < from) (λ (w : Write). w.first < lbn) (λ w lt. omega (arith, lt, met.low)) copies b.behind
+        behind_later : AllByRecursion (λ (w : Write). w.first < i.lbn) copies
+        behind_later = all_map (λ (w : Write). w.first < from) (λ (w : Write). w.first < i.lbn) (λ w lt. omega (arith, lt, met.low)) copies b.behind
 
     pub between_copied : (k : ℕ) → 1 ≤ k → (t : HasRewritten tells state (take k items) now new) → Between tells state most old new (copied + count_of (take k items)) (end_of from (take k items)) false (copies ++ t.writes)
     between_copied k one t = record {
@@ -473,7 +455,7 @@ module _ {D : Type 0} (tells : Bool) (state : D → State) (most : ℕ) (old now
         some_more (suc k) one [] at none = absurd at
         some_more (suc k) one (w ∷ ws) at none = let l = ap length none in let e = length-append copies (w ∷ ws) in omega (arith, l, e)
 
-    ends_full : settled ≡ true → IsRefused tells state count now new → CleansBy tells state most old new copies (Ok (copied, true))
+    ends_full : settled ≡ true → IsRefused tells state i.count now new → CleansBy tells state most old new copies (Ok (copied, true))
     ends_full yes_ r = (
       record { chunks = b.done.chunks; copied = subst (HasCopied tells state old new) (append-nil copies) (copied_then tells state old now new copies [] can b.done.copied r.copied); untouched = λ none. r.entries ∙ b.done.untouched none },
       b.count,
@@ -497,7 +479,7 @@ module _ {D : Type 0} (tells : Bool) (state : D → State) (most : ℕ) (old now
     )
     ends_by (Err NoMemory) none so f = let left = left_untidy (so refl) f.1 in subst (λ (ws : List Write). EndsBy tells state most old new ws NoMemory) (sym (append-nil copies)) (
       record { chunks = b.done.chunks; copied = subst (HasCopied tells state old new) (append-nil copies) (copied_then tells state old now new copies [] can b.done.copied f.0); untouched = λ none. f.1 ∙ b.done.untouched none },
-      (lbn, left.before, left.behind),
+      (i.lbn, left.before, left.behind),
     )
 
 -- all are tidy where no block is covered from here on

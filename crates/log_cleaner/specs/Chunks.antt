@@ -71,15 +71,18 @@ AreTidyBelow covered most from es = (b : ℕ) → b < from → covered b ≡ tru
 
 -- ---- Chunks one behind the other
 
--- The next chunk from a block on: no block before it is covered, its blocks are, and it isn't tidy
--- among these records.
-pub record IsNext (covered : ℕ → Bool) (es : List Listed) (most from : ℕ) (i : Item) : Type 0 where
+-- The next chunk from a block on, tidy or not: no block before it is covered, and its blocks are.
+pub record IsAhead (covered : ℕ → Bool) (most from : ℕ) (i : Item) : Type 0 where
   pub low : from ≤ i.lbn
   pub bare : (b : ℕ) → from ≤ b → b < i.lbn → covered b ≡ false
   pub some : 1 ≤ i.count
   pub few : i.count ≤ most
   pub run : (b : ℕ) → i.lbn ≤ b → b < i.lbn + i.count → covered b ≡ true
   pub ends : i.count < most → covered (i.lbn + i.count) ≡ false
+
+-- .. which isn't tidy among these records
+pub record IsNext (covered : ℕ → Bool) (es : List Listed) (most from : ℕ) (i : Item) : Type 0 where
+  pub ahead : IsAhead covered most from i
   pub untidy : IsTidy es i.lbn i.count → ⊥
 
 -- each is the next one behind those before it

@@ -1,16 +1,16 @@
 // The chunks of a volume's covered blocks, one after another.
 ghost use Rattle.block_cells.specs.Masks.{in_mask};
-ghost use Rattle.log_cleaner.specs.Chunks.{IsNext, AreNext, IsTidy, is_within};
+ghost use Rattle.log_cleaner.specs.Chunks.{IsAhead, IsNext, AreNext, IsTidy, is_within};
 ghost use Rattle.log_segment.specs.declared.item.Item.{Item};
 ghost use Rattle.redirect_map.specs.Index.{IsIndex};
-ghost use Rattle.std.specs.Prelude.{◌≡◌, ◌↔◌, ◌≤◌, ◌<◌, ◌+◌, ◌^◌, ◌∷◌, ℕ, List, true, false, IfSome, take};
+ghost use Rattle.std.specs.Prelude.{◌≡◌, ◌↔◌, ◌≤◌, ◌<◌, ◌+◌, ◌^◌, ◌∷◌, ℕ, List, true, false, IfSome, IfNone, take};
 ghost use Rattle.wol_model.specs.Index.{listed_in, is_covered};
 
 use log_segment::Item;
 use redirect_map::{Index, Rec};
 
-/// Block numbers lie below this.
-pub(crate) const END: u64 = 1 << 32;
+// Block numbers lie below this.
+const END: u64 = 1 << 32;
 
 /// The most chunks that are written together.
 pub(crate) const TOGETHER: usize = 8;
@@ -45,9 +45,9 @@ fn first_covered(index: &Index, low: u64, high: u64) -> u64
     first
 }
 
-/// The first block from `from` on that a record covers, and `END` where there is none. It looks at ranges one behind
-/// the other, each twice as wide as the one before, and where nothing is near it sees first whether anything is left.
-pub(crate) fn next_covered(index: &Index, from: u64) -> u64
+// The first block from `from` on that a record covers, and `END` where there is none. It looks at ranges one behind
+// the other, each twice as wide as the one before, and where nothing is near it sees first whether anything is left.
+fn next_covered(index: &Index, from: u64) -> u64
     requires { from ≤ 2 ^ 32 }
     ensures bounds { (from ≤ result) × (result ≤ 2 ^ 32) }
     ensures bare { (b : ℕ) → from ≤ b → b < result
@@ -104,8 +104,8 @@ fn kept_end(record: &Rec, lbn: u64, count: u32, most: u32) -> u32
     most
 }
 
-/// How many blocks the chunk has that begins with this covered block: up to the end of its run, and at most `most`.
-pub(crate) fn chunk_len(index: &Index, lbn: u64, most: u32) -> u32
+// How many blocks the chunk has that begins with this covered block: up to the end of its run, and at most `most`.
+fn chunk_len(index: &Index, lbn: u64, most: u32) -> u32
     requires most { (1 ≤ most) × (most ≤ 128) }
     requires within { lbn < 2 ^ 32 }
     requires covered { is_covered (listed_in index.now.entries) lbn ≡ true }
@@ -122,6 +122,24 @@ pub(crate) fn chunk_len(index: &Index, lbn: u64, most: u32) -> u32
         count = kept_end(&record, lbn, count, most);
     }
     most
+}
+
+/// The next chunk from this block on, tidy or not, and none where no block is covered from there on.
+pub(crate) fn next_chunk(index: &Index, from: u64, most: u32) -> Option<Item>
+    requires from { from ≤ 2 ^ 32 }
+    requires most { (1 ≤ most) × (most ≤ 128) }
+    ensures ahead { IfSome result (IsAhead (is_covered (listed_in index.now.entries)) most from) }
+    ensures within { IfSome result (λ i. (i.lbn < 2 ^ 32) × (1 ≤ i.count) × (i.count ≤ 128)) }
+    ensures none { IfNone result ((b : ℕ) → from ≤ b → b < 2 ^ 32
+        → is_covered (listed_in index.now.entries) b ≡ false) }
+    ensures index { IsIndex index.now.entries }
+{
+    let lbn = next_covered(index, from);
+    if lbn == END {
+        return None;
+    }
+    let count = chunk_len(index, lbn, most);
+    Some(Item { lbn, count })
 }
 
 // Whether the record keeps just these blocks.
@@ -160,7 +178,39 @@ pub(crate) fn is_tidy(index: &Index, lbn: u64, count: u32) -> bool
     index.alone(record.version) == record.keep && keeps_just(&record, lbn, count)
 }
 
-// The next chunk from this block on, where there is one and it isn't tidy.
+// Whether the chunk is tidy once the chunks before it were written again and all was given up that may go: from its first
+// block on, the newest record of that block has just the chunk's as live blocks. Cleaning asks for it to know when to give up,
+// and then sees whether the chunk is tidy: so no proof rests on it.
+fn becomes_tidy(index: &Index, chunk: Item) -> bool
+    requires count { (1 ≤ chunk.count) × (chunk.count ≤ 128) }
+{
+    let Some(newest) = index.newest(chunk.lbn) else {
+        return false;
+    };
+    let Some(record) = index.find(newest.version) else {
+        return false;
+    };
+    let before = chunk.lbn.saturating_sub(record.lbn);
+    before < 128 && index.live(record.version) >> before == u128::MAX >> (128 - chunk.count)
+}
+
+/// Whether what may go is given up before cleaning goes on, where that isn't done: once no chunk is next, and where the next one
+/// is tidy only then.
+pub(crate) fn settles_first(index: &Index, next: Option<Item>, settled: bool) -> bool
+    requires within { IfSome next (λ i. (i.lbn < 2 ^ 32) × (1 ≤ i.count) × (i.count ≤ 128)) }
+    ensures unsettled { result ≡ true → settled ≡ false }
+    ensures last { result ≡ false → next ≡ None → settled ≡ true }
+{
+    if settled {
+        return false;
+    }
+    match next {
+        Some(chunk) => becomes_tidy(index, chunk) && !is_tidy(index, chunk.lbn, chunk.count),
+        None => true,
+    }
+}
+
+// The next chunk from this block on, where there is one, and it isn't tidy and doesn't become so.
 fn untidy_chunk(index: &Index, from: u64, most: u32) -> Option<Item>
     requires from { from ≤ 2 ^ 32 }
     requires most { (1 ≤ most) × (most ≤ 128) }
@@ -168,15 +218,14 @@ fn untidy_chunk(index: &Index, from: u64, most: u32) -> Option<Item>
         (listed_in index.now.entries) most from) }
     ensures within { IfSome result (λ i. i.lbn + i.count ≤ 2 ^ 32) }
 {
-    let lbn = next_covered(index, from);
-    if lbn == END {
+    let chunk = next_chunk(index, from, most)?;
+    if chunk.lbn + u64::from(chunk.count) > END {
         return None;
     }
-    let count = chunk_len(index, lbn, most);
-    if lbn + u64::from(count) > END || is_tidy(index, lbn, count) {
+    if is_tidy(index, chunk.lbn, chunk.count) || becomes_tidy(index, chunk) {
         return None;
     }
-    Some(Item { lbn, count })
+    Some(chunk)
 }
 
 /// Chunks that are written together: so many first ones of these.
@@ -186,7 +235,8 @@ pub(crate) struct Gathered {
     pub(crate) count: usize,
 }
 
-/// The chunk and those behind it, up to the first that is tidy and at most so many.
+/// The chunk and those behind it, at most so many, up to the first that is tidy, or is so once those were written and what may go
+/// was given up.
 pub(crate) fn gather(index: &Index, first: Item, most: u32, width: usize) -> Gathered
     requires most { (1 ≤ most) × (most ≤ 128) }
     requires within { first.lbn + first.count ≤ 2 ^ 32 }

@@ -7,7 +7,7 @@ ghost use Rattle.manager.specs.Stands.{IsReady, IsHome};
 ghost use Rattle.std.specs.List.{AllByRecursion};
 ghost use Rattle.std.specs.Prelude.{◌≡◌, ◌≤◌, [], length};
 
-use crate::chunks::{END, Gathered, TOGETHER, chunk_len, gather, is_tidy, next_covered};
+use crate::chunks::{Gathered, TOGETHER, gather, is_tidy, next_chunk, settles_first};
 use crate::copies::{Copies, no_copies};
 use crate::copy::rewrite;
 use crate::giving::settle;
@@ -95,9 +95,9 @@ fn next_width(index: &Index, gathered: &Gathered, written: usize, width: usize) 
     }
 }
 
-// Writes the chunks again that aren't tidy, in order, as far as there is room, and gives up what may go at the end. Where
-// a chunk can't be written segments are given up, and all that may go where that wasn't enough. Tells how many blocks
-// were copied, and whether room was missing.
+// Writes the chunks again that aren't tidy when their turn comes, in order, as far as there is room, and gives up what may go at
+// the end, and before a chunk that is tidy only then. Where a chunk can't be written segments are given up, and all that may go
+// where that wasn't enough. Tells how many blocks were copied, and whether room was missing.
 fn clean_all<R: Wait, D: Disk>(
     rt: &R,
     m: &mut Manager<D>,
@@ -122,21 +122,20 @@ fn clean_all<R: Wait, D: Disk>(
     let mut lean = false;
     let mut width = TOGETHER;
     'chunks: loop {
-        let lbn = next_covered(m.index(), from);
-        if lbn == END {
-            if settled {
-                return Ok((copied, false));
-            }
+        let next = next_chunk(m.index(), from, most);
+        if settles_first(m.index(), next, settled) {
             settle(rt, m, shared, true)?;
             settled = true;
             continue 'chunks;
         }
-        let count = chunk_len(m.index(), lbn, most);
-        if is_tidy(m.index(), lbn, count) {
-            from = lbn + u64::from(count);
+        let Some(chunk) = next else {
+            return Ok((copied, false));
+        };
+        if is_tidy(m.index(), chunk.lbn, chunk.count) {
+            from = chunk.lbn + u64::from(chunk.count);
             continue 'chunks;
         }
-        let gathered = gather(m.index(), Item { lbn, count }, most, width);
+        let gathered = gather(m.index(), chunk, most, width);
         let chunks = &gathered.chunks[..gathered.count];
         let answer = rewrite(rt, m, shared, chunks, room, done);
         let written = written_of(&answer);
@@ -160,10 +159,11 @@ fn clean_all<R: Wait, D: Disk>(
 
 /// Writes the chunks of a volume's covered blocks again that aren't tidy: the maximal runs of covered blocks, each cut
 /// after each `most` blocks from its start. A chunk is tidy where one record keeps just its blocks and no other record
-/// keeps any of them. For each in order its blocks are read and written again to a log, those behind it with it that the
-/// segment has room for, as one group. What may go is given up once they are written, and before that where one can't be
-/// written: first segments in which no record has a live block, each by one write of its head, then records one by one.
-/// Segments in which no record is left go to their pools.
+/// keeps any of them. That is asked when its turn comes: once a chunk was copied, of the records without what may go. For
+/// each in order its blocks are read and written again to a log, those behind it with it that the segment has room for, as
+/// one group. What may go is given up once they are written; before that where the next one is tidy only then, and where
+/// one can't be written: first segments in which no record has a live block, each by one write of its head, then records
+/// one by one. Segments in which no record is left go to their pools.
 ///
 /// `done` becomes the copies, in order, also those before a refusal; only contracts read them.
 ///

@@ -28,7 +28,14 @@ struct Row<'a> {
     second: &'a [u8],
 }
 
-const ROWS: [Row<'_>; 3] = [
+// Blocks 0 to 9 of the first volume of `THREE`, and then blocks 10 to 19, while its disk sleeps.
+const SIDE_BY_SIDE: &[u8] = b"128166372000000000,web,0,Read,0,512,100
+128166372500000000,web,0,Read,0,512,100
+128166373000000000,usr,0,Write,0,5120,100
+128166373000000000,usr,0,Write,5120,5120,100
+";
+
+const ROWS: [Row<'_>; 4] = [
     Row {
         config: THREE,
         trace: OFFLOADS,
@@ -42,6 +49,23 @@ clean src0 records 1 to 1 copied 0
         second: b"clean usr0 records 1 to 1 copied 0
 clean web0 records 0 to 0 copied 0
 clean src0 records 1 to 1 copied 0
+",
+    },
+    // The first chunk has the blocks 0 to 13. Once it is copied the second record keeps the blocks 14 to 19 alone: these are
+    // the second chunk, which is tidy when its turn comes.
+    Row {
+        config: THREE,
+        trace: SIDE_BY_SIDE,
+        numbers: 79,
+        before: b" records 2 segments 2\n",
+        first: b"clean usr0 records 2 to 2 copied 14
+clean web0 records 0 to 0 copied 0
+clean src0 records 0 to 0 copied 0
+",
+        behind: b" records 2 segments 2\n",
+        second: b"clean usr0 records 2 to 2 copied 0
+clean web0 records 0 to 0 copied 0
+clean src0 records 0 to 0 copied 0
 ",
     },
     // The first volume logs on the one segment of the second, in which there is room for two records of two blocks.
