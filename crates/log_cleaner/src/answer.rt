@@ -1,8 +1,5 @@
 // What cleaning answers.
-ghost use Rattle.log_cleaner.specs.Steps.{step_fault};
-ghost use Rattle.std.specs.Prelude.{◌≡◌};
-
-use manager::{Part, StepFault};
+use manager::Part;
 
 /// What cleaning did.
 #[derive(Clone, Copy, Debug, PartialEq, Eq)]
@@ -26,15 +23,4 @@ pub enum CleanFault {
     VersionsSpent,
     /// There was no memory.
     NoMemory,
-}
-
-impl From<StepFault> for CleanFault {
-    ghost from_gives = { λ fault e. e ≡ step_fault fault };
-
-    fn from(fault: StepFault) -> CleanFault {
-        match fault {
-            StepFault::DiskFault(part) => CleanFault::DiskFault(part),
-            StepFault::Down(part) => CleanFault::DiskFault(part),
-        }
-    }
 }

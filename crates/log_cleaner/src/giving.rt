@@ -2,7 +2,7 @@
 ghost use Rattle.log_cleaner.specs.Chunks.{NoneHomed};
 ghost use Rattle.log_cleaner.specs.Cleans.{CanClean};
 ghost use Rattle.log_cleaner.specs.Marks.{AreMarked};
-ghost use Rattle.log_cleaner.specs.Steps.{GivesSome, GivesAll, HasNoneLiveIn, Settles};
+ghost use Rattle.log_cleaner.specs.Steps.{GivesSome, GivesAll, HasNoneLiveIn, Settles, step_fault};
 ghost use Rattle.manager.specs.Reclaim.{NoneLiveIn};
 ghost use Rattle.manager.specs.Stands.{IsReady, IsHome};
 ghost use Rattle.redirect_map.specs.Index.{entry_at, HasVersion};
@@ -154,6 +154,17 @@ fn give_up_each<R: Wait, D: Disk>(
     }
 }
 
+// What cleaning tells of a step that failed. A step is refused as `Down` only where the manager is down, and none is begun then:
+// so the part is that of the call that failed.
+fn step_fault(fault: StepFault) -> CleanFault
+    ensures { result ≡ step_fault fault }
+{
+    match fault {
+        StepFault::DiskFault(part) => CleanFault::DiskFault(part),
+        StepFault::Down(part) => CleanFault::DiskFault(part),
+    }
+}
+
 /// Gives up segments in which no record has a live block, with all their records, each by one write of its head; and then
 /// all else that may go, record by record, where all is asked for.
 pub(crate) fn settle<R: Wait, D: Disk>(
@@ -169,10 +180,15 @@ pub(crate) fn settle<R: Wait, D: Disk>(
     ensures at { IsHome shared.now m.new }
     ensures settled { Settles D.tells D.state all m.old m.new result }
 {
-    give_up_segments(rt, m, shared)?;
+    match give_up_segments(rt, m, shared) {
+        Ok(()) => {}
+        Err(fault) => return Err(step_fault(fault)),
+    }
     if !all {
         return Ok(());
     }
-    give_up_each(rt, m, shared)?;
-    Ok(())
+    match give_up_each(rt, m, shared) {
+        Ok(()) => Ok(()),
+        Err(fault) => Err(step_fault(fault)),
+    }
 }
