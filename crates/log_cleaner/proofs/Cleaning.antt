@@ -549,13 +549,14 @@ module _ {D : Type 0} (tells : Bool) (state : D → State) (most : ℕ) (old new
         λ is. all.2 (sym same_full ∙ is),
         λ is. all.3 (sym same_full ∙ is),
         d.untouched,
+        d.copied.calm,
       )
 
   pub cleaned_err : (fault : CleanFault) → CleansBy tells state most old new copies (Err fault) → (has : HasCleaned tells state most old new (Err fault)) × (copies ≡ has.copies)
   cleaned_err (DiskFault p) all = let d = all.1 in whole (Err (DiskFault p)) all.0 d.copied (d.down, d.rose, d.leaves)
   cleaned_err VersionsSpent all = let d = all.0 in
-      whole (Err VersionsSpent) d.chunks d.copied.copied (d.copied.goes_on, leaves_copies tells state old new copies can.up d.copied.keeps, all.1, sym d.copied.next ∙ all.1, all.2, d.untouched)
-  cleaned_err NoMemory all = let d = all.0 in whole (Err NoMemory) d.chunks d.copied.copied (d.copied.goes_on, leaves_copies tells state old new copies can.up d.copied.keeps, d.untouched, all.1)
+      whole (Err VersionsSpent) d.chunks d.copied.copied (d.copied.goes_on, leaves_copies tells state old new copies can.up d.copied.keeps, all.1, sym d.copied.next ∙ all.1, all.2, d.untouched, d.copied.calm)
+  cleaned_err NoMemory all = let d = all.0 in whole (Err NoMemory) d.chunks d.copied.copied (d.copied.goes_on, leaves_copies tells state old new copies can.up d.copied.keeps, d.untouched, all.1, d.copied.calm)
 
 pub cleaned_none : {D : Type 0} (tells : Bool) (state : D → State) (most : ℕ) (m : Manager D) → CanClean m → (has : HasCleaned tells state most m m (Err NoMemory)) × ([] ≡ has.copies)
 cleaned_none tells state most m can = cleaned_err tells state most m m can [] NoMemory

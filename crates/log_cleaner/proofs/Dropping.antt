@@ -31,11 +31,12 @@ use Rattle.manager.proofs.Retiring.{covered_where}
 use Rattle.manager.proofs.RunSources.{same_version}
 use Rattle.reclaimer.specs.Steps.{StopsWithin}
 use Rattle.log_cleaner.specs.Chunks.{IsTidy, IsUppermost, KeepsNone, NoneHomed}
+use Rattle.manager.specs.Causes.{NoneRose}
 use Rattle.log_cleaner.specs.Cleans.{CanClean}
 use Rattle.log_cleaner.specs.Steps.{GivesSome, HasCopied, HasNoneLiveIn, KeepsTidy}
 use Rattle.log_cleaner.proofs.Copying.{copies_plain}
 use Rattle.log_cleaner.proofs.Lists.{each_is_member}
-use Rattle.log_cleaner.proofs.Stepping.{goes_none, lane_fewer, lane_pools, rose_of, set_awake}
+use Rattle.log_cleaner.proofs.Stepping.{calm_none, calm_once, goes_none, lane_fewer, lane_pools, rose_of, set_awake}
 use Rattle.log_cleaner.proofs.Telling.{not_found}
 use Rattle.log_cleaner.proofs.Tidying.{both_true, range_has, not_so, both_ways, clash, covers, member_unmap, upper_of_tidy, within_first, any_map}
 
@@ -141,8 +142,8 @@ module _ (es : List Indexed) (lane index : ℕ) (none : NoneLiveIn lane index es
 -- ---- The cleaning
 
 module _ {D : Type 0} (tells : Bool) (state : D → State) (old new : Manager D) (can : CanClean old) (lane index : ℕ) (none : NoneLiveIn lane index old.index.entries) where
-  pub segment_gone : {T : Type 0} (done : T) → HasDroppedSegment {T = T} lane index old new (Ok done) → new.down ≡ None → KeepsOn tells state old new Always → (IsTrue tells → StopsWithin tells state old new Always) → HasCopied tells state old new [] × KeepsTidy old new
-  segment_gone {T} done dropped up keeps stops = (
+  pub segment_gone : {T : Type 0} (done : T) → HasDroppedSegment {T = T} lane index old new (Ok done) → new.down ≡ None → NoneRose state old new → KeepsOn tells state old new Always → (IsTrue tells → StopsWithin tells state old new Always) → HasCopied tells state old new [] × KeepsTidy old new
+  segment_gone {T} done dropped up calm keeps stops = (
     record {
       goes_on = record {
         same = record { id = ap (λ (m : Manager D). m.id) dropped.rest; most = ap (λ (m : Manager D). m.most) dropped.rest };
@@ -157,6 +158,7 @@ module _ {D : Type 0} (tells : Bool) (state : D → State) (old new : Manager D)
         lanes = let c = dropped.lanes in ap length c.set ∙ length-set old.lanes.items lane c.after;
         pools = lane_pools old.lanes.items new.lanes.items lane index (true ≡ true) (inl refl) dropped.lanes;
       };
+      calm = calm_once state old new calm;
       keeps = λ b notes look k. subst (Keeps tells state new b) (sym (append-nil notes)) (keeps b notes tt k);
       copied = copies_plain tells state old new can.up (λ told. (None, lane_fewer old.lanes.items new.lanes.items lane index (true ≡ true) (inl refl) dropped.lanes, λ b notes k. stops told b notes tt k));
       next = let e = ap (λ (m : Manager D). m.next) dropped.rest in omega (arith, e);
@@ -172,7 +174,7 @@ module _ {D : Type 0} (tells : Bool) (state : D → State) (old new : Manager D)
       → (IsTrue tells → StopsWithin tells state old new Always) → GivesSome tells state old new (Err fault)
   segment_broken T (step.DiskFault p) told broke dropped stops = record {
     down = told.1;
-    rose = (old, goes_none old can, rose_of state old new p told.2);
+    rose = (old, goes_none old can, calm_none state old, rose_of state old new p told.2);
     leaves = λ b notes n client note k. broke b notes n tt note k;
     copied = copies_plain tells state old new can.up (λ t. (None, lane_fewer old.lanes.items new.lanes.items lane index (false ≡ true) (inr (λ is. false≢true is)) dropped.lanes, λ b notes k. stops t b notes tt k));
   }

@@ -1,6 +1,6 @@
 -- Blocks that are read and written again.
 use Rattle.std.proofs.Common.{◌≡◌, ◌⊎◌, inl, inr, ⊎_elim, ◌<◌, ◌≤◌, ◌+◌, ◌^◌, ℕ, zero, suc, Bool, true, false, cond, ◌||◌, ◌&&◌, not, List, [], ◌∷◌, ◌++◌, map, length, take, Option, None, Some, Result, Ok, Err, refl, sym, ap, subst, ◌∙◌, arith}
-use Rattle.std.specs.Prelude.{IsTrue, IsSome, slice_get, slice_index_or, position, unwrap_or}
+use Rattle.std.specs.Prelude.{IsTrue, IsSome, OnOk, slice_get, slice_index_or, position, unwrap_or}
 use Rattle.std.specs.List.{prefix_len}
 use Rattle.wol_model.proofs.Counts.{not_true}
 use Rattle.std.specs.List.{AllByRecursion, AllZip, list_any, range_with_len, zip}
@@ -9,6 +9,7 @@ use Rattle.std.proofs.lemmas.Option.{same_Some, slice_get_within}
 use Rattle.std.proofs.lemmas.List.{append-nil, length-take-le}
 use Rattle.std.proofs.lemmas.List.Sums.{sum_by-take-le}
 use Rattle.wol_disk.specs.Disk.{State, Block}
+use Rattle.spin_model.specs.Spun.{state_of}
 use Rattle.spin_model.specs.declared.spun.Spun.{Spun}
 use Rattle.turn_lock.specs.Histories.{Entry, Begins}
 use Rattle.turn_lock.specs.Passes.{pass_mine, pass_number}
@@ -35,7 +36,7 @@ use Rattle.wol_promise.proofs.Lists.{all_map}
 use Rattle.manager.specs.Answers.{was_read, IsPlaceOf}
 use Rattle.manager.specs.Groups.{AreItemsOf, HasRun, log_writes, placed_all, ruled_run, run_writes, run_written}
 use Rattle.manager.proofs.GroupRecords.{first_long}
-use Rattle.manager.specs.Causes.{PartRose}
+use Rattle.manager.specs.Causes.{AreCalm, NoneRose, PartRose}
 use Rattle.manager.specs.Reading.{HasOnlyRead, LaneRead, NeedsSources, needs_of}
 use Rattle.spin_model.specs.Operations.{use_of}
 use Rattle.wol_promise.specs.Spindle.{needs_in}
@@ -44,7 +45,7 @@ use Rattle.log_cleaner.proofs.Lists.{some_in}
 use Rattle.manager.specs.Seen.{look_of_manager}
 use Rattle.manager.specs.Stands.{Keeps, IsReady, IsSameManager, Leaves, passed_in}
 use Rattle.manager.specs.Stops.{Stops}
-use Rattle.manager.specs.Writing.{HasAnswered, HaveAnswered, NeedsHome, TellsFault, IsAsBefore, ruled_place, takes_at}
+use Rattle.manager.specs.Writing.{HasAnswered, HaveAnswered, NeedsHome, TellsFault, IsAsBefore, IsUntouched, ruled_place, takes_at}
 use Rattle.manager.specs.declared.base.ManagerBase.{ManagerBase}
 use Rattle.manager.specs.declared.manager.Manager.{Manager}
 use Rattle.manager.specs.declared.part.Part.{Part}
@@ -57,6 +58,7 @@ use Rattle.manager.specs.declared.part.Sources.{Sources}
 use Rattle.manager.specs.declared.part.WriteRefusal.{WriteRefusal}
 use Rattle.manager.specs.declared.part.WriteRefusal.TheVariants as refused
 use Rattle.manager.proofs.Answered.{get_inside}
+use Rattle.manager.proofs.Calm as calm_calls
 use Rattle.manager.proofs.Placing.{rooms_are}
 use Rattle.manager.proofs.ReadThrough.{zip_at, zip_length}
 use Rattle.log_cleaner.specs.Chunks.{IsCopyOf, NoneHomed, is_within}
@@ -68,7 +70,7 @@ use Rattle.log_cleaner.specs.Steps as steps
 use Rattle.log_cleaner.specs.declared.answer.CleanFault.{CleanFault}
 use Rattle.log_cleaner.specs.declared.answer.CleanFault.TheVariants.{DiskFault, VersionsSpent, NoMemory}
 use Rattle.log_cleaner.proofs.Copying.{copies_plain, cut_some, keeps_plain, keeps_wrote, leaves_broken, read_content, unbroken}
-use Rattle.log_cleaner.proofs.Stepping.{broken_then, copied_then, empty_since, goes_none, goes_then, rose_of}
+use Rattle.log_cleaner.proofs.Stepping.{broken_then, calm_none, calm_once, calm_then, copied_then, empty_since, goes_none, goes_then, rose_of}
 use Rattle.log_cleaner.proofs.Together.{Covered, all_awake, all_covered, all_home, all_next, all_unhomed, copies_at, copies_covered, copies_logged, copies_long, copies_same, read_front, writes_front}
 use Rattle.log_cleaner.proofs.Tidying.{clash, not_so}
 
@@ -124,10 +126,11 @@ module _ {D : Type 0} (tells : Bool) (state : D → State) (old new : Manager D)
       same_needs : {m n : ℕ} → m ≤ n → (m < n → ⊥) → n ≡ m
       same_needs {m} {n} le never = ⊎_elim (λ lt. absurd (never lt)) (λ ge. omega (arith, le, ge)) (cases_lt m n)
 
-  pub read_copied : (first count : ℕ) (reply : List Block) → new.down ≡ None → look_of_manager new ≡ woken (look_of_manager old) first count → ((b : ℕ) → is_within first count b ≡ true → covered_in old b ≡ true) → NeedsSources old new first count → Leaves tells state old new (Read first reply) [] worker
+  pub read_copied : (first count : ℕ) (reply : List Block) → new.down ≡ None → look_of_manager new ≡ woken (look_of_manager old) first count → ((b : ℕ) → is_within first count b ≡ true → covered_in old b ≡ true) → NeedsSources old new first count → NoneRose state old new → Leaves tells state old new (Read first reply) [] worker
       → (IsTrue tells → (b : ManagerBase) (notes : List Noted) → Keeps tells state old b notes → Stops state old new None b notes []) → HasCopied tells state old new []
-  read_copied first count reply up look range needs leaves stops = record {
+  read_copied first count reply up look range needs none leaves stops = record {
     goes_on = read_goes_on up first count look range needs;
+    calm = calm_once state old new none;
     keeps = keeps_plain tells state old new (Read first reply) [] refl refl leaves;
     copied = copies_plain tells state old new can.up (λ told. (None, fewer_read state old.lanes.items new.lanes.items read.lanes, stops told));
     next = let e = read.next in omega (arith, e);
@@ -137,7 +140,7 @@ module _ {D : Type 0} (tells : Bool) (state : D → State) (old new : Manager D)
       → (IsTrue tells → (b : ManagerBase) (notes : List Noted) → Keeps tells state old b notes → Stops state old new None b notes []) → HasBroken tells state old new p []
   read_broken p down rose leaves stops = record {
     down = down;
-    rose = (old, goes_none old can, rose_of state old new p rose);
+    rose = (old, goes_none old can, calm_none state old, rose_of state old new p rose);
     leaves = leaves_broken tells state old new [] [] can.up leaves;
     copied = copies_plain tells state old new can.up (λ told. (None, fewer_read state old.lanes.items new.lanes.items read.lanes, stops told));
   }
@@ -300,9 +303,9 @@ module _ {D : Type 0} (tells : Bool) (state : D → State) (old new : Manager D)
 
   -- nothing was written, and at most pools were asked
   unwritten : (answer : Result Place WriteRefusal) → IsSameManager old new → new.down ≡ old.down → new.home_up ≡ old.home_up → needs_of new.spindle ≡ needs_of old.spindle → new.ups.items ≡ old.ups.items → new.next ≡ old.next → new.index.entries ≡ old.index.entries
-      → HaveAnswered (length blocks) (takes_at ruled answer) new.rooms.items old.lanes.items new.lanes.items → Leaves tells state old new Kept (passed_in new.rooms.items) worker
+      → HaveAnswered (length blocks) (takes_at ruled answer) new.rooms.items old.lanes.items new.lanes.items → NoneRose state old new → Leaves tells state old new Kept (passed_in new.rooms.items) worker
       → (IsTrue tells → (claimed : Option (Spun D)) × Claims tells state old.lanes.items new.lanes.items claimed × ((b : ManagerBase) (notes : List Noted) → Keeps tells state old b notes → Stops state old new claimed b notes [])) → HasCopied tells state old new []
-  unwritten answer same down home needs ups next entries all leaves stops = record {
+  unwritten answer same down home needs ups next entries all none leaves stops = record {
     goes_on = record {
       same = same;
       can = record {
@@ -316,6 +319,7 @@ module _ {D : Type 0} (tells : Bool) (state : D → State) (old new : Manager D)
       lanes = all.same;
       pools = write_pools answer all;
     };
+    calm = calm_once state old new none;
     keeps = keeps_plain tells state old new Kept (passed_in new.rooms.items) refl refl leaves;
     copied = copies_plain tells state old new can.up stops;
     next = omega (arith, next);
@@ -354,6 +358,7 @@ pub record WriteTold {D : Type 0} (tells : Bool) (state : D → State) (mid new 
   pub unspent : mid.next ≡ 2 ^ 63 → answer ≡ Err refused.VersionsSpent
   pub fault : TellsFault state answer mid new
   pub unchanged : IsAsBefore answer mid new
+  pub calm : OnOk answer (NoneRose state mid new)
 
 module _ {D : Type 0} (tells : Bool) (state : D → State) (old mid new : Manager D) (can : CanClean old) (ready : IsReady state mid) (i : Item) (rest : List Item) (from : List Block) (tried : ℕ) (some : 1 ≤ i.count)
     (enough : count_of (i ∷ rest) ≤ length from) (covered : AreCoveredIn old (i ∷ rest)) (read : HasCopied tells state old mid []) (entries : mid.index.entries ≡ old.index.entries)
@@ -422,6 +427,7 @@ module _ {D : Type 0} (tells : Bool) (state : D → State) (old mid new : Manage
           copied = record {
             goes_on = goes_then old mid new read.goes_on (write_goes_on tells state mid new read.goes_on.can ready i.lbn first some_first covered_first lane (place_.Log logger) ws is t.waking look (are_covered lane) t.same
                 (t.fault ∙ read.goes_on.can.up) (answered_first (Ok (place_.Log logger)) t.answered));
+            calm = calm_then state old mid new read.calm (calm_once state mid new t.calm);
             keeps = Rattle.log_cleaner.proofs.Copying.keeps_then tells state old mid new [] ws can.up read.keeps (keeps_wrote tells state mid new ws (passed_in new.rooms.items)
                 (let l = copies_long old.next (take tried items) ws are_copies in let k = length-take-le tried items t.run.are.within in let one = t.run.are.some refl in omega (arith, l, k, one)) read.goes_on.can.up t.run.stands);
             copied = copies_after_read tells state old mid new ws read are_logged are_same (stops_of (Ok (place_.Log logger)) t);
@@ -438,16 +444,34 @@ module _ {D : Type 0} (tells : Bool) (state : D → State) (old mid new : Manage
 
   -- nothing was written
   none_copied : (e : WriteRefusal) → run_writes mid.next (take tried items) from (Err e) ≡ [] → run_written [] (Err e) ≡ Kept → WriteTold tells state mid new items from tried (Err e) → new.down ≡ mid.down → new.home_up ≡ mid.home_up → needs_of new.spindle ≡ needs_of mid.spindle → new.ups.items ≡ mid.ups.items
-      → new.next ≡ mid.next → new.index.entries ≡ mid.index.entries → HasCopied tells state old new []
-  none_copied e none kept t down home needs ups next same = copied_then tells state old mid new [] [] can read
-      (unwritten tells state mid new read.goes_on.can ready i.lbn first some_first covered_first (Err e) t.same down home needs ups next same (answered_first (Err e) t.answered)
+      → new.next ≡ mid.next → new.index.entries ≡ mid.index.entries → NoneRose state mid new → HasCopied tells state old new []
+  none_copied e none kept t down home needs ups next same calm = copied_then tells state old mid new [] [] can read
+      (unwritten tells state mid new read.goes_on.can ready i.lbn first some_first covered_first (Err e) t.same down home needs ups next same (answered_first (Err e) t.answered) calm
       (subst (λ (o : Operation). Leaves tells state mid new o (passed_in new.rooms.items) worker) (ap (λ (vs : List Write). run_written vs (Err e)) none ∙ kept) t.run.stands)
       (λ told. let s = stops_of (Err e) t told in (s.0, s.1, λ b notes k. subst (Stops state mid new s.0 b notes) none (s.2 b notes k))))
+
+  -- no disk was asked, of a lane that was turned away neither
+  untouched_calm : IsUntouched mid new → NoneRose state mid new
+  untouched_calm u = calm_calls.none_home state mid new ready (ap (λ (m : Manager D). (state_of state m.home).faults) u.rest) (ap (λ (m : Manager D). m.lanes.items) u.rest)
+
+  shut_calm : WriteTold tells state mid new items from tried (Err refused.Full) → NoneRose state mid new
+  shut_calm t = record {
+    home = ap (λ (m : Manager D). (state_of state m.home).faults) t.unchanged.rest;
+    held = λ k o n is_o is_n.
+        let lt = slice_get_within mid.lanes.items k o is_o in let noted = t.answered.noted in
+        let r = get_inside new.rooms.items k (omega (arith, lt, noted)) in
+        subst (λ (hs : List (HeldSegment D)). AreCalm state (held_in o) hs) (sym (held_same r.0 o n (t.answered.each k r.0 o n r.1 is_o is_n))) ((calm_calls.none_home state mid mid ready refl refl).held k o o is_o is_o);
+  }
+    where
+      held_same : (r : Room) (o n : Lane D) → HasAnswered i.count false r o n → held_in n ≡ held_in o
+      held_same Unknown o n h = ap (λ (l : Lane D). held_in l) h
+      held_same No o n h = h.held
+      held_same Yes o n h = absurd h
 
   full_ends : WriteTold tells state mid new items from tried (Err refused.Full) → IsRefused tells state i.count old new
   full_ends t =
       let rest_ = t.unchanged.rest in record {
-        copied = none_copied refused.Full refl refl t t.fault (ap (λ (m : Manager D). m.home_up) rest_) (ap (λ (m : Manager D). needs_of m.spindle) rest_) (ap (λ (m : Manager D). m.ups.items) rest_) (ap (λ (m : Manager D). m.next) rest_) t.unchanged.index;
+        copied = none_copied refused.Full refl refl t t.fault (ap (λ (m : Manager D). m.home_up) rest_) (ap (λ (m : Manager D). needs_of m.spindle) rest_) (ap (λ (m : Manager D). m.ups.items) rest_) (ap (λ (m : Manager D). m.next) rest_) t.unchanged.index (shut_calm t);
         entries = t.unchanged.index ∙ entries;
         next = below (ready.next.1) same_next (λ is. let wrong = t.unspent is in cc);
         empty = empty_since old mid new read.goes_on (all_empty tells state mid new read.goes_on.can ready i.lbn first some_first covered_first t.placed (answered_first (Err refused.Full) t.answered));
@@ -460,12 +484,12 @@ module _ {D : Type 0} (tells : Bool) (state : D → State) (old mid new : Manage
   spent_ends : WriteTold tells state mid new items from tried (Err refused.VersionsSpent) → HasCopied tells state old new [] × (new.next ≡ 2 ^ 63) × (new.index.entries ≡ old.index.entries)
   spent_ends t =
       let rest_ = t.unchanged.rest in let n = ap (λ (m : Manager D). m.next) rest_ in
-      (none_copied refused.VersionsSpent refl refl t t.fault (ap (λ (m : Manager D). m.home_up) rest_) (ap (λ (m : Manager D). needs_of m.spindle) rest_) (ap (λ (m : Manager D). m.ups.items) rest_) n t.unchanged.index, n ∙ t.versions refl, t.unchanged.index ∙ entries)
+      (none_copied refused.VersionsSpent refl refl t t.fault (ap (λ (m : Manager D). m.home_up) rest_) (ap (λ (m : Manager D). needs_of m.spindle) rest_) (ap (λ (m : Manager D). m.ups.items) rest_) n t.unchanged.index (untouched_calm t.unchanged), n ∙ t.versions refl, t.unchanged.index ∙ entries)
 
   memory_ends : WriteTold tells state mid new items from tried (Err refused.NoMemory) → HasCopied tells state old new [] × (new.index.entries ≡ old.index.entries)
   memory_ends t =
       let rest_ = t.unchanged.rest in
-      (none_copied refused.NoMemory refl refl t t.fault (ap (λ (m : Manager D). m.home_up) rest_) (ap (λ (m : Manager D). needs_of m.spindle) rest_) (ap (λ (m : Manager D). m.ups.items) rest_) (ap (λ (m : Manager D). m.next) rest_) t.unchanged.index, t.unchanged.index ∙ entries)
+      (none_copied refused.NoMemory refl refl t t.fault (ap (λ (m : Manager D). m.home_up) rest_) (ap (λ (m : Manager D). needs_of m.spindle) rest_) (ap (λ (m : Manager D). m.ups.items) rest_) (ap (λ (m : Manager D). m.next) rest_) t.unchanged.index (untouched_calm t.unchanged), t.unchanged.index ∙ entries)
 
   failed_ends : (logger index : ℕ) → WriteTold tells state mid new items from tried (Err (refused.DiskFault (part.Segment logger index))) → (f : Fails tells state items old new (part.Segment logger index)) × (f.copies ≡ ws)
   failed_ends logger index t = (
@@ -476,7 +500,7 @@ module _ {D : Type 0} (tells : Bool) (state : D → State) (old mid new : Manage
       are = are_copies;
       broken = record {
         down = t.fault.0;
-        rose = (mid, read.goes_on, t.fault.1);
+        rose = (mid, read.goes_on, read.calm, t.fault.1);
         leaves = Rattle.log_cleaner.proofs.Copying.leaves_then tells state old mid new [] ws can.up are_logged read.keeps (leaves_broken tells state mid new ws (passed_in new.rooms.items) read.goes_on.can.up t.run.stands);
         copied = copies_after_read tells state old mid new ws read are_logged are_same (stops_of (Err (refused.DiskFault (part.Segment logger index))) t);
       };

@@ -19,7 +19,7 @@ use Rattle.wol_promise.proofs.Lists.{all_mapped, all_map}
 use Rattle.block_cells.specs.declared.record.Rec.{Rec}
 use Rattle.redirect_map.specs.Index.{Contents, IsAnswer, entry_at}
 use Rattle.garbage_list.proofs.Nexts.{answered}
-use Rattle.manager.specs.Causes.{PartRose, PartRoseOrClaimed}
+use Rattle.manager.specs.Causes.{NoneRose, PartRose, PartRoseOrClaimed}
 use Rattle.manager.specs.Offers.{ChangesLane}
 use Rattle.manager.specs.Reading.{needs_of}
 use Rattle.manager.specs.Reclaim.{OnFailed, OnTried, TellsStep, KeepsOn, Always, HasDropped, IsTrimmedLane, given_of}
@@ -37,7 +37,7 @@ use Rattle.reclaimer.specs.declared.answers.Gone.{Gone}
 use Rattle.reclaimer.specs.declared.answers.Gone.TheVariants as gone
 use Rattle.reclaimer.proofs.Idle.{idle}
 use Rattle.log_cleaner.specs.Chunks.{IsTidy, IsUppermost, NoneHomed}
-use Rattle.log_cleaner.specs.Cleans.{AllAwake, CanClean, FindsAllEmpty, GoesOn}
+use Rattle.log_cleaner.specs.Cleans.{AllAwake, CanClean, FindsAllEmpty, GoesOn, StaysCalm, begun, called}
 use Rattle.log_cleaner.specs.Steps.{GivesAll, GivesSome, HasBroken, HasCopied, KeepsTidy, Settles, TidiesUp, step_fault}
 use Rattle.log_cleaner.specs.Copies.{HoldFewer, indexes_of}
 use Rattle.log_cleaner.proofs.Claiming.{members}
@@ -90,13 +90,26 @@ empty_since old mid new first empty k o n is_o is_n =
     let e = empty k l.0 n l.1 is_n in
     (e.0, begins_then (pass_mine (pool_of o)) (pass_mine (pool_of l.0)) e.0 (first.pools k o l.0 is_o l.1) e.1, e.2)
 
+-- ---- Calls in which none of a disk failed
+
+pub calm_none : {D : Type 0} (state : D → State) (m : Manager D) → StaysCalm state m m
+calm_none state m = begun
+
+pub calm_once : {D : Type 0} (state : D → State) (old new : Manager D) → NoneRose state old new → StaysCalm state old new
+calm_once state old new none = called old new begun none
+
+pub calm_then : {D : Type 0} (state : D → State) (old mid new : Manager D) → StaysCalm state old mid → StaysCalm state mid new → StaysCalm state old new
+calm_then state old mid new first begun = first
+calm_then state old mid new first (called last end second none) = called last end (calm_then state old mid last first second) none
+
 module _ {D : Type 0} (tells : Bool) (state : D → State) where
   pub copied_none : (m : Manager D) → CanClean m → HasCopied tells state m m []
-  copied_none m can = record { goes_on = goes_none m can; keeps = keeps_none tells state m; copied = copies_none tells state m; next = omega arith }
+  copied_none m can = record { goes_on = goes_none m can; calm = calm_none state m; keeps = keeps_none tells state m; copied = copies_none tells state m; next = omega arith }
 
   pub copied_then : (old mid new : Manager D) (cs ds : List Write) → CanClean old → HasCopied tells state old mid cs → HasCopied tells state mid new ds → HasCopied tells state old new (cs ++ ds)
   copied_then old mid new cs ds can first second = record {
     goes_on = goes_then old mid new first.goes_on second.goes_on;
+    calm = calm_then state old mid new first.calm second.calm;
     keeps = keeps_then tells state old mid new cs ds can.up first.keeps second.keeps;
     copied = copies_then tells state old mid new cs ds first.keeps first.copied second.copied;
     next = let a = first.next in let b = second.next in let l = length-append cs ds in omega (arith, a, b, l);
@@ -105,7 +118,7 @@ module _ {D : Type 0} (tells : Bool) (state : D → State) where
   pub broken_then : (old mid new : Manager D) (p : Part) (cs fs : List Write) → CanClean old → HasCopied tells state old mid cs → HasBroken tells state mid new p fs → HasBroken tells state old new p (cs ++ fs)
   broken_then old mid new p cs fs can first second = record {
     down = second.down;
-    rose = (second.rose.0, goes_then old mid second.rose.0 first.goes_on second.rose.1, second.rose.2);
+    rose = (second.rose.0, goes_then old mid second.rose.0 first.goes_on second.rose.1, calm_then state old mid second.rose.0 first.calm second.rose.2, second.rose.3);
     leaves = leaves_then tells state old mid new cs fs can.up second.copied.logged first.keeps second.leaves;
     copied = copies_then tells state old mid new cs fs first.keeps first.copied second.copied;
   }
@@ -208,11 +221,12 @@ tidy_then old mid new first second = record {
 }
 
 module _ {D : Type 0} (tells : Bool) (state : D → State) (old new : Manager D) (can : CanClean old) where
-  pub gave_one : {T : Type 0} (version : ℕ) (e : Indexed) (res : Result T StepFault) → HasDropped version e old new res → new.down ≡ None → new.index.entries ≡ given_of version old.index.entries → KeepsOn tells state old new Always
+  pub gave_one : {T : Type 0} (version : ℕ) (e : Indexed) (res : Result T StepFault) → HasDropped version e old new res → new.down ≡ None → new.index.entries ≡ given_of version old.index.entries → NoneRose state old new → KeepsOn tells state old new Always
       → (IsTrue tells → StopsWithin tells state old new Always) → HasCopied tells state old new [] × KeepsTidy old new
-  gave_one version e res dropped up entries keeps stops = (
+  gave_one version e res dropped up entries none keeps stops = (
     record {
       goes_on = drop_goes_on old new version e res can dropped up entries;
+      calm = calm_once state old new none;
       keeps = λ b notes look k. subst (Keeps tells state new b) (sym (append-nil notes)) (keeps b notes tt k);
       copied = copies_plain tells state old new can.up (λ told. (None, drop_fewer old new version e res can dropped, λ b notes k. stops told b notes tt k));
       next = let e = ap (λ (m : Manager D). m.next) dropped.rest in omega (arith, e);
@@ -224,26 +238,26 @@ module _ {D : Type 0} (tells : Bool) (state : D → State) (old new : Manager D)
   )
 
   -- by what a step of reclaim answers
-  pub gave_more : (answer : Gone) → (answer ≡ gone.Nothing → ⊥) → HasGivenUp (Ok answer) old new → TellsStep state (Ok answer) old new → KeepsOn tells state old new Always
+  pub gave_more : (answer : Gone) → (answer ≡ gone.Nothing → ⊥) → HasGivenUp (Ok answer) old new → TellsStep state (Ok answer) old new → NoneRose state old new → KeepsOn tells state old new Always
       → (IsTrue tells → StopsWithin tells state old new Always) → HasCopied tells state old new [] × KeepsTidy old new
-  gave_more (gone.Version version) some given told keeps stops = by_entry (going_entry old) given
+  gave_more (gone.Version version) some given told none keeps stops = by_entry (going_entry old) given
     where
       by_entry : (o : Option Indexed) → Rattle.std.specs.Prelude.IsSomeAnd o (λ e. (version ≡ e.listed.version) × Rattle.std.specs.Prelude.IsNone (entry_at new.index.entries version) × HasDropped version e old new (Ok (gone.Version version))) → HasCopied tells state old new [] × KeepsTidy old new
       by_entry None h = absurd h
-      by_entry (Some e) h = gave_one version e (Ok (gone.Version version)) h.2 told.1 h.2.ok keeps stops
-  gave_more (gone.Trimmed version) some given told keeps stops = by_entry (going_entry old) given
+      by_entry (Some e) h = gave_one version e (Ok (gone.Version version)) h.2 told.1 h.2.ok none keeps stops
+  gave_more (gone.Trimmed version) some given told none keeps stops = by_entry (going_entry old) given
     where
       by_entry : (o : Option Indexed) → Rattle.std.specs.Prelude.IsSomeAnd o (λ e. (version ≡ e.listed.version) × Rattle.std.specs.Prelude.IsSome (entry_at new.index.entries version) × HasDropped version e old new (Ok (gone.Trimmed version))) → HasCopied tells state old new [] × KeepsTidy old new
       by_entry None h = absurd h
-      by_entry (Some e) h = gave_one version e (Ok (gone.Trimmed version)) h.2 told.1 h.2.ok keeps stops
-  gave_more gone.Nothing some given told keeps stops = absurd (some refl)
+      by_entry (Some e) h = gave_one version e (Ok (gone.Trimmed version)) h.2 told.1 h.2.ok none keeps stops
+  gave_more gone.Nothing some given told none keeps stops = absurd (some refl)
 
   -- a call of this part failed while a record was to give up blocks
   gave_broken : {T : Type 0} (version : ℕ) (e : Indexed) (p : Part) → TellsStep {T = T} state (Err (step.DiskFault p)) old new → Rattle.manager.specs.Reclaim.BreaksOff tells state old new Always
       → HasDropped {T = T} version e old new (Err (step.DiskFault p)) → (IsTrue tells → StopsWithin tells state old new Always) → HasBroken tells state old new p []
   gave_broken {T} version e p told broke dropped stops = record {
     down = told.1;
-    rose = (old, goes_none old can, rose_of state old new p told.2);
+    rose = (old, goes_none old can, calm_none state old, rose_of state old new p told.2);
     leaves = λ b notes n client note k. broke b notes n tt note k;
     copied = copies_plain tells state old new can.up (λ t. (None, drop_fewer old new version e {T = T} (Err (step.DiskFault p)) can dropped, λ b notes k. stops t b notes tt k));
   }

@@ -11,7 +11,7 @@ use Rattle.logger.specs.declared.lane.Lane.{Lane}
 use Rattle.wol_model.specs.Blocks.{Write}
 use Rattle.wol_model.specs.History.{Broke}
 use Rattle.wol_model.specs.Index.{Listed, AreRising, listed_in, is_covered}
-use Rattle.manager.specs.Causes.{PartRoseOrClaimed}
+use Rattle.manager.specs.Causes.{NoneRose, PartRoseOrClaimed}
 use Rattle.manager.specs.Reading.{needs_of}
 use Rattle.manager.specs.Stands.{IsSameManager}
 use Rattle.manager.specs.declared.manager.Manager.{Manager}
@@ -90,17 +90,24 @@ NoneHasRoom {D} count m = AllByRecursion (λ (l : Lane D). HasNoRoom count (held
 abbrev pub copied_blocks : List Write → ℕ
 copied_blocks copies = sum_by (λ (w : Write). length w.blocks) copies
 
--- A part's count rose in a call of the cleaning.
+-- Calls one after another, in none of which a call of a disk failed.
+pub data StaysCalm {D : Type 0} (state : D → State) (old : Manager D) : Manager D → Type 0 where
+  begun : StaysCalm state old old
+  called : (mid new : Manager D) → StaysCalm state old mid → NoneRose state mid new
+      → StaysCalm state old new
+
+-- A part's count rose in a call of the cleaning, and no call of a disk failed in those before it.
 abbrev pub RoseSince : {D : Type 0} → (D → State) → (old new : Manager D) → Part → Type 0
-RoseSince {D} state old new p =
-    (mid : Manager D) × GoesOn old mid × PartRoseOrClaimed state mid new p
+RoseSince {D} state old new p = (mid : Manager D) × GoesOn old mid × StaysCalm state old mid
+    × PartRoseOrClaimed state mid new p
 
 -- where nothing was copied the records are as they were
 abbrev pub Untouched : {D : Type 0} → (old new : Manager D) → List Write → Type 0
 Untouched old new copies = copies ≡ [] → new.index.entries ≡ old.index.entries
 
 -- What an answer says. Where it isn't full the records are one for each chunk; where it is, no
--- segment had room for the next, and no pool had one.
+-- segment had room for the next, and no pool had one. But at a fault of a disk no call of one
+-- failed.
 abbrev pub TellsCleaned : {D : Type 0} → (tells : Bool) → (D → State) → (most : ℕ)
     → (old new : Manager D) → List Write → Result Cleaned CleanFault → Type 0
 TellsCleaned tells state most old new copies (Ok c) =
@@ -110,17 +117,18 @@ TellsCleaned tells state most old new copies (Ok c) =
     × (c.full ≡ false → IsClean (covered_in old) most (listed_in new.index.entries))
     × (c.full ≡ true → (new.next < 2 ^ 63) × FindsAllEmpty old new
     × (left : IsLeftUntidy (covered_in old) most (listed_in new.index.entries) copies)
-    × NoneHasRoom left.count new) × Untouched old new copies
+    × NoneHasRoom left.count new) × Untouched old new copies × StaysCalm state old new
 TellsCleaned tells state most old new copies (Err (DiskFault p)) =
     (new.down ≡ Some p) × RoseSince state old new p × LeavesEntry tells state old new (Broke copies)
 TellsCleaned tells state most old new copies (Err VersionsSpent) =
     GoesOn old new × LeavesEntry tells state old new (wrote copies) × (new.next ≡ 2 ^ 63)
     × (old.next + length copies ≡ 2 ^ 63)
     × IsLeftUntidy (covered_in old) most (listed_in new.index.entries) copies
-    × Untouched old new copies
+    × Untouched old new copies × StaysCalm state old new
 TellsCleaned tells state most old new copies (Err NoMemory) =
     GoesOn old new × LeavesEntry tells state old new (wrote copies) × Untouched old new copies
     × TidiesBefore (covered_in old) most (listed_in new.index.entries) copies
+    × StaysCalm state old new
 
 -- What was copied are chunks that weren't tidy, in order, under the next versions; after a fault of
 -- a disk they may be in flight.

@@ -27,7 +27,7 @@ use Rattle.manager.specs.declared.part.StepFault.{StepFault}
 use Rattle.manager.specs.declared.part.StepFault.TheVariants as step
 use Rattle.log_cleaner.specs.Chunks.{IsTidy, IsUppermost, is_within}
 use Rattle.log_cleaner.specs.Copies.{AreCopies, KeepsCopies, LeavesEntry, array_of}
-use Rattle.log_cleaner.specs.Cleans.{FindsAllEmpty, GoesOn, NoneHasRoom, RoseSince, covered_in}
+use Rattle.log_cleaner.specs.Cleans.{FindsAllEmpty, GoesOn, NoneHasRoom, RoseSince, StaysCalm, covered_in}
 use Rattle.log_cleaner.specs.declared.answer.CleanFault.{CleanFault}
 use Rattle.log_cleaner.specs.declared.answer.CleanFault.TheVariants.{DiskFault, VersionsSpent, NoMemory}
 
@@ -53,6 +53,7 @@ told_of items (Err refused.NoMemory) = Err NoMemory
 pub record HasCopied {D : Type 0} (tells : Bool) (state : D → State) (old new : Manager D)
     (copies : List Write) : Type 0 where
   pub goes_on : GoesOn old new
+  pub calm : StaysCalm state old new
   pub keeps : KeepsCopies tells state old new copies
   pub copied : AreCopies tells state old new copies
   pub next : new.next ≡ old.next + length copies

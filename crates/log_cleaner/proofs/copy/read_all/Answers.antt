@@ -1,4 +1,4 @@
-use Rattle.std.proofs.Common.{◌≡◌, ◌≤◌, ◌<◌, ◌+◌, ◌-◌, ℕ, length, get_or, true, Err, refl, sym, ap, subst, ◌∙◌, arith}
+use Rattle.std.proofs.Common.{◌≡◌, ◌<◌, ◌+◌, ◌-◌, ℕ, length, get_or, true, Err, refl, sym, ap, subst, ◌∙◌, arith}
 use borrow.Rule.Slice.PartMut.{put_mid}
 use Rattle.spin_model.specs.Spun.{state_of}
 use Rattle.log_segment.specs.declared.item.Item.{Item}
@@ -41,7 +41,7 @@ loop-chunk-preserved g c =
       ready = e.ready;
       at = e.at;
       read = read_more tells state old c.requires.can mid new chunks place other c.loop-chunk.room out c.loop-chunk.blocks (c.loop-chunk.blocks + chunk.count) lt read refl f.fits out_long
-          (read_copied tells state mid new read.copied.goes_on.can e.read chunk.lbn chunk.count out e.up (subst (λ (n : ℕ). look_of_manager new ≡ woken (look_of_manager mid) chunk.lbn n) f.long e.look) covered (subst (NeedsSources mid new chunk.lbn) f.long e.needs_all) e.stands e.any_moment)
+          (read_copied tells state mid new read.copied.goes_on.can e.read chunk.lbn chunk.count out e.up (subst (λ (n : ℕ). look_of_manager new ≡ woken (look_of_manager mid) chunk.lbn n) f.long e.look) covered (subst (NeedsSources mid new chunk.lbn) f.long e.needs_all) e.calm e.stands e.any_moment)
           (ap (λ i. i.entries) e.read.index) e.read.home.size (read_content tells state mid new chunk.lbn out e.stands);
     }
 

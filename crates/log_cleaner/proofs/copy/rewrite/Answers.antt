@@ -43,6 +43,7 @@ returns-clause-rewritten g c =
       unspent = λ is. w.versions.1 (read.copied.goes_on.can.up, is);
       fault = w.fault;
       unchanged = w.unchanged;
+      calm = w.calm;
     }) in
     subst (λ (r : Result ℕ CleanFault). RewritesBehind tells state chunks old new done c.noted.new.done.value.items r) (sym c.told.ensures)
     (x.0, c.noted.ensures ∙ ap (λ (more : List Write). done ++ noted ran.answer (take ran.items more)) c.next_copies-more.ensures ∙ ap (λ (l : List Write). done ++ l) x.1)

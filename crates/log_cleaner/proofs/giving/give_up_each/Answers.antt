@@ -28,7 +28,7 @@ returns-in-Nothing-clause-given g c =
 pub steps-preserved : goal.steps-preserved
 steps-preserved g c =
     let e = c.in_ok-invalidate_one.ensures in let i = c.steps.invariant in
-    let s = gave_more g.D.Disk.tells g.D.Disk.state c.steps.m c.invalidate_one.new.m i.copied.goes_on.can c.in_ok-invalidate_one.field-0 c.in_default.not-Nothing e.gone e.fault e.keeps e.any_moment in record {
+    let s = gave_more g.D.Disk.tells g.D.Disk.state c.steps.m c.invalidate_one.new.m i.copied.goes_on.can c.in_ok-invalidate_one.field-0 c.in_default.not-Nothing e.gone e.fault e.calm e.keeps e.any_moment in record {
       ready = e.ready;
       at = e.at;
       copied = copied_then g.D.Disk.tells g.D.Disk.state c.args.m.now c.steps.m c.invalidate_one.new.m [] [] c.requires.can i.copied s.0;

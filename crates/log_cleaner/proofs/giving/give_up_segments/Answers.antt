@@ -65,7 +65,7 @@ loop-step-preserved g c =
           let f = entry_there m.index.entries c.in-Some.version (subst (λ (x : Contents). HasVersion x.entries c.in-Some.version) c.index-in-loop-step-2.ensures (c.goes_whole.ensures.there w.if-goes_whole.true)) in
           let none = subst (λ (x : Contents). ForSome (entry_at x.entries c.in-Some.version) (λ e. NoneLiveIn e.listed.lane e.index x.entries)) c.index-in-loop-step-2.ensures (c.goes_whole.ensures.covered w.if-goes_whole.true) f.0 f.1 in
           let e = w.in_ok-drop_segment.ensures in let new = w.drop_segment.new.self in
-          let s = segment_gone g.D.Disk.tells g.D.Disk.state m new i.can f.0.listed.lane f.0.index none w.in_ok-drop_segment.field-0 (e.dropped f.0 f.1) e.fault.1 e.keeps
+          let s = segment_gone g.D.Disk.tells g.D.Disk.state m new i.can f.0.listed.lane f.0.index none w.in_ok-drop_segment.field-0 (e.dropped f.0 f.1) e.fault.1 e.calm e.keeps
           (λ told. within g.D.Disk.tells g.D.Disk.state g.met.D.Disk.sound Always m new (e.any_moment told)) in
           rw w.m-is (record {
             ready = e.ready;
