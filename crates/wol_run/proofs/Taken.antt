@@ -5,7 +5,7 @@ use Rattle.toml.specs.Data.{Members}
 use Rattle.wol_config.specs.declared.config.Config.{Config}
 use Rattle.wol_config.specs.declared.config.ConfigFault.{ConfigFault}
 use Rattle.wol_config.specs.declared.config.ConfigFault.TheVariants.{TooLong}
-use Rattle.wol_config.specs.Configs.{IsDocument, IsConfigOf, IsRefusal, byte_limit}
+use Rattle.wol_config.specs.Configs.{IsDocument, IsConfigOf, IsRefusal, IsValid, byte_limit}
 use Rattle.wol_run.specs.Settings.{HasConfig, IsRefusedFor, IsTaken}
 
 -- nothing was left behind them
@@ -20,10 +20,10 @@ taken_long None now bytes h many = tt
 taken_long (Some all) None bytes h many = absurd h
 taken_long (Some all) (Some rest) bytes h many = inr (rest, h, many)
 
-pub has_config : (left : Option (List ℕ)) (bytes : List ℕ) (config : Config) → IsTaken left bytes → (document : Members) → IsDocument bytes document → IsConfigOf document config → HasConfig left config
-has_config None bytes config taken document is of = tt
-has_config (Some all) bytes config (inl (same, few)) document is of = (document, rw same is, of)
-has_config (Some all) bytes config (inr (rest, front, many)) document is of = absurd (omega (arith, many, is.few))
+pub has_config : (left : Option (List ℕ)) (bytes : List ℕ) (config : Config) → IsTaken left bytes → (document : Members) → IsDocument bytes document → IsConfigOf document config → IsValid config → HasConfig left config
+has_config None bytes config taken document is of valid = valid
+has_config (Some all) bytes config (inl (same, few)) document is of valid = (document, rw same is, of)
+has_config (Some all) bytes config (inr (rest, front, many)) document is of valid = absurd (omega (arith, many, is.few))
 
 pub refused_for : (left : Option (List ℕ)) (bytes : List ℕ) (why : ConfigFault) → IsTaken left bytes → IsRefusal bytes why → (byte_limit < length bytes → why ≡ TooLong) → IsRefusedFor left why
 refused_for None bytes why taken is long = tt

@@ -5,7 +5,7 @@ use Rattle.wol_disk.specs.Disk.{Rose}
 use Rattle.wol_config.specs.declared.config.Config.{Config}
 use Rattle.wol_config.specs.declared.config.ConfigFault.{ConfigFault}
 use Rattle.wol_config.specs.declared.config.ConfigFault.TheVariants.{NoMemory}
-use Rattle.wol_config.specs.Configs.{IsDocument, IsConfigOf, IsRefusal, byte_limit}
+use Rattle.wol_config.specs.Configs.{IsDocument, IsConfigOf, IsRefusal, IsValid, byte_limit}
 use Rattle.report.specs.declared.fault.Fault.{Fault}
 use Rattle.report.specs.declared.fault.Fault.TheVariants as fault
 use Rattle.report.specs.Faults.{fault_text, status_of}
@@ -19,9 +19,10 @@ IsTaken (Some all) bytes =
     ((all ≡ bytes) × (length bytes ≤ byte_limit))
     ⊎ ((rest : List ℕ) × (all ≡ bytes ++ rest) × (byte_limit < length bytes))
 
--- what is left of a source, where it tells, is a document of this configuration
+-- what is left of a source, where it tells, is a document of this configuration; elsewhere it is
+-- some valid configuration
 abbrev pub HasConfig : (left : Option (List ℕ)) → Config → Type 0
-HasConfig None config = ⊤
+HasConfig None config = IsValid config
 HasConfig (Some bytes) config =
     (document : Members) × IsDocument bytes document × IsConfigOf document config
 
