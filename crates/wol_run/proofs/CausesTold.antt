@@ -199,7 +199,7 @@ module _ {D : Type 0} (tells : Bool) (state : D → State) (words : List (List �
       no_further now run trace.Spent other refuses same = at_status 10 status same (row.more_lines for_lines (more_of before.trace.bytes now run trace.Spent refl refuses))
       no_further now run trace.NoMemory other refuses same = absurd (other refl)
 
-      module _ (run : IsComparison (trace_of before.trace.bytes) before.config.bytes after.trace.bytes before.sink.faults status before.sink.bytes after.sink.bytes) where
+      module _ (run : IsComparison (trace_of before.trace.bytes) before.config.bytes after.trace.bytes before.sink.faults after.sink.faults status before.sink.bytes after.sink.bytes) where
         of_behind : (ls : List (Option TraceLine)) (x : Result (Unit {0}) Stop) → EndsBehind (λ bytes. bytes) run.over.config (trace_of before.trace.bytes) run.now before.sink.faults run.over.sink_then before.sink.bytes run.over.printed_then ls x
             → EndsReplay run.over.config x status run.over.printed_then after.sink.bytes → Cause status
         of_behind ls x (behind.whole done all calm more) ends = at_status 0 status ends.0 (row.done WhatIf is (λ asks. at_end before.trace.bytes after.trace.bytes run.now ls run.over.config run.rest all))
@@ -290,7 +290,7 @@ module _ {D : Type 0} (tells : Bool) (state : D → State) (words : List (List �
       -- ---- A view that was to be changed
 
       module _ (verb : Verb) (named : Named) (changes : view_change_by command ≡ Some (verb, named)) (again : AskFor words changes_view) (none : runs_trace command ≡ false) where
-        module _ (run : IsViewChange tells state verb named before.config.bytes before.bay after.bay before.sink.faults status before.sink.bytes after.sink.bytes) where
+        module _ (run : IsViewChange tells state verb named before.config.bytes before.bay after.bay before.sink.faults after.sink.faults status before.sink.bytes after.sink.bytes) where
           abbrev EndsSo : Result (Unit {0}) ViewStop → Type 0
           EndsSo r = EndsChange run.config run.order r status run.printed_then after.sink.bytes
 
@@ -353,7 +353,7 @@ module _ {D : Type 0} (tells : Bool) (state : D → State) (words : List (List �
       -- ---- Volumes that were cleaned
 
       module _ (cleans_ : IsCommand words Clean) where
-        module _ (run : IsCleaning tells state before.config.bytes before.bay after.bay before.sink.faults status before.sink.bytes after.sink.bytes) where
+        module _ (run : IsCleaning tells state before.config.bytes before.bay after.bay before.sink.faults after.sink.faults status before.sink.bytes after.sink.bytes) where
           of_clean_fault : (n : ℕ) (f : CleanFault) → CleansVolume tells state run.over.config before.bay after.bay n (Err f) → status ≡ status_of (fault_of n f) → Cause status
           of_clean_fault n (DiskFault p) cleans same = at_status (trouble_status (trouble_of_part p)) status same (part_cause for_bay p (cleans.cause p refl))
           of_clean_fault n VersionsSpent cleans same = at_status 11 status same (row.no_version_to_copy cleans_ (record { config = run.over.config; has = run.over.has; base = cleans.base.volume.began; begun = cleans.begun; lacks = cleans.spent refl }))
@@ -430,7 +430,7 @@ module _ {D : Type 0} (tells : Bool) (state : D → State) (words : List (List �
           (source : status ≡ 8 → Rose before.config.faults after.config.faults ⊎ Rose before.trace.faults after.trace.faults)
           (line : status ≡ 3 → AskFor words runs_trace × HasBadLine before.trace.bytes) (lines : status ≡ 10 → AskFor words runs_trace × HasMoreLines before.trace.bytes)
           (ended : (now : GivenLines) (run : List (Option TraceLine)) (config : Config) → HasLeft now after.trace.bytes → HasGivenAll (λ bytes. bytes) (targets_of config) start now run → AskFor words runs_trace → IsAtEnd after.trace.bytes) where
-        module _ (run : IsReplay tells state how start before.config.bytes after.trace.bytes before.bay after.bay before.sink.faults status before.sink.bytes after.sink.bytes) where
+        module _ (run : IsReplay tells state how start before.config.bytes after.trace.bytes before.bay after.bay before.sink.faults after.sink.faults status before.sink.bytes after.sink.bytes) where
           abbrev Ends : Result (Unit {0}) Stop → Type 0
           Ends r = EndsReplay run.over.config r status run.over.printed_then after.sink.bytes
 

@@ -85,8 +85,8 @@ module _ {D : Type 0} (tells : Bool) (state : D → State) (words : List (List �
       → Run tells state words before after status
   replay_promise options is run source complete = of_command tells state words before after status (Replay options) is run
       (replay_cause tells state words before after status seven (Replay options) is refl refl (options_as options) (trace_of before.trace.bytes) refl source
-      (λ three. (for_trace, replay_bad_line tells state (options_as options) _ _ _ _ _ _ _ status _ _ before.trace.bytes run three))
-      (λ ten. (for_trace, replay_more_lines tells state (options_as options) _ _ _ _ _ _ _ status _ _ before.trace.bytes run ten))
+      (λ three. (for_trace, replay_bad_line tells state (options_as options) _ _ _ _ _ _ _ _ status _ _ before.trace.bytes run three))
+      (λ ten. (for_trace, replay_more_lines tells state (options_as options) _ _ _ _ _ _ _ _ status _ _ before.trace.bytes run ten))
       (λ now lines config rest all uses. at_end before.trace.bytes after.trace.bytes now lines config rest all) run) later
       (record { config = λ none. absurd (used refl (none (Replay options) is)); trace = λ none. absurd (used refl (none (Replay options) is)); bay = λ none. absurd (used refl (none (Replay options) is)) })
       (λ order calm. inl (complete order.2 (free (Replay options) refl refl order.0 order.1 calm) order.4 order.3 (calm.trace refl)))
@@ -100,8 +100,8 @@ module _ {D : Type 0} (tells : Bool) (state : D → State) (words : List (List �
       → after.trace ≡ before.trace → Run tells state words before after status
   soak_promise what options is run source complete trace = of_command tells state words before after status (Soak what options) is run
       (replay_cause tells state words before after status seven (Soak what options) is refl refl (options_as options) (lines_of what) refl (λ eight. inl (source eight))
-      (λ three. absurd (soak_not_three tells state (options_as options) _ _ _ _ _ _ _ status _ _ what run three))
-      (λ ten. absurd (soak_not_ten tells state (options_as options) _ _ _ _ _ _ _ status _ _ what run ten))
+      (λ three. absurd (soak_not_three tells state (options_as options) _ _ _ _ _ _ _ _ status _ _ what run three))
+      (λ ten. absurd (soak_not_ten tells state (options_as options) _ _ _ _ _ _ _ _ status _ _ what run ten))
       (λ now lines config rest all asks. absurd (used asks.does (of_asked (λ c. runs_trace c ≡ false) uses_alike words (Soak what options) asks.command is asks.is refl))) run) later
       (record { config = λ none. absurd (used refl (none (Soak what options) is)); trace = λ none. trace; bay = λ none. absurd (used refl (none (Soak what options) is)) })
       (λ order calm. inl (complete (free (Soak what options) refl refl order.0 order.1 calm) order.2))
@@ -186,12 +186,12 @@ module _ {D : Type 0} (tells : Bool) (state : D → State) (words : List (List �
   does_none (Solo volume) = told_fault (target_of volume) before.trace.bytes before.trace.bytes before.bay.told before.bay.told before.bay.faults before.bay.faults before.trace.faults before.trace.faults status _ _ _ (Unit {0}) solo_fault.NoMemory tt ends
       (not_made (Unit {0}) bay_fault.NoMemory (target_of volume) before.trace.bytes before.trace.bytes before.bay.told before.bay.told before.sink.bytes refl)
   does_none Format = told_untouched _ _ _ _ _ status _ _ fault.Memory tt refl (inr ends)
-  does_none (Replay options) = unreplayed _ _ _ _ _ _ _ _ _ _ _ _ _ fault.Memory tt refl (inr ends)
+  does_none (Replay options) = unreplayed _ _ _ _ _ _ _ _ _ _ _ _ _ _ fault.Memory tt refl (inr ends)
   does_none Check = look_untouched _ _ asked.Check _ _ _ _ _ status _ _ fault.Memory tt refl (inr ends)
   does_none Dump = look_untouched _ _ asked.Dump _ _ _ _ _ status _ _ fault.Memory tt refl (inr ends)
   does_none (Gen what) = told_unread what _ _ _ status _ _ fault.Memory tt (inr ends)
-  does_none (Soak what options) = unreplayed _ _ _ _ _ _ _ _ _ _ _ _ _ fault.Memory tt tt (inr ends)
-  does_none WhatIf = uncompared _ _ _ _ _ _ _ _ _ fault.Memory tt refl (inr ends)
+  does_none (Soak what options) = unreplayed _ _ _ _ _ _ _ _ _ _ _ _ _ _ fault.Memory tt tt (inr ends)
+  does_none WhatIf = uncompared _ _ _ _ _ _ _ _ _ _ fault.Memory tt refl (inr ends)
   does_none (ViewAdd names) = inr (not_begun _ _ _ _ _ status _ _ fault.Memory tt refl (inr ends))
   does_none (ViewRemove names) = inr (not_begun _ _ _ _ _ status _ _ fault.Memory tt refl (inr ends))
   does_none Clean = inr (not_begun _ _ _ _ _ status _ _ fault.Memory tt refl (inr ends))

@@ -1,5 +1,5 @@
 -- What a comparison of the policies ended with, and what became of the sink.
-use Rattle.std.proofs.Common.{◌≡◌, ◌⊎◌, inl, inr, ℕ, List, Option, Result, Ok, Err, refl, subst}
+use Rattle.std.proofs.Common.{◌≡◌, ◌≤◌, ◌⊎◌, inl, inr, ℕ, List, Option, Result, Ok, Err, refl, subst}
 use Rattle.std.specs.Prelude.{codes}
 use Rattle.wol_disk.specs.Disk.{Rose}
 use Rattle.wol_model.specs.Trace.{TraceLine}
@@ -88,27 +88,27 @@ module _ {S T : Type 0} (left : S → Option (List ℕ)) (config : Config) (star
 -- ---- Runs of `whatif`
 
 -- a comparison over a configuration that was had, and its end
-pub is_comparison : {S : Type 0} (left : S → Option (List ℕ)) (config : Config) (start now : Given S) (sink sink' : ℕ) (printed then printed' : Option (List ℕ)) (status : ℕ) (result : Result (Unit {0}) Stop)
-    → Compares left config start now sink sink' printed then result → EndsReplay config result status then printed' → (bytes rest : Option (List ℕ)) → HasConfig bytes config → HasLeft (seen left now) rest
-    → IsComparison (seen left start) bytes rest sink status printed printed'
-is_comparison left config start now sink sink' printed then printed' status result compares ends bytes rest has left_is = record {
-  over = record { config = config; has = has; result = result; sink_then = sink'; printed_then = then; ends = ends };
+pub is_comparison : {S : Type 0} (left : S → Option (List ℕ)) (config : Config) (start now : Given S) (sink sink' after : ℕ) (printed then printed' : Option (List ℕ)) (status : ℕ) (result : Result (Unit {0}) Stop)
+    → Compares left config start now sink sink' printed then result → sink' ≤ after → EndsReplay config result status then printed' → (bytes rest : Option (List ℕ)) → HasConfig bytes config → HasLeft (seen left now) rest
+    → IsComparison (seen left start) bytes rest sink after status printed printed'
+is_comparison left config start now sink sink' after printed then printed' status result compares later ends bytes rest has left_is = record {
+  over = record { config = config; has = has; result = result; sink_then = sink'; later = later; printed_then = then; ends = ends };
   now = seen left now;
   rest = left_is;
   compares = comparison_seen left config start now sink sink' printed then result compares;
 }
 
 -- the configuration wasn't had
-pub uncompared : (start : GivenLines) (left rest : Option (List ℕ)) (faults faults' : ℕ) (sink status : ℕ) (printed printed' : Option (List ℕ)) → (e : Fault) → IsUnread e left faults faults' → HasLeft start rest
-    → EndsWith (line_of_fault e) (status_of e) status printed printed' ⊎ EndsWith (codes "fault 9 memory\n") 9 status printed printed' → RunsWhatIf start left faults faults' rest sink status printed printed'
-uncompared start left rest faults faults' sink status printed printed' e cause kept (inl ends) = inr (record {
+pub uncompared : (start : GivenLines) (left rest : Option (List ℕ)) (faults faults' : ℕ) (sink sink' status : ℕ) (printed printed' : Option (List ℕ)) → (e : Fault) → IsUnread e left faults faults' → HasLeft start rest
+    → EndsWith (line_of_fault e) (status_of e) status printed printed' ⊎ EndsWith (codes "fault 9 memory\n") 9 status printed printed' → RunsWhatIf start left faults faults' rest sink sink' status printed printed'
+uncompared start left rest faults faults' sink sink' status printed printed' e cause kept (inl ends) = inr (record {
   text = line_of_fault e;
   wanted = status_of e;
   line_ = line_unread e left faults faults' cause;
   rest = kept;
   ends = ends;
 })
-uncompared start left rest faults faults' sink status printed printed' e cause kept (inr ends) = inr (record {
+uncompared start left rest faults faults' sink sink' status printed printed' e cause kept (inr ends) = inr (record {
   text = codes "fault 9 memory\n";
   wanted = 9;
   line_ = line_of_memory left faults faults';

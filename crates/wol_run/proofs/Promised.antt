@@ -71,10 +71,10 @@ module _ {D : Type 0} (tells : Bool) (state : D → State) (words : List (List �
   }
 
   headline_of : (how : Serving × GivenLines) → IsReplayOf tells state before after status how → IsHeadlineOf tells state before after status how
-  headline_of (how, start) run = runs_kept tells state how start _ _ _ _ _ _ _ _ _ _ _ (headline_kept tells state how start _ _ _ _ _ _ _ _) run
+  headline_of (how, start) run = runs_kept tells state how start _ _ _ _ _ _ _ _ _ _ _ _ (headline_kept tells state how start _ _ _ _ _ _ _ _ _) run
 
   account_of : (how : Serving × GivenLines) → IsReplayOf tells state before after status how → IsAccountOf tells state before after status how
-  account_of (how, start) run = runs_kept tells state how start _ _ _ _ _ _ _ _ _ _ _ (account_kept tells state how start _ _ _ _ _ _ _ _) run
+  account_of (how, start) run = runs_kept tells state how start _ _ _ _ _ _ _ _ _ _ _ _ (account_kept tells state how start _ _ _ _ _ _ _ _ _) run
 
   -- what holds of lines that were replayed holds of those of each command that replays
   of_replayed : (P : Serving × GivenLines → Type 0) → ((how : Serving × GivenLines) → IsReplayOf tells state before after status how → P how)

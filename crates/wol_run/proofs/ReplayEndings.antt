@@ -75,17 +75,17 @@ ends_status config (Err (stop.Fault f)) status printed new (inr ends) = elim (wa
 -- ---- What statuses come of
 
 -- the configuration wasn't had
-pub unreplayed : {D : Type 0} (tells : Bool) (state : D → State) (options : Options) (start : GivenLines) (left : Option (List ℕ)) (faults faults' : ℕ) (rest : Option (List ℕ)) (bay : BayState) (sink status : ℕ) (printed printed' : Option (List ℕ)) (e : Fault)
+pub unreplayed : {D : Type 0} (tells : Bool) (state : D → State) (options : Options) (start : GivenLines) (left : Option (List ℕ)) (faults faults' : ℕ) (rest : Option (List ℕ)) (bay : BayState) (sink sink' status : ℕ) (printed printed' : Option (List ℕ)) (e : Fault)
     → IsUnread e left faults faults' → HasLeft start rest → EndsWith (line_of_fault e) (status_of e) status printed printed' ⊎ EndsWith (codes "fault 9 memory\n") 9 status printed printed'
-    → RunsReplay tells state options start left faults faults' rest bay bay sink status printed printed'
-unreplayed tells state options start left faults faults' rest bay sink status printed printed' e cause same (inl ends) = inr (record {
+    → RunsReplay tells state options start left faults faults' rest bay bay sink sink' status printed printed'
+unreplayed tells state options start left faults faults' rest bay sink sink' status printed printed' e cause same (inl ends) = inr (record {
   text = line_of_fault e;
   wanted = status_of e;
   untouched = record { line_ = line_unread e left faults faults' cause; bay = refl };
   rest = same;
   ends = ends;
 })
-unreplayed tells state options start left faults faults' rest bay sink status printed printed' e cause same (inr ends) = inr (record {
+unreplayed tells state options start left faults faults' rest bay sink sink' status printed printed' e cause same (inr ends) = inr (record {
   text = codes "fault 9 memory\n";
   wanted = 9;
   untouched = record { line_ = line_of_memory left faults faults'; bay = refl };
@@ -93,7 +93,7 @@ unreplayed tells state options start left faults faults' rest bay sink status pr
   ends = ends;
 })
 
-module _ {D : Type 0} (tells : Bool) (state : D → State) (options : Options) (start : GivenLines) (left : Option (List ℕ)) (faults faults' : ℕ) (rest : Option (List ℕ)) (old new : BayState) (sink status : ℕ) (printed printed' : Option (List ℕ)) where
+module _ {D : Type 0} (tells : Bool) (state : D → State) (options : Options) (start : GivenLines) (left : Option (List ℕ)) (faults faults' : ℕ) (rest : Option (List ℕ)) (old new : BayState) (sink sink' status : ℕ) (printed printed' : Option (List ℕ)) where
   -- the status of a run that wasn't begun
   unreplayed_status : IsUnreplayed start left rest faults faults' old new status printed printed' → ((status ≡ 2) × HasNoConfig left) ⊎ (status ≡ 7) ⊎ ((status ≡ 8) × Rose faults faults') ⊎ (status ≡ 9)
   unreplayed_status is = elim (wanted_or_sink is.text is.wanted status printed printed' is.ends) [
@@ -106,7 +106,7 @@ module _ {D : Type 0} (tells : Bool) (state : D → State) (options : Options) (
   ]
 
   -- the fault of a run whose status isn't 0, 7 or 9
-  module _ (is : IsReplay tells state options start left rest old new sink status printed printed') where
+  module _ (is : IsReplay tells state options start left rest old new sink sink' status printed printed') where
     ended : (status ≡ 0) ⊎ (status ≡ 7) ⊎ (status ≡ 9)
         ⊎ ((f : Fault) × (status ≡ status_of f) × (IsOfWindow f ⊎ NoLine (λ bytes. bytes) start is.now f) × CanEnd f)
     ended = elim (ends_status is.over.config is.over.result status is.over.printed_then printed' is.over.ends) [
@@ -133,7 +133,7 @@ module _ {D : Type 0} (tells : Bool) (state : D → State) (options : Options) (
     ]
 
   -- why no further line came at status 3 or 10
-  stopped_at : (k : ℕ) → k ≢ 0 → k ≢ 2 → k ≢ 7 → k ≢ 8 → k ≢ 9 → ((f : Fault) → IsOfWindow f → status_of f ≢ k) → RunsReplay tells state options start left faults faults' rest old new sink status printed printed' → status ≡ k
+  stopped_at : (k : ℕ) → k ≢ 0 → k ≢ 2 → k ≢ 7 → k ≢ 8 → k ≢ 9 → ((f : Fault) → IsOfWindow f → status_of f ≢ k) → RunsReplay tells state options start left faults faults' rest old new sink sink' status printed printed' → status ≡ k
       → (refusal : TraceFault) × (refusal ≢ trace.NoMemory) × (status_of (fault_of_trace refusal) ≡ k) × (now : GivenLines) × (run : List (Option TraceLine)) × Refuses (λ bytes. bytes) refusal start now run
   stopped_at k no_zero no_two no_seven no_eight no_nine no_window (inl is) is_k = begun_by is k no_zero no_seven no_nine no_window is_k
   stopped_at k no_zero no_two no_seven no_eight no_nine no_window (inr is) is_k = elim (unreplayed_status is) [
@@ -171,23 +171,23 @@ none_of_seed : (asked : Generated) (now : GivenLines) (run : List (Option TraceL
 none_of_seed asked (given.Trace q) run refusal other refuses = refuses
 none_of_seed asked (given.Generated g count) run refusal other refuses = other refuses
 
-module _ {D : Type 0} (tells : Bool) (state : D → State) (options : Options) (left : Option (List ℕ)) (faults faults' : ℕ) (rest : Option (List ℕ)) (old new : BayState) (sink status : ℕ) (printed printed' : Option (List ℕ)) where
-  pub replay_bad_line : (bytes : Option (List ℕ)) → RunsReplay tells state options (trace_of bytes) left faults faults' rest old new sink status printed printed' → status ≡ 3 → HasBadLine bytes
+module _ {D : Type 0} (tells : Bool) (state : D → State) (options : Options) (left : Option (List ℕ)) (faults faults' : ℕ) (rest : Option (List ℕ)) (old new : BayState) (sink sink' status : ℕ) (printed printed' : Option (List ℕ)) where
+  pub replay_bad_line : (bytes : Option (List ℕ)) → RunsReplay tells state options (trace_of bytes) left faults faults' rest old new sink sink' status printed printed' → status ≡ 3 → HasBadLine bytes
   replay_bad_line bytes runs three =
-      let by = stopped_at tells state options (trace_of bytes) left faults faults' rest old new sink status printed printed' 3 (λ e. omega (arith, e)) (λ e. omega (arith, e)) (λ e. omega (arith, e)) (λ e. omega (arith, e)) (λ e. omega (arith, e)) not_three runs three in
+      let by = stopped_at tells state options (trace_of bytes) left faults faults' rest old new sink sink' status printed printed' 3 (λ e. omega (arith, e)) (λ e. omega (arith, e)) (λ e. omega (arith, e)) (λ e. omega (arith, e)) (λ e. omega (arith, e)) not_three runs three in
       bad_of bytes by.3 by.4 by.0 by.2 by.5
 
-  pub replay_more_lines : (bytes : Option (List ℕ)) → RunsReplay tells state options (trace_of bytes) left faults faults' rest old new sink status printed printed' → status ≡ 10 → HasMoreLines bytes
+  pub replay_more_lines : (bytes : Option (List ℕ)) → RunsReplay tells state options (trace_of bytes) left faults faults' rest old new sink sink' status printed printed' → status ≡ 10 → HasMoreLines bytes
   replay_more_lines bytes runs ten =
-      let by = stopped_at tells state options (trace_of bytes) left faults faults' rest old new sink status printed printed' 10 (λ e. omega (arith, e)) (λ e. omega (arith, e)) (λ e. omega (arith, e)) (λ e. omega (arith, e)) (λ e. omega (arith, e)) not_ten runs ten in
+      let by = stopped_at tells state options (trace_of bytes) left faults faults' rest old new sink sink' status printed printed' 10 (λ e. omega (arith, e)) (λ e. omega (arith, e)) (λ e. omega (arith, e)) (λ e. omega (arith, e)) (λ e. omega (arith, e)) not_ten runs ten in
       more_of bytes by.3 by.4 by.0 by.2 by.5
 
-  pub soak_not_three : (asked : Generated) → RunsReplay tells state options (lines_of asked) left faults faults' rest old new sink status printed printed' → status ≢ 3
+  pub soak_not_three : (asked : Generated) → RunsReplay tells state options (lines_of asked) left faults faults' rest old new sink sink' status printed printed' → status ≢ 3
   soak_not_three asked runs three =
-      let by = stopped_at tells state options (lines_of asked) left faults faults' rest old new sink status printed printed' 3 (λ e. omega (arith, e)) (λ e. omega (arith, e)) (λ e. omega (arith, e)) (λ e. omega (arith, e)) (λ e. omega (arith, e)) not_three runs three in
+      let by = stopped_at tells state options (lines_of asked) left faults faults' rest old new sink sink' status printed printed' 3 (λ e. omega (arith, e)) (λ e. omega (arith, e)) (λ e. omega (arith, e)) (λ e. omega (arith, e)) (λ e. omega (arith, e)) not_three runs three in
       none_of_seed asked by.3 by.4 by.0 by.1 by.5
 
-  pub soak_not_ten : (asked : Generated) → RunsReplay tells state options (lines_of asked) left faults faults' rest old new sink status printed printed' → status ≢ 10
+  pub soak_not_ten : (asked : Generated) → RunsReplay tells state options (lines_of asked) left faults faults' rest old new sink sink' status printed printed' → status ≢ 10
   soak_not_ten asked runs ten =
-      let by = stopped_at tells state options (lines_of asked) left faults faults' rest old new sink status printed printed' 10 (λ e. omega (arith, e)) (λ e. omega (arith, e)) (λ e. omega (arith, e)) (λ e. omega (arith, e)) (λ e. omega (arith, e)) not_ten runs ten in
+      let by = stopped_at tells state options (lines_of asked) left faults faults' rest old new sink sink' status printed printed' 10 (λ e. omega (arith, e)) (λ e. omega (arith, e)) (λ e. omega (arith, e)) (λ e. omega (arith, e)) (λ e. omega (arith, e)) not_ten runs ten in
       none_of_seed asked by.3 by.4 by.0 by.1 by.5

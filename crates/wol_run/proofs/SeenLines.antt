@@ -1,5 +1,5 @@
 -- Lines of any source, seen as the bytes that are left of it.
-use Rattle.std.proofs.Common.{◌↔◌, inl, inr, ℕ, Bool, List, ◌++◌, Option, Result, ap, subst, sym, arith}
+use Rattle.std.proofs.Common.{◌↔◌, ◌≤◌, inl, inr, ℕ, Bool, List, ◌++◌, Option, Result, ap, subst, sym, arith}
 use Rattle.wol_disk.specs.Disk.{Rose, State}
 use Rattle.wol_bay.specs.Bay.{BayState}
 use Rattle.wol_model.specs.Trace.{Target, TraceLine}
@@ -144,11 +144,11 @@ seed_calm faults (Generated g n) (Generated k m) other others (inl less) = omega
 seed_calm faults (Generated g n) (Generated k m) other others (inr most) = omega (arith, most)
 
 -- a replay over a configuration that was had, and its end
-pub is_replay : {D S : Type 0} (tells : Bool) (state : D → State) (left : S → Option (List ℕ)) (config : Config) (options : Options) (start now : Given S) (old new : BayState) (sink sink' : ℕ) (printed then printed' : Option (List ℕ)) (status : ℕ)
-    (result : Result (Unit {0}) Stop) → IsTold (KeepsOthers config) old.told new.told → Replayed tells state left config options start now old new sink sink' printed then result → EndsReplay config result status then printed'
-    → (bytes rest : Option (List ℕ)) → HasConfig bytes config → HasLeft (seen left now) rest → IsReplay tells state options (seen left start) bytes rest old new sink status printed printed'
-is_replay tells state left config options start now old new sink sink' printed then printed' status result others replayed ends bytes rest has left_is = record {
-  over = record { config = config; has = has; result = result; sink_then = sink'; printed_then = then; ends = ends };
+pub is_replay : {D S : Type 0} (tells : Bool) (state : D → State) (left : S → Option (List ℕ)) (config : Config) (options : Options) (start now : Given S) (old new : BayState) (sink sink' after : ℕ) (printed then printed' : Option (List ℕ)) (status : ℕ)
+    (result : Result (Unit {0}) Stop) → IsTold (KeepsOthers config) old.told new.told → Replayed tells state left config options start now old new sink sink' printed then result → sink' ≤ after → EndsReplay config result status then printed'
+    → (bytes rest : Option (List ℕ)) → HasConfig bytes config → HasLeft (seen left now) rest → IsReplay tells state options (seen left start) bytes rest old new sink after status printed printed'
+is_replay tells state left config options start now old new sink sink' after printed then printed' status result others replayed later ends bytes rest has left_is = record {
+  over = record { config = config; has = has; result = result; sink_then = sink'; later = later; printed_then = then; ends = ends };
   now = seen left now;
   rest = left_is;
   others = others;

@@ -1,5 +1,5 @@
 -- What a change of a view ended with, and what became of the sink.
-use Rattle.std.proofs.Common.{◌≡◌, ◌⊎◌, inl, inr, ℕ, Bool, List, Option, Result, Ok, Err, refl, sym, subst, true≢false}
+use Rattle.std.proofs.Common.{◌≡◌, ◌≤◌, ◌⊎◌, inl, inr, ℕ, Bool, List, Option, Result, Ok, Err, refl, sym, subst, true≢false}
 use Rattle.std.specs.Bool.{⊤}
 use Rattle.std.specs.Prelude.{IsTrue, codes}
 use Rattle.wol_disk.specs.Disk.{Rose, State}
@@ -55,17 +55,18 @@ module _ {D : Type 0} (tells : Bool) (state : D → State) (config : Config) (or
   sink_said r (opened volume logger view x named prints open_) = said_open volume _ view x prints open_
 
 -- a change over a configuration that was had, and its end
-pub is_view_change : {D : Type 0} (tells : Bool) (state : D → State) (config : Config) (order : Order) (old new : BayState) (sink sink' : ℕ) (printed then printed' : Option (List ℕ)) (status : ℕ) (result : Result (Unit {0}) Stop)
+pub is_view_change : {D : Type 0} (tells : Bool) (state : D → State) (config : Config) (order : Order) (old new : BayState) (sink sink' after : ℕ) (printed then printed' : Option (List ℕ)) (status : ℕ) (result : Result (Unit {0}) Stop)
     → (IsTrue tells → IsTold (LeavesAll tells state config old new) old.told new.told) → (IsTrue tells → IsTold (KeepsAllSound config) old.told new.told)
-    → (IsTrue tells → IsTold (KeepsOthers config) old.told new.told) → ChangesView tells state config order old new sink sink' printed then result → EndsChange config order result status then printed' → (bytes : Option (List ℕ)) → HasConfig bytes config
-    → (named : _) → IsOrder order.verb named order → IsViewChange tells state order.verb named bytes old new sink status printed printed'
-is_view_change tells state config order old new sink sink' printed then printed' status result left_ sound others changes ends bytes has named is = record {
+    → (IsTrue tells → IsTold (KeepsOthers config) old.told new.told) → ChangesView tells state config order old new sink sink' printed then result → sink' ≤ after → EndsChange config order result status then printed' → (bytes : Option (List ℕ)) → HasConfig bytes config
+    → (named : _) → IsOrder order.verb named order → IsViewChange tells state order.verb named bytes old new sink after status printed printed'
+is_view_change tells state config order old new sink sink' after printed then printed' status result left_ sound others changes later ends bytes has named is = record {
   config = config;
   has = has;
   order = order;
   is_order = is;
   result = result;
   sink_then = sink';
+  later = later;
   printed_then = then;
   left_ = left_;
   sound = sound;

@@ -11,8 +11,9 @@ use Rattle.wol_run.specs.Replaying.{IsRunOver}
 
 -- the configuration was had, and its volumes were to be cleaned
 pub record IsCleaning {D : Type 0} (tells : Bool) (state : D → State) (left : Option (List ℕ))
-    (old new : BayState) (sink status : ℕ) (printed printed' : Option (List ℕ)) : Type 0 where
-  pub over : IsRunOver left status printed'
+    (old new : BayState) (sink sink' status : ℕ) (printed printed' : Option (List ℕ)) :
+    Type 0 where
+  pub over : IsRunOver left sink' status printed'
   -- each image that is left recovers to what an image at entry did, and sound images stay sound
   pub leaves : LeavesBay tells state over.config old new
   -- images of names that aren't configured are as they were
@@ -21,10 +22,10 @@ pub record IsCleaning {D : Type 0} (tells : Bool) (state : D → State) (left : 
       over.printed_then over.result
 
 -- a run of `clean`, by the bytes of the configuration, its count of faults, the bay, the sink's
--- count of faults at entry, the status, and what the sink took
+-- count of faults, the status, and what the sink took
 abbrev pub RunsCleaning : {D : Type 0} → (tells : Bool) → (D → State) → (left : Option (List ℕ))
-    → (faults faults' : ℕ) → (old new : BayState) → (sink status : ℕ)
+    → (faults faults' : ℕ) → (old new : BayState) → (sink sink' status : ℕ)
     → (printed printed' : Option (List ℕ)) → Type 0
-RunsCleaning tells state left faults faults' old new sink status printed printed' =
-    IsCleaning tells state left old new sink status printed printed'
+RunsCleaning tells state left faults faults' old new sink sink' status printed printed' =
+    IsCleaning tells state left old new sink sink' status printed printed'
     ⊎ IsNotBegun left faults faults' old new status printed printed'

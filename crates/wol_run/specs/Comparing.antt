@@ -7,8 +7,8 @@ use Rattle.wol_run.specs.Tops.{EndsWith}
 
 -- the configuration was had, and these lines were run by each policy
 pub record IsComparison (start : GivenLines) (left left_of_trace : Option (List ℕ))
-    (sink status : ℕ) (printed printed' : Option (List ℕ)) : Type 0 where
-  pub over : IsRunOver left status printed'
+    (sink sink' status : ℕ) (printed printed' : Option (List ℕ)) : Type 0 where
+  pub over : IsRunOver left sink' status printed'
   pub now : GivenLines
   pub rest : HasLeft now left_of_trace
   pub compares : Compares (λ bytes. bytes) over.config start now sink over.sink_then printed
@@ -24,10 +24,10 @@ pub record IsUncompared (start : GivenLines) (left left_of_trace : Option (List 
   pub ends : EndsWith text wanted status printed printed'
 
 -- a run of `whatif`, by the bytes of the configuration, its count of faults, the bytes that are
--- left of the trace, the sink's count of faults at entry, the status, and what the sink took
+-- left of the trace, the sink's count of faults, the status, and what the sink took
 abbrev pub RunsWhatIf : (start : GivenLines) → (left : Option (List ℕ)) → (faults faults' : ℕ)
-    → (left_of_trace : Option (List ℕ)) → (sink status : ℕ) → (printed printed' : Option (List ℕ))
-    → Type 0
-RunsWhatIf start left faults faults' left_of_trace sink status printed printed' =
-    IsComparison start left left_of_trace sink status printed printed'
+    → (left_of_trace : Option (List ℕ)) → (sink sink' status : ℕ)
+    → (printed printed' : Option (List ℕ)) → Type 0
+RunsWhatIf start left faults faults' left_of_trace sink sink' status printed printed' =
+    IsComparison start left left_of_trace sink sink' status printed printed'
     ⊎ IsUncompared start left left_of_trace faults faults' status printed printed'

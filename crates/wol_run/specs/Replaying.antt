@@ -1,6 +1,6 @@
 -- What replaying a trace on the volumes of the configuration leaves and prints, and its exit
 -- status.
-use Rattle.std.specs.Prelude.{◌≡◌, ℕ, ◌⊎◌, ⊤, Bool, true, List, [], codes, Option, Result, Ok, Err}
+use Rattle.std.specs.Prelude.{◌≡◌, ◌≤◌, ℕ, ◌⊎◌, ⊤, Bool, true, List, [], codes, Option, Result, Ok, Err}
 use Rattle.wol_disk.specs.Disk.{State}
 use Rattle.wol_bay.specs.Bay.{BayState}
 use Rattle.wol_config.specs.declared.config.Config.{Config}
@@ -79,20 +79,22 @@ EndsReplay config (Err (stop.Fault f)) status printed new =
     ⊎ EndsWith (codes "fault 9 memory\n") 9 status printed new
 
 -- the configuration was had, and a command came to this result with it, behind which it ended so
-pub record IsRunOver (left : Option (List ℕ)) (status : ℕ) (printed' : Option (List ℕ)) :
+pub record IsRunOver (left : Option (List ℕ)) (sink' status : ℕ) (printed' : Option (List ℕ)) :
     Type 0 where
   pub config : Config
   pub has : HasConfig left config
   pub result : Result (Unit {0}) Stop
+  -- the sink's count of faults then, which ends no lower
   pub sink_then : ℕ
+  pub later : sink_then ≤ sink'
   pub printed_then : Option (List ℕ)
   pub ends : EndsReplay config result status printed_then printed'
 
 -- the configuration was had, and these lines were replayed on its volumes
 pub record IsReplay {D : Type 0} (tells : Bool) (state : D → State) (options : Serving)
     (start : GivenLines) (left left_of_trace : Option (List ℕ)) (old new : BayState)
-    (sink status : ℕ) (printed printed' : Option (List ℕ)) : Type 0 where
-  pub over : IsRunOver left status printed'
+    (sink sink' status : ℕ) (printed printed' : Option (List ℕ)) : Type 0 where
+  pub over : IsRunOver left sink' status printed'
   pub now : GivenLines
   pub rest : HasLeft now left_of_trace
   -- images of names that aren't configured are as they were
@@ -120,15 +122,15 @@ pub record IsUnreplayed (start : GivenLines) (left left_of_trace : Option (List 
   pub ends : EndsWith text wanted status printed printed'
 
 -- a run of `replay` or `soak`, by the bytes of the configuration, its count of faults, the bytes
--- that are left of the trace, the bay, the sink's count of faults at entry, the status, and what
--- the sink took
+-- that are left of the trace, the bay, the sink's count of faults, the status, and what the sink
+-- took
 abbrev pub RunsReplay : {D : Type 0} → (tells : Bool) → (D → State) → (options : Serving)
     → (start : GivenLines) → (left : Option (List ℕ)) → (faults faults' : ℕ)
-    → (left_of_trace : Option (List ℕ)) → (old new : BayState) → (sink status : ℕ)
+    → (left_of_trace : Option (List ℕ)) → (old new : BayState) → (sink sink' status : ℕ)
     → (printed printed' : Option (List ℕ)) → Type 0
-RunsReplay tells state options start left faults faults' left_of_trace old new sink status printed
-    printed' =
-    IsReplay tells state options start left left_of_trace old new sink status printed printed'
+RunsReplay tells state options start left faults faults' left_of_trace old new sink sink' status
+    printed printed' =
+    IsReplay tells state options start left left_of_trace old new sink sink' status printed printed'
     ⊎ IsUnreplayed start left left_of_trace faults faults' old new status printed printed'
 
 -- what is kept of such a run, unless the configuration wasn't had

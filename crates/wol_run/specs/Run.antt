@@ -61,7 +61,8 @@ module _ {D : Type 0} (tells : Bool) (state : D → State) (before after : Outsi
   IsReplayOf (how, start) =
       RunsReplay tells state how start before.config.bytes
       before.config.faults after.config.faults after.trace.bytes
-      before.bay after.bay before.sink.faults status before.sink.bytes after.sink.bytes
+      before.bay after.bay before.sink.faults after.sink.faults status
+      before.sink.bytes after.sink.bytes
 
   -- the volumes were looked at
   abbrev pub IsLookFor : Asked → Type 0
@@ -74,13 +75,15 @@ module _ {D : Type 0} (tells : Bool) (state : D → State) (before after : Outsi
   IsViewChangeOf (verb, named) =
       RunsViewChange tells state verb named before.config.bytes
       before.config.faults after.config.faults
-      before.bay after.bay before.sink.faults status before.sink.bytes after.sink.bytes
+      before.bay after.bay before.sink.faults after.sink.faults status
+      before.sink.bytes after.sink.bytes
 
   -- the volumes were cleaned
   abbrev pub IsCleaningOf : Type 0
   IsCleaningOf =
       RunsCleaning tells state before.config.bytes before.config.faults after.config.faults
-      before.bay after.bay before.sink.faults status before.sink.bytes after.sink.bytes
+      before.bay after.bay before.sink.faults after.sink.faults status
+      before.sink.bytes after.sink.bytes
 
   -- the volume of this name was served to a client, at once or behind a handshake
   abbrev pub IsServingOf : Beginning × List ℕ → Type 0
@@ -115,7 +118,7 @@ abbrev pub IsComparisonOf : (before after : Outside) → (status : ℕ) → Type
 IsComparisonOf before after status =
     RunsWhatIf (trace_of before.trace.bytes) before.config.bytes
     before.config.faults after.config.faults after.trace.bytes
-    before.sink.faults status before.sink.bytes after.sink.bytes
+    before.sink.faults after.sink.faults status before.sink.bytes after.sink.bytes
 
 module _ {D : Type 0} (tells : Bool) (state : D → State) (before after : Outside) (status : ℕ) where
   -- what a command does: a row for each

@@ -1,5 +1,5 @@
 -- What changing a view prints and leaves, and its exit status.
-use Rattle.std.specs.Prelude.{◌≡◌, ℕ, ◌⊎◌, Bool, IsTrue, List, codes, Option, None, Some, Result, Ok, Err}
+use Rattle.std.specs.Prelude.{◌≡◌, ◌≤◌, ℕ, ◌⊎◌, Bool, IsTrue, List, codes, Option, None, Some, Result, Ok, Err}
 use Rattle.wol_disk.specs.Disk.{State}
 use Rattle.wol_bay.specs.Bay.{BayState, Told}
 use Rattle.wol_config.specs.declared.config.Config.{Config}
@@ -70,14 +70,16 @@ EndsChange config order (Err (stop.Fault f)) status printed new =
 
 -- the configuration was had, and the view of one of its volumes was to be changed
 pub record IsViewChange {D : Type 0} (tells : Bool) (state : D → State) (verb : Verb)
-    (named : Named) (left : Option (List ℕ)) (old new : BayState) (sink status : ℕ)
+    (named : Named) (left : Option (List ℕ)) (old new : BayState) (sink sink' status : ℕ)
     (printed printed' : Option (List ℕ)) : Type 0 where
   pub config : Config
   pub has : HasConfig left config
   pub order : Order
   pub is_order : IsOrder verb named order
   pub result : Result (Unit {0}) Stop
+  -- the sink's count of faults then, which ends no lower
   pub sink_then : ℕ
+  pub later : sink_then ≤ sink'
   pub printed_then : Option (List ℕ)
   -- each image that is left recovers to what an image at entry did, and sound images stay sound
   pub left_ : IsTrue tells → IsTold (LeavesAll tells state config old new) old.told new.told
@@ -89,10 +91,11 @@ pub record IsViewChange {D : Type 0} (tells : Bool) (state : D → State) (verb 
   pub ends : EndsChange config order result status printed_then printed'
 
 -- a run of `view-add` or `view-remove`, by the bytes of the configuration, its count of faults, the
--- bay, the sink's count of faults at entry, the status, and what the sink took
+-- bay, the sink's count of faults, the status, and what the sink took
 abbrev pub RunsViewChange : {D : Type 0} → (tells : Bool) → (D → State) → Verb → Named
-    → (left : Option (List ℕ)) → (faults faults' : ℕ) → (old new : BayState) → (sink status : ℕ)
-    → (printed printed' : Option (List ℕ)) → Type 0
-RunsViewChange tells state verb named left faults faults' old new sink status printed printed' =
-    IsViewChange tells state verb named left old new sink status printed printed'
+    → (left : Option (List ℕ)) → (faults faults' : ℕ) → (old new : BayState)
+    → (sink sink' status : ℕ) → (printed printed' : Option (List ℕ)) → Type 0
+RunsViewChange tells state verb named left faults faults' old new sink sink' status printed
+    printed' =
+    IsViewChange tells state verb named left old new sink sink' status printed printed'
     ⊎ IsNotBegun left faults faults' old new status printed printed'

@@ -30,7 +30,7 @@ pub fn clean<R: Wait, C: Source, K: Sink, B: Bay>(
     ensures home { NoneOut (B.state bay.new) }
     ensures content { RunsCleaning B.Part.tells B.Part.state (C.left source.old)
         (C.faults source.old) (C.faults source.new) (B.state bay.old) (B.state bay.new)
-        (K.faults out.old) result (K.taken out.old) (K.taken out.new) }
+        (K.faults out.old) (K.faults out.new) result (K.taken out.old) (K.taken out.new) }
     ensures complete { (free : IsUnhindered B.Part.tells (C.left source.old) (C.faults source.old)
         (C.faults source.new) (B.state bay.old) (B.state bay.new) (K.faults out.old)
         (K.faults out.new)) → HaveVersionsToClean (C.left source.old) free.images.entry

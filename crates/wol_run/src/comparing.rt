@@ -31,8 +31,8 @@ pub fn compare<C: Source, S: Source, K: Sink>(
     out: &mut K,
 ) -> u8
     ensures content { RunsWhatIf (trace_of (S.left trace.old)) (C.left source.old)
-        (C.faults source.old) (C.faults source.new) (S.left trace.new) (K.faults out.old) result
-        (K.taken out.old) (K.taken out.new) }
+        (C.faults source.old) (C.faults source.new) (S.left trace.new) (K.faults out.old)
+        (K.faults out.new) result (K.taken out.old) (K.taken out.new) }
     ensures source { result ≡ 8 → Rose (C.faults source.old) (C.faults source.new)
         ⊎ Rose (S.faults trace.old) (S.faults trace.new) }
     ensures complete { (lines : _) → IsGoodTrace (S.left trace.old) lines
@@ -63,7 +63,7 @@ fn compare_lines<S: Source, K: Sink>(
     requires live { lines.live ≡ true }
     ensures content { (left : _) → HasConfig left config.now
         → IsComparison (seen S.left (Given.Trace lines)) left (S.left result.1.source)
-        (K.faults out.old) result.0 (K.taken out.old) (K.taken out.new) }
+        (K.faults out.old) (K.faults out.new) result.0 (K.taken out.old) (K.taken out.new) }
     ensures source { result.0 ≡ 8 → Rose (S.faults lines.source) (S.faults result.1.source) }
     ensures complete { MayCompare S.left (Given.Trace lines) (Given.Trace result.1)
         (K.faults out.old) (K.faults out.new) (S.faults lines.source) (S.faults result.1.source)
@@ -91,8 +91,8 @@ fn compare_given<S: Source, K: Sink>(
     requires new { IsNew given.old }
     ensures content { (left rest : _) → HasConfig left config.now
         → HasLeft (seen S.left given.new) rest
-        → IsComparison (seen S.left given.old) left rest (K.faults out.old) result (K.taken out.old)
-        (K.taken out.new) }
+        → IsComparison (seen S.left given.old) left rest (K.faults out.old) (K.faults out.new)
+        result (K.taken out.old) (K.taken out.new) }
     ensures source { result ≡ 8 → Rose (faults_of S.faults given.old)
         (faults_of S.faults given.new) }
     ensures complete { MayCompare S.left given.old given.new (K.faults out.old) (K.faults out.new)

@@ -49,7 +49,7 @@ where
     ensures content { RunsReplay B.Part.tells B.Part.state (options_as options)
         (trace_of (S.left trace.old)) (C.left source.old) (C.faults source.old)
         (C.faults source.new) (S.left trace.new) (B.state bay.old) (B.state bay.new)
-        (K.faults out.old) result (K.taken out.old) (K.taken out.new) }
+        (K.faults out.old) (K.faults out.new) result (K.taken out.old) (K.taken out.new) }
     ensures source { result ≡ 8 → Rose (C.faults source.old) (C.faults source.new)
         ⊎ Rose (S.faults trace.old) (S.faults trace.new) }
     ensures complete { (lines : _)
@@ -89,8 +89,8 @@ where
     ensures home { NoneOut (B.state bay.new) }
     ensures content { (rest : _) → RunsReplay B.Part.tells B.Part.state (options_as options)
         (lines_of asked) (C.left source.old) (C.faults source.old) (C.faults source.new) rest
-        (B.state bay.old) (B.state bay.new) (K.faults out.old) result (K.taken out.old)
-        (K.taken out.new) }
+        (B.state bay.old) (B.state bay.new) (K.faults out.old) (K.faults out.new) result
+        (K.taken out.old) (K.taken out.new) }
     ensures source { result ≡ 8 → Rose (C.faults source.old) (C.faults source.new) }
     ensures complete { (free : IsUnhindered B.Part.tells (C.left source.old) (C.faults source.old)
         (C.faults source.new) (B.state bay.old) (B.state bay.new) (K.faults out.old)
@@ -131,7 +131,7 @@ where
     ensures content { (left : _) → HasConfig left config.now
         → IsReplay B.Part.tells B.Part.state (options_as options) (seen S.left (Given.Trace lines))
         left (S.left result.1.source) (B.state bay.old) (B.state bay.new) (K.faults out.old)
-        result.0 (K.taken out.old) (K.taken out.new) }
+        (K.faults out.new) result.0 (K.taken out.old) (K.taken out.new) }
     ensures source { result.0 ≡ 8 → Rose (S.faults lines.source) (S.faults result.1.source) }
     ensures complete { MayComplete B.Part.tells S.left config.now (Given.Trace lines)
         (Given.Trace result.1) (B.state bay.old) (B.state bay.new) (K.faults out.old)
@@ -169,8 +169,8 @@ where
     ensures content { (left rest : _) → HasConfig left config.now
         → HasLeft (seen S.left given.new) rest
         → IsReplay B.Part.tells B.Part.state (options_as options) (seen S.left given.old) left rest
-        (B.state bay.old) (B.state bay.new) (K.faults out.old) result (K.taken out.old)
-        (K.taken out.new) }
+        (B.state bay.old) (B.state bay.new) (K.faults out.old) (K.faults out.new) result
+        (K.taken out.old) (K.taken out.new) }
     ensures source { result ≡ 8 → Rose (faults_of S.faults given.old)
         (faults_of S.faults given.new) }
     ensures complete { MayComplete B.Part.tells S.left config.now given.old given.new

@@ -35,7 +35,8 @@ pub fn change_view<R: Wait, C: Source, K: Sink, B: Bay>(
     ensures home { NoneOut (B.state bay.new) }
     ensures content { RunsViewChange B.Part.tells B.Part.state verb (named_by names.entry)
         (C.left source.old) (C.faults source.old) (C.faults source.new) (B.state bay.old)
-        (B.state bay.new) (K.faults out.old) result (K.taken out.old) (K.taken out.new) }
+        (B.state bay.new) (K.faults out.old) (K.faults out.new) result (K.taken out.old)
+        (K.taken out.new) }
     ensures complete { IsUnhindered B.Part.tells (C.left source.old) (C.faults source.old)
         (C.faults source.new) (B.state bay.old) (B.state bay.new) (K.faults out.old)
         (K.faults out.new) → IsDoneOrMemory result ⊎ (result ≡ 15) }

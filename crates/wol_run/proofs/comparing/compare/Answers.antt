@@ -4,7 +4,7 @@ use Rattle.wol_run.proofs.Completing.{complete_unread, may_compare}
 use Rattle.wol_run.proofs.comparing.compare.Goals as goal
 
 pub returns-in-Err-clause-content : goal.returns-in-Err-clause-content
-returns-in-Err-clause-content g c = uncompared _ _ _ _ _ _ _ _ _ c.in-Err.fault c.in-Err.ensures.err refl c.tell_fault.ensures.content
+returns-in-Err-clause-content g c = uncompared _ _ _ _ _ _ _ _ _ _ c.in-Err.fault c.in-Err.ensures.err refl c.tell_fault.ensures.content
 
 pub returns-clause-content : goal.returns-clause-content
 returns-clause-content g c =

@@ -4,21 +4,21 @@ use Rattle.wol_run.proofs.Compared.{comparison_calm, comparison_fault, compariso
 use Rattle.wol_run.proofs.Completing.{earlier_compared, replay_memory, replay_not_sink, rose_from, told_memory}
 use Rattle.wol_run.proofs.ReplayEndings.{told_status}
 use Rattle.wol_run.proofs.ReplayFaults.{CanEnd, is_source}
-use Rattle.wol_run.proofs.SinkTold.{sink_failed, sink_kept}
+use Rattle.wol_run.proofs.SinkTold.{no_greater, sink_failed, sink_kept}
 use Rattle.wol_run.proofs.comparing.compare_given.Goals as goal
 
 pub tell_fault-requires : goal.tell_fault-requires
 tell_fault-requires g c = record { told = λ same. subst CanEnd same (comparison_fault _ _ _ _ _ _ _ _ _ c.in-Err-Fault.ensures.compares c.in-Err-Fault.fault (ap Err c.in-Err-Fault.field-0-is)) }
 
 pub returns-in-Ok-clause-content : goal.returns-in-Ok-clause-content
-returns-in-Ok-clause-content g c = is_comparison _ _ _ _ _ _ _ _ _ _ _ c.in-Ok.ensures.compares (refl, refl)
+returns-in-Ok-clause-content g c = is_comparison _ _ _ _ _ _ _ _ _ _ _ _ c.in-Ok.ensures.compares (no_greater _) (refl, refl)
 
 pub returns-in-Err-Sink-clause-content : goal.returns-in-Err-Sink-clause-content
-returns-in-Err-Sink-clause-content g c = is_comparison _ _ _ _ _ _ _ _ _ _ _ (rw c.in-Err-Sink.field-0-is at c.in-Err-Sink.ensures.compares) (refl, refl)
+returns-in-Err-Sink-clause-content g c = is_comparison _ _ _ _ _ _ _ _ _ _ _ _ (rw c.in-Err-Sink.field-0-is at c.in-Err-Sink.ensures.compares) (no_greater _) (refl, refl)
 
 pub returns-in-Err-Fault-clause-content : goal.returns-in-Err-Fault-clause-content
 returns-in-Err-Fault-clause-content g c =
-    is_comparison _ _ _ _ _ _ _ _ _ _ _ (rw c.in-Err-Fault.field-0-is at c.in-Err-Fault.ensures.compares) (rw c.deref.ensures.value at c.tell_fault.ensures.content)
+    is_comparison _ _ _ _ _ _ _ _ _ _ _ _ (rw c.in-Err-Fault.field-0-is at c.in-Err-Fault.ensures.compares) c.tell_fault.ensures.sink.later (rw c.deref.ensures.value at c.tell_fault.ensures.content)
 
 pub returns-in-Err-Fault-clause-source : goal.returns-in-Err-Fault-clause-source
 returns-in-Err-Fault-clause-source g c eight =

@@ -5,21 +5,21 @@ use Rattle.wol_run.proofs.ReplayEndings.{told_status}
 use Rattle.wol_run.proofs.ReplayEnds.{calm_of, can_end, sink_rose, whole_calm}
 use Rattle.wol_run.proofs.ReplayFaults.{CanEnd, is_source}
 use Rattle.wol_run.proofs.SeenLines.{is_replay, source_kept}
-use Rattle.wol_run.proofs.SinkTold.{sink_failed, sink_kept}
+use Rattle.wol_run.proofs.SinkTold.{no_greater, sink_failed, sink_kept}
 use Rattle.wol_run.proofs.replaying.replay_given.Goals as goal
 
 pub tell_fault-requires : goal.tell_fault-requires
 tell_fault-requires g c = record { told = λ same. subst CanEnd same (can_end _ _ _ _ _ _ _ _ _ _ _ _ _ _ c.in-Err-Fault.ensures.replays c.in-Err-Fault.fault (ap Err c.in-Err-Fault.field-0-is)) }
 
 pub returns-in-Ok-clause-content : goal.returns-in-Ok-clause-content
-returns-in-Ok-clause-content g c = is_replay _ _ _ _ _ _ _ _ _ _ _ _ _ _ _ _ c.in-Ok.ensures.others (rw c.options_of.ensures at c.in-Ok.ensures.replays) (refl, refl)
+returns-in-Ok-clause-content g c = is_replay _ _ _ _ _ _ _ _ _ _ _ _ _ _ _ _ _ c.in-Ok.ensures.others (rw c.options_of.ensures at c.in-Ok.ensures.replays) (no_greater _) (refl, refl)
 
 pub returns-in-Err-Sink-clause-content : goal.returns-in-Err-Sink-clause-content
-returns-in-Err-Sink-clause-content g c = is_replay _ _ _ _ _ _ _ _ _ _ _ _ _ _ _ _ c.in-Err-Sink.ensures.others (rw (c.in-Err-Sink.field-0-is, c.options_of.ensures) at c.in-Err-Sink.ensures.replays) (refl, refl)
+returns-in-Err-Sink-clause-content g c = is_replay _ _ _ _ _ _ _ _ _ _ _ _ _ _ _ _ _ c.in-Err-Sink.ensures.others (rw (c.in-Err-Sink.field-0-is, c.options_of.ensures) at c.in-Err-Sink.ensures.replays) (no_greater _) (refl, refl)
 
 pub returns-in-Err-Fault-clause-content : goal.returns-in-Err-Fault-clause-content
 returns-in-Err-Fault-clause-content g c =
-    is_replay _ _ _ _ _ _ _ _ _ _ _ _ _ _ _ _ c.in-Err-Fault.ensures.others (rw (c.in-Err-Fault.field-0-is, c.options_of.ensures) at c.in-Err-Fault.ensures.replays) (rw c.deref.ensures.value at c.tell_fault.ensures.content)
+    is_replay _ _ _ _ _ _ _ _ _ _ _ _ _ _ _ _ _ c.in-Err-Fault.ensures.others (rw (c.in-Err-Fault.field-0-is, c.options_of.ensures) at c.in-Err-Fault.ensures.replays) c.tell_fault.ensures.sink.later (rw c.deref.ensures.value at c.tell_fault.ensures.content)
 
 pub returns-in-Err-Fault-clause-source : goal.returns-in-Err-Fault-clause-source
 returns-in-Err-Fault-clause-source g c eight =

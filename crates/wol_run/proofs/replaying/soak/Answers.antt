@@ -6,7 +6,7 @@ use Rattle.wol_run.proofs.SeenLines.{left_of_seed, seed_calm}
 use Rattle.wol_run.proofs.replaying.soak.Goals as goal
 
 pub returns-in-Err-clause-content : goal.returns-in-Err-clause-content
-returns-in-Err-clause-content g c rest = unreplayed _ _ _ _ _ _ _ _ _ _ _ _ _ c.in-Err.fault c.in-Err.ensures.err tt c.tell_fault.ensures.content
+returns-in-Err-clause-content g c rest = unreplayed _ _ _ _ _ _ _ _ _ _ _ _ _ _ c.in-Err.fault c.in-Err.ensures.err tt c.tell_fault.ensures.content
 
 pub returns-clause-content : goal.returns-clause-content
 returns-clause-content g c rest =
