@@ -35,11 +35,11 @@ front_both array rs ss old mid new on (ms, are, took) (ns, are', front) =
     (ms ++ ns, marks_both array rs ss ms ns on are are', rw (read_lines_append rs ss ms ns (marked array rs ms are)) (front_last old mid new _ _ took front))
 
 -- a stop after requests that were answered, and before others
-stops_after : (array : Option (List Block)) (rs ss first rest : List Request) (values : Option (List (Values Block))) → StopsAfter first rest (content_after rs array) ss values → StopsAfter (rs ++ first) rest array (rs ++ ss) values
-stops_after array rs ss first rest values (split, cuts) = (rw (split, append_assoc) refl, cuts_after array rs first (take 1 rest) values cuts)
+stops_after : (array : Option (List Block)) (rs ss first rest flight : List Request) (values : Option (List (Values Block))) → StopsAfter first rest flight (content_after rs array) ss values → StopsAfter (rs ++ first) rest flight array (rs ++ ss) values
+stops_after array rs ss first rest flight values (split, cuts) = (rw (split, append_assoc) refl, cuts_after array rs first flight values cuts)
 
-stops_before : (array : Option (List Block)) (rs more first rest : List Request) (values : Option (List (Values Block))) → StopsAfter first rest array rs values → StopsAfter first (rest ++ more) array (rs ++ more) values
-stops_before array rs more first rest values (split, cuts) = (rw (split, append_assoc) refl, cuts_before array first rest more values cuts)
+stops_before : (array : Option (List Block)) (rs more first rest flight : List Request) (values : Option (List (Values Block))) → rs ≡ first ++ rest → LeavesCutOf array first flight values → StopsAfter first (rest ++ more) flight array (rs ++ more) values
+stops_before array rs more first rest flight values split cuts = (rw (split, append_assoc) refl, cuts)
 
 on_first : (ss first rest : List Request) → ss ≡ first ++ rest → OnVolume ss → OnVolume first
 on_first ss first rest split on = front first rest (rw split at on) where
@@ -49,20 +49,21 @@ on_first ss first rest split on = front first rest (rw split at on) where
 
 pub left_after : (e : Fault) (array : Option (List Block)) (rs ss : List Request) (old mid new : Option (List ℕ)) (values : Option (List (Values Block))) → OnVolume ss → Answered array rs old mid → LeftBy e (content_after rs array) ss mid new values → LeftBy e array (rs ++ ss) old new values
 left_after fault.Disk array rs ss old mid new values on done (first, rest, stops, answered) =
-    (rs ++ first, rest, stops_after array rs ss first rest values stops, answered_both array rs first old mid new (on_first ss first rest stops.0 on) done answered)
+    (rs ++ first, rest, stops_after array rs ss first rest (take 1 rest) values stops, answered_both array rs first old mid new (on_first ss first rest stops.0 on) done answered)
 left_after fault.NoMemory array rs ss old mid new values on done (first, rest, stops, answered) =
-    (rs ++ first, rest, stops_after array rs ss first rest values stops, answered_both array rs first old mid new (on_first ss first rest stops.0 on) done answered)
+    (rs ++ first, rest, stops_after array rs ss first rest [] values stops, answered_both array rs first old mid new (on_first ss first rest stops.0 on) done answered)
 left_after fault.Sink array rs ss old mid new values on done (first, rest, stops, answered) =
-    (rs ++ first, rest, stops_after array rs ss first rest values stops, front_both array rs first old mid new (on_first ss first rest stops.0 on) done answered)
+    (rs ++ first, rest, stops_after array rs ss first rest [] values stops, front_both array rs first old mid new (on_first ss first rest stops.0 on) done answered)
 left_after fault.Bay array rs ss old mid new values on done left = left
 left_after (fault.BadLine line why) array rs ss old mid new values on done left = left
 left_after fault.Spent array rs ss old mid new values on done left = left
 left_after fault.Source array rs ss old mid new values on done left = left
 
 pub left_before : (e : Fault) (array : Option (List Block)) (rs more : List Request) (old new : Option (List ℕ)) (values : Option (List (Values Block))) → LeftBy e array rs old new values → LeftBy e array (rs ++ more) old new values
-left_before fault.Disk array rs more old new values (first, rest, stops, answered) = (first, rest ++ more, stops_before array rs more first rest values stops, answered)
-left_before fault.NoMemory array rs more old new values (first, rest, stops, answered) = (first, rest ++ more, stops_before array rs more first rest values stops, answered)
-left_before fault.Sink array rs more old new values (first, rest, stops, answered) = (first, rest ++ more, stops_before array rs more first rest values stops, answered)
+left_before fault.Disk array rs more old new values (first, rest, (split, cuts), answered) =
+    (first, rest ++ more, stops_before array rs more first rest (take 1 (rest ++ more)) values split (cuts_before array first rest more values cuts), answered)
+left_before fault.NoMemory array rs more old new values (first, rest, (split, cuts), answered) = (first, rest ++ more, stops_before array rs more first rest [] values split cuts, answered)
+left_before fault.Sink array rs more old new values (first, rest, (split, cuts), answered) = (first, rest ++ more, stops_before array rs more first rest [] values split cuts, answered)
 left_before fault.Bay array rs more old new values left = left
 left_before (fault.BadLine line why) array rs more old new values left = left
 left_before fault.Spent array rs more old new values left = left
@@ -76,9 +77,10 @@ pub front_read : (array : Option (List Block)) (r : Request) (found : ℕ) (old 
 front_read array r found old new are front = (Some found ∷ [], are, rw append-nil front)
 
 -- a request that left the disk as it was
-pub left_out : (r : Request) (values mid : Option (List (Values Block))) (old : Option (List ℕ)) → IsSettled values → mid ≡ values → StopsAfter [] (r ∷ []) (content_of values) (r ∷ []) mid × Answered (content_of values) [] old old
-left_out r values mid old settled same =
-    ((refl, rw same (settled_cuts values (r ∷ []) settled)), answered_none (content_of values) old old (keeps_same old))
+pub left_out : (r : Request) (flight : List Request) (values mid : Option (List (Values Block))) (old : Option (List ℕ)) → IsSettled values → mid ≡ values
+    → StopsAfter [] (r ∷ []) flight (content_of values) (r ∷ []) mid × Answered (content_of values) [] old old
+left_out r flight values mid old settled same =
+    ((refl, rw same (settled_cuts values flight settled)), answered_none (content_of values) old old (keeps_same old))
 
 pub left_in_sink : (r : Request) (found : ℕ) (values mid : Option (List (Values Block))) (old new : Option (List ℕ)) → IsSettled values → mid ≡ values → r.kind ≡ kind.Read
     → AreMarks (content_of values) (r ∷ []) (Some found ∷ []) → AppendsFront old new (read_text r found) → LeftBy fault.Sink (content_of values) (r ∷ []) old new mid

@@ -1,5 +1,5 @@
 -- What requests leave of a disk and of a sink.
-use Rattle.std.specs.Prelude.{◌≡◌, ℕ, ◌≤◌, ⊤, List, ◌++◌, take, Option, None, Some, option_map, Result, IsErrOf, MatchResult}
+use Rattle.std.specs.Prelude.{◌≡◌, ℕ, ◌≤◌, ⊤, List, [], ◌++◌, take, Option, None, Some, option_map, Result, IsErrOf, MatchResult}
 use Rattle.std.specs.Io.KnownBytes.{Appends}
 use Rattle.wol_disk.specs.Disk.{Block, IsImageOf, Rose, Values, only, reads}
 use Rattle.wol_io.specs.Streams.{AppendsFront}
@@ -42,23 +42,24 @@ abbrev pub AnsweredFront : (array : Option (List Block)) → List Request
 AnsweredFront array rs old new =
     (marks : List (Option ℕ)) × AreMarks array rs marks × AppendsFront old new (read_lines rs marks)
 
--- some first requests were answered, and no more than the next one was in flight
-abbrev pub StopsAfter : (first rest : List Request) → (array : Option (List Block)) → List Request
-    → (values : Option (List (Values Block))) → Type 0
-StopsAfter first rest array rs values =
-    (rs ≡ first ++ rest) × LeavesCutOf array first (take 1 rest) values
+-- some first requests were answered, and of the others no more than these were in flight
+abbrev pub StopsAfter : (first rest flight : List Request) → (array : Option (List Block))
+    → List Request → (values : Option (List (Values Block))) → Type 0
+StopsAfter first rest flight array rs values =
+    (rs ≡ first ++ rest) × LeavesCutOf array first flight values
 
--- how requests end that weren't all answered: only by their disk, the sink, or want of memory
+-- how requests end that weren't all answered: only by their disk, the sink, or want of memory; the
+-- next one may be in flight where a call of the disk failed, and nothing elsewhere
 abbrev pub LeftBy : Fault → (array : Option (List Block)) → List Request
     → (old new : Option (List ℕ)) → (values : Option (List (Values Block))) → Type 0
 LeftBy fault.Disk array rs old new values =
-    (first rest : List Request) × StopsAfter first rest array rs values
+    (first rest : List Request) × StopsAfter first rest (take 1 rest) array rs values
     × Answered array first old new
 LeftBy fault.NoMemory array rs old new values =
-    (first rest : List Request) × StopsAfter first rest array rs values
+    (first rest : List Request) × StopsAfter first rest [] array rs values
     × Answered array first old new
 LeftBy fault.Sink array rs old new values =
-    (first rest : List Request) × StopsAfter first rest array rs values
+    (first rest : List Request) × StopsAfter first rest [] array rs values
     × AnsweredFront array first old new
 LeftBy fault.Bay array rs old new values = ⊥
 LeftBy (fault.BadLine line why) array rs old new values = ⊥
