@@ -12,6 +12,8 @@ use Rattle.wol_model.specs.declared.trace.Kind.{Kind}
 use Rattle.wol_model.specs.declared.trace.Kind.TheVariants as kind
 use Rattle.wol_promise.specs.Policy.{Look}
 use Rattle.wol_promise.specs.Ruled.{Noted}
+use Rattle.manager.specs.declared.part.Part.{Part}
+use Rattle.manager.specs.declared.part.Part.TheVariants as part
 use Rattle.manager.specs.declared.part.Place.{Place}
 use Rattle.manager.specs.declared.part.Place.TheVariants as place
 use Rattle.manager.specs.declared.part.ReadRefusal.{ReadRefusal}
@@ -170,6 +172,13 @@ pub record IsFlight (payloads flight : List Write) : Type 0 where
   pub same : map unversioned flight ≡ take count payloads
   pub logged : (count ≤ 1) ⊎ AllByRecursion (λ (w : Write). is_some w.version ≡ true) flight
 
+-- they were on their way to the part that failed: without a version to home, and each with one to a
+-- log
+abbrev pub IsFlightAt : Part → List Write → Type 0
+IsFlightAt (part.Home volume) flight = AllByRecursion (λ (w : Write). w.version ≡ None) flight
+IsFlightAt (part.Segment volume index) flight =
+    AllByRecursion (λ (w : Write). is_some w.version ≡ true) flight
+
 -- what a refused read leaves
 abbrev pub IsRefusedRead : ReadRefusal → Noted → Type 0
 IsRefusedRead (refused_read.DiskFault p) n = n.entry.operation ≡ Broke []
@@ -181,6 +190,7 @@ abbrev pub IsRefusedWrite : (payloads : List Write) → WriteRefusal → Noted �
 IsRefusedWrite payloads refused.Full n = ⊥
 IsRefusedWrite payloads (refused.DiskFault p) n =
     (flight : List Write) × (n.entry.operation ≡ Broke flight) × IsFlight payloads flight
+    × IsFlightAt p flight
 IsRefusedWrite payloads (refused.Down p) n = n.entry.operation ≡ Kept
 IsRefusedWrite payloads refused.VersionsSpent n =
     (n.entry.operation ≡ Kept) × (n.look.next ≡ 2 ^ 63)
