@@ -22,6 +22,7 @@ use Rattle.manager.specs.Writing.{HasLook, ruled_place}
 use Rattle.manager.specs.declared.base.ManagerBase.{ManagerBase}
 use Rattle.manager.specs.declared.manager.Manager.{Manager}
 use Rattle.manager.specs.declared.part.Part.{Part}
+use Rattle.manager.specs.declared.part.Part.TheVariants as part
 use Rattle.manager.specs.declared.part.Place.{Place}
 use Rattle.manager.specs.declared.part.Place.TheVariants as place
 use Rattle.manager.specs.declared.part.StepFault.{StepFault}
@@ -30,14 +31,14 @@ use Rattle.manager.specs.declared.part.WriteRefusal.{WriteRefusal}
 use Rattle.manager.specs.declared.part.WriteRefusal.TheVariants.{Full, DiskFault, Down, VersionsSpent, NoMemory}
 use Rattle.request_turns.specs.Causes.{CanTake, IsCauseOfWrite}
 use Rattle.request_turns.specs.Counts.{CountsMore, CountsEntry, IsTakenOff}
-use Rattle.request_turns.specs.Entries.{note_of, written_outcome, refused_as, has_broken, IsWrittenAs}
+use Rattle.request_turns.specs.Entries.{note_of, written_outcome, refused_as, has_broken, IsFlightAt, IsWrittenAs}
 use Rattle.request_turns.specs.Turns.{ManagerPass, began, notes_seen, HasLeft, IsBroken, WasDown, faulty_part, Stays}
 use Rattle.request_turns.specs.Written.{HasWritten, IsDiskFault}
 use Rattle.request_turns.specs.declared.outcome.Outcome.TheVariants as outcome
 use Rattle.request_turns.specs.declared.tally.Tally.{Tally}
 use Rattle.request_turns.proofs.Counting.{entry_quiet, entry_taken, taken_then, more_of}
 use Rattle.request_turns.proofs.Merging.{merged}
-use Rattle.request_turns.proofs.WriteNotes.{one_flight, was_spent, write_fault}
+use Rattle.request_turns.proofs.WriteNotes.{one_flight, flight_at, was_spent, write_fault}
 
 none_covered : (xs : List ℕ) → list_any (is_covered []) xs ≡ false
 none_covered [] = refl
@@ -75,7 +76,7 @@ module _ {D : Type 0} (old new : Manager D) (first : ℕ) (blocks : List Block) 
   drain_entry view mine (Ok place.Home) at look spent = record { write = w; operation = refl; same = refl; logged = refl; placed = tt; drain = refl }
   drain_entry view mine (Ok (place.Log logger)) at look spent = absurd (let no : AtHome ≡ InLog at.0 = sym at_home ∙ at.2 in cc)
   drain_entry view mine (Err Full) at look spent = absurd (let no : AtHome ≡ Nowhere = sym at_home ∙ at in cc)
-  drain_entry view mine (Err (DiskFault p)) at look spent = (failed_write next first blocks p ∷ [], refl, (record { count = 1; same = λ t. one_flight next first blocks p t ∷ []; logged = inl (omega arith) }))
+  drain_entry view mine (Err (DiskFault p)) at look spent = (failed_write next first blocks p ∷ [], refl, (record { count = 1; same = λ t. one_flight next first blocks p t ∷ []; logged = inl (omega arith) }), flight_at next first blocks p)
   drain_entry view mine (Err (Down p)) at look spent = refl
   drain_entry view mine (Err VersionsSpent) at look spent = (refl, ap (λ (k : Look). k.next) look ∙ spent refl)
   drain_entry view mine (Err NoMemory) at look spent = refl
@@ -149,6 +150,11 @@ has_drained tells state old new first blocks next passed view a p q done t u fai
 
 -- ---- A drain that failed
 
+-- nothing was on its way
+none_at : (p : Part) → IsFlightAt p []
+none_at (part.Home volume) = tt
+none_at (part.Segment volume index) = tt
+
 pub broke_stands : {D : Type 0} (tells : Bool) (state : D → State) (old new : Manager D) (b : ManagerBase) (notes : List Noted) (n1 : Noted) (pass : ℕ) (f : StepFault) → IsDiskFault f → n1.entry.operation ≡ Kept
     → OnFailed {T = Unit {0}} (Err f) (BreaksOff tells state old new Always) → Keeps tells state old b (notes ++ n1 ∷ []) → Stands tells state new b (notes ++ note_of pass (Broke []) (look_of_manager new) n1.passed false ∷ [])
 broke_stands tells state old new b notes n1 pass (fault.DiskFault p) failed kept breaks keeps =
@@ -164,7 +170,7 @@ write_broken tells new first blocks passed (fault.DiskFault d) p q t failed left
   note = note_of (pass_number p) (Broke []) (look_of_manager new) passed false;
   left = left;
   ruled = refl;
-  entry = ([], refl, record { count = 0; same = refl; logged = inl (omega arith) });
+  entry = ([], refl, (record { count = 0; same = refl; logged = inl (omega arith) }), none_at d);
   stays = λ kept. absurd (let no : Broke [] ≡ Kept = kept in cc);
   cause = takes;
   fault = broken d down;

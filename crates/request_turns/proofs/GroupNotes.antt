@@ -1,5 +1,5 @@
 -- The entry of several writes, where a log or home took some first ones of them or they were refused.
-use Rattle.std.proofs.Common.{◌≡◌, inl, inr, ◌≤◌, ◌+◌, ◌^◌, ℕ, zero, suc, Bool, true, false, List, [], ◌∷◌, ◌++◌, map, length, take, drop, Some, Result, Ok, Err, refl, sym, ap, subst, ◌∙◌, arith}
+use Rattle.std.proofs.Common.{◌≡◌, inl, inr, ◌≤◌, ◌+◌, ◌^◌, ℕ, zero, suc, Bool, true, false, List, [], ◌∷◌, ◌++◌, map, length, take, drop, None, Some, Result, Ok, Err, refl, sym, ap, subst, ◌∙◌, arith}
 use Rattle.std.specs.Prelude.{OnOk, is_some, slice_get}
 use Rattle.std.specs.List.{AllByRecursion}
 use Rattle.wol_disk.specs.Disk.{State, Block}
@@ -27,7 +27,7 @@ use Rattle.manager.specs.declared.part.Place.TheVariants as place
 use Rattle.manager.specs.declared.part.WriteRefusal.{WriteRefusal}
 use Rattle.manager.specs.declared.part.WriteRefusal.TheVariants.{Full, DiskFault, Down, VersionsSpent, NoMemory}
 use Rattle.request_turns.specs.Counts.{CountsEntry}
-use Rattle.request_turns.specs.Entries.{note_of, written_outcome, is_full, IsFlight, IsPlaced, IsRefusedWrite}
+use Rattle.request_turns.specs.Entries.{note_of, written_outcome, is_full, IsFlight, IsFlightAt, IsPlaced, IsRefusedWrite}
 use Rattle.request_turns.specs.Groups.{AreWrittenAs, one, several, answered_of}
 use Rattle.request_turns.specs.declared.outcome.Outcome.TheVariants as outcome
 use Rattle.request_turns.specs.Turns.{Stays}
@@ -53,7 +53,7 @@ logged_versions : (next : ℕ) (items : List Item) (from : List Block) → AllBy
 logged_versions next [] from = tt
 logged_versions next (i ∷ items) from = (refl, logged_versions (next + 1) items (drop i.count from))
 
-home_versions : (items : List Item) (from : List Block) → AllByRecursion (λ (w : Write). is_some w.version ≡ false) (writes_to_home items from)
+home_versions : (items : List Item) (from : List Block) → AllByRecursion (λ (w : Write). w.version ≡ None) (writes_to_home items from)
 home_versions [] from = tt
 home_versions (i ∷ items) from = (refl, home_versions items (drop i.count from))
 
@@ -168,6 +168,10 @@ module _ {D : Type 0} (tells : Bool) (state : D → State) (old new : Manager D)
   group_flight (part.Home volume) alone = record { count = n; same = home_bare (take n items) from ∙ front_writes n items from; logged = inl (let e = alone volume refl in omega (arith, e)) }
   group_flight (part.Segment volume index) alone = record { count = n; same = logged_bare old.next (take n items) from ∙ front_writes n items from; logged = inr (logged_versions old.next (take n items) from) }
 
+  group_flight_at : (p : Part) → IsFlightAt p (ws (Err (DiskFault p)))
+  group_flight_at (part.Home volume) = home_versions (take n items) from
+  group_flight_at (part.Segment volume index) = logged_versions old.next (take n items) from
+
   pub group_entry : (view : List ℕ) (a : Result Place WriteRefusal) → 1 ≤ length items → is_full a ≡ false → AreTried n items a → IsPlaceOf view a P → OnOk a (look_of_manager new ≡ placed_all P l (ws a)) → IsAsBefore a old new
       → (a ≡ Err VersionsSpent → old.next ≡ 2 ^ 63) → AreWrittenAs view (writes_to_home items from) (answered_of n a) (written_outcome false a) (group_note a)
   group_entry view (Ok place.Home) some not_full are at look was spent = home_entry view n items from (group_note (Ok place.Home)) (are.home (inl refl)) are.within refl refl
@@ -176,7 +180,7 @@ module _ {D : Type 0} (tells : Bool) (state : D → State) (old new : Manager D)
       (group_placed view at.0 logger old.next n l items from (look_of_manager new) (are.some refl) are.within at.1 (look ∙ ap (λ (q : placing.Place). placed_all q l (log_writes old.next (take n items) from)) at.2)) refl
   group_entry view (Err Full) some not_full are at look was spent = absurd (let no : true ≡ false = not_full in cc)
   group_entry view (Err (DiskFault p)) some not_full are at look was spent = refused_entry view items from (DiskFault p) (group_note (Err (DiskFault p))) some
-      (ws (Err (DiskFault p)), refl, group_flight p (λ v is. are.home (inr (v, ap (λ (q : Part). Err (DiskFault q)) is))))
+      (ws (Err (DiskFault p)), refl, group_flight p (λ v is. are.home (inr (v, ap (λ (q : Part). Err (DiskFault q)) is))), group_flight_at p)
   group_entry view (Err (Down p)) some not_full are at look was spent = refused_entry view items from (Down p) (group_note (Err (Down p))) some refl
   group_entry view (Err VersionsSpent) some not_full are at look was spent = refused_entry view items from VersionsSpent (group_note (Err VersionsSpent)) some
       (refl, ap (λ (k : Look). k.next) (kept_look old new (Err VersionsSpent) refl was) ∙ spent refl)

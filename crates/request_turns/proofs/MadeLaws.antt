@@ -35,7 +35,7 @@ flight_more ps qs flight is =
 
 pub refused_more : (ps qs : List Write) (e : WriteRefusal) (n : Noted) → IsRefusedWrite ps e n → IsRefusedWrite (ps ++ qs) e n
 refused_more ps qs refused.Full n is = is
-refused_more ps qs (refused.DiskFault p) n is = (is.0, is.1, flight_more ps qs is.0 is.2)
+refused_more ps qs (refused.DiskFault p) n is = (is.0, is.1, flight_more ps qs is.0 is.2, is.3)
 refused_more ps qs (refused.Down p) n is = is
 refused_more ps qs refused.VersionsSpent n is = is
 refused_more ps qs refused.NoMemory n is = is

@@ -29,7 +29,7 @@ use Rattle.manager.specs.declared.base.ManagerBase.{ManagerBase}
 use Rattle.wol_model.specs.History.{worker}
 use Rattle.request_turns.specs.Causes.{CanTake, IsCauseOfWrite, IsUnbroken}
 use Rattle.request_turns.specs.Counts.{CountsEntry}
-use Rattle.request_turns.specs.Entries.{note_of, full_note, written_outcome, is_full, IsWrittenAs, TellsFault, WasSpent}
+use Rattle.request_turns.specs.Entries.{note_of, full_note, written_outcome, is_full, IsFlightAt, IsWrittenAs, TellsFault, WasSpent}
 use Rattle.request_turns.specs.Turns.{ManagerPass, began, notes_seen, HasLeft, IsBroken, WasDown, Stays}
 use Rattle.request_turns.specs.Written.{HasWritten}
 use Rattle.request_turns.specs.declared.tally.Tally.{Tally}
@@ -41,6 +41,11 @@ use Rattle.request_turns.proofs.Parts.{no_part}
 pub one_flight : (next first : ℕ) (blocks : List Block) (p : Part) → unversioned (failed_write next first blocks p) ≡ home_write first blocks
 one_flight next first blocks (part.Home volume) = refl
 one_flight next first blocks (part.Segment volume index) = refl
+
+-- .. on its way to that part
+pub flight_at : (next first : ℕ) (blocks : List Block) (p : Part) → IsFlightAt p (failed_write next first blocks p ∷ [])
+flight_at next first blocks (part.Home volume) = (refl, tt)
+flight_at next first blocks (part.Segment volume index) = (refl, tt)
 
 pub full_is : (a : Result Place WriteRefusal) → is_full a ≡ true → a ≡ Err Full
 full_is (Ok p) is = absurd (let no : false ≡ true = is in cc)
@@ -96,7 +101,7 @@ module _ {D : Type 0} (old new : Manager D) (first : ℕ) (blocks : List Block) 
     drain = refl;
   }
   write_entry view (Err Full) not_full at look spent = absurd (let no : true ≡ false = not_full in cc)
-  write_entry view (Err (DiskFault p)) not_full at look spent = (failed_write old.next first blocks p ∷ [], refl, (record { count = 1; same = λ t. one_flight old.next first blocks p t ∷ []; logged = inl (omega arith) }))
+  write_entry view (Err (DiskFault p)) not_full at look spent = (failed_write old.next first blocks p ∷ [], refl, (record { count = 1; same = λ t. one_flight old.next first blocks p t ∷ []; logged = inl (omega arith) }), flight_at old.next first blocks p)
   write_entry view (Err (Down p)) not_full at look spent = refl
   write_entry view (Err VersionsSpent) not_full at look spent = (refl, ap (λ (k : Look). k.next) look ∙ spent refl)
   write_entry view (Err NoMemory) not_full at look spent = refl
