@@ -32,6 +32,7 @@ use Rattle.manager.specs.declared.part.WriteRefusal.TheVariants.{Down, VersionsS
 use Rattle.trace_windows.specs.Requests.{asked}
 use Rattle.trace_windows.specs.declared.request.Request.{Request}
 use Rattle.request_turns.specs.Answered.{HasAnsweredMany}
+use Rattle.request_turns.specs.Causes.{IsCauseOfWrite}
 use Rattle.request_turns.specs.Entries.{note_of, full_note, written_outcome, is_full, AreWrittenTogether, IsEntryOf, IsEntryOfFirst, IsWrittenAs, IsRefusedWrite, before_others, front_writes}
 use Rattle.request_turns.specs.Entries as entries
 use Rattle.request_turns.specs.Groups.{AreWrittenAs, one, several, HasWrittenMany, item_of, answered_of}
@@ -176,6 +177,7 @@ answered_many tells rs items from count o p i q t u all payloads long same begin
   entry = of_requests (began p).view rs count o w.note all (subst (λ (ws : List Write). AreWrittenAs (began p).view ws count o w.note) payloads
       (subst (λ (l : LockId ManagerBase). AreWrittenAs l.base.volume.began.view (writes_to_home items from) count o w.note) same.0 w.entry));
   stays = λ kept. subst (λ (l : LockId ManagerBase). Stays (last_look l.base.volume.began.look (notes_seen i)) w.note) same.0 (w.stays kept);
+  cause = λ r first writes. subst (λ (l : LockId ManagerBase). IsCauseOfWrite (notes_seen i) (last_look l.base.volume.began.look (notes_seen i)) o) same.0 w.cause;
   fault = w.fault;
 }
 

@@ -1,10 +1,12 @@
 -- A request, or several writes, in one turn.
-use Rattle.std.specs.Prelude.{◌≡◌, ◌≤◌, ℕ, Bool, List, [], length}
+use Rattle.std.specs.Prelude.{◌≡◌, ◌≤◌, ℕ, Bool, List, [], Some, length, slice_get}
 use Rattle.turn_lock.specs.Histories.{Entry}
 use Rattle.wol_model.specs.History.{Kept}
+use Rattle.wol_model.specs.declared.trace.Kind.TheVariants as kind
 use Rattle.wol_promise.specs.Ruled.{Noted, last_look}
 use Rattle.trace_windows.specs.declared.request.Request.{Request}
 use Rattle.manager.specs.Stands.{notes_of}
+use Rattle.request_turns.specs.Causes.{IsCauseOfWrite}
 use Rattle.request_turns.specs.Turns.{ManagerPass, began, notes_seen, HasTurned, Stays}
 use Rattle.request_turns.specs.Entries.{IsEntryOf, IsEntryOfFirst, TellsFault}
 use Rattle.request_turns.specs.declared.outcome.Outcome.{Outcome}
@@ -29,4 +31,7 @@ pub record HasAnsweredMany {D : Type 0} (tells : Bool) (rs : List Request) (coun
   pub turned : HasTurned tells p q before note
   pub entry : IsEntryOfFirst (began p).view rs count o note
   pub stays : note.entry.operation ≡ Kept → Stays (last_look (began p).look (notes_of before)) note
+  -- where the first is a write
+  pub cause : (r : Request) → slice_get rs 0 ≡ Some r → r.kind ≡ kind.Write
+      → IsCauseOfWrite (notes_of before) (last_look (began p).look (notes_of before)) o
   pub fault : TellsFault (notes_seen q) o

@@ -156,6 +156,8 @@ fn write_run_within<D: Disk, R: Wait, B: Memo>(
 /// Writes the payloads of some first ones of these requests in one turn. Answers how many, and their outcome: all those
 /// that went to one log together, or the first alone; a refusal is the first's, whichever of them were to go with it. Where
 /// no log has room, all records are drained and the first is written alone. `payload` has room for all their blocks.
+///
+/// The first is refused for the causes of `write_blocks`, in their order.
 pub fn write_many_turn<D: Disk, R: Wait>(
     rt: &R,
     lock: &TurnLock<Manager<D>>,

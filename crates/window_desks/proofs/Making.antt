@@ -1,6 +1,8 @@
 -- The entries that a turn leaves for the first ones of some requests.
 use Rattle.std.proofs.Common.{◌≡◌, ◌≤◌, ◌+◌, ℕ, Bool, true, false, List, [], ◌∷◌, ◌++◌, length, take, drop, get_or, replicate, refl, ap, sym, ◌∙◌, subst, arith}
 use Rattle.std.proofs.lemmas.List.{append-nil, length-take-le, drop_more}
+use Rattle.std.proofs.lemmas.Option.{get_or_from_slice_get}
+use Rattle.wol_model.specs.declared.trace.Kind.TheVariants as kind
 use Rattle.wol_promise.specs.Ruled.{Noted}
 use Rattle.request_turns.specs.Answered.{HasAnswered, HasAnsweredMany}
 use Rattle.request_turns.specs.Entries.{IsEntryOf, IsEntryOfFirst, AreMade, none, one, several}
@@ -66,9 +68,9 @@ module _ (view : List ℕ) (rs : List Request) (count : ℕ) (o : Outcome) (n : 
       (entries_of_one view r (behind ++ later) o n (entry_more view r behind later o n is)) (made_none view (behind ++ later)))))
   first_refused refused (several place two within o_is group) later left all = let e = ap was_answered o_is in cc
 
--- the first of these requests, in one turn
-pub one_answered : {D : Type 0} (tells : Bool) (rs : List Request) (d : Request) (o : Outcome) (p q : ManagerPass D) → 1 ≤ length rs → HasAnswered tells (get_or rs 0 d) o p q → HasAnsweredMany tells rs 1 o p q
-one_answered tells rs d o p q some a = record {
+-- the first of these requests, in one turn, where it reads
+pub one_answered : {D : Type 0} (tells : Bool) (rs : List Request) (d : Request) (o : Outcome) (p q : ManagerPass D) → 1 ≤ length rs → (get_or rs 0 d).kind ≡ kind.Read → HasAnswered tells (get_or rs 0 d) o p q → HasAnsweredMany tells rs 1 o p q
+one_answered tells rs d o p q some reads a = record {
   some = omega arith;
   within = some;
   before = a.before;
@@ -76,5 +78,6 @@ one_answered tells rs d o p q some a = record {
   turned = a.turned;
   entry = one (get_or rs 0 d) (drop 1 rs) (drop_more rs 0 d (omega arith)) refl (entry_more (began p).view (get_or rs 0 d) [] (drop 1 rs) o a.note a.entry);
   stays = a.stays;
+  cause = λ r first writes. absurd (let no : kind.Read ≡ kind.Write = sym reads ∙ ap (λ (x : Request). x.kind) (get_or_from_slice_get rs 0 r d first) ∙ writes in cc);
   fault = a.fault;
 }
