@@ -16,6 +16,7 @@ pub mod Waking
 pub mod Flagged
 pub mod Gaining
 pub mod HelpNotes
+mod NothingDone
 mod InPlace
 pub mod Counting
 pub mod CountLaws

@@ -1,10 +1,12 @@
 -- What turns of a helper make of its pass.
-use Rattle.std.specs.Prelude.{◌≡◌, ℕ, Bool, List, drop, length}
+use Rattle.std.specs.Prelude.{◌≡◌, ℕ, Bool, false, List, drop, length, IsTrue}
 use Rattle.std.specs.List.{AllByRecursion}
 use Rattle.turn_lock.specs.Histories.{Entry}
 use Rattle.turn_lock.specs.Passes.{pass_number, pass_mine, IsPassOf, IsFree}
 use Rattle.turn_lock.specs.declared.lock.TurnLock.{TurnLock}
 use Rattle.wol_model.specs.History.{Kept}
+use Rattle.wol_model.specs.Index.{Listed, has_due, has_going}
+use Rattle.wol_promise.specs.Policy.{Look, is_within_reach}
 use Rattle.wol_promise.specs.Ruled.{Noted}
 use Rattle.manager.specs.Stands.{notes_of}
 use Rattle.manager.specs.declared.base.ManagerBase.{ManagerBase}
@@ -35,3 +37,15 @@ made_since p q = drop (length (pass_mine p)) (pass_mine q)
 -- no disk call failed in them
 abbrev pub AreKept : {D : Type 0} → (p q : ManagerPass D) → Type 0
 AreKept p q = AllByRecursion (λ (n : Noted). n.entry.operation ≡ Kept) (notes_of (made_since p q))
+
+-- ---- Where there is nothing to do
+
+-- home is asleep, or no record within reach has a due block
+abbrev pub HasNoneDue : Look → Type 0
+HasNoneDue l = IsTrue l.home_up → AllByRecursion
+    (λ (e : Listed). IsTrue (is_within_reach l e) → has_due l.listed e ≡ false) l.listed
+
+-- no record within reach has a block that may go
+abbrev pub HasNoneToGo : Look → Type 0
+HasNoneToGo l = AllByRecursion
+    (λ (e : Listed). IsTrue (is_within_reach l e) → has_going l.listed e ≡ false) l.listed

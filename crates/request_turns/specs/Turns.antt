@@ -37,6 +37,10 @@ began p = (pass_lock p).base.volume.began
 abbrev pub notes_seen : {D : Type 0} → ManagerPass D → List Noted
 notes_seen p = notes_of (pass_seen p)
 
+-- what is known of the volume behind them
+abbrev pub look_seen : {D : Type 0} → ManagerPass D → Look
+look_seen p = last_look (began p).look (notes_seen p)
+
 -- what is known of a manager, or nothing where there is none
 abbrev pub look_or_nothing : {D : Type 0} → Option (Manager D) → Look
 look_or_nothing None = (no_note 0).look

@@ -2,9 +2,9 @@
 ghost use Rattle.manager.specs.Stands.{IsShared};
 ghost use Rattle.reclaimer.specs.Fetches.{HasData};
 ghost use Rattle.request_turns.specs.Counts.{CountsMore, HasCounted, ReclaimsNothing, gone_count};
-ghost use Rattle.request_turns.specs.Helped.{IsPassAt, HasHelped, AreKept};
-ghost use Rattle.request_turns.specs.Turns.{notes_seen, WasDown, faulty_part};
-ghost use Rattle.std.specs.Prelude.{◌≡◌, OnOk, IfErr};
+ghost use Rattle.request_turns.specs.Helped.{IsPassAt, HasHelped, AreKept, HasNoneDue, HasNoneToGo};
+ghost use Rattle.request_turns.specs.Turns.{look_seen, notes_seen, WasDown, faulty_part};
+ghost use Rattle.std.specs.Prelude.{◌≡◌, ◌↔◌, false, Ok, OnOk, IfOk, IfErr, IsSome, IsTrue};
 ghost use Rattle.turn_lock.specs.Passes.{pass_lock};
 ghost use Rattle.wol_model.specs.History.{helper};
 
@@ -18,7 +18,8 @@ use std::sync::Wait;
 use turn_lock::{Pass, TurnLock};
 use wol_disk::Disk;
 
-/// Reads a record with due blocks in one turn. Tells whether there was one.
+/// Reads a record with due blocks in one turn. Tells whether there was one within reach: then `room` has it, and else it is
+/// empty.
 pub fn fetch_turn<D: Disk, R: Wait>(
     rt: &R,
     lock: &TurnLock<Manager<D>>,
@@ -31,6 +32,8 @@ pub fn fetch_turn<D: Disk, R: Wait>(
     ensures helped { HasHelped D.tells pass.old pass.new }
     ensures counted { ReclaimsNothing D.tells pass.old pass.new }
     ensures data { HasData D.tells room.new (pass_lock pass.new).base (notes_seen pass.new) }
+    ensures room { IfOk result (λ some. IsTrue some ↔ IsSome room.new) }
+    ensures nothing { result ≡ Ok false → HasNoneDue (look_seen pass.new) }
     ensures cause { IfErr result (λ f. WasDown (faulty_part f) (notes_seen pass.new)) }
     ensures kept { OnOk result (AreKept pass.old pass.new) }
 {
@@ -58,6 +61,7 @@ pub fn put_turn<D: Disk, R: Wait>(
     requires data { HasData D.tells room.now (pass_lock pass.old).base (notes_seen pass.old) }
     ensures helped { HasHelped D.tells pass.old pass.new }
     ensures counted { HasCounted D.tells tally.old tally.new pass.old pass.new }
+    ensures nothing { result ≡ Ok false → ReclaimsNothing D.tells pass.old pass.new }
     ensures cause { IfErr result (λ f. WasDown (faulty_part f) (notes_seen pass.new)) }
     ensures kept { OnOk result (AreKept pass.old pass.new) }
 {
@@ -75,7 +79,8 @@ pub fn put_turn<D: Disk, R: Wait>(
 
 // Counts a record that is gone. Tells whether something was given up.
 fn count_gone(gone: Gone, tally: &mut Tally) -> bool
-    ensures { CountsMore 0 (gone_count gone) tally.old tally.new }
+    ensures counted { CountsMore 0 (gone_count gone) tally.old tally.new }
+    ensures nothing { result ≡ false → gone ≡ Gone.Nothing }
 {
     match gone {
         Gone::Version(_) => {
@@ -87,7 +92,7 @@ fn count_gone(gone: Gone, tally: &mut Tally) -> bool
     }
 }
 
-/// Gives up in one turn what may go of a record. Tells whether there was one.
+/// Gives up in one turn what may go of a record. Tells whether there was one within reach.
 pub fn drop_turn<D: Disk, R: Wait>(
     rt: &R,
     lock: &TurnLock<Manager<D>>,
@@ -99,6 +104,8 @@ pub fn drop_turn<D: Disk, R: Wait>(
     requires shared { IsShared shared.now (pass_lock pass.old).base }
     ensures helped { HasHelped D.tells pass.old pass.new }
     ensures counted { HasCounted D.tells tally.old tally.new pass.old pass.new }
+    ensures nothing { result ≡ Ok false
+        → ReclaimsNothing D.tells pass.old pass.new × HasNoneToGo (look_seen pass.new) }
     ensures cause { IfErr result (λ f. WasDown (faulty_part f) (notes_seen pass.new)) }
     ensures kept { OnOk result (AreKept pass.old pass.new) }
 {

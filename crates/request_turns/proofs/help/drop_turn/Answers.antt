@@ -1,15 +1,17 @@
-use Rattle.std.proofs.Common.{[], false, refl, ap, subst, ◌∙◌, Result}
+use Rattle.std.proofs.Common.{[], ◌≡◌, Bool, false, refl, ap, subst, ◌∙◌, Ok, Result}
 use Rattle.manager.specs.Reclaim.{Always}
 use Rattle.manager.specs.Seen.{look_of_manager}
 use Rattle.manager.specs.declared.part.StepFault.{StepFault}
 use Rattle.reclaimer.specs.Counts.{CountsGone}
 use Rattle.reclaimer.specs.declared.answers.Gone.{Gone}
+use Rattle.reclaimer.specs.declared.answers.Gone.TheVariants as gone
 use Rattle.turn_lock.specs.Passes.{pass_number}
 use Rattle.request_turns.specs.Entries.{note_of, step_operation, has_failed}
 use Rattle.request_turns.proofs.Counting.{counted_turn}
 use Rattle.request_turns.specs.Counts.{gone_count}
 use Rattle.request_turns.proofs.StepNotes.{gone_takes}
-use Rattle.request_turns.proofs.HelpNotes.{gone_keep, help_stands, has_helped, step_kept, done_counted, refused_counted, down_at}
+use Rattle.request_turns.proofs.HelpNotes.{gone_keep, help_stands, has_helped, step_kept, same_counted, done_counted, refused_counted, down_at}
+use Rattle.request_turns.proofs.NothingDone.{nothing_gone, same_gone}
 use Rattle.request_turns.proofs.Taking.{home_at}
 use Rattle.request_turns.proofs.help.drop_turn.Goals as goal
 
@@ -34,7 +36,7 @@ pub returns-in-Ok-clause-counted : goal.returns-in-Ok-clause-counted
 returns-in-Ok-clause-counted g c = let e = c.enter-turn.ensures in let i = c.enter-turn.new.pass in let l = look_of_manager c.enter-turn.result.value in let m = look_of_manager c.invalidate_one-answer.new.m in
     counted_turn _ _ i _ (note_of (pass_number i) (step_operation c.has_failed.result) m [] false) l c.args.tally.now c.count_gone.new.tally e.same e.seen e.mine e.own c.leave_step.ensures.left refl e.value.look
     (done_counted Gone l m (pass_number i) c.in-Ok.gone c.has_failed.result 0 (gone_count c.in-Ok.gone) c.args.tally.now c.count_gone.new.tally (c.has_failed.ensures ∙ ap has_failed c.in-Ok.is)
-    (gone_takes l m c.in-Ok.gone (subst (λ (a : Result Gone StepFault). CountsGone a l m) c.in-Ok.is c.invalidate_one-answer.ensures.counted)) c.count_gone.ensures)
+    (gone_takes l m c.in-Ok.gone (subst (λ (a : Result Gone StepFault). CountsGone a l m) c.in-Ok.is c.invalidate_one-answer.ensures.counted)) c.count_gone.ensures.counted)
 
 pub returns-in-Err-clause-counted : goal.returns-in-Err-clause-counted
 returns-in-Err-clause-counted g c = let e = c.enter-turn.ensures in let i = c.enter-turn.new.pass in let l = look_of_manager c.enter-turn.result.value in let m = look_of_manager c.invalidate_one-answer.new.m in
@@ -46,3 +48,13 @@ returns-in-Ok-clause-kept g c = step_kept _ _ c.enter-turn.new.pass _ _ _ c.inva
 
 pub returns-in-Err-clause-cause : goal.returns-in-Err-clause-cause
 returns-in-Err-clause-cause g c = c.leave_step.ensures.broken _ (down_at g.D.Disk.state c.enter-turn.result.value c.invalidate_one-answer.new.m c.invalidate_one-answer.result c.in-Err.fault c.in-Err.is c.invalidate_one-answer.ensures.fault)
+
+pub returns-in-Ok-clause-nothing : goal.returns-in-Ok-clause-nothing
+returns-in-Ok-clause-nothing g c is = let e = c.enter-turn.ensures in let r = c.invalidate_one-answer.ensures in let i = c.enter-turn.new.pass in let old = c.enter-turn.result.value in let new = c.invalidate_one-answer.new.m in
+    let done : c.count_gone.result ≡ false = cc is in
+    let none : c.invalidate_one-answer.result ≡ Ok gone.Nothing = c.in-Ok.is ∙ ap Ok (c.count_gone.ensures.nothing done) in
+    (
+      (λ t. counted_turn _ _ i _ (note_of (pass_number i) (step_operation c.has_failed.result) (look_of_manager new) [] false) (look_of_manager old) t t e.same e.seen e.mine e.own c.leave_step.ensures.left refl e.value.look
+          (same_counted {Gone} (look_of_manager old) (look_of_manager new) (pass_number i) c.has_failed.result t (Ok gone.Nothing) (c.has_failed.ensures ∙ ap has_failed none) (same_gone old new c.invalidate_one-answer.result none r.look))),
+      nothing_gone _ old new _ _ c.has_failed.result c.leave_step.ensures.left c.invalidate_one-answer.result none r.look (r.nothing.0 none).1,
+    )

@@ -5,6 +5,7 @@ use Rattle.manager.specs.Reclaim.{Always}
 use Rattle.manager.specs.Seen.{look_of_manager}
 use Rattle.request_turns.proofs.Counting.{counted_turn}
 use Rattle.request_turns.proofs.HelpNotes.{same_keep, help_stands, has_helped, step_kept, same_counted, data_left, down_at}
+use Rattle.request_turns.proofs.NothingDone.{some_fetched, none_fetched, nothing_due}
 use Rattle.request_turns.proofs.Taking.{home_at}
 use Rattle.request_turns.proofs.help.fetch_turn.Goals as goal
 
@@ -50,3 +51,13 @@ returns-in-Ok-Nothing-clause-kept g c = step_kept _ _ c.enter-turn.new.pass _ _ 
 
 pub returns-in-Err-clause-cause : goal.returns-in-Err-clause-cause
 returns-in-Err-clause-cause g c = c.leave_step.ensures.broken _ (down_at g.D.Disk.state c.enter-turn.result.value c.fetch-answer.new.m c.fetch-answer.result c.in-Err.fault c.in-Err.is c.fetch-answer.ensures.fault)
+
+pub returns-in-Ok-Some-clause-room : goal.returns-in-Ok-Some-clause-room
+returns-in-Ok-Some-clause-room g c = let some = some_fetched c.fetch-answer.new.m c.fetch-answer.result _ _ c.fetch-answer.new.into c.in-Ok-Some.is c.fetch-answer.ensures.due in ((λ _. some), (λ _. refl))
+
+pub returns-in-Ok-Nothing-clause-room : goal.returns-in-Ok-Nothing-clause-room
+returns-in-Ok-Nothing-clause-room g c = none_fetched c.enter-turn.result.value c.fetch-answer.new.m c.fetch-answer.result c.fetch-answer.new.into c.in-Ok-Nothing.is c.fetch-answer.ensures.fetched
+
+pub returns-in-Ok-Nothing-clause-nothing : goal.returns-in-Ok-Nothing-clause-nothing
+returns-in-Ok-Nothing-clause-nothing g c is = let r = c.fetch-answer.ensures in
+    nothing_due _ c.enter-turn.result.value c.fetch-answer.new.m _ _ c.has_failed.result c.leave_step.ensures.left c.fetch-answer.result c.fetch-answer.new.into c.in-Ok-Nothing.is r.fetched (r.nothing.0 c.in-Ok-Nothing.is).1

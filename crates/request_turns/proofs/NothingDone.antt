@@ -1,0 +1,92 @@
+-- Where a helper's turn had nothing to do.
+use Rattle.std.proofs.Common.{◌≡◌, ◌<◌, ◌&&◌, ℕ, Bool, true, false, cond, List, [], ◌∷◌, ◌++◌, Option, None, Some, Result, Ok, Err, refl, sym, ap, subst, ◌∙◌, arith}
+use Rattle.std.specs.Prelude.{◌↔◌, IsSome, IsTrue, find, is_some, slice_index_or}
+use Rattle.std.specs.List.{AllByRecursion}
+use Rattle.std.proofs.lemmas.Option.{none-some}
+use Rattle.turn_lock.specs.Passes.{pass_number, pass_seen}
+use Rattle.wol_model.specs.Index.{Listed, Indexed, listed_in, has_due, has_going}
+use Rattle.wol_promise.specs.Policy.{Look}
+use Rattle.wol_promise.specs.Ruled.{Noted, last_look}
+use Rattle.wol_promise.proofs.OneMore.{last_more}
+use Rattle.manager.specs.Seen.{look_of_manager}
+use Rattle.manager.specs.Stands.{notes_of}
+use Rattle.manager.specs.declared.manager.Manager.{Manager}
+use Rattle.manager.specs.declared.part.StepFault.{StepFault}
+use Rattle.reclaimer.specs.Fetches.{FindsDue, due_entry, going_entry}
+use Rattle.reclaimer.specs.Records.{FetchedRecord}
+use Rattle.reclaimer.specs.Steps.{HasFetchedNext, LooksPut, LooksGone}
+use Rattle.reclaimer.specs.declared.answers.Fetched.{Fetched}
+use Rattle.reclaimer.specs.declared.answers.Fetched.TheVariants as Found
+use Rattle.reclaimer.specs.declared.answers.Gone.{Gone}
+use Rattle.reclaimer.specs.declared.answers.Gone.TheVariants as gone
+use Rattle.request_turns.specs.Entries.{note_of, step_operation}
+use Rattle.request_turns.specs.Helped.{HasNoneDue, HasNoneToGo}
+use Rattle.request_turns.specs.Turns.{ManagerPass, began, look_seen, HasLeft}
+use Rattle.request_turns.proofs.Noting.{notes_at}
+
+-- ---- Records
+
+-- where none is found, none passes
+none_passes : {X : Type 0} (p : X → Bool) (xs : List X) → find p xs ≡ None → AllByRecursion (λ x. p x ≡ false) xs
+none_passes p [] none = tt
+none_passes p (x ∷ xs) none = at (p x) refl none (none_passes p xs)
+  where
+    at : (t : Bool) → p x ≡ t → cond t (Some x) (find p xs) ≡ None → (find p xs ≡ None → AllByRecursion (λ y. p y ≡ false) xs) → (p x ≡ false) × AllByRecursion (λ y. p y ≡ false) xs
+    at true is found rest = absurd (none-some x (sym found))
+    at false is found rest = (is, rest found)
+
+second_fails : (a b : Bool) → a ≡ true → (a && b) ≡ false → b ≡ false
+second_fails a b is fails = sym (λ t. is t && b) ∙ fails
+
+-- no record within reach is one that is sought, where no entry is
+none_within : (ups : List Bool) (sought : Listed → Bool) (es : List Indexed) → AllByRecursion (λ (e : Indexed). (slice_index_or ups e.listed.lane false && sought e.listed) ≡ false) es
+    → AllByRecursion (λ (e : Listed). slice_index_or ups e.lane false ≡ true → sought e ≡ false) (listed_in es)
+none_within ups sought [] none = tt
+none_within ups sought (e ∷ es) none = ((λ awake. second_fails (slice_index_or ups e.listed.lane false) (sought e.listed) awake none.0), none_within ups sought es none.1)
+
+none_due : {D : Type 0} (m : Manager D) → due_entry m ≡ None → HasNoneDue (look_of_manager m)
+none_due m none up = none_within m.ups.items (has_due (listed_in m.index.entries)) m.index.entries
+    (none_passes (λ (e : Indexed). slice_index_or m.ups.items e.listed.lane false && has_due (listed_in m.index.entries) e.listed) m.index.entries
+    (sym (ap (λ (t : Bool). cond t (find (λ (e : Indexed). slice_index_or m.ups.items e.listed.lane false && has_due (listed_in m.index.entries) e.listed) m.index.entries) None) up) ∙ none))
+
+none_to_go : {D : Type 0} (m : Manager D) → going_entry m ≡ None → HasNoneToGo (look_of_manager m)
+none_to_go m none = none_within m.ups.items (has_going (listed_in m.index.entries)) m.index.entries
+    (none_passes (λ (e : Indexed). slice_index_or m.ups.items e.listed.lane false && has_going (listed_in m.index.entries) e.listed) m.index.entries none)
+
+-- ---- What was fetched
+
+-- it has a block that goes home
+pub some_fetched : {D : Type 0} (m : Manager D) (a : Result Fetched StepFault) (version count : ℕ) (f : Option FetchedRecord) → a ≡ Ok (Found.Some version count) → FindsDue a m f → IsSome f
+some_fetched m a version count None is finds = absurd (let no : 0 < 0 = subst (λ (r : Result Fetched StepFault). FindsDue r m None) is finds in omega (arith, no))
+some_fetched m a version count (Some f) is finds = refl
+
+pub none_fetched : {D : Type 0} (old new : Manager D) (a : Result Fetched StepFault) (f : Option FetchedRecord) → a ≡ Ok Found.Nothing → HasFetchedNext a old new f → IsTrue false ↔ IsSome f
+none_fetched old new a f is next =
+    let empty : f ≡ None = (subst (λ (r : Result Fetched StepFault). HasFetchedNext r old new f) is next).0 in
+    ((λ no. absurd (let e : false ≡ true = no in cc)), (λ some. absurd (let e : false ≡ true = sym (ap is_some empty) ∙ some in cc)))
+
+-- ---- The look that a turn leaves
+
+-- it is the one before where nothing was put home
+pub same_put : {D : Type 0} (old new : Manager D) (a : Result ℕ StepFault) (count : ℕ) → a ≡ Ok count → count ≡ 0 → LooksPut a old new → look_of_manager new ≡ look_of_manager old
+same_put old new a count is none look = (subst (λ (r : Result ℕ StepFault). LooksPut r old new) is look).0 none
+
+-- .. or given up
+pub same_gone : {D : Type 0} (old new : Manager D) (a : Result Gone StepFault) → a ≡ Ok gone.Nothing → LooksGone a old new → look_of_manager new ≡ look_of_manager old
+same_gone old new a is look = subst (λ (r : Result Gone StepFault). LooksGone r old new) is look
+
+module _ {D : Type 0} (tells : Bool) (old new : Manager D) (i q : ManagerPass D) (failed : Bool) (left : HasLeft tells (note_of (pass_number i) (step_operation failed) (look_of_manager new) [] false) i q) where
+  look_left : look_seen q ≡ look_of_manager new
+  look_left =
+      let n : Noted = note_of (pass_number i) (step_operation failed) (look_of_manager new) [] false in
+      ap (λ (ns : List Noted). last_look (began q).look ns) (ap notes_of left.seen ∙ notes_at (pass_seen i) n.entry.pass n refl) ∙ last_more (began q).look (notes_of (pass_seen i)) n
+
+  -- a record that has a due block was fetched, unless there was none
+  pub nothing_due : (a : Result Fetched StepFault) (f : Option FetchedRecord) → a ≡ Ok Found.Nothing → HasFetchedNext a old new f → due_entry old ≡ None → HasNoneDue (look_seen q)
+  nothing_due a f is next none =
+      let same : new ≡ old = (subst (λ (r : Result Fetched StepFault). HasFetchedNext r old new f) is next).1 in
+      subst HasNoneDue (sym (look_left ∙ ap look_of_manager same)) (none_due old none)
+
+  -- one that had something to give up gave it up
+  pub nothing_gone : (a : Result Gone StepFault) → a ≡ Ok gone.Nothing → LooksGone a old new → going_entry old ≡ None → HasNoneToGo (look_seen q)
+  nothing_gone a is look none = subst HasNoneToGo (sym (look_left ∙ same_gone old new a is look)) (none_to_go old none)
