@@ -1,5 +1,5 @@
 -- The caller's seats, one for each worker, and how they are made.
-use Rattle.std.specs.Prelude.{◌≡◌, ◌≤◌, ◌<◌, ◌+◌, ℕ, List, [], length, vec_capacity, slice_index_or}
+use Rattle.std.specs.Prelude.{◌≡◌, ◌≤◌, ◌<◌, ◌+◌, ◌-◌, ℕ, List, [], length, vec_capacity, slice_index_or}
 use Rattle.errands.specs.Ends.{IsIdle, IsOver, IsTold, IsWaiting}
 use Rattle.errands.specs.declared.ends.Errands.{Errands}
 use Rattle.errands.specs.declared.ends.Worker.{Worker}
@@ -7,6 +7,16 @@ use Rattle.request_workers.specs.declared.crew.Crew.{Crew}
 use Rattle.request_workers.specs.declared.crew.Seat.{Seat}
 use Rattle.request_workers.specs.declared.job.Job.{Job}
 use Rattle.request_workers.specs.declared.pool.Pool.{Pool}
+use Rattle.window_desks.specs.declared.request.Reclaim.{Reclaim}
+use Rattle.window_desks.specs.declared.request.Reclaim.TheVariants as reclaim
+
+-- ---- Threads
+
+-- how many threads serve beside the caller, who is one of the workers, or the helper beside them
+abbrev pub threads_beside : (workers : ℕ) → Reclaim → ℕ
+threads_beside workers reclaim.Off = workers - 1
+threads_beside workers reclaim.Between = workers - 1
+threads_beside workers reclaim.Beside = workers
 
 -- ---- Seats
 

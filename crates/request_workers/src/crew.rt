@@ -1,5 +1,5 @@
 // Who serves windows: the caller, and the workers that it hands jobs.
-ghost use Rattle.request_workers.specs.Crews.{AreIdleSeats, AreOver, IsCrew, IsOverCrew};
+ghost use Rattle.request_workers.specs.Crews.{AreIdleSeats, AreOver, IsCrew, IsOverCrew, threads_beside};
 ghost use Rattle.request_workers.specs.Shares.{size_of_runs};
 ghost use Rattle.std.specs.Prelude.{◌≡◌, ◌≤◌, ◌<◌, ℕ, length, slice_index_or};
 
@@ -29,7 +29,9 @@ pub struct Crew<'e, 'l, D: Disk, G> {
 }
 
 /// How many threads serve beside the caller: it is one of the workers, and in mode `Beside` the helper.
-pub fn threads_for(workers: u32, reclaim: Reclaim) -> u32 {
+pub fn threads_for(workers: u32, reclaim: Reclaim) -> u32
+    ensures { result ≡ threads_beside workers reclaim }
+{
     match reclaim {
         Reclaim::Off | Reclaim::Between => workers.saturating_sub(1),
         Reclaim::Beside => workers,
