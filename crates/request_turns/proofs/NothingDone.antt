@@ -1,10 +1,11 @@
 -- Where a helper's turn had nothing to do.
-use Rattle.std.proofs.Common.{◌≡◌, ◌<◌, ◌&&◌, ℕ, Bool, true, false, cond, List, [], ◌∷◌, ◌++◌, Option, None, Some, Result, Ok, Err, refl, sym, ap, subst, ◌∙◌, arith}
+use Rattle.std.proofs.Common.{◌≡◌, ◌<◌, ◌==◌, ◌&&◌, length, ℕ, Bool, true, false, cond, List, [], ◌∷◌, ◌++◌, Option, None, Some, Result, Ok, Err, refl, sym, ap, subst, ◌∙◌, arith}
 use Rattle.std.specs.Prelude.{◌↔◌, IsSome, IsTrue, find, is_some, slice_index_or}
 use Rattle.std.specs.List.{AllByRecursion}
+use Rattle.std.specs.Option.{option_map_or}
 use Rattle.std.proofs.lemmas.Option.{none-some}
 use Rattle.turn_lock.specs.Passes.{pass_number, pass_seen}
-use Rattle.wol_model.specs.Index.{Listed, Indexed, listed_in, has_due, has_going}
+use Rattle.wol_model.specs.Index.{Listed, Indexed, listed_in, is_due, has_due, has_going}
 use Rattle.wol_promise.specs.Policy.{Look}
 use Rattle.wol_promise.specs.Ruled.{Noted, last_look}
 use Rattle.wol_promise.proofs.OneMore.{last_more}
@@ -12,7 +13,7 @@ use Rattle.manager.specs.Seen.{look_of_manager}
 use Rattle.manager.specs.Stands.{notes_of}
 use Rattle.manager.specs.declared.manager.Manager.{Manager}
 use Rattle.manager.specs.declared.part.StepFault.{StepFault}
-use Rattle.reclaimer.specs.Fetches.{FindsDue, due_entry, going_entry}
+use Rattle.reclaimer.specs.Fetches.{FindsDue, due_entry, going_entry, goes_home, is_still_due}
 use Rattle.reclaimer.specs.Records.{FetchedRecord}
 use Rattle.reclaimer.specs.Steps.{HasFetchedNext, LooksPut, LooksGone}
 use Rattle.reclaimer.specs.declared.answers.Fetched.{Fetched}
@@ -20,7 +21,7 @@ use Rattle.reclaimer.specs.declared.answers.Fetched.TheVariants as Found
 use Rattle.reclaimer.specs.declared.answers.Gone.{Gone}
 use Rattle.reclaimer.specs.declared.answers.Gone.TheVariants as gone
 use Rattle.request_turns.specs.Entries.{note_of, step_operation}
-use Rattle.request_turns.specs.Helped.{HasNoneDue, HasNoneToGo}
+use Rattle.request_turns.specs.Helped.{HasNoneDue, HasNoneToGo, HasNoneToPut, was_due}
 use Rattle.request_turns.specs.Turns.{ManagerPass, began, look_seen, HasLeft}
 use Rattle.request_turns.proofs.Noting.{notes_at}
 
@@ -52,6 +53,24 @@ none_due m none up = none_within m.ups.items (has_due (listed_in m.index.entries
 none_to_go : {D : Type 0} (m : Manager D) → going_entry m ≡ None → HasNoneToGo (look_of_manager m)
 none_to_go m none = none_within m.ups.items (has_going (listed_in m.index.entries)) m.index.entries
     (none_passes (λ (e : Indexed). slice_index_or m.ups.items e.listed.lane false && has_going (listed_in m.index.entries) e.listed) m.index.entries none)
+
+-- what is told of a listed record of a version is told of its entry
+listed_at : (test : Listed → Bool) (version : ℕ) (es : List Indexed) → option_map_or test (find (λ (e : Listed). e.version == version) (listed_in es)) false
+    ≡ option_map_or (λ (e : Indexed). test e.listed) (find (λ (e : Indexed). e.listed.version == version) es) false
+listed_at test version [] = refl
+listed_at test version (e ∷ es) = at (e.listed.version == version) (listed_at test version es)
+  where
+    at : (t : Bool) → option_map_or test (find (λ (d : Listed). d.version == version) (listed_in es)) false ≡ option_map_or (λ (d : Indexed). test d.listed) (find (λ (d : Indexed). d.listed.version == version) es) false
+        → option_map_or test (cond t (Some e.listed) (find (λ (d : Listed). d.version == version) (listed_in es))) false
+        ≡ option_map_or (λ (d : Indexed). test d.listed) (cond t (Some e) (find (λ (d : Indexed). d.listed.version == version) es)) false
+    at true rest = refl
+    at false rest = rest
+
+none_to_put : {D : Type 0} (m : Manager D) (f : Option FetchedRecord) → ((b : ℕ) → goes_home m f b ≡ false) → HasNoneToPut (look_of_manager m) f
+none_to_put m None none = tt
+none_to_put m (Some f) none up b =
+    ap (λ (t : Bool). was_due f b && t) (listed_at (λ (e : Listed). e.first == f.first && (length e.keep == length f.blocks && is_due (listed_in m.index.entries) e b)) f.version m.index.entries)
+    ∙ second_fails m.home_up (is_still_due m.index.entries f.version f.first (length f.blocks) f.due b) up (none b)
 
 -- ---- What was fetched
 
@@ -86,6 +105,10 @@ module _ {D : Type 0} (tells : Bool) (old new : Manager D) (i q : ManagerPass D)
   nothing_due a f is next none =
       let same : new ≡ old = (subst (λ (r : Result Fetched StepFault). HasFetchedNext r old new f) is next).1 in
       subst HasNoneDue (sym (look_left ∙ ap look_of_manager same)) (none_due old none)
+
+  -- what was fetched and is due still was put home
+  pub nothing_put : (a : Result ℕ StepFault) (count : ℕ) (f : Option FetchedRecord) → a ≡ Ok count → count ≡ 0 → LooksPut a old new → ((b : ℕ) → goes_home old f b ≡ false) → HasNoneToPut (look_seen q) f
+  nothing_put a count f is none look all = subst (λ (l : Look). HasNoneToPut l f) (sym (look_left ∙ same_put old new a count is none look)) (none_to_put old f all)
 
   -- one that had something to give up gave it up
   pub nothing_gone : (a : Result Gone StepFault) → a ≡ Ok gone.Nothing → LooksGone a old new → going_entry old ≡ None → HasNoneToGo (look_seen q)

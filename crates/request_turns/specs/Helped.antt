@@ -1,16 +1,19 @@
 -- What turns of a helper make of its pass.
-use Rattle.std.specs.Prelude.{◌≡◌, ℕ, Bool, false, List, drop, length, IsTrue}
+use Rattle.std.specs.Prelude.{⊤, ◌≡◌, ◌-◌, ◌==◌, ◌&&◌, nat_le, ℕ, Bool, false, List, Option, None, Some, drop, find, length, IsTrue}
 use Rattle.std.specs.List.{AllByRecursion}
+use Rattle.std.specs.Option.{option_map_or}
 use Rattle.turn_lock.specs.Histories.{Entry}
 use Rattle.turn_lock.specs.Passes.{pass_number, pass_mine, IsPassOf, IsFree}
 use Rattle.turn_lock.specs.declared.lock.TurnLock.{TurnLock}
 use Rattle.wol_model.specs.History.{Kept}
-use Rattle.wol_model.specs.Index.{Listed, has_due, has_going}
+use Rattle.wol_model.specs.Index.{Listed, is_due, has_due, has_going}
+use Rattle.wol_model.specs.Log.{has_bit}
 use Rattle.wol_promise.specs.Policy.{Look, is_within_reach}
 use Rattle.wol_promise.specs.Ruled.{Noted}
 use Rattle.manager.specs.Stands.{notes_of}
 use Rattle.manager.specs.declared.base.ManagerBase.{ManagerBase}
 use Rattle.manager.specs.declared.manager.Manager.{Manager}
+use Rattle.reclaimer.specs.Records.{FetchedRecord}
 use Rattle.request_turns.specs.Turns.{ManagerPass, Gains, AreHelp}
 
 -- the lock of a manager
@@ -49,3 +52,18 @@ HasNoneDue l = IsTrue l.home_up → AllByRecursion
 abbrev pub HasNoneToGo : Look → Type 0
 HasNoneToGo l = AllByRecursion
     (λ (e : Listed). IsTrue (is_within_reach l e) → has_going l.listed e ≡ false) l.listed
+
+-- block b was due when the record was read
+abbrev pub was_due : FetchedRecord → (b : ℕ) → Bool
+was_due f b = nat_le f.first b && has_bit f.due (b - f.first)
+
+-- .. and is so still, in a listed record of that version and range
+abbrev pub is_due_still : Look → FetchedRecord → (b : ℕ) → Bool
+is_due_still l f b = was_due f b && option_map_or (λ (e : Listed). e.first == f.first
+    && (length e.keep == length f.blocks && is_due l.listed e b))
+    (find (λ (e : Listed). e.version == f.version) l.listed) false
+
+-- home is asleep, or no block that was fetched is due still
+abbrev pub HasNoneToPut : Look → Option FetchedRecord → Type 0
+HasNoneToPut l None = ⊤
+HasNoneToPut l (Some f) = IsTrue l.home_up → (b : ℕ) → is_due_still l f b ≡ false

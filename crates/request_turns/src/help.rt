@@ -2,7 +2,7 @@
 ghost use Rattle.manager.specs.Stands.{IsShared};
 ghost use Rattle.reclaimer.specs.Fetches.{HasData};
 ghost use Rattle.request_turns.specs.Counts.{CountsMore, HasCounted, ReclaimsNothing, gone_count};
-ghost use Rattle.request_turns.specs.Helped.{IsPassAt, HasHelped, AreKept, HasNoneDue, HasNoneToGo};
+ghost use Rattle.request_turns.specs.Helped.{IsPassAt, HasHelped, AreKept, HasNoneDue, HasNoneToPut, HasNoneToGo};
 ghost use Rattle.request_turns.specs.Turns.{look_seen, notes_seen, WasDown, faulty_part};
 ghost use Rattle.std.specs.Prelude.{◌≡◌, ◌↔◌, false, Ok, OnOk, IfOk, IfErr, IsSome, IsTrue};
 ghost use Rattle.turn_lock.specs.Passes.{pass_lock};
@@ -47,7 +47,7 @@ pub fn fetch_turn<D: Disk, R: Wait>(
     }
 }
 
-/// Puts home in one turn what was fetched. Tells whether there was anything.
+/// Puts home in one turn what was fetched and is due still. Tells whether there was anything.
 pub fn put_turn<D: Disk, R: Wait>(
     rt: &R,
     lock: &TurnLock<Manager<D>>,
@@ -61,7 +61,8 @@ pub fn put_turn<D: Disk, R: Wait>(
     requires data { HasData D.tells room.now (pass_lock pass.old).base (notes_seen pass.old) }
     ensures helped { HasHelped D.tells pass.old pass.new }
     ensures counted { HasCounted D.tells tally.old tally.new pass.old pass.new }
-    ensures nothing { result ≡ Ok false → ReclaimsNothing D.tells pass.old pass.new }
+    ensures nothing { result ≡ Ok false → ReclaimsNothing D.tells pass.old pass.new
+        × HasNoneToPut (look_seen pass.new) room.now }
     ensures cause { IfErr result (λ f. WasDown (faulty_part f) (notes_seen pass.new)) }
     ensures kept { OnOk result (AreKept pass.old pass.new) }
 {
@@ -104,8 +105,8 @@ pub fn drop_turn<D: Disk, R: Wait>(
     requires shared { IsShared shared.now (pass_lock pass.old).base }
     ensures helped { HasHelped D.tells pass.old pass.new }
     ensures counted { HasCounted D.tells tally.old tally.new pass.old pass.new }
-    ensures nothing { result ≡ Ok false
-        → ReclaimsNothing D.tells pass.old pass.new × HasNoneToGo (look_seen pass.new) }
+    ensures nothing { result ≡ Ok false → ReclaimsNothing D.tells pass.old pass.new
+        × HasNoneToGo (look_seen pass.new) }
     ensures cause { IfErr result (λ f. WasDown (faulty_part f) (notes_seen pass.new)) }
     ensures kept { OnOk result (AreKept pass.old pass.new) }
 {
