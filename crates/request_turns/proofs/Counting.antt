@@ -147,7 +147,7 @@ module _ {D : Type 0} (tells : Bool) (p q : ManagerPass D) (before : List Entry)
   look_before = sym (ap (λ (es : List Entry). last_look (began p).look (notes_of es)) (sym t.begins.1)
       ∙ ap (last_look (began p).look) (notes_joined (pass_seen p) t.begins.0) ∙ last_joined (began p).look (notes_seen p) (notes_of t.begins.0))
 
-  turn_adds : (worth : Bool → Look → Look → ℕ) → added_between worth p q ≡ worth (reclaims n.after_drain n.entry.operation) (last_look (began p).look (notes_of before)) n.look
+  pub turn_adds : (worth : Bool → Look → Look → ℕ) → added_between worth p q ≡ worth (reclaims n.after_drain n.entry.operation) (last_look (began p).look (notes_of before)) n.look
   turn_adds worth =
       let l : Look = last_look (began p).look (notes_seen p) in
       ap (λ (es : List Entry). added_up worth (pass_number p) l (notes_of es)) since

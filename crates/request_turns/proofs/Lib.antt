@@ -16,7 +16,7 @@ pub mod Waking
 pub mod Flagged
 pub mod Gaining
 pub mod HelpNotes
-mod NothingDone
+mod HelpTold
 mod InPlace
 pub mod Counting
 pub mod CountLaws

@@ -1,12 +1,12 @@
 -- What turns of a helper make of its pass.
-use Rattle.std.specs.Prelude.{⊤, ◌≡◌, ◌-◌, ◌==◌, ◌&&◌, nat_le, ℕ, Bool, false, List, Option, None, Some, drop, find, length, IsTrue}
+use Rattle.std.specs.Prelude.{⊤, ◌≡◌, ◌<◌, ◌-◌, ◌==◌, ◌&&◌, nat_le, ℕ, Bool, false, List, Option, None, Some, drop, find, length, IsTrue}
 use Rattle.std.specs.List.{AllByRecursion}
 use Rattle.std.specs.Option.{option_map_or}
 use Rattle.turn_lock.specs.Histories.{Entry}
 use Rattle.turn_lock.specs.Passes.{pass_number, pass_mine, IsPassOf, IsFree}
 use Rattle.turn_lock.specs.declared.lock.TurnLock.{TurnLock}
 use Rattle.wol_model.specs.History.{Kept}
-use Rattle.wol_model.specs.Index.{Listed, is_due, has_due, has_going}
+use Rattle.wol_model.specs.Index.{Listed, is_due, has_due, has_going, left}
 use Rattle.wol_model.specs.Log.{has_bit}
 use Rattle.wol_promise.specs.Policy.{Look, is_within_reach}
 use Rattle.wol_promise.specs.Ruled.{Noted}
@@ -14,7 +14,8 @@ use Rattle.manager.specs.Stands.{notes_of}
 use Rattle.manager.specs.declared.base.ManagerBase.{ManagerBase}
 use Rattle.manager.specs.declared.manager.Manager.{Manager}
 use Rattle.reclaimer.specs.Records.{FetchedRecord}
-use Rattle.request_turns.specs.Turns.{ManagerPass, Gains, AreHelp}
+use Rattle.request_turns.specs.Counts.{added_between}
+use Rattle.request_turns.specs.Turns.{ManagerPass, IsHonest, Gains, AreHelp}
 
 -- the lock of a manager
 abbrev pub ManagerLock : Type 0 → Type 0
@@ -40,6 +41,17 @@ made_since p q = drop (length (pass_mine p)) (pass_mine q)
 -- no disk call failed in them
 abbrev pub AreKept : {D : Type 0} → (p q : ManagerPass D) → Type 0
 AreKept p q = AllByRecursion (λ (n : Noted). n.entry.operation ≡ Kept) (notes_of (made_since p q))
+
+-- ---- What was done
+
+-- what a step from one look to the other takes off the blocks that records keep, and off those that
+-- are due
+abbrev pub taken_by : (reclaims : Bool) → (l m : Look) → ℕ
+taken_by reclaims l m = left l.listed - left m.listed
+
+-- the pass's own entries gave up blocks of records, or put some home
+abbrev pub HasTakenSome : {D : Type 0} → (tells : Bool) → (p q : ManagerPass D) → Type 0
+HasTakenSome tells p q = IsHonest tells p → 0 < added_between taken_by p q
 
 -- ---- Where there is nothing to do
 

@@ -2,9 +2,9 @@
 ghost use Rattle.manager.specs.Stands.{IsShared};
 ghost use Rattle.reclaimer.specs.Fetches.{HasData};
 ghost use Rattle.request_turns.specs.Counts.{CountsMore, HasCounted, ReclaimsNothing, gone_count};
-ghost use Rattle.request_turns.specs.Helped.{IsPassAt, HasHelped, AreKept, HasNoneDue, HasNoneToPut, HasNoneToGo};
+ghost use Rattle.request_turns.specs.Helped.{IsPassAt, HasHelped, AreKept, HasNoneDue, HasNoneToPut, HasNoneToGo, HasTakenSome};
 ghost use Rattle.request_turns.specs.Turns.{look_seen, notes_seen, WasDown, faulty_part};
-ghost use Rattle.std.specs.Prelude.{◌≡◌, ◌↔◌, false, Ok, OnOk, IfOk, IfErr, IsSome, IsTrue};
+ghost use Rattle.std.specs.Prelude.{◌≡◌, ◌↔◌, true, false, Ok, OnOk, IfOk, IfErr, IsSome, IsTrue};
 ghost use Rattle.turn_lock.specs.Passes.{pass_lock};
 ghost use Rattle.wol_model.specs.History.{helper};
 
@@ -63,6 +63,7 @@ pub fn put_turn<D: Disk, R: Wait>(
     ensures counted { HasCounted D.tells tally.old tally.new pass.old pass.new }
     ensures nothing { result ≡ Ok false → ReclaimsNothing D.tells pass.old pass.new
         × HasNoneToPut (look_seen pass.new) room.now }
+    ensures some { result ≡ Ok true → HasTakenSome D.tells pass.old pass.new }
     ensures cause { IfErr result (λ f. WasDown (faulty_part f) (notes_seen pass.new)) }
     ensures kept { OnOk result (AreKept pass.old pass.new) }
 {
@@ -81,7 +82,7 @@ pub fn put_turn<D: Disk, R: Wait>(
 // Counts a record that is gone. Tells whether something was given up.
 fn count_gone(gone: Gone, tally: &mut Tally) -> bool
     ensures counted { CountsMore 0 (gone_count gone) tally.old tally.new }
-    ensures nothing { result ≡ false → gone ≡ Gone.Nothing }
+    ensures nothing { (result ≡ false) ↔ (gone ≡ Gone.Nothing) }
 {
     match gone {
         Gone::Version(_) => {
@@ -107,6 +108,7 @@ pub fn drop_turn<D: Disk, R: Wait>(
     ensures counted { HasCounted D.tells tally.old tally.new pass.old pass.new }
     ensures nothing { result ≡ Ok false → ReclaimsNothing D.tells pass.old pass.new
         × HasNoneToGo (look_seen pass.new) }
+    ensures some { result ≡ Ok true → HasTakenSome D.tells pass.old pass.new }
     ensures cause { IfErr result (λ f. WasDown (faulty_part f) (notes_seen pass.new)) }
     ensures kept { OnOk result (AreKept pass.old pass.new) }
 {

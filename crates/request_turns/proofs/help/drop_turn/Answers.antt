@@ -1,4 +1,4 @@
-use Rattle.std.proofs.Common.{[], ◌≡◌, Bool, false, refl, ap, subst, ◌∙◌, Ok, Result}
+use Rattle.std.proofs.Common.{[], ◌≡◌, true, false, sym, refl, ap, subst, ◌∙◌, Ok, Result}
 use Rattle.manager.specs.Reclaim.{Always}
 use Rattle.manager.specs.Seen.{look_of_manager}
 use Rattle.manager.specs.declared.part.StepFault.{StepFault}
@@ -11,7 +11,7 @@ use Rattle.request_turns.proofs.Counting.{counted_turn}
 use Rattle.request_turns.specs.Counts.{gone_count}
 use Rattle.request_turns.proofs.StepNotes.{gone_takes}
 use Rattle.request_turns.proofs.HelpNotes.{gone_keep, help_stands, has_helped, step_kept, same_counted, done_counted, refused_counted, down_at}
-use Rattle.request_turns.proofs.NothingDone.{nothing_gone, same_gone}
+use Rattle.request_turns.proofs.HelpTold.{nothing_gone, same_gone, gone_lowers, some_taken}
 use Rattle.request_turns.proofs.Taking.{home_at}
 use Rattle.request_turns.proofs.help.drop_turn.Goals as goal
 
@@ -52,9 +52,15 @@ returns-in-Err-clause-cause g c = c.leave_step.ensures.broken _ (down_at g.D.Dis
 pub returns-in-Ok-clause-nothing : goal.returns-in-Ok-clause-nothing
 returns-in-Ok-clause-nothing g c is = let e = c.enter-turn.ensures in let r = c.invalidate_one-answer.ensures in let i = c.enter-turn.new.pass in let old = c.enter-turn.result.value in let new = c.invalidate_one-answer.new.m in
     let done : c.count_gone.result ≡ false = cc is in
-    let none : c.invalidate_one-answer.result ≡ Ok gone.Nothing = c.in-Ok.is ∙ ap Ok (c.count_gone.ensures.nothing done) in
+    let none : c.invalidate_one-answer.result ≡ Ok gone.Nothing = c.in-Ok.is ∙ ap Ok (c.count_gone.ensures.nothing.0 done) in
     (
       (λ t. counted_turn _ _ i _ (note_of (pass_number i) (step_operation c.has_failed.result) (look_of_manager new) [] false) (look_of_manager old) t t e.same e.seen e.mine e.own c.leave_step.ensures.left refl e.value.look
           (same_counted {T = Gone} (look_of_manager old) (look_of_manager new) (pass_number i) c.has_failed.result t (Ok gone.Nothing) (c.has_failed.ensures ∙ ap has_failed none) (same_gone old new c.invalidate_one-answer.result none r.look))),
       nothing_gone _ old new _ _ c.has_failed.result c.leave_step.ensures.left c.invalidate_one-answer.result none r.look (r.nothing.0 none).1,
     )
+
+pub returns-in-Ok-clause-some : goal.returns-in-Ok-clause-some
+returns-in-Ok-clause-some g c is = let e = c.enter-turn.ensures in let r = c.invalidate_one-answer.ensures in let i = c.enter-turn.new.pass in let old = c.enter-turn.result.value in let new = c.invalidate_one-answer.new.m in
+    let did : c.count_gone.result ≡ true = cc is in
+    some_taken _ _ i _ (note_of (pass_number i) (step_operation c.has_failed.result) (look_of_manager new) [] false) (look_of_manager old) e.same e.seen e.mine e.own c.leave_step.ensures.left refl e.value.look
+    (gone_lowers old new c.invalidate_one-answer.result c.in-Ok.gone c.in-Ok.is (λ none. absurd (let no : true ≡ false = sym did ∙ c.count_gone.ensures.nothing.1 none in cc)) r.lowers)

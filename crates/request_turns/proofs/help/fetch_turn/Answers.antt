@@ -5,7 +5,7 @@ use Rattle.manager.specs.Reclaim.{Always}
 use Rattle.manager.specs.Seen.{look_of_manager}
 use Rattle.request_turns.proofs.Counting.{counted_turn}
 use Rattle.request_turns.proofs.HelpNotes.{same_keep, help_stands, has_helped, step_kept, same_counted, data_left, down_at}
-use Rattle.request_turns.proofs.NothingDone.{some_fetched, none_fetched, nothing_due}
+use Rattle.request_turns.proofs.HelpTold.{some_fetched, none_fetched, nothing_due}
 use Rattle.request_turns.proofs.Taking.{home_at}
 use Rattle.request_turns.proofs.help.fetch_turn.Goals as goal
 

@@ -1,4 +1,4 @@
-use Rattle.std.proofs.Common.{[], ◌≡◌, false, refl, ap, subst, ◌∙◌, ℕ, Ok, Result, arith}
+use Rattle.std.proofs.Common.{[], ◌≡◌, ◌<◌, false, refl, ap, subst, ◌∙◌, ℕ, Ok, Result, arith}
 use Rattle.reclaimer.specs.Fetches.{HasData}
 use Rattle.manager.specs.Seen.{look_of_manager}
 use Rattle.manager.specs.declared.part.StepFault.{StepFault}
@@ -7,7 +7,7 @@ use Rattle.turn_lock.specs.Passes.{pass_number}
 use Rattle.request_turns.specs.Entries.{note_of, step_operation, has_failed}
 use Rattle.request_turns.proofs.Counting.{counted_turn}
 use Rattle.request_turns.proofs.HelpNotes.{put_keep, help_stands, has_helped, step_kept, same_counted, data_in, down_at, done_counted, refused_counted}
-use Rattle.request_turns.proofs.NothingDone.{same_put, nothing_put}
+use Rattle.request_turns.proofs.HelpTold.{same_put, nothing_put, put_lowers, some_taken}
 use Rattle.request_turns.proofs.Taking.{home_at}
 use Rattle.request_turns.proofs.help.put_turn.Goals as goal
 
@@ -52,3 +52,9 @@ returns-in-Ok-clause-nothing g c is = let e = c.enter-turn.ensures in let r = c.
           (same_counted {T = ℕ} (look_of_manager old) (look_of_manager new) (pass_number i) c.has_failed.result t (Ok c.in-Ok.blocks) (c.has_failed.ensures ∙ ap has_failed c.in-Ok.is) (same_put old new c.put_home-answer.result c.in-Ok.blocks c.in-Ok.is zero r.look))),
       nothing_put _ old new _ _ c.has_failed.result c.leave_step.ensures.left c.put_home-answer.result c.in-Ok.blocks c.args.room.now c.in-Ok.is zero r.look (r.none.0 (c.in-Ok.is ∙ ap Ok zero)).1,
     )
+
+pub returns-in-Ok-clause-some : goal.returns-in-Ok-clause-some
+returns-in-Ok-clause-some g c is = let e = c.enter-turn.ensures in let r = c.put_home-answer.ensures in let i = c.enter-turn.new.pass in let old = c.enter-turn.result.value in let new = c.put_home-answer.new.m in
+    let some : 0 < c.in-Ok.blocks = omega (arith, is) in
+    some_taken _ _ i _ (note_of (pass_number i) (step_operation c.has_failed.result) (look_of_manager new) [] false) (look_of_manager old) e.same e.seen e.mine e.own c.leave_step.ensures.left refl e.value.look
+    (put_lowers old new c.put_home-answer.result c.in-Ok.blocks c.in-Ok.is some r.lowers)

@@ -1,18 +1,22 @@
--- Where a helper's turn had nothing to do.
-use Rattle.std.proofs.Common.{◌≡◌, ◌<◌, ◌==◌, ◌&&◌, length, ℕ, Bool, true, false, cond, List, [], ◌∷◌, ◌++◌, Option, None, Some, Result, Ok, Err, refl, sym, ap, subst, ◌∙◌, arith}
-use Rattle.std.specs.Prelude.{◌↔◌, IsSome, IsTrue, find, is_some, slice_index_or}
+-- What a helper's turn tells: that it did something, or that there was nothing to do.
+use Rattle.std.proofs.Common.{◌≡◌, ◌<◌, ◌-◌, ◌==◌, ◌&&◌, length, ℕ, Bool, true, false, cond, List, [], ◌∷◌, ◌++◌, Option, None, Some, Result, Ok, Err, refl, sym, ap, subst, ◌∙◌, arith}
+use Rattle.std.specs.Prelude.{◌↔◌, IfOk, IsSome, IsTrue, find, is_some, slice_index_or}
 use Rattle.std.specs.List.{AllByRecursion}
 use Rattle.std.specs.Option.{option_map_or}
 use Rattle.std.proofs.lemmas.Option.{none-some}
-use Rattle.turn_lock.specs.Passes.{pass_number, pass_seen}
-use Rattle.wol_model.specs.Index.{Listed, Indexed, listed_in, is_due, has_due, has_going}
+use Rattle.turn_lock.specs.Histories.{own, Begins}
+use Rattle.turn_lock.specs.LockIds.{LockId}
+use Rattle.turn_lock.specs.Passes.{pass_number, pass_seen, pass_mine, IsSamePass}
+use Rattle.wol_model.specs.Index.{Listed, Indexed, listed_in, is_due, has_due, has_going, left}
 use Rattle.wol_promise.specs.Policy.{Look}
 use Rattle.wol_promise.specs.Ruled.{Noted, last_look}
 use Rattle.wol_promise.proofs.OneMore.{last_more}
 use Rattle.manager.specs.Seen.{look_of_manager}
 use Rattle.manager.specs.Stands.{notes_of}
+use Rattle.manager.specs.declared.base.ManagerBase.{ManagerBase}
 use Rattle.manager.specs.declared.manager.Manager.{Manager}
 use Rattle.manager.specs.declared.part.StepFault.{StepFault}
+use Rattle.reclaimer.specs.Counts.{LowersGone}
 use Rattle.reclaimer.specs.Fetches.{FindsDue, due_entry, going_entry, goes_home, is_still_due}
 use Rattle.reclaimer.specs.Records.{FetchedRecord}
 use Rattle.reclaimer.specs.Steps.{HasFetchedNext, LooksPut, LooksGone}
@@ -21,9 +25,11 @@ use Rattle.reclaimer.specs.declared.answers.Fetched.TheVariants as Found
 use Rattle.reclaimer.specs.declared.answers.Gone.{Gone}
 use Rattle.reclaimer.specs.declared.answers.Gone.TheVariants as gone
 use Rattle.request_turns.specs.Entries.{note_of, step_operation}
-use Rattle.request_turns.specs.Helped.{HasNoneDue, HasNoneToGo, HasNoneToPut, was_due}
+use Rattle.request_turns.specs.Helped.{HasNoneDue, HasNoneToGo, HasNoneToPut, HasTakenSome, taken_by, was_due}
 use Rattle.request_turns.specs.Turns.{ManagerPass, began, look_seen, HasLeft}
+use Rattle.request_turns.proofs.Counting.{turn_adds}
 use Rattle.request_turns.proofs.Noting.{notes_at}
+use Rattle.request_turns.proofs.Turning.{turned}
 
 -- ---- Records
 
@@ -113,3 +119,21 @@ module _ {D : Type 0} (tells : Bool) (old new : Manager D) (i q : ManagerPass D)
   -- one that had something to give up gave it up
   pub nothing_gone : (a : Result Gone StepFault) → a ≡ Ok gone.Nothing → LooksGone a old new → going_entry old ≡ None → HasNoneToGo (look_seen q)
   nothing_gone a is look none = subst HasNoneToGo (sym (look_left ∙ same_gone old new a is look)) (none_to_go old none)
+
+-- ---- Where something was done
+
+pub some_taken : {D : Type 0} (tells : Bool) (p i q : ManagerPass D) (n : Noted) (l : Look) → IsSamePass p i → Begins (pass_seen p) (pass_seen i) → pass_mine i ≡ pass_mine p → own (pass_number i) (pass_seen i) ≡ pass_mine i
+    → HasLeft tells n i q → IsTrue n.ruled → last_look (began i).look (notes_of (pass_seen i)) ≡ l → left n.look.listed < left l.listed → HasTakenSome tells p q
+some_taken tells p i q n l same begins mine owns from ruled is less honest =
+    let adds = turn_adds tells p q (pass_seen i) n (turned tells p i q n same begins mine owns from ruled) honest taken_by in
+    let at : last_look (began p).look (notes_of (pass_seen i)) ≡ l = ap (λ (k : LockId ManagerBase). last_look k.base.volume.began.look (notes_of (pass_seen i))) (sym same.0) ∙ is in
+    subst (λ (k : ℕ). 0 < k) (sym (adds ∙ ap (λ (k : Look). left k.listed - left n.look.listed) at)) (omega (arith, less))
+
+pub put_lowers : {D : Type 0} (old new : Manager D) (a : Result ℕ StepFault) (count : ℕ) → a ≡ Ok count → 0 < count → IfOk a (λ k. 0 < k → left (listed_in new.index.entries) < left (listed_in old.index.entries))
+    → left (look_of_manager new).listed < left (look_of_manager old).listed
+put_lowers old new a count is some lowers = (subst (λ (r : Result ℕ StepFault). IfOk r (λ k. 0 < k → left (listed_in new.index.entries) < left (listed_in old.index.entries))) is lowers) some
+
+pub gone_lowers : {D : Type 0} (old new : Manager D) (a : Result Gone StepFault) (g : Gone) → a ≡ Ok g → (g ≡ gone.Nothing → ⊥) → LowersGone a old new → left (look_of_manager new).listed < left (look_of_manager old).listed
+gone_lowers old new a (gone.Version v) is some lowers = subst (λ (r : Result Gone StepFault). LowersGone r old new) is lowers
+gone_lowers old new a (gone.Trimmed v) is some lowers = subst (λ (r : Result Gone StepFault). LowersGone r old new) is lowers
+gone_lowers old new a gone.Nothing is some lowers = absurd (some refl)
