@@ -52,8 +52,7 @@ returns-in-Err-clause-cause g c = c.leave_step.ensures.broken _ (down_at g.D.Dis
 pub returns-in-Ok-clause-nothing : goal.returns-in-Ok-clause-nothing
 returns-in-Ok-clause-nothing g c is = let e = c.enter-turn.ensures in let r = c.invalidate_one-answer.ensures in let i = c.enter-turn.new.pass in let old = c.enter-turn.result.value in let new = c.invalidate_one-answer.new.m in
     let done : c.count_gone.result ≡ false = cc is in
-    let none : c.invalidate_one-answer.result ≡ Ok gone.Nothing = c.in-Ok.is ∙ ap Ok (c.count_gone.ensures.nothing.0 done) in
-    (
+    let none : c.invalidate_one-answer.result ≡ Ok gone.Nothing = c.in-Ok.is ∙ ap Ok (c.count_gone.ensures.nothing.0 done) in (
       (λ t. counted_turn _ _ i _ (note_of (pass_number i) (step_operation c.has_failed.result) (look_of_manager new) [] false) (look_of_manager old) t t e.same e.seen e.mine e.own c.leave_step.ensures.left refl e.value.look
           (same_counted {T = Gone} (look_of_manager old) (look_of_manager new) (pass_number i) c.has_failed.result t (Ok gone.Nothing) (c.has_failed.ensures ∙ ap has_failed none) (same_gone old new c.invalidate_one-answer.result none r.look))),
       nothing_gone _ old new _ _ c.has_failed.result c.leave_step.ensures.left c.invalidate_one-answer.result none r.look (r.nothing.0 none).1,
