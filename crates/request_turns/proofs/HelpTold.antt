@@ -74,7 +74,7 @@ listed_at test version (e ∷ es) = at (e.listed.version == version) (listed_at 
 
 none_to_put : {D : Type 0} (m : Manager D) (f : Option FetchedRecord) → ((b : ℕ) → goes_home m f b ≡ false) → HasNoneToPut (look_of_manager m) f
 none_to_put m None none = tt
-none_to_put m (Some f) none up b =
+none_to_put m (Some f) none = λ up b.
     ap (λ (t : Bool). was_due f b && t) (listed_at (λ (e : Listed). e.first == f.first && (length e.keep == length f.blocks && is_due (listed_in m.index.entries) e b)) f.version m.index.entries)
     ∙ second_fails m.home_up (is_still_due m.index.entries f.version f.first (length f.blocks) f.due b) up (none b)
 

@@ -1,4 +1,5 @@
 use Rattle.std.proofs.Common.{[], ◌≡◌, ◌<◌, false, refl, ap, subst, ◌∙◌, ℕ, Ok, Result, arith}
+use Rattle.std.proofs.lemmas.Bool.{ltb-false, ltb-true}
 use Rattle.reclaimer.specs.Fetches.{HasData}
 use Rattle.manager.specs.Seen.{look_of_manager}
 use Rattle.manager.specs.declared.part.StepFault.{StepFault}
@@ -46,7 +47,7 @@ returns-in-Ok-clause-kept g c = step_kept _ _ c.enter-turn.new.pass _ _ _ c.put_
 
 pub returns-in-Ok-clause-nothing : goal.returns-in-Ok-clause-nothing
 returns-in-Ok-clause-nothing g c is = let e = c.enter-turn.ensures in let r = c.put_home-answer.ensures in let i = c.enter-turn.new.pass in let old = c.enter-turn.result.value in let new = c.put_home-answer.new.m in
-    let zero : c.in-Ok.blocks ≡ 0 = omega (arith, is) in (
+    let few = ltb-false 0 c.in-Ok.blocks (cc is) in let zero : c.in-Ok.blocks ≡ 0 = omega (arith, few) in (
       (λ t. counted_turn _ _ i _ (note_of (pass_number i) (step_operation c.has_failed.result) (look_of_manager new) [] false) (look_of_manager old) t t e.same e.seen e.mine e.own c.leave_step.ensures.left refl e.value.look
           (same_counted {T = ℕ} (look_of_manager old) (look_of_manager new) (pass_number i) c.has_failed.result t (Ok c.in-Ok.blocks) (c.has_failed.ensures ∙ ap has_failed c.in-Ok.is) (same_put old new c.put_home-answer.result c.in-Ok.blocks c.in-Ok.is zero r.look))),
       nothing_put _ old new _ _ c.has_failed.result c.leave_step.ensures.left c.put_home-answer.result c.in-Ok.blocks c.args.room.now c.in-Ok.is zero r.look (r.none.0 (c.in-Ok.is ∙ ap Ok zero)).1,
@@ -54,6 +55,6 @@ returns-in-Ok-clause-nothing g c is = let e = c.enter-turn.ensures in let r = c.
 
 pub returns-in-Ok-clause-some : goal.returns-in-Ok-clause-some
 returns-in-Ok-clause-some g c is = let e = c.enter-turn.ensures in let r = c.put_home-answer.ensures in let i = c.enter-turn.new.pass in let old = c.enter-turn.result.value in let new = c.put_home-answer.new.m in
-    let some : 0 < c.in-Ok.blocks = omega (arith, is) in
+    let some = ltb-true 0 c.in-Ok.blocks (cc is) in
     some_taken _ _ i _ (note_of (pass_number i) (step_operation c.has_failed.result) (look_of_manager new) [] false) (look_of_manager old) e.same e.seen e.mine e.own c.leave_step.ensures.left refl e.value.look
     (put_lowers old new c.put_home-answer.result c.in-Ok.blocks c.in-Ok.is some r.lowers)
