@@ -81,14 +81,21 @@ none_to_put m (Some f) none = λ up b.
 -- ---- What was fetched
 
 -- it has a block that goes home
-pub some_fetched : {D : Type 0} (m : Manager D) (a : Result Fetched StepFault) (version count : ℕ) (f : Option FetchedRecord) → a ≡ Ok (Found.Some version count) → FindsDue a m f → IsSome f
+some_fetched : {D : Type 0} (m : Manager D) (a : Result Fetched StepFault) (version count : ℕ) (f : Option FetchedRecord) → a ≡ Ok (Found.Some version count) → FindsDue a m f → IsSome f
 some_fetched m a version count None is finds = absurd (let no : 0 < 0 = subst (λ (r : Result Fetched StepFault). FindsDue r m None) is finds in omega (arith, no))
 some_fetched m a version count (Some f) is finds = refl
 
-pub none_fetched : {D : Type 0} (old new : Manager D) (a : Result Fetched StepFault) (f : Option FetchedRecord) → a ≡ Ok Found.Nothing → HasFetchedNext a old new f → IsTrue false ↔ IsSome f
+none_fetched : {D : Type 0} (old new : Manager D) (a : Result Fetched StepFault) (f : Option FetchedRecord) → a ≡ Ok Found.Nothing → HasFetchedNext a old new f → IsTrue false ↔ IsSome f
 none_fetched old new a f is next =
     let empty : f ≡ None = (subst (λ (r : Result Fetched StepFault). HasFetchedNext r old new f) is next).0 in
     ((λ no. absurd (let e : false ≡ true = no in cc)), (λ some. absurd (let e : false ≡ true = sym (ap is_some empty) ∙ some in cc)))
+
+-- the room has a record where the turn tells that there was one
+pub room_told : {D : Type 0} (old new : Manager D) (a : Result Fetched StepFault) (x : Fetched) (found : Bool) (f : Option FetchedRecord) → a ≡ Ok x → (found ≡ false) ↔ (x ≡ Found.Nothing) → FindsDue a new f → HasFetchedNext a old new f → IsTrue found ↔ IsSome f
+room_told old new a (Found.Some version count) true f is tells due next = let some = some_fetched new a version count f is due in ((λ _. some), (λ _. refl))
+room_told old new a (Found.Some version count) false f is tells due next = absurd (let no : Found.Some version count ≡ Found.Nothing = tells.0 refl in cc)
+room_told old new a Found.Nothing true f is tells due next = absurd (let no : true ≡ false = tells.1 refl in cc)
+room_told old new a Found.Nothing false f is tells due next = none_fetched old new a f is next
 
 -- ---- The look that a turn leaves
 

@@ -18,6 +18,16 @@ use std::sync::Wait;
 use turn_lock::{Pass, TurnLock};
 use wol_disk::Disk;
 
+// Whether a record was fetched.
+fn was_found(fetched: Fetched) -> bool
+    ensures { (result ≡ false) ↔ (fetched ≡ Fetched.Nothing) }
+{
+    match fetched {
+        Fetched::Some { .. } => true,
+        Fetched::Nothing => false,
+    }
+}
+
 /// Reads a record with due blocks in one turn. Tells whether there was one within reach: then `room` has it, and else it is
 /// empty.
 pub fn fetch_turn<D: Disk, R: Wait>(
@@ -41,8 +51,7 @@ pub fn fetch_turn<D: Disk, R: Wait>(
     let answer = fetch(rt, &mut turn.value, shared, room);
     leave_step(lock, turn, pass, has_failed(&answer));
     match answer {
-        Ok(Fetched::Some { .. }) => Ok(true),
-        Ok(Fetched::Nothing) => Ok(false),
+        Ok(fetched) => Ok(was_found(fetched)),
         Err(fault) => Err(fault),
     }
 }
