@@ -29,7 +29,7 @@ use Rattle.rack_parts.specs.declared.volume_fault.VolumeFault.TheVariants as fau
 use Rattle.rack.proofs.Asking.{refuses_later, rose_on}
 use Rattle.rack.proofs.FailedParts.{part_came_back, part_failed}
 use Rattle.rack_closing.proofs.NewFaults.{told_each, told_with}
-use Rattle.rack.proofs.StillThere.{there_left}
+use Rattle.rack.proofs.StillThere.{kept_home, there_left}
 use Rattle.rack.proofs.ImagesSent.{none_named}
 use Rattle.open_rack.specs.Again.{IsRackAgain}
 use Rattle.open_rack.specs.Sessions.{IsClosed, IsOpened, OpensAndCloses}
@@ -178,14 +178,15 @@ module _ {D : Type 0} (tells : Bool) (state : D → State) (config : Config) (ol
     cause : (k : ℕ) (v : VolumeConf) → slice_get config.volumes.items k ≡ Some v → is_kept_home r.rest.images.items k ≡ true → (f : VolumeFault) × RefusesVolume {D = D} tells state config [] old new k v f
     cause k v conf home = let none = not_out r.rest.images.items k home in let (f, why) = missing k v conf none in (f, refused_alone tells state config r.rest.images.items old new k v f none why)
 
-    leaves : (t y : Told) → HadRefused config q.rest.images.items t y → LeavesVolumes config q t y × AreLeftOfParts state config q y → LeavesAll tells state config old new t y
+    leaves : (t y : Told) → HadRefused config q.rest.images.items t y → LeavesVolumes config q t y × AreLeftOfParts state config q y × WereThere config q.rest.images.items t → LeavesAll tells state config old new t y
     leaves t y stays both =
         let stayed = subst (λ (w : Rest D). HadRefused config w.images.items t y) (rest_again state config r q again) stays in
+        let were = subst (λ (w : Rest D). WereThere config w.images.items t) (rest_again state config r q again) both.2 in
         let all = subst (λ (w : Rack D). LeavesVolumes config w t y) again.only both.0 in
         record {
           refused = is_kept_home r.rest.images.items;
           cause = cause;
-          kept = λ k v conf home c may. stayed k v conf (not_out r.rest.images.items k home) c may;
+          kept = λ k v conf or c may. stayed k v conf (kept_home config r.rest.images.items t were k v conf or) c may;
           opened = has_station q;
           are_opened = all.are_opened;
           left = λ images left v there. all.each images left v;
@@ -230,9 +231,9 @@ module _ {D : Type 0} (tells : Bool) (state : D → State) (config : Config) (ol
       left_open = λ telling quiet. since (LeavesOpen config q) (LeavesOpen config q) telling
           (λ t began there. weaker (λ x. HadRefused config q.rest.images.items t x) (LeavesOpen config q t) bay.told new.told (left_open t telling began quiet)) (λ t y stays is. is);
       left_unopened = λ telling. since (LeavesUnopened config q) (LeavesUnopened config q) telling (λ t began there. unopened t telling began there) (λ t y stays is. is);
-      left = λ telling quiet. since (λ t y. LeavesVolumes config q t y × AreLeftOfParts state config q y) (LeavesAll tells state config old new) telling
+      left = λ telling quiet. since (λ t y. LeavesVolumes config q t y × AreLeftOfParts state config q y × WereThere config q.rest.images.items t) (LeavesAll tells state config old new) telling
           (λ t began there. told_each (λ x y. (HadRefused config q.rest.images.items t x → LeavesVolumes config q t y) × AreLeftOfParts state config q y)
-          (λ x y. HadRefused config q.rest.images.items t x → LeavesVolumes config q t y × AreLeftOfParts state config q y) bay.told new.told (λ x y both had. (both.0 had, both.1))
+          (λ x y. HadRefused config q.rest.images.items t x → LeavesVolumes config q t y × AreLeftOfParts state config q y × WereThere config q.rest.images.items t) bay.told new.told (λ x y both had. (both.0 had, both.1, there))
           (told_with (λ x y. HadRefused config q.rest.images.items t x → LeavesVolumes config q t y) (λ x y. AreLeftOfParts state config q y) bay.told new.told (volumes t telling began there quiet) (closed.parts telling))) leaves;
     }
       where

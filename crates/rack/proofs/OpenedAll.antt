@@ -27,7 +27,7 @@ use Rattle.rack.specs.Opening.{IsOut}
 use Rattle.rack.specs.declared.all.Taken.{Taken}
 use Rattle.rack.proofs.Asking.{refuses_later}
 use Rattle.rack.proofs.ImagesSent.{names_out, names_alike, none_named, names_home}
-use Rattle.rack.proofs.StillThere.{there_left}
+use Rattle.rack.proofs.StillThere.{kept_home, there_left}
 use Rattle.rack_closing.proofs.SameOut.{out_at}
 use Rattle.turn_lock.specs.LockIds.{LockId}
 use Rattle.seg_pool.specs.declared.base.Holder.TheVariants.{Elsewhere, HeldBy}
@@ -857,21 +857,17 @@ module _ {D : Type 0} (tells : Bool) (state : D → State) (config : Config) (va
           go (Some old) (Some t1) None kept still closed = absurd still
           go (Some old) (Some t1) (Some t2) kept still closed = each old t2 (λ k v at none c may. kept k v at none c (still k v at none c may)) (closed old refl kept)
 
-      -- an image that gives no segments isn't out
-      none_kept : (k : ℕ) → is_kept_home r.rest.images.items k ≡ true → image_here r.rest.images.items k ≡ None
-      none_kept k is = none_or (image_here r.rest.images.items k) (λ q e. let f = ap is_some e in cc (f, is))
-
-      pub closed_left : IsTold (HadRefused config r.rest.images.items) b1.told b2.told → IsTold (λ x y. AreLeftOfParts state config r y) b1.told b2.told
+      pub closed_left : IsTrue tells → IsTold (HadRefused config r.rest.images.items) b1.told b2.told → IsTold (λ x y. AreLeftOfParts state config r y) b1.told b2.told
           → ((old : Told) → b.told ≡ Some old → IsTold (λ mid new. HadRefused config r.rest.images.items old mid → LeavesVolumes config r old new) b1.told b2.told)
           → IsTold (LeavesAll tells state config b b2) b.told b2.told
-      closed_left still parts closing = closed_told {P = λ old new. LeavesVolumes config r old new × AreLeftOfParts state config r new} still
+      closed_left telling still parts closing = closed_told {P = λ old new. LeavesVolumes config r old new × AreLeftOfParts state config r new × WereThere config r.rest.images.items old} still
           (λ old is. told_each (λ x y. (HadRefused config r.rest.images.items old x → LeavesVolumes config r old y) × AreLeftOfParts state config r y)
-          (λ x y. HadRefused config r.rest.images.items old x → LeavesVolumes config r old y × AreLeftOfParts state config r y) b1.told b2.told (λ x y both had. (both.0 had, both.1))
+          (λ x y. HadRefused config r.rest.images.items old x → LeavesVolumes config r old y × AreLeftOfParts state config r y × WereThere config r.rest.images.items old) b1.told b2.told (λ x y both had. (both.0 had, both.1, opened_there telling old is))
           (told_with (λ x y. HadRefused config r.rest.images.items old x → LeavesVolumes config r old y) (λ x y. AreLeftOfParts state config r y) b1.told b2.told (closing old is) parts))
           (λ old new kept both. record {
             refused = is_kept_home r.rest.images.items;
             cause = why_refused;
-            kept = λ k v at is c may. kept k v at (none_kept k is) c may;
+            kept = λ k v at or c may. kept k v at (kept_home config r.rest.images.items old both.2 k v at or) c may;
             opened = has_station r;
             are_opened = both.0.are_opened;
             left = λ images left v there. both.0.each images left v;

@@ -1,12 +1,12 @@
 -- An image that was there, whatever a crash had left of it, is there afterwards.
-use Rattle.rack.proofs.Basics.{◌≡◌, ⊎_elim, ℕ, List, Option, None, Some, option_map, sym, ap, ◌∙◌, subst, slice_get, slice_set, slice_index_or, unwrap_or, cases_eq, length-set}
+use Rattle.rack.proofs.Basics.{◌≡◌, ◌⊎◌, ⊎_elim, ℕ, List, Option, None, Some, true, is_some, option_map, sym, ap, ◌∙◌, subst, slice_get, slice_set, slice_index_or, unwrap_or, cases_eq, length-set}
 use Rattle.rack.proofs.Basics.{get_or_from_slice_get, slice_get_within, slice_get-map}
 use Rattle.rack.proofs.Terms.{Block, State, Shape, Images, image_of, IsThere, Name, Told, at_name, Config, VolumeConf, shapes_of, image_read, images_read, MayLeave, AreLeft, AreLeftOfParts}
-use Rattle.rack.proofs.Terms.{HadRefused, image_here, Rack}
+use Rattle.rack.proofs.Terms.{HadRefused, ImageRest, WasAccepted, WereThere, image_here, is_kept_home, Rack}
 use Rattle.manager.proofs.Lanes.{get_set, get_other}
 use Rattle.rack_closing.proofs.LeftImage.{volume_at}
 use Rattle.rack_closing.proofs.SoundClosed.{reads_are_left}
-use Rattle.rack_closing.proofs.Cases.{by_option}
+use Rattle.rack_closing.proofs.Cases.{by_option, none_or}
 
 -- whatever a crash had left of the images, that of volume v was there
 abbrev pub WasThere : Config → Told → (v : ℕ) → Type 0
@@ -66,3 +66,9 @@ there_left {D} state config r old new had parts images left v all =
     by_option (image_here r.rest.images.items v)
     (λ none. there_may config old images v c.1 c.3 (had v c.1 c.3 none (image_of images v) (may_at config new images v c.1 c.3 left)) all)
     (λ m here. let x = parts images left v c.0 m c.2 here in (c.0, x.0, c.2, x.1, x.2.sized))
+
+-- an image that gives no segments, and one that couldn't be opened as it read, isn't out
+pub kept_home : {D : Type 0} (config : Config) (out : List (Option (ImageRest D))) (t : Told) → WereThere config out t → (k : ℕ) (v : VolumeConf) → slice_get config.volumes.items k ≡ Some v
+    → (is_kept_home out k ≡ true) ⊎ (WasAccepted config t k v → ⊥) → image_here out k ≡ None
+kept_home config out t there k v at or = none_or (image_here out k)
+    (λ r here. ⊎_elim (λ home. let is = ap is_some here in cc (is, home)) (λ never. never (there k v at (ap is_some here))) or)

@@ -1,11 +1,11 @@
 -- What was taken out for a rack; and images that went back to their bay after want of memory for the pools.
 use Rattle.rack.proofs.Basics.{◌≡◌, ⊎_elim, ℕ, ◌+◌, ◌<◌, ◌≤◌, Bool, List, [], ◌∷◌, ◌++◌, length, Option, None, Some, option_map, IfSome, refl, sym, ap, ◌∙◌, subst, arith, ◌≢◌, ◌⊎◌, inl, inr}
-use Rattle.rack.proofs.Basics.{◌*◌, true, false, is_some, not, get_or_from_slice_get, none-some, same_Some, slice_get_within, slice_get-map, slice_get, IsSome, slice_index_or, slice_range}
+use Rattle.rack.proofs.Basics.{◌*◌, true, false, map, is_some, not, get_or_from_slice_get, none-some, same_Some, slice_get_within, slice_get-map, slice_get, IsSome, slice_index_or, slice_range}
 use Rattle.rack.proofs.Basics.{IsTrue, length-map, with_items, with_items_is}
 use Rattle.rack.proofs.Terms.{Block, State, IsDisk, TellsContent, IsImage, IsImageOf, reads, image_reads, BayState, outs, Image, Told, at_name, Shape, IsIdle, Images, image_of, segment_of}
 use Rattle.rack.proofs.Terms.{IsSoundSegment, AreSound, Config, VolumeConf, IsValid, segment_head, SegHead, Free, Owned, Spun, state_of, HasHead, shape_in, shapes_of, NoneOut, MayLeave}
 use Rattle.rack.proofs.Terms.{AreLeft, IsTold, image_here, segment_here, IsImageRest, out_names, IsComplete, LeavesNoneOut, GivesBack, IsThere, LeavesAll, KeepsAllSound, HasFaulty}
-use Rattle.rack.proofs.Terms.{RefusesVolume, AreAsked, HasSentOut, said_at, StayedSo, LeavesNoMore, WasAtEntry, CanIssue, Restores, IsRestored, Said, ImageRest, RecoversSame, VolumeFault}
+use Rattle.rack.proofs.Terms.{RefusesVolume, WereThere, AreAsked, HasSentOut, said_at, StayedSo, LeavesNoMore, WasAtEntry, CanIssue, Restores, IsRestored, Said, ImageRest, RecoversSame, VolumeFault}
 use Rattle.wol_model.specs.Recovered.{extents_in}
 use Rattle.wol_model.proofs.Images.{idle_none}
 use Rattle.rack_parts.proofs.Members.{a_value, here_within}
@@ -21,7 +21,7 @@ use Rattle.rack_closing.proofs.Cases.{none_or, some_or}
 use Rattle.rack.specs.declared.images.Images.{Images as Asked}
 use Rattle.rack.proofs.Asking.{refuses_later, told_then}
 use Rattle.rack.proofs.ImagesSent.{names_alike, none_named}
-use Rattle.rack.proofs.StillThere.{WasThere, conf_there, there_may}
+use Rattle.rack.proofs.StillThere.{WasThere, conf_there, kept_home, there_may}
 use Rattle.rack.specs.Opening.{IsOut, BringsAllBack}
 
 -- What was taken out for a rack, from which it is set up.
@@ -58,7 +58,7 @@ module _ {D : Type 0} (tells : Bool) (state : D → State) (config : Config) (b 
   all_less old new less = record {
     refused = no_one;
     cause = λ k v at is. absurd (cc (is));
-    kept = λ k v at is. absurd (cc (is));
+    kept = λ k v at or c may. less v.name c may;
     opened = no_one;
     are_opened = λ v is. none_opened v is;
     left = λ images left v there. (images, left_less config old new less images left, record { but = refl; all = λ or. refl });
@@ -269,6 +269,14 @@ module _ {D : Type 0} (tells : Bool) (state : D → State) (config : Config) (b 
               complete = λ j lt. x.2.all.segments j (let c = x.2.rest.count in omega (arith, lt, c));
             }
 
+        -- each image that was out might be opened as it read
+        were_there : WereThere config i.out.items t
+        were_there k conf at out =
+            let q = some_or (image_here i.out.items k) (λ e. let none = ap is_some e in cc (none, out)) in
+            let of = asked.out k (shape_in config conf) q.0 (shape_is k conf at) q.1 in
+            let w = asked.entry telling t is k conf of.said q.0 at of.said_is q.1 in
+            (w.image, w.there, w.says.whole, w.says.size, of.said.view, map segment_head of.said.heads.items, w.says.accepted)
+
         -- a refused image may be left only as before
         refused_kept : (k : ℕ) (conf : VolumeConf) → slice_get config.volumes.items k ≡ Some conf → not_taken k ≡ true → (c : Option (List Block)) → MayLeave (at_name conf.name t2.images) c → MayLeave (at_name conf.name t.images) c
         refused_kept k conf at is_not c may =
@@ -382,7 +390,8 @@ module _ {D : Type 0} (tells : Bool) (state : D → State) (config : Config) (b 
         left_again telling = back_told (λ t t1 t2 is stayed given. record {
           refused = not_taken;
           cause = cause;
-          kept = refused_kept telling (tell_all telling) sound t t1 t2 is stayed given;
+          kept = λ k v at or. refused_kept telling (tell_all telling) sound t t1 t2 is stayed given k v at
+              (ap (λ (o : Option (ImageRest D)). not (is_some o)) (kept_home config i.out.items t (were_there telling (tell_all telling) sound t t1 t2 is stayed given) k v at or));
           opened = no_one;
           are_opened = λ v is_open. none_opened v is_open;
           left = λ images left v there. back_recovers telling (tell_all telling) sound t t1 t2 is stayed given images left v;

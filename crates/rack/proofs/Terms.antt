@@ -43,7 +43,7 @@ pub use Rattle.rack.specs.Locked.{IsLocked, IsUnopened}
 pub use Rattle.rack.specs.Making.{AreNewImages, PushesImage, AreEmptyPasses, last_of, ArePopped, AreEmptied, CanDeal, Deals, AreLists, PutsSpindles, PutsPools, IsSetUp, image_by}
 pub use Rattle.rack.specs.Opening.{said_at, view_at, fault_at, IsSaidOf, AreTried, IsOpeningRack, IsRefused, WasAtEntry, AreAsked, StayedAs, IsNextOpened, IsNextRefused, HasBegun, AreRefusedBelow, HaveFaults, SaysOf, AreStillCut, HaveHeads, IsCutOf, AreCutOf, AreOwnersHere, IsStopped, HasFaultOf, StayedSo, HasSentOut, IsBackAtOnce, HasAllBack, LeavesNoMore, AreSameOut, IsTaken}
 pub use Rattle.rack.specs.declared.lists.Lists.{Lists}
-pub use Rattle.rack_closing.specs.Opens.{HasFaulty, RefusesVolume, RefusesImage, AreRefused, HadBefore, HadSegmentBefore, IsGone, IsAsRead, fault_in_image, fault_of_image, IsFaultAmong, HasNewFault, IsLeftHere, BeganWith, KeepsOthers, AreViewsAsRead, WereThere, LeavesAll, KeepsAllSound, IsThere}
+pub use Rattle.rack_closing.specs.Opens.{HasFaulty, RefusesVolume, RefusesImage, AreRefused, HadBefore, HadSegmentBefore, IsGone, IsAsRead, fault_in_image, fault_of_image, IsFaultAmong, HasNewFault, IsLeftHere, BeganWith, KeepsOthers, AreViewsAsRead, WasAccepted, WereThere, LeavesAll, KeepsAllSound, IsThere}
 pub use Rattle.rack_closing.specs.Owners.{images_taken, IsOwnedIn, IsOpeningOf, BeganInPlace, IsBegun, AreOwnedIn, HadRefused, RecoversSame}
 pub use Rattle.rack_parts.specs.Locks.{IsInOrder, AreSettled, AreSpindlesOf, IsWholeLock}
 pub use Rattle.rack_parts.specs.Parts.{TakesOpening, IsOwnedPlace, loggers_out, IsNewLane, IsBarePlace, CanPutLanes, IsOwedPlace, CanPutOwned, HasPlace, segments_of, IsUsablePlace, CanTake, segment_in, IsTakenOf, holder_by, IsHomeAway, IsSameBut, with_home, IsLaidOut, PutsOpening, IsSameRest, PutsManager, IsTogether, HasBack, of_head, IsIssuedPool, TakesFree, Supplies, in_image, CanIssue, Restores, IsRestored}

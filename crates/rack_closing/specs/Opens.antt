@@ -250,8 +250,9 @@ pub record LeavesAll {D : Type 0} (tells : Bool) (state : D → State) (config :
   pub cause : (k : ℕ) (v : VolumeConf) → slice_get config.volumes.items k ≡ Some v
       → refused k ≡ true
       → (f : VolumeFault) × RefusesVolume {D = D} tells state config [] b b' k v f
-  -- a refused image may be left only as before
-  pub kept : (k : ℕ) (v : VolumeConf) → slice_get config.volumes.items k ≡ Some v → refused k ≡ true
+  -- one that was refused, and one that couldn't be opened as it read, may be left only as before
+  pub kept : (k : ℕ) (v : VolumeConf) → slice_get config.volumes.items k ≡ Some v
+      → (refused k ≡ true) ⊎ (WasAccepted config old k v → ⊥)
       → (c : Option (List Block)) → MayLeave (at_name v.name new.images) c
       → MayLeave (at_name v.name old.images) c
   pub opened : ℕ → Bool

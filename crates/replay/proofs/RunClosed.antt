@@ -10,7 +10,7 @@ use Rattle.replay.specs.Replays.{closed}
 use Rattle.rack.proofs.Asking.{refuses_later, rose_on}
 use Rattle.rack.proofs.FailedParts.{gained_parts, part_came_back, part_failed}
 use Rattle.rack_closing.proofs.NewFaults.{told_each, told_with}
-use Rattle.rack.proofs.StillThere.{there_left}
+use Rattle.rack.proofs.StillThere.{kept_home, there_left}
 use Rattle.open_rack.proofs.FirstClosed.{first_refused}
 use Rattle.open_rack.proofs.Since.{not_out, refused_alone, refused_missing}
 use Rattle.replay.proofs.CauseServed.{rose_from}
@@ -59,7 +59,7 @@ module _ {D : Type 0} (tells : Bool) (state : D → State) (config : Config) (en
       record {
         refused = is_kept_home r.rest.images.items;
         cause = cause;
-        kept = λ k v conf out c may. kept k v conf (not_out r.rest.images.items k out) c (stays k v conf (not_out r.rest.images.items k out) c may);
+        kept = λ k v conf or c may. let none = kept_home config r.rest.images.items e there k v conf or in kept k v conf none c (stays k v conf none c may);
         opened = has_station r;
         are_opened = all.0.are_opened;
         left = λ images left v is_there. all.0.each images left v;

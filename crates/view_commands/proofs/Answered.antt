@@ -35,7 +35,7 @@ use Rattle.view_commands.specs.declared.order.ViewRefusal.{ViewRefusal}
 use Rattle.view_commands.proofs.Changed.{HasNoLog, IsAddition}
 use Rattle.view_commands.proofs.Emptied.{ends, lists_none, unbroken}
 use Rattle.view_commands.proofs.Sessions.{outs_after, told_by, told_since}
-use Rattle.view_commands.proofs.Whole.{both_through, changed_completes, changed_open, ended_completes, ended_of, leaves_all, left_of, sound_gone_through, sound_through, told_then}
+use Rattle.view_commands.proofs.Whole.{WereAccepted, all_through, changed_completes, changed_open, ended_completes, ended_of, leaves_all, left_of, sound_gone_through, sound_through, told_then}
 
 module _ (config : Config) (valid : IsValid config) (volume : ℕ) (within : volume < length config.volumes.items) (asked : Change) (fits : id_of asked < length config.volumes.items) {D : Type 0} (tells : Bool) (state : D → State) (old mid : BayState)
     (spindles : List SpindleView) (answer : Result (Unit {0}) Fault) (session : OpensAndCloses tells state config (λ before after. TellsRack tells state asked volume before after answer) old mid spindles) where
@@ -88,8 +88,8 @@ module _ (config : Config) (valid : IsValid config) (volume : ℕ) (within : vol
 
     pub done_left : IsTrue tells → IsTold (LeavesAll tells state config old new) old.told new.told
     done_left telling =
-        told_by (λ x y. KeepsArrays config x y × LeavesThere config y) (LeavesAll tells state config old new) (λ entry left is. leaves_all tells state config old new entry left is.0 is.1) old.told new.told
-        (both_through config valid volume v conf asked fits tells state did old mid spindles session is_done.all_open is_done.same new result (changes v conf) later telling)
+        told_by (λ x y. KeepsArrays config x y × LeavesThere config y × WereAccepted config x) (LeavesAll tells state config old new) (λ entry left is. leaves_all tells state config old new entry left is.0 is.1 is.2) old.told new.told
+        (all_through config valid volume v conf asked fits tells state did old mid spindles session is_done.all_open is_done.same new result (changes v conf) later telling)
 
     pub done_others : IsTold (KeepsOthers config) old.told mid.told → IsTrue tells → IsTold (KeepsOthers config) old.told new.told
     done_others others telling =

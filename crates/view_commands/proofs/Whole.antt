@@ -19,7 +19,7 @@ use Rattle.report.specs.declared.trouble.Trouble.TheVariants as trouble
 use Rattle.spin_model.specs.Spindles.{SpindleView}
 use Rattle.volume_images.specs.Left.{IsTold}
 use Rattle.volume_images.specs.Volumes.{images_read, shape_in, shapes_of}
-use Rattle.rack.specs.Opens.{KeepsAllSound, LeavesAll}
+use Rattle.rack.specs.Opens.{KeepsAllSound, LeavesAll, WasAccepted}
 use Rattle.rack.specs.Owners.{recovered_but}
 use Rattle.rack_parts.specs.declared.rack.Rack.{Rack}
 use Rattle.rack_closing.proofs.SoundBefore.{some_image}
@@ -58,12 +58,17 @@ none_refused : (config : Config) (images : Images) (v : ℕ) → recovered_but (
 unfolding recovered_from
 none_refused config images v = ap (λ (l : Images). recovered v (home_in (slice_get (shapes_of config) v) (image_of images v)) (all_segments (shapes_of config) l)) (accepted_none 0 images)
 
-pub leaves_all : {D : Type 0} (tells : Bool) (state : D → State) (config : Config) (b b' : BayState) (entry left : Told) → KeepsArrays config entry left → LeavesThere config left → LeavesAll tells state config b b' entry left
-leaves_all tells state config b b' entry left arrays_are all_there = record {
+-- each image was there, and might be opened as it read
+abbrev pub WereAccepted : Config → Told → Type 0
+WereAccepted config entry = (k : ℕ) (v : VolumeConf) → slice_get config.volumes.items k ≡ Some v → WasAccepted config entry k v
+
+pub leaves_all : {D : Type 0} (tells : Bool) (state : D → State) (config : Config) (b b' : BayState) (entry left : Told) → KeepsArrays config entry left → LeavesThere config left → WereAccepted config entry
+    → LeavesAll tells state config b b' entry left
+leaves_all tells state config b b' entry left arrays_are all_there accepted = record {
   there = λ images is v was. (let before = was (images_read config entry) (reads_left config entry) in all_there images is v (slice_get_within (shapes_of config) v before.0 before.2));
   refused = λ k. false;
   cause = λ k v at no. absurd (cc no);
-  kept = λ k v at no. absurd (cc no);
+  kept = λ k v at or. absurd (elim or [ inl no ↦ cc no | inr never ↦ never (accepted k v at) ]);
   opened = λ v. false;
   are_opened = λ v no. absurd (cc no);
   left = λ images is v there.
@@ -167,8 +172,12 @@ module _ (config : Config) (valid : IsValid config) (volume : ℕ) (v : VolumeCo
       pub there_through : IsTrue tells → IsTold (λ entry left. LeavesThere config left) old.told new.told
       there_through = through (λ entry left. LeavesThere config left) (λ o m n is change. there_left config valid volume v conf asked fits o m n is.0 (front_at o m is.0).ids (at_entry o m is.0) result change)
 
-      pub both_through : IsTrue tells → IsTold (λ x y. KeepsArrays config x y × LeavesThere config y) old.told new.told
-      both_through telling = told_both (KeepsArrays config) (λ entry left. LeavesThere config left) old.told new.told (arrays_through telling) (there_through telling)
+      pub all_through : IsTrue tells → IsTold (λ x y. KeepsArrays config x y × LeavesThere config y × WereAccepted config x) old.told new.told
+      all_through = through (λ x y. KeepsArrays config x y × LeavesThere config y × WereAccepted config x) (λ o m n is change. (
+        arrays_left config valid volume v conf asked fits o m n is.0 (front_at o m is.0).ids (at_entry o m is.0) result change is.1,
+        there_left config valid volume v conf asked fits o m n is.0 (front_at o m is.0).ids (at_entry o m is.0) result change,
+        λ k w at. (is.0 (images_read config m) (reads_left config m) k w at).was,
+      ))
 
       -- what was told of the image is told of its volume
       untold : (f : Fault) → result ≡ Err (stop.Fault f) → IsNotWhole tells config v mid → IsTrue tells → IsTold (λ entry left. ⊥) old.told new.told

@@ -91,7 +91,7 @@ returns-in_err-lists-clause-left g c =
 
 pub returns-clause-left : goal.returns-clause-left
 returns-clause-left g c = λ telling.
-    closed_left g.B.Part.Disk.tells g.B.Part.Disk.state c.args.config.now c.requires.config (g.B.Bay.state c.args.bay.now) (g.B.Bay.state c.take_out.new.bay) c.in-Ok.taken c.in-Ok.ensures.taken c.filled-rack.result c.filled-rack.ensures.images c.open_volumes.new.rack c.open_volumes.ensures.same_out (g.B.Bay.state c.close_all-spindles.new.bay) c.close_all-spindles.ensures.counts (gained_parts g.B.Part.Disk.state c.args.config.now c.open_volumes.new.rack.rest (g.B.Bay.state c.take_out.new.bay).told (g.B.Bay.state c.close_all-spindles.new.bay).told c.close_all-spindles.ensures.faulty) (c.close_all-spindles.ensures.kept telling) (c.close_all-spindles.ensures.parts telling)
+    closed_left g.B.Part.Disk.tells g.B.Part.Disk.state c.args.config.now c.requires.config (g.B.Bay.state c.args.bay.now) (g.B.Bay.state c.take_out.new.bay) c.in-Ok.taken c.in-Ok.ensures.taken c.filled-rack.result c.filled-rack.ensures.images c.open_volumes.new.rack c.open_volumes.ensures.same_out (g.B.Bay.state c.close_all-spindles.new.bay) c.close_all-spindles.ensures.counts (gained_parts g.B.Part.Disk.state c.args.config.now c.open_volumes.new.rack.rest (g.B.Bay.state c.take_out.new.bay).told (g.B.Bay.state c.close_all-spindles.new.bay).told c.close_all-spindles.ensures.faulty) telling (c.close_all-spindles.ensures.kept telling) (c.close_all-spindles.ensures.parts telling)
     (λ old is. c.close_all-spindles.ensures.volumes old telling (c.open_volumes.ensures.began telling old (subst (λ (l : List (Option Said)). HasBegun g.B.Part.Disk.state c.args.config.now old l 0 c.filled-rack.result) (sym c.as_slice.ensures.value) (begun_first g.B.Part.Disk.tells g.B.Part.Disk.state c.args.config.now c.requires.config (g.B.Bay.state c.args.bay.now) (g.B.Bay.state c.take_out.new.bay) c.in-Ok.taken c.in-Ok.ensures.taken c.filled-rack.result c.filled-rack.ensures.rest c.filled-rack.ensures.images c.filled-rack.ensures.faults telling old is))) (opened_there g.B.Part.Disk.tells g.B.Part.Disk.state c.args.config.now c.requires.config (g.B.Bay.state c.args.bay.now) (g.B.Bay.state c.take_out.new.bay) c.in-Ok.taken c.in-Ok.ensures.taken c.filled-rack.result c.filled-rack.ensures.images c.open_volumes.new.rack c.open_volumes.ensures.same_out telling old is) (quiet_stations c.open_volumes.new.rack.stations.items c.open_volumes.ensures.fresh))
 
 pub returns-clause-sound : goal.returns-clause-sound
