@@ -1,13 +1,13 @@
 -- The volumes of a rack that was closed: their entries, the parts that had a fault, and their passes at the pools.
 use Rattle.rack_closing.proofs.Basics.{◌≡◌, ◌≢◌, ◌<◌, ◌≤◌, ℕ, Bool, false, List, [], ◌∷◌, length, Option, Some, None, is_some, refl, sym, ap, ◌∙◌, subst, arith, ◌+◌, zero, suc, get_or, map}
-use Rattle.rack_closing.proofs.Basics.{option_map, cond, Contains, IsTrue, slice_get, IsSome, count_by, All, AllByRecursion, cons_option, same_Some, slice_get-get_or, slice_get_within}
+use Rattle.rack_closing.proofs.Basics.{option_map, option_and_then, cond, Contains, IsTrue, slice_get, slice_get_past, cases_lt, IsSome, count_by, All, AllByRecursion, cons_option, same_Some, slice_get-get_or, slice_get_within}
 use Rattle.rack_closing.proofs.Basics.{slice_get-map, get_or_from_slice_get, none-some, All-from_recursion, All-contains, Contains-get_or, sum_by-cons, ⊎_elim, ⊤}
 use Rattle.rack_closing.proofs.Terms.{Block, State, IsImageOf, Rose, Told, BayState, faulty_places, Shape, flight_of, writes, Images, image_of, segment_of, Indexed, listed_in, Record, IsLog}
 use Rattle.rack_closing.proofs.Terms.{extent_of, Write, Held, AreInUse, IsFound, HomePart, SegmentPart, IsPartOf, SaysOwnerOrFree, versions, PartName, entries_of, last_look, HasPassed, Look}
 use Rattle.rack_closing.proofs.Terms.{IsHeldBy, Config, VolumeConf, pass_number, pass_mine, TurnLock, PassOf, state_of, disk_of, volume_of, Spun, Spindle, SpindleBase, PoolBase, Pool, part_of}
 use Rattle.rack_closing.proofs.Terms.{FreeSegment, held_in, logger_of, pool_of, HeldSegment, Lane, all_held, down_of, parts_of, seen, notes_of, AreNamed, nones_at, nones_in, takes_in, takes_of}
 use Rattle.rack_closing.proofs.Terms.{Part, Station, shapes_of, AreLeft, shape_in, IsTold, image_here, segment_here, IsImageOut, away_with, spindle_pass, base_of_station, IsStation, KeepToViews}
-use Rattle.rack_closing.proofs.Terms.{IsClosing, GivesBack, IsComplete, HasFaultHere, IsClosedPool, entries_made, ImageRest, Rack, Rest, IsTogether, HasBack, RecoversTo, IsClosedVolume}
+use Rattle.rack_closing.proofs.Terms.{IsClosing, GivesBack, IsComplete, HasFaultHere, IsClosedPool, entries_made, ImageRest, Rack, Rest, VolumePasses, IsTogether, HasBack, RecoversTo, IsClosedVolume}
 use Rattle.rack_closing.proofs.Terms.{HasFaultyPart, LiesInView, LeavesNoLog, part_named, place_in, volume_in, AreClosedVolumes, IsValid, Noted, Keeps}
 use Rattle.manager.specs.declared.manager.Manager.{Manager}
 use Rattle.turn_lock.specs.Histories.{Entry, own}
@@ -356,6 +356,18 @@ module _ {D : Type 0} {state : D → State} {tells : Bool} {config : Config} {b 
       volume n d within = closed_volume ending (get_or r.stations.items n d) (Contains-get_or r.stations.items n d within) x y given cause
 
 -- Which disks the volumes of a rack used, once its stations are closed.
+
+-- a row with something at a place is there
+row_there : {D X : Type 0} (rows : List (VolumePasses D)) (at : VolumePasses D → Option X) (v : ℕ) (x : X) → option_and_then at (slice_get rows v) ≡ Some x → v < length rows
+row_there rows at v x here = ⊎_elim (λ less. less) (λ past. absurd (none-some x (sym (ap (option_and_then at) (slice_get_past rows v past)) ∙ here))) (cases_lt v (length rows))
+
+-- a pass of a spindle that no manager had is as it was, and its number is that of a volume
+pub spindle_stays : {D : Type 0} {state : D → State} {tells : Bool} {config : Config} {b : BayState} {r : Rack D} {first second : Rest D} (ending : IsEnding state tells config b r first second) (v k : ℕ) (p : PassOf Spindle SpindleBase)
+    → k < length r.shared.spindles.items → spindle_pass r.rest v k ≡ Some p → (v < length (shapes_of config)) × (spindle_pass second v k ≡ Some p)
+spindle_stays {D = D} {r = r} ending v k p within here =
+    let row = row_there r.rest.passes.items (λ (q : VolumePasses D). get_or q.spindles.items k None) v p here in
+    let away = (ending.can.rest.parts.spindles.here v k row within).0 (ap is_some here) in
+    (omega (arith, row, ending.can.rest.parts.count), ending.kept.spindles v k ∙ ending.closed.spindles v k away ∙ here)
 
 -- the pass of a volume at a disk that isn't its own nor in its view made no entries
 pub none_made : {D : Type 0} (views : ℕ → List ℕ) (r : Rack D) → KeepToViews views r → All (λ s. IsStation s) r.stations.items → (last : Rest D) (v k : ℕ) → v ≢ k → (Contains (views v) k → ⊥)

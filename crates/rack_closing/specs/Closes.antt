@@ -38,7 +38,7 @@ use Rattle.manager.specs.declared.part.Part.TheVariants.{Home, Segment}
 use Rattle.manager.specs.declared.station.Station.{Station}
 use Rattle.volume_images.specs.Left.{IsTold}
 use Rattle.volume_images.specs.Volumes.{shape_in, shapes_of, images_read, AreLeft}
-use Rattle.rack_parts.specs.Rests.{image_here, IsImageOut, IsSegmentHere}
+use Rattle.rack_parts.specs.Rests.{image_here, spindle_pass, IsImageOut, IsSegmentHere}
 use Rattle.rack_parts.specs.Racks.{KeepToViews, base_of_station}
 use Rattle.rack_parts.specs.Closing.{IsAccessBut}
 use Rattle.rack_closing.specs.Owners.{recovered_but, RecoversSame, WasOpened}
@@ -49,13 +49,17 @@ use Rattle.rack_parts.specs.declared.rack.Rest.{Rest}
 
 -- ---- Spindles
 
--- a spindle stands for all entries of its lock, among which are those of its keeper
+-- A spindle stands for all entries of its lock, among which are those of its keeper. The entries of
+-- a pass that no manager had are the ones that it had made; those of a pass that a manager had are
+-- some accesses.
 pub record IsClosedSpindle {D : Type 0} (r : Rack D) (k : ℕ) (s : SpindleView) : Type 0 where
   pub entries : List Entry
   pub stands : (l : TurnLock Spindle SpindleBase) → slice_get r.shared.spindles.items k ≡ Some l
       → StandsFor s (lock_id l).base entries
   pub keeper_part : (p : PassOf Spindle SpindleBase) → slice_get r.keepers.items k ≡ Some p
       → IsPartOf entries p
+  pub made : (n : ℕ) (p : PassOf Spindle SpindleBase) → spindle_pass r.rest n k ≡ Some p
+      → own n entries ≡ pass_mine p
   -- each entry of another pass is one of an access
   pub accesses : (p : PassOf Spindle SpindleBase) → slice_get r.keepers.items k ≡ Some p
       → AllByRecursion (IsAccessBut (pass_number p)) entries

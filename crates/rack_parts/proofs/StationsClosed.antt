@@ -1,5 +1,5 @@
 -- Stations are closed one after the other.
-use Rattle.rack_parts.proofs.Basics.{◌≡◌, ◌≢◌, ◌≤◌, ◌+◌, ℕ, List, [], ◌∷◌, ◌++◌, length, map, Some, refl, sym, ap, ◌∙◌, subst, arith, ◌<◌}
+use Rattle.rack_parts.proofs.Basics.{◌≡◌, ◌≢◌, ◌≤◌, ◌+◌, inl, inr, ⊎_elim, ℕ, List, [], ◌∷◌, ◌++◌, length, map, Some, refl, sym, ap, ◌∙◌, subst, arith, ◌<◌}
 use Rattle.rack_parts.proofs.Basics.{◌-◌, Bool, drop, get_or, Option, None, Contains, All, slice_get, option_map, vec_capacity, Vec, Global}
 use Rattle.rack_parts.proofs.Basics.{length-map, length_push, map_push, append-nil, length-drop, get_or-drop, drop_more}
 use Rattle.rack_parts.proofs.Basics.{All-contains, Contains-append_left, Contains-append_right, slice_get-get_or, slice_get-map}
@@ -95,8 +95,9 @@ module _ {D : Type 0} (state : D → State) (tells : Bool) (config : Config) (sh
       images = (back.images_kept state tells config shared bases b s.id owner_is old open_base can.locks parts can.accesses not_again m (notes_of entries) keeps rooms mp home_is spindle_is lanes_is new put);
       homes = (back.homes_kept state tells config shared bases b s.id owner_is old open_base can.locks parts can.accesses not_again m (notes_of entries) keeps rooms mp home_is spindle_is lanes_is new put);
       places = λ w k differs. back.other_place state tells config shared bases b s.id owner_is old open_base can.locks parts can.accesses not_again m (notes_of entries) keeps rooms mp home_is spindle_is lanes_is new put w k (λ same has. differs (same ∙ owner_is)) (λ same. absurd (differs same));
-      spindles = λ v k differs away. (back.other_place state tells config shared bases b s.id owner_is old open_base can.locks parts can.accesses not_again m (notes_of entries) keeps rooms mp home_is spindle_is lanes_is new put v k
-          (λ same has. away (subst (λ (w : ℕ). Contains (away_with (b ∷ [])).lanes (w, k)) (sym same) (lane_came [] b k has))) (λ same e. differs (same ∙ sym e))).spindle;
+      spindles = λ v k away. (back.other_place state tells config shared bases b s.id owner_is old open_base can.locks parts can.accesses not_again m (notes_of entries) keeps rooms mp home_is spindle_is lanes_is new put v k
+          (λ same has. away (inl (subst (λ (w : ℕ). Contains (away_with (b ∷ [])).lanes (w, k)) (sym same) (lane_came [] b k has))))
+          (λ same e. away (inr (same ∙ sym e, first_in b.volume.began.owner v [] (owner_is ∙ sym same))))).spindle;
       held = λ v k away. back.lists_kept state tells config shared bases b s.id owner_is old open_base can.locks parts can.accesses not_again m (notes_of entries) keeps rooms mp home_is spindle_is lanes_is new put v k away;
     }
 
@@ -135,7 +136,7 @@ module _ {D : Type 0} (tells : Bool) (state : D → State) where
     images = λ k. kept_all (image_here r.images.items k);
     homes = λ k away. refl;
     held = λ v k away. refl;
-    spindles = λ v k differs away. refl;
+    spindles = λ v k away. refl;
   }
 
   module _ (s : Station D) (done : List (Station D)) (apart : (t : Station D) → Contains done t → t.id ≢ s.id) (init cur new : Rest D) (so_far : ClosesStations tells state done init cur) (one : ClosesStation tells state s cur new) where
@@ -164,7 +165,9 @@ module _ {D : Type 0} (tells : Bool) (state : D → State) where
       images = λ k. keeps_then (image_here init.images.items k) (image_here cur.images.items k) (image_here new.images.items k) (so_far.images k) (one.images k);
       homes = λ k away. one.homes k (λ e. away (first_in s.id k (map (λ (t : Station D). t.id) done) (sym e))) ∙ so_far.homes k (λ has. away (later_in s.id k (map (λ (t : Station D). t.id) done) has));
       held = λ v k away. one.held v k (λ has. away (own v k has)) ∙ so_far.held v k (λ has. away (others v k has));
-      spindles = λ v k differs away. one.spindles v k differs (λ has. away (own v k has)) ∙ so_far.spindles v k differs (λ has. away (others v k has));
+      spindles = λ v k away.
+          one.spindles v k (λ has. away (⊎_elim (λ lane. inl (own v k lane)) (λ home. inr (home.0, own_home v home.1)) has))
+          ∙ so_far.spindles v k (λ has. away (⊎_elim (λ lane. inl (others v k lane)) (λ home. inr (home.0, other_homes v home.1)) has));
     }
       where
         others : (v k : ℕ) → Contains (away_with (map (λ (t : Station D). base_of_station t) done)).lanes (v, k) → Contains (away_with (map (λ (t : Station D). base_of_station t) (s ∷ done))).lanes (v, k)
@@ -175,6 +178,12 @@ module _ {D : Type 0} (tells : Bool) (state : D → State) where
             let mine : Contains (lanes_with (base_of_station s)) (v, k) =
             subst (λ (l : List (ℕ × ℕ)). Contains l (v, k)) (append-nil (lanes_with (base_of_station s))) has in
             Contains-append_left (lanes_with (base_of_station s)) (away_with (map (λ (t : Station D). base_of_station t) done)).lanes (v, k) mine
+
+        other_homes : (v : ℕ) → Contains (away_with (map (λ (t : Station D). base_of_station t) done)).homes v → Contains (away_with (map (λ (t : Station D). base_of_station t) (s ∷ done))).homes v
+        other_homes v has = later_in (base_of_station s).volume.began.owner v (away_with (map (λ (t : Station D). base_of_station t) done)).homes has
+
+        own_home : (v : ℕ) → Contains (away_with (base_of_station s ∷ [])).homes v → Contains (away_with (map (λ (t : Station D). base_of_station t) (s ∷ done))).homes v
+        own_home v has = Contains-append_left ((base_of_station s).volume.began.owner ∷ []) (away_with (map (λ (t : Station D). base_of_station t) done)).homes v has
 
 -- what stands behind a place of a rising list has another number
 pub apart_behind : {D : Type 0} (all : List (Station D)) (n : ℕ) (s : Station D) → AreRising (map (λ (t : Station D). t.id) all) → slice_get all n ≡ Some s → (t : Station D) → Contains (drop (n + 1) all) t → t.id ≢ s.id

@@ -31,7 +31,7 @@ use Rattle.manager.specs.Stands.{StandsCoded}
 use Rattle.manager.specs.declared.manager.Manager.{Manager}
 use Rattle.manager.specs.declared.station.Station.{Station}
 use Rattle.volume_images.specs.Volumes.{shapes_of}
-use Rattle.rack_parts.specs.Rests.{image_here, segment_here, pool_pass, spindle_pass, held_here, indexes_here, away_with, IsImageOut, IsPassAt, IsPoolLock, IsRow, IsImageRest, IsPart, IsHeldHere, IsHolding, AreLocks, OnlyAccess, IsRest, out_names}
+use Rattle.rack_parts.specs.Rests.{image_here, segment_here, pool_pass, spindle_pass, held_here, indexes_here, away_with, IsImageOut, IsPassAt, IsPoolLock, IsRow, IsImageRest, IsPart, IsHeldHere, IsHolding, AreLocks, OnlyAccess, IsRest, IsSpindleAway, out_names}
 use Rattle.rack_parts.specs.Racks.{base_of_station, IsOpenBase, IsStation, AreRising}
 use Rattle.rack_parts.specs.Parts.{IsSameBut, IsTogether, IsBlankPart, HasBack, KeepsPlace, KeepsRows, KeepsImage, segment_in}
 use Rattle.rack_parts.specs.declared.rack.ImageRest.{ImageRest}
@@ -75,8 +75,8 @@ pub record ClosesStation {D : Type 0} (tells : Bool) (state : D → State) (s : 
   pub places : (w k : ℕ) → w ≢ s.id → KeepsPlace old new w k
   pub held : (v k : ℕ) → (Contains (away_with (base_of_station s ∷ [])).lanes (v, k) → ⊥)
       → held_here new v k ≡ held_here old v k
-  pub spindles : (v k : ℕ) → v ≢ k → (Contains (away_with (base_of_station s ∷ [])).lanes (v, k)
-      → ⊥) → spindle_pass new v k ≡ spindle_pass old v k
+  pub spindles : (v k : ℕ) → (IsSpindleAway (away_with (base_of_station s ∷ [])) v k → ⊥)
+      → spindle_pass new v k ≡ spindle_pass old v k
 
 -- each station was closed, and nothing else came back
 pub record ClosesStations {D : Type 0} (tells : Bool) (state : D → State)
@@ -90,8 +90,8 @@ pub record ClosesStations {D : Type 0} (tells : Bool) (state : D → State)
   pub held : (v k : ℕ) → (Contains (away_with
       (map (λ (s : Station D). base_of_station s) stations)).lanes (v, k) → ⊥)
       → held_here new v k ≡ held_here old v k
-  pub spindles : (v k : ℕ) → v ≢ k → (Contains
-      (away_with (map (λ (s : Station D). base_of_station s) stations)).lanes (v, k) → ⊥)
+  pub spindles : (v k : ℕ) → (IsSpindleAway
+      (away_with (map (λ (s : Station D). base_of_station s) stations)) v k → ⊥)
       → spindle_pass new v k ≡ spindle_pass old v k
 
 -- stations whose managers have what is away

@@ -191,12 +191,15 @@ pub record ArePoolPasses {D : Type 0} (shared : Shared D) (away : Away) (r : Res
       → pool_pass r v k ≡ Some p
       → IsPassAt l v p
 
+-- the pass of volume v at the spindle of volume k is away: with a lane, or with the volume's home
+abbrev pub IsSpindleAway : Away → (v k : ℕ) → Type 0
+IsSpindleAway away v k = Contains away.lanes (v, k) ⊎ ((v ≡ k) × Contains away.homes v)
+
 -- The same at the spindles; of its own a volume's manager uses its home. No token is out.
 pub record AreSpindlePasses {D : Type 0} (shared : Shared D) (away : Away) (r : Rest D) :
     Type 0 where
   pub here : (v k : ℕ) → v < length r.passes.items → k < length shared.spindles.items
-      → IsSome (spindle_pass r v k)
-      ↔ ((Contains away.lanes (v, k) ⊎ ((v ≡ k) × Contains away.homes v)) → ⊥)
+      → IsSome (spindle_pass r v k) ↔ (IsSpindleAway away v k → ⊥)
   pub each : (v k : ℕ) (l : TurnLock Spindle SpindleBase) (p : PassOf Spindle SpindleBase)
       → slice_get shared.spindles.items k ≡ Some l → spindle_pass r v k ≡ Some p
       → IsPassAt l v p

@@ -1,4 +1,4 @@
-use Rattle.rack_closing.proofs.Basics.{◌≡◌, ◌≢◌, ◌≤◌, ℕ, false, length, sym, ap, ◌∙◌, subst, arith, AllByRecursion, same_Some, slice_get_within, slice_get}
+use Rattle.rack_closing.proofs.Basics.{◌≡◌, ◌≢◌, ◌≤◌, ⊎_elim, ℕ, Option, false, length, sym, ap, ◌∙◌, subst, arith, AllByRecursion, same_Some, slice_get_within, slice_get}
 use Rattle.rack_closing.proofs.Terms.{Told, PassOf, Spindle, SpindleBase, shapes_of, Rose, GivesBack, HasFaultHere, LeavesNoneOut, pass_number, lock_id, AreComplete, AreImageRests, IsImageOut, AreLeftOfParts, LeavesOpen, HadRefused, KeepsAllSound, IsTold}
 use Rattle.std.specs.Prelude.{reverse}
 use Rattle.std.proofs.lemmas.List.{length-reverse}
@@ -7,13 +7,13 @@ use Rattle.turn_lock.specs.Histories.{own}
 use Rattle.turn_lock.specs.Passes.{IsPartOf}
 use Rattle.spin_model.specs.Operations.{has_token}
 use Rattle.spin_model.specs.Spindles.{StandsFor}
-use Rattle.rack_parts.specs.Closing.{IsAccessBut}
+use Rattle.rack_parts.specs.Closing.{IsAccessBut, entries_made}
 use Rattle.rack_parts.proofs.Members.{element_at, all_member}
 use Rattle.rack_closing.specs.Closes.{LeavesVolumes, LeavesUnopened, ListsFaulty}
 use Rattle.rack_closing.specs.Opens.{KeepsOthers}
 use Rattle.rack_closing.proofs.Closable.{stations_may, pools_may, spindles_may}
 use Rattle.rack_closing.proofs.StationParts.{IsEnding, ending_of, lists_ended, none_out, few, out_there, rests_end, whole_end}
-use Rattle.rack_closing.proofs.VolumesClosed.{none_made, volumes_closed, told_end}
+use Rattle.rack_closing.proofs.VolumesClosed.{none_made, spindle_stays, volumes_closed, told_end}
 use Rattle.rack_closing.proofs.LeftVolumes.{fault_through, listed_through, left_kept, left_parts, over, closed_recovers, station_opened, volume_recovers}
 use Rattle.rack_closing.proofs.FinalImages.{left_quiet}
 use Rattle.rack_closing.proofs.SoundClosed.{left_sound}
@@ -86,7 +86,11 @@ returns g c =
                 let same : p.0 ≡ q = same_Some p.0 q (sym p.1 ∙ there) in
                 is.made n (λ e. differs (e ∙ ap (λ (x : PassOf Spindle SpindleBase). pass_number x) same))
                 ∙ none_made views c.args.rack keep c.requires.rack.stations c.close_pools.new.self n k other never
-                (λ away. c.close_pools.ensures.spindles.spindles n k ∙ c.close_stations.ensures.closed.spindles n k other away);
+                (λ away. c.close_pools.ensures.spindles.spindles n k ∙ c.close_stations.ensures.closed.spindles n k (λ has. ⊎_elim away (λ home. other home.0) has));
+            made = λ n q here.
+                let kept = spindle_stays e n k q (slice_get_within rack.shared.spindles.items k l.0 l.1) here in
+                let keeper = (c.requires.rack.keepers.1 k l.0 p.0 l.1 p.1).number_is in
+                is.made n (λ same. absurd (omega (arith, kept.0, keeper, same))) ∙ ap (λ (o : Option (PassOf Spindle SpindleBase)). entries_made o) kept.1;
             keeper_part = λ q there. subst (λ x. IsPartOf is.entries x) (same_Some p.0 q (sym p.1 ∙ there)) is.keeper_part;
           };
       stations = volumes_closed e c.close_pools.ensures.uses old new (given (GivesBack state config c.close_pools.new.self.images.items 0) (λ o n back. back)) cause;
