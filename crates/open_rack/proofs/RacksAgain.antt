@@ -139,6 +139,7 @@ module _ {D : Type 0} (state : D → State) (config : Config) (r : Rack D) (ks :
     opened = zip_each IsStationAgain (λ (s : Station D). views s.id ≡ (base_of_station s).volume.began.view) (λ (s : Station D). views s.id ≡ (base_of_station s).volume.began.view)
         (λ s t again is. ap views again.id ∙ is ∙ ap (λ (b : ManagerBase). b.volume.began.view) (sym (base_again s t again))) r.stations.items ts.items stations keep.opened;
     unused = keep.unused;
+    unused_pools = keep.unused_pools;
   }
 
 module _ {D : Type 0} (state : D → State) (config : Config) (r q : Rack D) (again : IsRackAgain r q) where

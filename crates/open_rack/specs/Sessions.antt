@@ -68,7 +68,7 @@ pub record OpensAndCloses {D : Type 0} (tells : Bool) (state : D → State) (con
   pub opened : IsOpened tells state config old bay before
   pub done : did before after
   pub again : IsRackAgain before after
-  -- a volume used the disks of its own image and of its view alone
+  -- a volume used the disks of its own image and of its view alone, and the pools of its view
   pub users : (views : ℕ → List ℕ) × KeepToViews views after
   pub closed : IsClosed tells state config bay new after spindles
   pub sooner : old.faults ≤ bay.faults

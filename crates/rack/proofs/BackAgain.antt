@@ -677,6 +677,10 @@ module _ {D : Type 0} (state : D → State) (tells : Bool) (config : Config) (va
           view_is : view ≡ view_at said id
           view_is = sym own_view ∙ ap (λ (x : Option Said). option_map_or (λ (y : Said). y.view) x []) (sym (said_id state config valid b said id r own ready lt at))
 
+          -- a lane that came back is of the view that the volume's image says
+          in_view_of : (v k : ℕ) (m : Lane D) → Contains n.lanes.items m → v ≡ id → logger_of m ≡ k → Contains (view_at said v) k
+          in_view_of v k m has e g = subst (λ (xs : List ℕ). Contains xs k) (view_is ∙ ap (view_at said) (sym e)) (subst (λ (j : ℕ). Contains view j) g (in_view (logger_of m) (logger_seen m has)))
+
           pub opening_again : IsOpeningRack state config b said (id + 1) next
           opening_again = record {
             being = record {
@@ -695,9 +699,10 @@ module _ {D : Type 0} (state : D → State) (tells : Bool) (config : Config) (va
                     (λ before. ready.users.unused v k p other never before)
                     (λ e f same. absurd (other (e ∙ sym f)))
                     -- its lanes came back from the view that its image says
-                    (λ l m is e f g same.
-                    let seen = in_view (logger_of m) (logger_seen m is.after) in
-                    absurd (never (subst (λ (xs : List ℕ). Contains xs k) (view_is ∙ ap (view_at said) (sym e)) (subst (λ (j : ℕ). Contains view j) g seen))));
+                    (λ l m is e f g same. absurd (never (in_view_of v k m is.after e g)));
+                unused_pools = λ v k p never here. pool_back v k p here
+                    (λ before other. ready.users.unused_pools v k p never before)
+                    (λ l m is e f g before same. absurd (never (in_view_of v k m is.after e g)));
               };
             };
             station_room = let h = ready.station_room in omega (arith, h);

@@ -182,6 +182,8 @@ module _ {D : Type 0} (state : D → State) (config : Config) (valid : IsValid c
       opened = all_push (λ (x : Station D). view_at said x.id ≡ (base_of_station x).volume.began.view) r.stations.items stations.items s stations_are ready.users.opened view_said;
       unused = λ v k p other never here.
           ready.users.unused v k p other never (without.spindle_was state config said id view r.rest new o takes v k p here);
+      unused_pools = λ v k p never here.
+          ready.users.unused_pools v k p never (without.pool_was state config said id view r.rest new o takes v k p here).0;
     }
 
     pub one_opening : IsOpeningRack state config b said (id + 1) next

@@ -366,6 +366,7 @@ module _ {D : Type 0} (state : D → State) (config : Config) (spindles : List (
           users = record {
             opened = subst (All (λ (s : Station D). view_at said s.id ≡ (base_of_station s).volume.began.view)) (sym none) (All-nil (λ (s : Station D). view_at said s.id ≡ (base_of_station s).volume.began.view));
             unused = λ v k p other never here. others_unused v k p other here;
+            unused_pools = λ v k p never here. (let lock = pool_there v k p here in (pool_new v k lock.0 p lock.1 here).mine);
           };
         };
         station_room = let e = ap length none in let c = first.set_up.stations.1 in omega (arith, e, c);

@@ -100,7 +100,8 @@ pub fn open_all<R: Wait, B: Bay>(
         → IfSome (B.state bay.old).told (λ t. WereThere config.now r.rest.images.items t)) }
     ensures refused { IfOk result
         (AreRefused B.Part.tells B.Part.state config.now (B.state bay.old) (B.state bay.new)) }
-    // a volume used no disk but those of its own image and of the view that this says, also where its opening was refused
+    // a volume used no disk but those of its own image and of the view that this says, and no pool but those of that view, also
+    // where its opening was refused
     ensures users { IfOk result (λ r. IsTrue B.Part.tells
         → IfSome (B.state bay.old).told (λ t. (views : ℕ → List ℕ) × KeepToViews views r
         × AreViewsAsRead config.now r.rest.images.items t views)) }

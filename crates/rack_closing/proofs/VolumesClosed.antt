@@ -1,12 +1,12 @@
 -- The volumes of a rack that was closed: their entries, the parts that had a fault, and their passes at the pools.
 use Rattle.rack_closing.proofs.Basics.{◌≡◌, ◌≢◌, ◌<◌, ◌≤◌, ℕ, Bool, false, List, [], ◌∷◌, length, Option, Some, None, is_some, refl, sym, ap, ◌∙◌, subst, arith, ◌+◌, zero, suc, get_or, map}
 use Rattle.rack_closing.proofs.Basics.{option_map, option_and_then, cond, Contains, IsTrue, slice_get, slice_get_past, cases_lt, IsSome, count_by, All, AllByRecursion, cons_option, same_Some, slice_get-get_or, slice_get_within}
-use Rattle.rack_closing.proofs.Basics.{slice_get-map, get_or_from_slice_get, none-some, All-from_recursion, All-contains, Contains-get_or, sum_by-cons, ⊎_elim, ⊤}
+use Rattle.rack_closing.proofs.Basics.{length-map, slice_get-map, get_or_from_slice_get, none-some, All-from_recursion, All-contains, Contains-get_or, sum_by-cons, ⊎_elim, ⊤}
 use Rattle.rack_closing.proofs.Terms.{Block, State, IsImageOf, Rose, Told, BayState, faulty_places, Shape, flight_of, writes, Images, image_of, segment_of, Indexed, listed_in, Record, IsLog}
 use Rattle.rack_closing.proofs.Terms.{extent_of, Write, Held, AreInUse, IsFound, HomePart, SegmentPart, IsPartOf, SaysOwnerOrFree, versions, PartName, entries_of, last_look, HasPassed, Look}
 use Rattle.rack_closing.proofs.Terms.{IsHeldBy, Config, VolumeConf, pass_number, pass_mine, TurnLock, PassOf, state_of, disk_of, volume_of, Spun, Spindle, SpindleBase, PoolBase, Pool, part_of}
 use Rattle.rack_closing.proofs.Terms.{FreeSegment, held_in, logger_of, pool_of, HeldSegment, Lane, all_held, down_of, parts_of, seen, notes_of, AreNamed, nones_at, nones_in, takes_in, takes_of}
-use Rattle.rack_closing.proofs.Terms.{Part, Station, shapes_of, AreLeft, shape_in, IsTold, image_here, segment_here, IsImageOut, away_with, spindle_pass, base_of_station, IsStation, KeepToViews}
+use Rattle.rack_closing.proofs.Terms.{Part, Station, shapes_of, AreLeft, shape_in, IsTold, image_here, segment_here, IsImageOut, away_with, pool_pass, spindle_pass, base_of_station, IsStation, KeepToViews}
 use Rattle.rack_closing.proofs.Terms.{IsClosing, GivesBack, IsComplete, HasFaultHere, IsClosedPool, entries_made, ImageRest, Rack, Rest, VolumePasses, IsTogether, HasBack, RecoversTo, IsClosedVolume}
 use Rattle.rack_closing.proofs.Terms.{HasFaultyPart, LiesInView, LeavesNoLog, part_named, place_in, volume_in, AreClosedVolumes, IsValid, Noted, Keeps}
 use Rattle.manager.specs.declared.manager.Manager.{Manager}
@@ -245,6 +245,56 @@ module _ {D : Type 0} {state : D → State} {tells : Bool} {config : Config} {b 
         each : (R : Told → Told → Type 0) → ((o n : Told) → GivesBack state config second.images.items 0 o n → R o n) → IsTold R x.told y.told
         each R back = told_each (GivesBack state config second.images.items 0) R x.told y.told back given
 
+-- Which disks and pools the volumes of a rack used, once its stations are closed.
+
+-- a row with something at a place is there
+row_there : {D X : Type 0} (rows : List (VolumePasses D)) (at : VolumePasses D → Option X) (v : ℕ) (x : X) → option_and_then at (slice_get rows v) ≡ Some x → v < length rows
+row_there rows at v x here = ⊎_elim (λ less. less) (λ past. absurd (none-some x (sym (ap (option_and_then at) (slice_get_past rows v past)) ∙ here))) (cases_lt v (length rows))
+
+-- a pass of a spindle that no manager had is as it was, and its number is that of a volume
+pub spindle_stays : {D : Type 0} {state : D → State} {tells : Bool} {config : Config} {b : BayState} {r : Rack D} {first second : Rest D} (ending : IsEnding state tells config b r first second) (v k : ℕ) (p : PassOf Spindle SpindleBase)
+    → k < length r.shared.spindles.items → spindle_pass r.rest v k ≡ Some p → (v < length (shapes_of config)) × (spindle_pass second v k ≡ Some p)
+spindle_stays {D = D} {r = r} ending v k p within here =
+    let row = row_there r.rest.passes.items (λ (q : VolumePasses D). get_or q.spindles.items k None) v p here in
+    let away = (ending.can.rest.parts.spindles.here v k row within).0 (ap is_some here) in
+    (omega (arith, row, ending.can.rest.parts.count), ending.kept.spindles v k ∙ ending.closed.spindles v k away ∙ here)
+
+-- a pass of a pool that no manager had is as it was
+pool_stays : {D : Type 0} {state : D → State} {tells : Bool} {config : Config} {b : BayState} {r : Rack D} {first second : Rest D} (ending : IsEnding state tells config b r first second) (v k : ℕ) (p : PassOf (Pool (FreeSegment D)) PoolBase)
+    → k < length r.shared.pools.items → pool_pass r.rest v k ≡ Some p → pool_pass first v k ≡ Some p
+pool_stays {D = D} {r = r} ending v k p within here =
+    let row = row_there r.rest.passes.items (λ (q : VolumePasses D). get_or q.pools.items k None) v p here in
+    ending.closed.pools v k ((ending.can.rest.parts.pools.here v k row within).0 (ap is_some here)) ∙ here
+
+-- a lane that is away is in the view of its volume
+not_away : {D : Type 0} (views : ℕ → List ℕ) (r : Rack D) → KeepToViews views r → All (λ s. IsStation s) r.stations.items → (v k : ℕ) → (Contains (views v) k → ⊥)
+    → Contains (away_with (map (λ (s : Station D). base_of_station s) r.stations.items)).lanes (v, k) → ⊥
+not_away {D} views r keep stations v k never has = ⊎_elim
+    (λ x.
+    let id = (All-contains (λ t. IsStation t) r.stations.items x.0 stations x.1).id in
+    let view = All-contains (λ (t : Station D). views t.id ≡ (base_of_station t).volume.began.view) r.stations.items x.0 keep.opened x.1 in
+    never (subst (λ (xs : List ℕ). Contains xs k) (sym view ∙ ap views (sym id ∙ sym x.2)) x.3))
+    (λ away. away has)
+    (station_with r.stations.items v k)
+
+-- the pass of a volume at a disk that isn't its own nor in its view made no entries
+pub none_made : {D : Type 0} (views : ℕ → List ℕ) (r : Rack D) → KeepToViews views r → All (λ s. IsStation s) r.stations.items → (last : Rest D) (v k : ℕ) → v ≢ k → (Contains (views v) k → ⊥)
+    → ((Contains (away_with (map (λ (s : Station D). base_of_station s) r.stations.items)).lanes (v, k) → ⊥) → spindle_pass last v k ≡ spindle_pass r.rest v k) → entries_made (spindle_pass last v k) ≡ []
+none_made {D} views r keep stations last v k other never same = ap (λ (o : Option (PassOf Spindle SpindleBase)). entries_made o) (same (not_away views r keep stations v k never)) ∙ go (spindle_pass r.rest v k) refl
+  where
+    go : (o : Option (PassOf Spindle SpindleBase)) → spindle_pass r.rest v k ≡ o → entries_made o ≡ []
+    go None e = refl
+    go (Some p) e = keep.unused v k p other never e
+
+-- nor did that at a pool that isn't in its view
+none_used : {D : Type 0} (views : ℕ → List ℕ) (r : Rack D) → KeepToViews views r → All (λ s. IsStation s) r.stations.items → (last : Rest D) (v k : ℕ) → (Contains (views v) k → ⊥)
+    → ((Contains (away_with (map (λ (s : Station D). base_of_station s) r.stations.items)).lanes (v, k) → ⊥) → pool_pass last v k ≡ pool_pass r.rest v k) → entries_made (pool_pass last v k) ≡ []
+none_used {D} views r keep stations last v k never same = ap (λ (o : Option (PassOf (Pool (FreeSegment D)) PoolBase)). entries_made o) (same (not_away views r keep stations v k never)) ∙ go (pool_pass r.rest v k) refl
+  where
+    go : (o : Option (PassOf (Pool (FreeSegment D)) PoolBase)) → pool_pass r.rest v k ≡ o → entries_made o ≡ []
+    go None e = refl
+    go (Some p) e = keep.unused_pools v k p never e
+
 -- The pools of a rack that was closed: what their locks have of the volumes' passes, and which of them entries passed over.
 
 -- lanes whose passes have all entries of theirs counted no pool as empty more often than these have it
@@ -316,7 +366,7 @@ module _ {D : Type 0} {state : D → State} {tells : Bool} {config : Config} {b 
         let within = here_within second.images.items (logger_of l) q.0 q.1 in
         let f = element_at r.shared.pools.items (logger_of l) (omega (arith, within, kept.image_count, is.parts.images.0, can.locks.pool_count)) in
         let back = All-contains (HasBack first s.id) lanes l (is_closing ending s has).back in_lanes in
-        ((pool_closed (logger_of l)).1 f.0 f.1).mine s.id (pool_of l) back.pool
+        ((pool_closed (logger_of l)).1 f.0 f.1).made s.id ∙ ap (λ (o : Option (PassOf (Pool (FreeSegment D)) PoolBase)). entries_made o) back.pool
 
     -- no pool was passed over more often than it was found empty
     passes_empty : PassesEmpty entries_of_pool (base_of_station s).volume.began notes
@@ -339,6 +389,11 @@ module _ {D : Type 0} {state : D → State} {tells : Bool} {config : Config} {b 
         let logged = versions_counted (writes (entries_of notes)) in
         omega (arith, few, same, view, owner, up, next, logged)
 
+  -- behind the last volume there is no pass
+  no_row : (v k : ℕ) → length config.volumes.items ≤ v → pool_pass first v k ≡ None
+  no_row v k past =
+      ap (option_and_then (λ (q : VolumePasses D). get_or q.pools.items k None)) (slice_get_past first.passes.items v (let many = length-map config.volumes.items (shape_in config) in omega (arith, past, many, is.parts.count)))
+
   -- the volumes are closed, and so are the pools
   pub volumes_closed : (x y : BayState) → IsTold (GivesBack state config second.images.items 0) x.told y.told → (HasFaultHere state second.images.items 0 → Rose x.faults y.faults) → AreClosedVolumes tells config x y r
   volumes_closed x y given cause = (
@@ -346,6 +401,11 @@ module _ {D : Type 0} {state : D → State} {tells : Bool} {config : Config} {b 
     record {
       pools = entries_of_pool;
       legal = λ k l at. ((pool_closed k).1 l at).legal;
+      made = λ k l at n p here. ((pool_closed k).1 l at).made n ∙ ap (λ (o : Option (PassOf (Pool (FreeSegment D)) PoolBase)). entries_made o) (pool_stays ending n k p (slice_get_within r.shared.pools.items k l at) here);
+      users = λ k l at views keep n never. ((pool_closed k).1 l at).made n ∙ ⊎_elim
+          (λ lt. none_used views r keep can.stations first n k (λ has. never (lt, has)) (λ away. ending.closed.pools n k away))
+          (λ past. ap (λ (o : Option (PassOf (Pool (FreeSegment D)) PoolBase)). entries_made o) (no_row n k past))
+          (cases_lt n (length config.volumes.items));
       passed = λ n d within. subst (λ (es : List Entry). PassesEmpty entries_of_pool (base_of_station (get_or r.stations.items n d)).volume.began (notes_of es)) (sym (volume n d within).1) (passes_empty (get_or r.stations.items n d) (Contains-get_or r.stations.items n d within));
       taken = λ n d within. subst (λ (es : List Entry). TakesFew entries_of_pool (base_of_station (get_or r.stations.items n d)).volume.began (notes_of es)) (sym (volume n d within).1) (takes_few (get_or r.stations.items n d) (Contains-get_or r.stations.items n d within));
     },
@@ -354,36 +414,3 @@ module _ {D : Type 0} {state : D → State} {tells : Bool} {config : Config} {b 
       volume : (n : ℕ) (d : Station D) (within : n < length r.stations.items)
           → (v : IsClosedVolume tells config r.rest.images.items x y (get_or r.stations.items n d)) × (v.entries ≡ entries_of_station ending (get_or r.stations.items n d) (Contains-get_or r.stations.items n d within))
       volume n d within = closed_volume ending (get_or r.stations.items n d) (Contains-get_or r.stations.items n d within) x y given cause
-
--- Which disks the volumes of a rack used, once its stations are closed.
-
--- a row with something at a place is there
-row_there : {D X : Type 0} (rows : List (VolumePasses D)) (at : VolumePasses D → Option X) (v : ℕ) (x : X) → option_and_then at (slice_get rows v) ≡ Some x → v < length rows
-row_there rows at v x here = ⊎_elim (λ less. less) (λ past. absurd (none-some x (sym (ap (option_and_then at) (slice_get_past rows v past)) ∙ here))) (cases_lt v (length rows))
-
--- a pass of a spindle that no manager had is as it was, and its number is that of a volume
-pub spindle_stays : {D : Type 0} {state : D → State} {tells : Bool} {config : Config} {b : BayState} {r : Rack D} {first second : Rest D} (ending : IsEnding state tells config b r first second) (v k : ℕ) (p : PassOf Spindle SpindleBase)
-    → k < length r.shared.spindles.items → spindle_pass r.rest v k ≡ Some p → (v < length (shapes_of config)) × (spindle_pass second v k ≡ Some p)
-spindle_stays {D = D} {r = r} ending v k p within here =
-    let row = row_there r.rest.passes.items (λ (q : VolumePasses D). get_or q.spindles.items k None) v p here in
-    let away = (ending.can.rest.parts.spindles.here v k row within).0 (ap is_some here) in
-    (omega (arith, row, ending.can.rest.parts.count), ending.kept.spindles v k ∙ ending.closed.spindles v k away ∙ here)
-
--- the pass of a volume at a disk that isn't its own nor in its view made no entries
-pub none_made : {D : Type 0} (views : ℕ → List ℕ) (r : Rack D) → KeepToViews views r → All (λ s. IsStation s) r.stations.items → (last : Rest D) (v k : ℕ) → v ≢ k → (Contains (views v) k → ⊥)
-    → ((Contains (away_with (map (λ (s : Station D). base_of_station s) r.stations.items)).lanes (v, k) → ⊥) → spindle_pass last v k ≡ spindle_pass r.rest v k) → entries_made (spindle_pass last v k) ≡ []
-none_made {D} views r keep stations last v k other never same = ap (λ (o : Option (PassOf Spindle SpindleBase)). entries_made o) (same not_away) ∙ go (spindle_pass r.rest v k) refl
-  where
-    -- a lane that is away is in the view of its volume
-    not_away : Contains (away_with (map (λ (s : Station D). base_of_station s) r.stations.items)).lanes (v, k) → ⊥
-    not_away has = ⊎_elim
-        (λ x.
-        let id = (All-contains (λ t. IsStation t) r.stations.items x.0 stations x.1).id in
-        let view = All-contains (λ (t : Station D). views t.id ≡ (base_of_station t).volume.began.view) r.stations.items x.0 keep.opened x.1 in
-        never (subst (λ (xs : List ℕ). Contains xs k) (sym view ∙ ap views (sym id ∙ sym x.2)) x.3))
-        (λ away. away has)
-        (station_with r.stations.items v k)
-
-    go : (o : Option (PassOf Spindle SpindleBase)) → spindle_pass r.rest v k ≡ o → entries_made o ≡ []
-    go None e = refl
-    go (Some p) e = keep.unused v k p other never e

@@ -38,7 +38,7 @@ use Rattle.manager.specs.declared.part.Part.TheVariants.{Home, Segment}
 use Rattle.manager.specs.declared.station.Station.{Station}
 use Rattle.volume_images.specs.Left.{IsTold}
 use Rattle.volume_images.specs.Volumes.{shape_in, shapes_of, images_read, AreLeft}
-use Rattle.rack_parts.specs.Rests.{image_here, spindle_pass, IsImageOut, IsSegmentHere}
+use Rattle.rack_parts.specs.Rests.{image_here, pool_pass, spindle_pass, IsImageOut, IsSegmentHere}
 use Rattle.rack_parts.specs.Racks.{KeepToViews, base_of_station}
 use Rattle.rack_parts.specs.Closing.{IsAccessBut}
 use Rattle.rack_closing.specs.Owners.{recovered_but, RecoversSame, WasOpened}
@@ -253,9 +253,10 @@ pub record IsClosedVolume {D : Type 0} (tells : Bool) (config : Config)
       → IsTold (λ o n. LeavesNoLog config out s.id n) old.told new.told
 
 -- The pools of a rack whose volumes were closed so: each has the entries of its lock, by the passes
--- of all volumes, in which each use could be made where it stands. No more of a volume's entries
--- passed over a pool than its pass found that pool empty, and where no call failed, its pass took
--- no more segments than it wrote to logs.
+-- of all volumes, in which each use could be made where it stands. The entries of a pass that no
+-- manager had are the ones that it had made, and only configured volumes whose views name the pool
+-- have any. No more of a volume's entries passed over a pool than its pass found that pool empty,
+-- and where no call failed, its pass took no more segments than it wrote to logs.
 pub record SharePools {D : Type 0} (tells : Bool) (config : Config) (old new : BayState)
     (r : Rack D) (all : All (IsClosedVolume tells config r.rest.images.items old new)
     r.stations.items) : Type 0 where
@@ -263,6 +264,15 @@ pub record SharePools {D : Type 0} (tells : Bool) (config : Config) (old new : B
   pub legal : (k : ℕ) (l : TurnLock (Pool (FreeSegment D)) PoolBase)
       → slice_get r.shared.pools.items k ≡ Some l
       → ArePoolUses (lock_id l).base.holders (uses_of (pools k))
+  pub made : (k : ℕ) (l : TurnLock (Pool (FreeSegment D)) PoolBase)
+      → slice_get r.shared.pools.items k ≡ Some l
+      → (n : ℕ) (p : PassOf (Pool (FreeSegment D)) PoolBase) → pool_pass r.rest n k ≡ Some p
+      → own n (pools k) ≡ pass_mine p
+  pub users : (k : ℕ) (l : TurnLock (Pool (FreeSegment D)) PoolBase)
+      → slice_get r.shared.pools.items k ≡ Some l
+      → (views : ℕ → List ℕ) → KeepToViews views r
+      → (n : ℕ) → ((n < length config.volumes.items) × Contains (views n) k → ⊥)
+      → own n (pools k) ≡ []
   pub passed : (n : ℕ) (d : Station D) (within : n < length r.stations.items)
       → PassesEmpty pools (base_of_station (slice_index_or r.stations.items n d)).volume.began
       (notes_of (all n d within).entries)

@@ -28,7 +28,7 @@ pub fn close_all<B: Bay>(rack: Rack<B::Part>, bay: &mut B, config: &Config) -> V
     ensures count { length result.items ≡ length (shapes_of config.now) }
     ensures spindles { (k : ℕ) (s : SpindleView) → slice_get result.items k ≡ Some s
         → IsClosedSpindle rack k s }
-    // and the pools that they shared
+    // and the pools that they shared, whose entries are those of the volumes' passes
     ensures stations { AreClosedVolumes B.Part.tells config.now (B.state bay.old) (B.state bay.new)
         rack }
     ensures parts { IsTrue B.Part.tells

@@ -247,7 +247,7 @@ module _ {D : Type 0} (state : D → State) (tells : Bool) (config : Config) (sh
         record { pool = kept.pool; spindle = kept.spindle; held = kept.held }
 
     -- the pool and the list of each place that no lane has
-    pool_same : (w k : ℕ) → (w ≡ b.volume.began.owner → Contains b.volume.began.view k → ⊥) → (pool_pass new w k ≡ pool_pass old w k) × (held_here new w k ≡ held_here old w k)
+    pub pool_same : (w k : ℕ) → (w ≡ b.volume.began.owner → Contains b.volume.began.view k → ⊥) → (pool_pass new w k ≡ pool_pass old w k) × (held_here new w k ≡ held_here old w k)
     pool_same w k never = ⊎_elim
         (λ (e : w ≡ id). ⊎_elim (λ (f : k ≡ id). rw (e, f) (put.own_pool, put.own_held)) (λ f. let kept = other_place w k never (λ same. f) in (kept.pool, kept.held)) (cases_eq k id))
         (λ e. let kept = other_place w k never (λ same. absurd (e same)) in (kept.pool, kept.held))

@@ -10,7 +10,7 @@ use Rattle.rack_parts.proofs.Terms.{PoolBase, Pool, IsBlank, free_part, FreeSegm
 use Rattle.rack_parts.proofs.Terms.{indexes_here, IsHolding, IsHeldHere, HasPlaces, EmptiesInto, IsRefilled, IsBlankPart}
 use Rattle.rack_parts.proofs.Terms.{IsSameBut, KeepsImage, item_part, either_part, CanClosePool, IsClosedPool, CanPutAllHeld}
 use Rattle.rack_parts.proofs.Terms.{PutsAllHeld, ArePoolsTaken, RefillsAll, IsRefilledAll, KeepsLogger, KeepsSpindles, ImageRest, Rest}
-use Rattle.rack_parts.proofs.Terms.{IsPassOf, IsFree, VolumePasses}
+use Rattle.rack_parts.proofs.Terms.{IsPassOf, IsFree, VolumePasses, entries_made}
 use Rattle.turn_lock.specs.LockIds.{LockId}
 use Rattle.seg_pool.proofs.Holding.{holder_own, is_holder}
 use Rattle.seg_pool.proofs.Using.{has_index}
@@ -84,11 +84,12 @@ module _ {D : Type 0} (state : D → State) (volumes k : ℕ) (z : Shape) (lock 
   abbrev has_then : ℕ → Holder
   has_then i = holder (holders_after base entries) i
 
+  -- behind the last volume there is none
+  no_row : (v : ℕ) → volumes ≤ v → pool_pass old v k ≡ None
+  no_row v past = ap (option_and_then (λ (q : VolumePasses D). pool_in q k)) (slice_get_past old.passes.items v (omega (arith, past, can.count)))
+
   row_within : (v : ℕ) (p : PassOf (Pool (FreeSegment D)) PoolBase) → pool_pass old v k ≡ Some p → v < volumes
-  row_within v p here = ⊎_elim
-      (λ less. less)
-      (λ past. absurd (none-some p (sym (ap (option_and_then (λ (q : VolumePasses D). pool_in q k)) (slice_get_past old.passes.items v (omega (arith, past, can.count)))) ∙ here)))
-      (cases_lt v volumes)
+  row_within v p here = ⊎_elim (λ less. less) (λ past. absurd (none-some p (sym (no_row v past) ∙ here))) (cases_lt v volumes)
 
   abbrev pass_of : (v : ℕ) → v < volumes → PassOf (Pool (FreeSegment D)) PoolBase
   pass_of v below = (can.passes v below).0
@@ -127,27 +128,29 @@ module _ {D : Type 0} (state : D → State) (volumes k : ℕ) (z : Shape) (lock 
       let by_number : holds base (pass_number p) (pass_mine p) i ≡ true = subst (λ (n : ℕ). holds base n (pass_mine p) i ≡ true) (sym at.number_is) by_mine in
       (p, (can.passes v below).1, subst (λ (x : LockId PoolBase). holds x.base (pass_number p) (pass_mine p) i ≡ true) (sym at.own) by_number)
 
+  -- no pass has a number behind the last volume
+  none_past : (n : ℕ) → volumes ≤ n → All (λ p. pass_number p ≢ n) ps
+  none_past n past v d within same =
+      let below : v < volumes = omega (arith, within, taken.taken, can.count) in
+      absurd (omega (arith, past, below, ap (λ p. pass_number p) (same_pass v d within below), (can.passes v below).2.number_is, same))
+
   -- who holds one is a pass of the lock
   holder_below : (n i : ℕ) → has_then i ≡ HeldBy n → n < volumes
-  holder_below n i is = ⊎_elim
-      (λ less. less)
-      (λ past. numbered (λ v d within same.
-      let below : v < volumes = omega (arith, within, taken.taken, can.count) in
-      absurd (omega (arith, past, below, ap (λ p. pass_number p) (same_pass v d within below), (can.passes v below).2.number_is, same))))
-      (cases_lt n volumes)
+  holder_below n i is = ⊎_elim (λ less. less) (λ past. numbered (none_past n past)) (cases_lt n volumes)
     where
       numbered : All (λ p. pass_number p ≢ n) ps → n < volumes
       numbered apart =
           let held : holds base n (own n entries) i ≡ true = sym (holder_own base entries n i stands.legal) ∙ ap (is_held_by n) is ∙ held_self n in
           can.known_passes i n (of_held n (holder base.holders i) (rw (whole.no_more n apart) at held))
 
-  -- the entries are legal, and those of each pass that is here are among them
+  -- the entries are legal, and those of each volume are the ones that its pass made
   pub closed_pool : IsClosedPool lock old k entries
   closed_pool = record {
     legal = stands.legal;
-    mine = λ v p here.
-        let below = row_within v p here in
-        own_is v below ∙ ap (λ (q : PassOf (Pool (FreeSegment D)) PoolBase). pass_mine q) (same_Some (pass_of v below) p (sym (can.passes v below).1 ∙ here));
+    made = λ n. ⊎_elim
+        (λ below. own_is n below ∙ sym (ap (λ (o : Option (PassOf (Pool (FreeSegment D)) PoolBase)). entries_made o) (can.passes n below).1))
+        (λ past. whole.no_more n (none_past n past) ∙ sym (ap (λ (o : Option (PassOf (Pool (FreeSegment D)) PoolBase)). entries_made o) (no_row n past)))
+        (cases_lt n volumes);
   }
 
   -- a segment that someone has lies in the image
@@ -429,7 +432,7 @@ module _ {D : Type 0} (state : D → State) where
             (λ differs. rw ((others k differs).image) (so_far.images k f (omega (arith, from, differs)) is))
             (cases_eq k n);
         uses = λ k f from is. ⊎_elim
-            (λ (e : k ≡ n). rw (e, ← (same_lock k f e is)) (uses.0, record { legal = uses.1.legal; mine = λ v p here. uses.1.mine v p ((so_far.before n (omega arith)).pools v ∙ here) }))
+            (λ (e : k ≡ n). rw (e, ← (same_lock k f e is)) (uses.0, record { legal = uses.1.legal; made = λ v. uses.1.made v ∙ ap (λ (o : Option (PassOf (Pool (FreeSegment D)) PoolBase)). entries_made o) ((so_far.before n (omega arith)).pools v) }))
             (λ differs. so_far.uses k f (omega (arith, from, differs)) is)
             (cases_eq k n);
         held = λ v k from below. ⊎_elim (λ e. rw e (held v)) (λ differs. (others k differs).held v ∙ so_far.held v k (omega (arith, from, differs)) below) (cases_eq k n);

@@ -98,6 +98,8 @@ module _ {D : Type 0} (state : D → State) (tells : Bool) (config : Config) (sh
       spindles = λ v k away. (back.other_place state tells config shared bases b s.id owner_is old open_base can.locks parts can.accesses not_again m (notes_of entries) keeps rooms mp home_is spindle_is lanes_is new put v k
           (λ same has. away (inl (subst (λ (w : ℕ). Contains (away_with (b ∷ [])).lanes (w, k)) (sym same) (lane_came [] b k has))))
           (λ same e. away (inr (same ∙ sym e, first_in b.volume.began.owner v [] (owner_is ∙ sym same))))).spindle;
+      pools = λ v k away. (back.pool_same state tells config shared bases b s.id owner_is old open_base can.locks parts can.accesses not_again m (notes_of entries) keeps rooms mp home_is spindle_is lanes_is new put v k
+          (λ same has. away (subst (λ (w : ℕ). Contains (away_with (b ∷ [])).lanes (w, k)) (sym same) (lane_came [] b k has)))).0;
       held = λ v k away. back.lists_kept state tells config shared bases b s.id owner_is old open_base can.locks parts can.accesses not_again m (notes_of entries) keeps rooms mp home_is spindle_is lanes_is new put v k away;
     }
 
@@ -136,6 +138,7 @@ module _ {D : Type 0} (tells : Bool) (state : D → State) where
     images = λ k. kept_all (image_here r.images.items k);
     homes = λ k away. refl;
     held = λ v k away. refl;
+    pools = λ v k away. refl;
     spindles = λ v k away. refl;
   }
 
@@ -165,6 +168,7 @@ module _ {D : Type 0} (tells : Bool) (state : D → State) where
       images = λ k. keeps_then (image_here init.images.items k) (image_here cur.images.items k) (image_here new.images.items k) (so_far.images k) (one.images k);
       homes = λ k away. one.homes k (λ e. away (first_in s.id k (map (λ (t : Station D). t.id) done) (sym e))) ∙ so_far.homes k (λ has. away (later_in s.id k (map (λ (t : Station D). t.id) done) has));
       held = λ v k away. one.held v k (λ has. away (own v k has)) ∙ so_far.held v k (λ has. away (others v k has));
+      pools = λ v k away. one.pools v k (λ has. away (own v k has)) ∙ so_far.pools v k (λ has. away (others v k has));
       spindles = λ v k away.
           one.spindles v k (λ has. away (⊎_elim (λ lane. inl (own v k lane)) (λ home. inr (home.0, own_home v home.1)) has))
           ∙ so_far.spindles v k (λ has. away (⊎_elim (λ lane. inl (others v k lane)) (λ home. inr (home.0, other_homes v home.1)) has));

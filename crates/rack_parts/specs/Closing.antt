@@ -38,6 +38,10 @@ use Rattle.rack_parts.specs.declared.rack.ImageRest.{ImageRest}
 use Rattle.rack_parts.specs.declared.rack.Rest.{Rest}
 use Rattle.rack_parts.specs.declared.rack.VolumePasses.{VolumePasses}
 
+-- the entries of a pass that is here
+abbrev pub entries_made : {T B : Type 0} → Option (PassOf T B) → List Entry
+entries_made {T} {B} p = option_map_or (λ (q : PassOf T B). pass_mine q) p []
+
 -- ---- Stations
 
 module _ {D : Type 0} where
@@ -75,6 +79,8 @@ pub record ClosesStation {D : Type 0} (tells : Bool) (state : D → State) (s : 
   pub places : (w k : ℕ) → w ≢ s.id → KeepsPlace old new w k
   pub held : (v k : ℕ) → (Contains (away_with (base_of_station s ∷ [])).lanes (v, k) → ⊥)
       → held_here new v k ≡ held_here old v k
+  pub pools : (v k : ℕ) → (Contains (away_with (base_of_station s ∷ [])).lanes (v, k) → ⊥)
+      → pool_pass new v k ≡ pool_pass old v k
   pub spindles : (v k : ℕ) → (IsSpindleAway (away_with (base_of_station s ∷ [])) v k → ⊥)
       → spindle_pass new v k ≡ spindle_pass old v k
 
@@ -90,6 +96,9 @@ pub record ClosesStations {D : Type 0} (tells : Bool) (state : D → State)
   pub held : (v k : ℕ) → (Contains (away_with
       (map (λ (s : Station D). base_of_station s) stations)).lanes (v, k) → ⊥)
       → held_here new v k ≡ held_here old v k
+  pub pools : (v k : ℕ) → (Contains (away_with
+      (map (λ (s : Station D). base_of_station s) stations)).lanes (v, k) → ⊥)
+      → pool_pass new v k ≡ pool_pass old v k
   pub spindles : (v k : ℕ) → (IsSpindleAway
       (away_with (map (λ (s : Station D). base_of_station s) stations)) v k → ⊥)
       → spindle_pass new v k ≡ spindle_pass old v k
@@ -132,13 +141,12 @@ pub record CanClosePool {D : Type 0} (state : D → State) (volumes k : ℕ) (s 
       → All (λ (h : ℕ × Spun D). IsPart state k s.segment_blocks h.1) (held_here r v k)
   pub out : (v : ℕ) → image_here r.images.items k ≡ None → held_here r v k ≡ []
 
--- it was closed with these entries, among which are those of each pass that was here: each use
--- could be made where it stands
+-- it was closed with these entries, each use of which could be made where it stands, and the entries
+-- of a volume are the ones that its pass made
 pub record IsClosedPool {D : Type 0} (l : TurnLock (Pool (FreeSegment D)) PoolBase) (r : Rest D)
     (k : ℕ) (entries : List Entry) : Type 0 where
   pub legal : ArePoolUses (lock_id l).base.holders (uses_of entries)
-  pub mine : (v : ℕ) (p : PassOf (Pool (FreeSegment D)) PoolBase) → pool_pass r v k ≡ Some p
-      → own v entries ≡ pass_mine p
+  pub made : (n : ℕ) → own n entries ≡ entries_made (pool_pass r n k)
 
 -- all of the image of volume k is here: what was, what came back with lanes, and blank segments
 -- from the pool
@@ -269,10 +277,6 @@ module _ {D : Type 0} where
 -- of another pass the entry is one of an access
 abbrev pub IsAccessBut : (keeper : ℕ) → Entry → Type 0
 IsAccessBut keeper e = e.0 ≢ keeper → (use_of e.1 ≡ Needed) ⊎ (use_of e.1 ≡ Done)
-
--- the entries of a pass that is here
-abbrev pub entries_made : Option (PassOf Spindle SpindleBase) → List Entry
-entries_made p = option_map_or (λ (q : PassOf Spindle SpindleBase). pass_mine q) p []
 
 -- the spindle stands for all entries of its lock, among which are those of its keeper
 pub record StandsForAll (l : TurnLock Spindle SpindleBase) (keeper : PassOf Spindle SpindleBase)

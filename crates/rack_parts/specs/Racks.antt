@@ -11,6 +11,9 @@ use Rattle.turn_lock.specs.declared.lock.TurnLock.{TurnLock}
 use Rattle.turn_lock.specs.declared.pass.PassOf.{PassOf}
 use Rattle.spin_model.specs.declared.spindle.Spindle.{Spindle}
 use Rattle.spin_model.specs.declared.spindle.SpindleBase.{SpindleBase}
+use Rattle.seg_pool.specs.declared.base.PoolBase.{PoolBase}
+use Rattle.seg_pool.specs.declared.pool.Pool.{Pool}
+use Rattle.log_segment.specs.declared.free.FreeSegment.{FreeSegment}
 use Rattle.wol_model.specs.History.{worker, helper, keeper}
 use Rattle.logger.specs.declared.shared.Shared.{Shared}
 use Rattle.manager.specs.Stands.{IsShared}
@@ -19,7 +22,7 @@ use Rattle.manager.specs.declared.base.ManagerBase.{ManagerBase}
 use Rattle.manager.specs.declared.station.Station.{Station}
 use Rattle.volume_images.specs.Formatted.{part_sizes}
 use Rattle.volume_images.specs.Volumes.{shape_in, shapes_of}
-use Rattle.rack_parts.specs.Rests.{IsPassAt, AreLocks, IsRest, IsImageOut, OnlyAccess, image_here, spindle_pass}
+use Rattle.rack_parts.specs.Rests.{IsPassAt, AreLocks, IsRest, IsImageOut, OnlyAccess, image_here, pool_pass, spindle_pass}
 use Rattle.rack_parts.specs.Foreign.{AreForeign}
 use Rattle.manager.specs.declared.part.Part.TheVariants.{Home, Segment}
 use Rattle.manager_recovery.specs.declared.refusal.OpenRefusal.TheVariants.{LabelDiffers, LoggerMissing, OutsideView, Damaged, Twins, DiskFault, NoMemory}
@@ -125,13 +128,15 @@ NamesVolumes n (Refused (DiskFault (Home volume))) = ⊤
 NamesVolumes n (Refused (DiskFault (Segment volume index))) = volume < n
 NamesVolumes n (Refused NoMemory) = ⊥
 
--- Which disks the volumes used, where these are their views: the pass of a volume at another's
--- spindle was used only if its view names that volume. A station's view is the one that it was
--- opened with.
+-- Which disks and pools the volumes used, where these are their views: the pass of a volume at
+-- another's spindle was used only if its view names that volume, and so was that at a pool, its own
+-- too. A station's view is the one that it was opened with.
 pub record KeepToViews {D : Type 0} (views : ℕ → List ℕ) (r : Rack D) : Type 0 where
   pub opened : All (λ s. views s.id ≡ (base_of_station s).volume.began.view) r.stations.items
   pub unused : (v k : ℕ) (p : PassOf Spindle SpindleBase) → v ≢ k → (Contains (views v) k → ⊥)
       → spindle_pass r.rest v k ≡ Some p → pass_mine p ≡ []
+  pub unused_pools : (v k : ℕ) (p : PassOf (Pool (FreeSegment D)) PoolBase)
+      → (Contains (views v) k → ⊥) → pool_pass r.rest v k ≡ Some p → pass_mine p ≡ []
 
 -- The rack is whole: it may be closed, and a volume has a station exactly where it has no fault.
 pub record IsRack {D : Type 0} (state : D → State) (config : Config) (b : BayState) (r : Rack D) :
@@ -144,5 +149,5 @@ pub record IsRack {D : Type 0} (state : D → State) (config : Config) (b : BayS
       ↔ Contains (map (λ (s : Station D). s.id) r.stations.items) k
   pub known : (k : ℕ) (f : VolumeFault) → slice_get r.faults.items k ≡ Some (Some f)
       → NamesVolumes (length (shapes_of config)) f
-  -- a volume used the disks of its own image and of its view alone
+  -- a volume used the disks of its own image and of its view alone, and the pools of its view
   pub users : (views : ℕ → List ℕ) × KeepToViews views r

@@ -4,6 +4,7 @@ use Rattle.replay.proofs.Basics.{arith, All, Contains, option_and_then, slice_in
 use Rattle.replay.proofs.Terms.{BayState, Config, State, shapes_of, pass_mine, Spindle, SpindleBase, ManagerBase, Station, AreStations}
 use Rattle.replay.proofs.Terms.{IsClosedVolume, IsRack, KeepToViews, base_of_station, spindle_pass, Rack, Rest, view_at, locks_of}
 use Rattle.turn_lock.specs.declared.pass.PassOf.{PassOf}
+use Rattle.rack.specs.Rests.{pool_pass}
 use Rattle.rack_parts.specs.declared.rack.VolumePasses.{VolumePasses}
 use Rattle.replay.proofs.HistoriesLeft.{histories_of, view_there}
 use Rattle.replay.proofs.RacksServed.{a_member, there_at}
@@ -33,10 +34,20 @@ module _ {D : Type 0} (state : D → State) (tells : Bool) (config : Config) (op
   none_past v k past =
       ap (λ (o : Option (VolumePasses D)). option_and_then (λ p. slice_index_or p.spindles.items k None) o) (slice_get_past r.rest.passes.items v (omega (arith, past, same_count, counted, is.rest.parts.count)))
 
+  no_pool_past : (v k : ℕ) → length q.stations.items ≤ v → pool_pass r.rest v k ≡ None
+  no_pool_past v k past =
+      ap (λ (o : Option (VolumePasses D)). option_and_then (λ p. slice_index_or p.pools.items k None) o) (slice_get_past r.rest.passes.items v (omega (arith, past, same_count, counted, is.rest.parts.count)))
+
   pub keep_views : KeepToViews views q
   keep_views = record {
     opened = λ v d lt. ap views (news v d lt).id ∙ view_there tells config q.rest.images.items opened left_ q.stations.items closed v d lt;
     unused = λ v k p other never here. at v k p other never (ap (λ (x : Rest D). spindle_pass x v k) (sym rest) ∙ here) (cases_lt v (length q.stations.items));
+    unused_pools = λ v k p never here.
+        let was = ap (λ (x : Rest D). pool_pass x v k) (sym rest) ∙ here in
+        elim (cases_lt v (length q.stations.items)) [
+          | inl lt ↦ is.users.1.unused_pools v k p (λ has. never (subst (λ (xs : List ℕ). Contains xs k) (view_kept v (a_member q.stations.items v lt).0 lt) has)) was
+          | inr past ↦ absurd (none-some p (sym (no_pool_past v k past) ∙ was))
+        ];
   }
     where
       at : (v k : ℕ) (p : PassOf Spindle SpindleBase) → v ≢ k → (Contains (views v) k → ⊥) → spindle_pass r.rest v k ≡ Some p → (v < length q.stations.items) ⊎ (length q.stations.items ≤ v) → pass_mine p ≡ []

@@ -44,7 +44,7 @@ loop-lock-preserved g c =
     let so_far : ArePoolsClosed state locks init (n + 1) cur = subst (λ (m : ℕ). ArePoolsClosed state locks init m cur) (omega (arith, p.count, number)) inv.closed in
     let now = one_pool_more state locks init n lock (subst (λ (m : ℕ). slice_get locks m ≡ Some lock) number p.there) cur new so_far
     (refills_same state (lock_id lock).base.blocks cur (record cur { rooms = record cur.rooms { pools = rooms } }) n (record { image = refl; pools = λ v. refl; held = λ v. refl }) (image_here new.images.items n) e.image)
-    (e.uses.0, record { legal = e.uses.1.legal; mine = e.uses.1.mine }) e.held
+    (e.uses.0, record { legal = e.uses.1.legal; made = e.uses.1.made }) e.held
     (λ k differs. let x = e.others k differs in record { image = x.image; pools = x.pools; held = x.held })
     (let x = e.spindles in record { count = x.count; image_count = x.image_count; rows = x.rows; spindles = x.spindles }) in
     record {
