@@ -1,7 +1,7 @@
 -- All volumes were opened, one was served, and all were closed: what is told of the bay.
 use Rattle.std.proofs.Common.{◌≡◌, ◌≢◌, ◌<◌, ◌++◌, ◌∷◌, ℕ, zero, suc, nat_eq, Bool, true, false, cond, List, [], length, map, Option, None, Some, option_map, Result, refl, sym, ap, ◌∙◌, subst, arith, append-nil}
 use Rattle.rack.proofs.FailedParts.{faulty_since}
-use Rattle.std.specs.Prelude.{All, slice_get, slice_index_or, slice_range, unwrap_or, IfSome, IsSome, IsTrue}
+use Rattle.std.specs.Prelude.{All, Contains, slice_get, slice_index_or, slice_range, unwrap_or, IfSome, IsSome, IsTrue}
 use Rattle.std.proofs.lemmas.List.{length-map}
 use Rattle.std.proofs.lemmas.Option.{same_Some, slice_get-get_or, slice_get-map, slice_get_within}
 use Rattle.wol_disk.specs.Disk.{Block, State, reads}
@@ -28,14 +28,17 @@ use Rattle.volume_images.specs.Volumes.{AreLeft, image_read, images_read, shape_
 use Rattle.rack.specs.Closes.{AreLeftOfParts, AreListedOf, HasFaultyPart, IsClosedVolume, RecoversTo, recovered_out, segments_out}
 use Rattle.rack.specs.Opens.{BeganWith, WereThere, HasFaulty}
 use Rattle.rack.specs.Owners.{IsBegun, images_taken}
-use Rattle.rack.specs.PoolUses.{ArePools, PassesEmpty}
+use Rattle.rack.specs.PoolUses.{ArePools, HadLogger, PassesEmpty}
 use Rattle.rack.specs.Racks.{IsStation, IsUnused, base_of_station}
 use Rattle.rack.specs.Rests.{IsImageOut, image_here}
 use Rattle.rack_parts.specs.declared.rack.ImageRest.{ImageRest}
 use Rattle.rack_parts.specs.declared.rack.Rack.{Rack}
+use Rattle.rack_closing.proofs.LoggersNamed.{names_logger}
 use Rattle.rack_closing.proofs.Places.{some_at}
+use Rattle.rack_parts.proofs.Members.{of_map}
+use Rattle.std.proofs.lemmas.List.Elements.{All-contains}
 use Rattle.open_rack.specs.Sessions.{LeavesRecords, OpensAndCloses}
-use Rattle.open_rack.proofs.RacksAgain.{rest_again}
+use Rattle.open_rack.proofs.RacksAgain.{began_again, closable_again, numbers_again, rest_again}
 use Rattle.open_rack.proofs.Since.{all_at, rose_before, unmapped}
 use Rattle.open_rack.specs.NotOpened.{first_closed}
 use Rattle.open_rack.proofs.FirstClosed.{none_closed, opened_out}
@@ -153,6 +156,20 @@ module _ {D : Type 0} (tells : Bool) (state : D → State) (config : Config) (di
       go (Some o) (Some b) None began were had parts recovers = absurd parts
       go (Some o) (Some b) (Some n) began were had parts recovers = f o n (record { began = began; were = were; parts = parts; recovers = recovers })
 
+  -- a volume whose view names a logger had it in its view
+  logger_had : (entry mid : Told) → Leaves entry mid → (n k : ℕ) → n < length config.volumes.items → Contains (session.users.0 n) k → HadLogger config entry n k
+  logger_had entry mid is n k less names =
+      let lt : n < length (shapes_of config) = omega (arith, less, shapes_count) in
+      let (v, conf) = some_at config.volumes.items n less in
+      let same = numbers_again before.stations.items after_.stations.items session.again.stations in
+      let (s, has, id) = of_map (λ (x : Station D). x.id) after_.stations.items n (subst (λ (ns : List ℕ). Contains ns n) (sym same) ((session.opened.rack.faults n lt).0 (none_at n lt))) in
+      let closable = closable_again state config before after_ session.again session.bay session.opened.rack in
+      let station : IsStation s = All-contains IsStation after_.stations.items s closable.stations has in
+      let begun = subst (λ (l : Images). IsBegun config l (base_of_station s).volume.began) (taken_all config after_.rest.images.items outs_after entry)
+      (All-contains (λ (x : Station D). IsBegun config (images_taken config after_.rest.images.items entry) (base_of_station x).volume.began) after_.stations.items s (began_again state config before after_ session.again entry is.began).stations has) in
+      let view = All-contains (λ (x : Station D). session.users.0 x.id ≡ (base_of_station x).volume.began.view) after_.stations.items s session.users.1.opened has in
+      names_logger config entry n k v conf (is.were n v conf (outs n lt)) (base_of_station s).volume.began (station.id ∙ id) begun (subst (λ (ids : List ℕ). Contains ids k) (ap session.users.0 (sym id) ∙ view) names)
+
   -- the pools of free segments began as the images had them
   pools_at : (entry mid : Told) → Leaves entry mid → ArePools config entry pools
   pools_at entry mid is k v conf =
@@ -164,6 +181,8 @@ module _ {D : Type 0} (tells : Bool) (state : D → State) (config : Config) (di
         holders = (lock_id l).base.holders;
         had = is.began.pools k v l image conf lock here;
         legal = session.closed.pools.legal k l (ap (λ (r : Rack D). slice_get r.shared.pools.items k) session.again.only ∙ lock);
+        users = λ n never. session.closed.pools.users k l (ap (λ (r : Rack D). slice_get r.shared.pools.items k) session.again.only ∙ lock) session.users.0 session.users.1 n
+            (λ used. never (logger_had entry mid is n k used.0 used.1));
       }
 
   -- label and view of an image are left

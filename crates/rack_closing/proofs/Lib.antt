@@ -11,6 +11,7 @@ pub mod Unbroken
 pub mod SameOut
 pub mod Names
 pub mod Places
+pub mod LoggersNamed
 pub mod SameRecovered
 pub mod KeptImages
 pub mod SoundBefore

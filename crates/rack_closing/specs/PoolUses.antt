@@ -1,5 +1,5 @@
 -- How the volumes used the pools of free segments, by the entries of the pools' locks.
-use Rattle.std.specs.Prelude.{◌≡◌, ◌≤◌, ℕ, List, length, sum_by, Option, None, Some, slice_get}
+use Rattle.std.specs.Prelude.{◌≡◌, ◌≤◌, ℕ, List, [], length, sum_by, Contains, Option, None, Some, slice_get}
 use Rattle.std.specs.Option.{option_map_or}
 use Rattle.wol_disk.specs.Disk.{reads}
 use Rattle.wol_model.specs.Heads.{SegmentHead, Free, Owned}
@@ -11,6 +11,7 @@ use Rattle.wol_bay.specs.Bay.{Image, Told, at_name}
 use Rattle.wol_config.specs.declared.config.Config.{Config}
 use Rattle.wol_config.specs.declared.config.VolumeConf.{VolumeConf}
 use Rattle.turn_lock.specs.Histories.{Entry, own}
+use Rattle.logger_view.specs.Stored.{HasView}
 use Rattle.seg_pool.specs.Holders.{holder, ArePoolUses}
 use Rattle.seg_pool.specs.Operations.{uses_of}
 use Rattle.seg_pool.specs.declared.base.Holder.{Holder}
@@ -36,14 +37,21 @@ pub record HadSegments (config : Config) (t : Told) (k : ℕ) (v : VolumeConf)
       IsAccepted (length (shapes_of config)) k (shape_in config v) (reads image.blocks) view heads
   pub each : (i : ℕ) → holder holders i ≡ holder_of (slice_get heads i)
 
+-- volume n is configured, and its view named volume k as its image read
+abbrev pub HadLogger : Config → Told → (n k : ℕ) → Type 0
+HadLogger config t n k = (v : VolumeConf) × (slice_get config.volumes.items n ≡ Some v)
+    × (image : Image) × (at_name v.name t.images ≡ Some image)
+    × (view : List ℕ) × HasView (reads image.blocks) view × Contains view k
+
 -- The entries of the lock of volume k's pool, by the passes of all volumes: each use could be made
 -- where it stands, from where the heads said that the segments were. So none was found free only
--- where each segment was held.
+-- where each segment was held. Only volumes whose views named k have any.
 pub record IsPoolHistory (config : Config) (t : Told) (k : ℕ) (v : VolumeConf)
     (entries : List Entry) : Type 0 where
   pub holders : List Holder
   pub had : HadSegments config t k v holders
   pub legal : ArePoolUses holders (uses_of entries)
+  pub users : (n : ℕ) → (HadLogger config t n k → ⊥) → own n entries ≡ []
 
 -- so of the pool of each volume
 abbrev pub ArePools : Config → (t : Told) → (pools : (k : ℕ) → List Entry) → Type 0

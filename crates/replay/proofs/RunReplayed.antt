@@ -1,14 +1,14 @@
 -- Replaying a trace on a rack all of whose volumes are open.
 use Rattle.replay.proofs.Basics.{◌≡◌, ◌≢◌, ◌⊎◌, ◌<◌, ◌≤◌, ◌^◌, ℕ, Bool, false, not, List, [], ◌∷◌, ◌++◌, length, Option, None, Some, Result}
 use Rattle.replay.proofs.Basics.{Ok, Err, refl, sym, ap, subst, ◌∙◌, append-nil, inl, inr, arith, AllByRecursion, All, IfSome, IsTrue}
-use Rattle.replay.proofs.Basics.{slice_get, slice_index_or, length-map}
+use Rattle.replay.proofs.Basics.{Contains, option_map_or, slice_get, slice_index_or, length-map}
 use Rattle.replay.proofs.Terms.{appends_none, BayState, Told, State, Began, new_spindle, Target, TraceLine, started, timed, Config, IsTold}
 use Rattle.replay.proofs.Terms.{shape_in, shapes_of, target_of, targets_of, Shared, Station, status_of, printed_names, summary_text, Fault}
 use Rattle.replay.proofs.Terms.{Memory, Versions, Volume, Trouble, TraceFault, fault_of_trace, fault_of_window, IsClosedSpindle}
 use Rattle.replay.proofs.Terms.{IsClosedVolume, SharePools, BeganWith, HasFaulty, KeepsAllSound, ArePools, PassesEmpty, TakesFew, AreUnused}
 use Rattle.replay.proofs.Terms.{IsClosable, IsRack, IsUnused, KeepToViews, base_of_station, IsImageOut, image_here, Rack, uses_of}
 use Rattle.replay.proofs.Terms.{SpindleView, FailToBegin, HaveBegun, SpindlePass, AreStations, IsMoved, Floor, Reclaim, memory, HasGiven}
-use Rattle.replay.proofs.Terms.{AreAllOpen, AreHistories, CountAnswered, History, answers_in, is_broken_at, next_at, view_at, CutsLines}
+use Rattle.replay.proofs.Terms.{AreAllOpen, AreHistories, BeginAsRead, CountAnswered, History, answers_in, is_broken_at, next_at, view_at, CutsLines}
 use Rattle.replay.proofs.Terms.{PrintsText, all_amounts, Replays, status_in, RunsNone, ServesFrom, Further, ServedFromStart, ServedWindow}
 use Rattle.replay.proofs.Terms.{StartsOnce, WasNotRun, begins_alone, fails_to_begin, is_none_served, none_further, AreWindowsOf, EndsBy}
 use Rattle.replay.proofs.Terms.{ServesSome, ServesWhole, WentWell, at_end, lines_of_window, HaveAccounts, HaveShortAccounts, IsAccountBy}
@@ -17,7 +17,10 @@ use Rattle.replay.proofs.Terms.{Options, Stop, CountsPlaced, CountsReclaimed, Ar
 use Rattle.replay.proofs.Terms.{pass_number, HasNoHelp, HasHistory, answers_of, answers_by, AreAllAnswered, most_of}
 use Rattle.wol_model.specs.Trace.{requests, windows}
 use Rattle.replay.proofs.HistoriesLeft.{each_closed, histories_of}
-use Rattle.rack_parts.proofs.Members.{a_value}
+use Rattle.rack.specs.PoolUses.{HadLogger}
+use Rattle.rack_closing.proofs.Cases.{by_option}
+use Rattle.rack_closing.proofs.LoggersNamed.{names_logger}
+use Rattle.rack_parts.proofs.Members.{a_value, none_in}
 use Rattle.rack.proofs.FailedParts.{faulty_since}
 use Rattle.replay.proofs.AllAsked.{AreAllCounted, all_counted_asked}
 use Rattle.replay.proofs.PartNamed.{HasDownAt, breaks_at, came_at}
@@ -181,21 +184,38 @@ module _ {D S : Type 0} (T : Type 0) (state : D → State) (tells : Bool) (left 
   abbrev views : ℕ → List ℕ
   views = view_at (histories_of tells config q.rest.images.items opened left_ q.stations.items closed)
 
-  -- the pools began with the segments as the images had them
-  pools_at : q.shared ≡ r.shared → (t : Told) → BeganWith state config t r → ArePools config t shared.pools
-  pools_at same t with k v conf =
-      let less = (at_place config.volumes.items k v conf).0 in
-      let within : k < length (shapes_of config) = omega (arith, less, length-map config.volumes.items (shape_in config)) in
-      let (l, lock) = a_member r.shared.pools.items k (omega (arith, within, is.locks.pool_count)) in
-      let (image, here) = a_value (image_here r.rest.images.items k) (all_out k within) in
-      record { holders = (lock_id l).base.holders; had = with.pools k v l image conf lock here; legal = shared.legal k l (ap (λ (x : Shared D). slice_get x.pools.items k) same ∙ lock) }
+  module _ (hs : List History) (hs_are : hs ≡ histories_of tells config q.rest.images.items opened left_ q.stations.items closed) (owners : (v : ℕ) (h : History) → slice_get hs v ≡ Some h → h.base.owner ≡ v) where
+    -- a volume whose history names a logger had it in its view
+    logger_had : (t : Told) → AreAllOpen config t → BeginAsRead config t hs → (n k : ℕ) → n < length config.volumes.items → Contains (view_at hs n) k → HadLogger config t n k
+    logger_had t all_open begun n k lt names = by_option (slice_get hs n)
+        (λ none. absurd (none_in k (subst (λ (o : Option History). Contains (option_map_or (λ (h : History). h.base.view) o []) k) none names)))
+        (λ h here.
+        let (v, conf) = a_member config.volumes.items n lt in
+        names_logger config t n k v conf (all_open n v conf) h.base (owners n h here) (begun n h here) (subst (λ (o : Option History). Contains (option_map_or (λ (h : History). h.base.view) o []) k) here names))
 
-  pools_began : q.shared ≡ r.shared → IsTrue tells → IsTold (λ entry_ exit. ArePools config entry_ shared.pools) entry.told left_.told
-  pools_began same telling = told_first (KeepsAllSound config) (λ t. ArePools config t shared.pools) entry.told left_.told (sound telling) (at entry.told (began telling))
-    where
-      at : (o : Option Told) → IfSome o (λ t. BeganWith state config t r) → IfSome o (λ t. ArePools config t shared.pools)
-      at None with = tt
-      at (Some t) with = pools_at same t with
+    -- the pools began with the segments as the images had them
+    pools_at : q.shared ≡ r.shared → (t : Told) → BeganWith state config t r → AreAllOpen config t → BeginAsRead config t hs → ArePools config t shared.pools
+    pools_at same t with all_open begun k v conf =
+        let less = (at_place config.volumes.items k v conf).0 in
+        let within : k < length (shapes_of config) = omega (arith, less, length-map config.volumes.items (shape_in config)) in
+        let (l, lock) = a_member r.shared.pools.items k (omega (arith, within, is.locks.pool_count)) in
+        let (image, here) = a_value (image_here r.rest.images.items k) (all_out k within) in
+        let at = ap (λ (x : Shared D). slice_get x.pools.items k) same ∙ lock in
+        let kept = subst (λ (l : List History). KeepToViews (view_at l) q) (sym hs_are) keep in
+        record {
+          holders = (lock_id l).base.holders;
+          had = with.pools k v l image conf lock here;
+          legal = shared.legal k l at;
+          users = λ n never. shared.users k l at (view_at hs) kept n (λ used. never (logger_had t all_open begun n k used.0 used.1));
+        }
+
+    pools_began : q.shared ≡ r.shared → (IsTrue tells → IsTold (λ entry_ exit. BeginAsRead config entry_ hs) entry.told left_.told) → IsTrue tells → IsTold (λ entry_ exit. ArePools config entry_ shared.pools) entry.told left_.told
+    pools_began same begun telling = at entry.told left_.told (began telling) (open_ telling) (begun telling)
+      where
+        at : (o n : Option Told) → IfSome o (λ t. BeganWith state config t r) → IfSome o (λ t. AreAllOpen config t) → IsTold (λ entry_ exit. BeginAsRead config entry_ hs) o n → IsTold (λ entry_ exit. ArePools config entry_ shared.pools) o n
+        at None n with all_open told = told
+        at (Some t) None with all_open told = told
+        at (Some t) (Some x) with all_open told = pools_at same t with all_open told
 
   -- no pool was passed over more often than it was found empty
   passed_by : (hs : List History) → hs ≡ histories_of tells config q.rest.images.items opened left_ q.stations.items closed → (v : ℕ) (h : History) → slice_get hs v ≡ Some h → PassesEmpty shared.pools h.base h.notes
@@ -229,7 +249,7 @@ module _ {D S : Type 0} (T : Type 0) (state : D → State) (tells : Bool) (left 
         open_ = λ telling. told_first (KeepsAllSound config) (AreAllOpen config) entry.told left_.told (sound telling) (open_ telling);
         begun = kept.begun;
         pools = shared.pools;
-        are_pools = pools_began (ap (λ (x : Rack D). x.shared) runs.same);
+        are_pools = pools_began kept.kept is_none (λ v h here. (kept.are.each v h here).owner) (ap (λ (x : Rack D). x.shared) runs.same) kept.begun;
         passed = passed_by kept.kept is_none;
         taken = taken_by kept.kept is_none;
         counts = counts_whole [] [] kept.kept kept.well 9 (λ v. tt);
@@ -475,7 +495,7 @@ module _ {D S : Type 0} (T : Type 0) (state : D → State) (tells : Bool) (left 
           open_ = λ telling. told_first (KeepsAllSound config) (AreAllOpen config) entry.told left_.told (sound telling) (open_ telling);
           begun = kept.begun;
           pools = shared.pools;
-          are_pools = pools_began (ap (λ (x : Rack D). x.shared) from.only);
+          are_pools = pools_began kept.kept is_kept (λ v h here. (kept.are.each v h here).owner) (ap (λ (x : Rack D). x.shared) from.only) kept.begun;
           passed = passed_by kept.kept is_kept;
           taken = taken_by kept.kept is_kept;
           counts = counts_some T tells left config options start now entry opened left_ w.run w.more w.earlier w.middle w.between from.after q.keepers.items faults faults' w.then printed' e w.last w.ends kept;
@@ -533,7 +553,7 @@ module _ {D S : Type 0} (T : Type 0) (state : D → State) (tells : Bool) (left 
           open_ = λ telling. told_first (KeepsAllSound config) (AreAllOpen config) entry.told left_.told (sound telling) (open_ telling);
           begun = kept.begun;
           pools = shared.pools;
-          are_pools = pools_began (ap (λ (x : Rack D). x.shared) from.only);
+          are_pools = pools_began kept.kept is_kept (λ v h here. (kept.are.each v h here).owner) (ap (λ (x : Rack D). x.shared) from.only) kept.begun;
           passed = passed_by kept.kept is_kept;
           taken = taken_by kept.kept is_kept;
           counts = counts_whole w.served [] kept.kept kept.well (status_in done) (λ v. tt);
