@@ -20,7 +20,7 @@ use Rattle.open_rack.specs.NotOpened.{IsFirstClosed, LeavesBay}
 use Rattle.view_change.specs.declared.answers.Change.{Change}
 use Rattle.view_commands.specs.Orders.{AreNamed, IsOfWords, change_of, unknown_word}
 use Rattle.view_commands.specs.Printed.{PrintsNothing, PrintsView}
-use Rattle.view_commands.specs.Views.{ChangesViewOf, IsDamagedIn, KeepsArrays, LeavesThere}
+use Rattle.view_commands.specs.Views.{ChangesViewOf, IsDamagedIn, KeepsArrays, KeepsViews, LeavesThere}
 use Rattle.view_commands.specs.declared.order.Order.{Order}
 use Rattle.view_commands.specs.declared.order.Stop.{Stop}
 use Rattle.view_commands.specs.declared.order.Stop.TheVariants as stop
@@ -68,6 +68,13 @@ pub record ChangesOpen {T : Type 0} (tells : Bool) (config : Config) (volume : �
   pub fails : (f : Fault) → result ≡ Err (stop.Fault f) → FailsFor tells config volume old new f
   pub known : (r : ViewRefusal) → result ≡ Err (stop.Refused r) → IsOfWords r → ⊥
 
+-- a volume couldn't be opened: no view was changed, and each image that is left recovers to what an
+-- image at entry did
+pub record LeavesViews {D : Type 0} (tells : Bool) (state : D → State) (config : Config)
+    (old new : BayState) : Type 0 where
+  pub bay : LeavesBay tells state config old new
+  pub views : IsTrue tells → IsTold (KeepsViews config) old.told new.told
+
 -- The view of a volume was to be changed: there was no memory to open the volumes; or one of them
 -- couldn't be opened; or all were open.
 pub data ChangesVolume {D : Type 0} (tells : Bool) (state : D → State) (config : Config)
@@ -75,7 +82,7 @@ pub data ChangesVolume {D : Type 0} (tells : Bool) (state : D → State) (config
   never_opened : LeavesBay tells state config old new
       → ChangesVolume tells state config volume change old new (Err (stop.Fault Memory))
   one_closed : (k : ℕ) (f : VolumeFault) → IsFirstClosed tells state config old new k f
-      → LeavesBay tells state config old new
+      → LeavesViews tells state config old new
       → ChangesVolume tells state config volume change old new
       (Err (stop.Fault (Volume k (trouble_of f))))
   all_open : (result : Result (List ℕ) Stop) (view : List ℕ)
@@ -98,7 +105,7 @@ pub data ChangesView {D : Type 0} (tells : Bool) (state : D → State) (config :
       (Err (stop.Fault Memory))
   closed : (volume logger k : ℕ) (f : VolumeFault) → AreNamed config order volume logger
       → PrintsNothing faults faults' printed printed' → IsFirstClosed tells state config old new k f
-      → LeavesBay tells state config old new
+      → LeavesViews tells state config old new
       → ChangesView tells state config order old new faults faults' printed printed'
       (Err (stop.Fault (Volume k (trouble_of f))))
   opened : (volume logger : ℕ) (view : List ℕ) (result : Result (Unit {0}) Stop)
