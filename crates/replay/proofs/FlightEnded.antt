@@ -4,10 +4,10 @@ use Rattle.replay.proofs.Basics.{Option, Some, inl, inr, slice_get, AllByRecursi
 use Rattle.replay.proofs.Terms.{Write, Broke, IsHelp, Kept, Operation, Read, Wrote, flight_from, flight_of, helper, keeper, worker}
 use Rattle.replay.proofs.Terms.{noted_of, Answered, Noted, entries_of, answers_of, Entry, own, pass_mine, pass_number, notes_of, Station}
 use Rattle.replay.proofs.Terms.{ManagerPass, coded, pass_kept, IsMoved, Desk, Floor, Reclaim, AreUnused, IsUnused, answers_in}
-use Rattle.replay.proofs.Terms.{ServedFromStart, ServedWindow}
+use Rattle.replay.proofs.Terms.{ServedFromStart, ServedWindow, IsPartOf, notes_seen, pass_seen}
 use Rattle.replay.proofs.EntriesOwn.{notes_back}
 use Rattle.replay.proofs.FirstsServed.{EndsWell}
-use Rattle.replay.proofs.FlightServed.{HasFlight, IsInFlight, no_write, served_flight}
+use Rattle.replay.proofs.FlightServed.{HasFlight, IsInFlight, no_write, seen_more, served_flight}
 use Rattle.replay.proofs.StationsRan.{EndsOn, desk, first, worker_same}
 use Rattle.replay.proofs.RacksServed.{at_place}
 use Rattle.replay.proofs.WindowBroken.{flight_in}
@@ -58,7 +58,7 @@ own_flight (e ∷ es) (help, others) ws flight = at (operation_of e) refl (e.0 =
 pub record StationFlew {D : Type 0} (v : ℕ) (answers : List Answered) (s : Station D) : Type 0 where
   pub notes : List Noted
   pub mine : pass_mine s.worker ≡ map coded notes
-  pub flight : HasFlight (answers_of v answers) notes
+  pub flight : HasFlight (notes_seen s.worker) (answers_of v answers) notes
 
 -- a station that wasn't used
 pub station_still : {D : Type 0} (v : ℕ) (s : Station D) → IsUnused s.worker → StationFlew v [] s
@@ -77,15 +77,15 @@ station_flew {D} tells mode ss olds news before middle after ps qs moved back un
     record {
       notes = flew.notes;
       mine = ap (λ (x : ManagerPass D). pass_mine x) same ∙ flew.mine ∙ ap (λ (x : ManagerPass D). pass_mine x ++ map coded flew.notes) at.worker_is ∙ ap (λ (l : List Entry). l ++ map coded flew.notes) none;
-      flight = flew.flight;
+      flight = subst (λ (x : ManagerPass D). HasFlight (notes_seen x) (answers_of v (answers_in ss)) flew.notes) (sym same) flew.flight;
     }
 
 -- all entries of the volume
-pub entries_flew : {D : Type 0} (v : ℕ) (answers : List Answered) (s : Station D) (es : List Entry) → StationFlew v answers s → pass_number s.worker ≡ worker → own (pass_number s.worker) es ≡ pass_mine s.worker
-    → AllByRecursion (λ (e : history.Entry). e.pass ≢ worker → IsHelp e.operation) (entries_of (notes_of es)) → HasFlight (answers_of v answers) (notes_of es)
-entries_flew v answers s es flew number mine help ws flight = elim (own_flight es help ws flight) [
-  | inl none ↦ subst (λ (l : List Write). IsInFlight (answers_of v answers) l) (sym none) (no_write (answers_of v answers))
+pub entries_flew : {D : Type 0} (v : ℕ) (answers : List Answered) (s : Station D) (es : List Entry) → StationFlew v answers s → pass_number s.worker ≡ worker → IsPartOf es s.worker
+    → AllByRecursion (λ (e : history.Entry). e.pass ≢ worker → IsHelp e.operation) (entries_of (notes_of es)) → HasFlight (notes_of es) (answers_of v answers) (notes_of es)
+entries_flew v answers s es flew number part help ws flight = elim (own_flight es help ws flight) [
+  | inl none ↦ subst (λ (l : List Write). IsInFlight (notes_of es) (answers_of v answers) l) (sym none) (no_write (notes_of es) (answers_of v answers))
   | inr here ↦
-      let made : own worker es ≡ map coded flew.notes = ap (λ (n : ℕ). own n es) (sym number) ∙ mine ∙ flew.mine in
-      flew.flight ws (ap (λ (l : List Noted). flight_of (entries_of l)) (sym (ap notes_of made ∙ notes_back flew.notes)) ∙ here)
+      let made : own worker es ≡ map coded flew.notes = ap (λ (n : ℕ). own n es) (sym number) ∙ part.mine ∙ flew.mine in
+      seen_more (pass_seen s.worker) es (answers_of v answers) ws part.seen (flew.flight ws (ap (λ (l : List Noted). flight_of (entries_of l)) (sym (ap notes_of made ∙ notes_back flew.notes)) ∙ here))
 ]

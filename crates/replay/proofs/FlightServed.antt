@@ -7,11 +7,12 @@ use Rattle.replay.proofs.Terms.{Answered, answered_in, is_answered, Noted, entri
 use Rattle.replay.proofs.Terms.{volume_joined, pass_mine, Place, StepFault, asked, Request, HasClosed, AreEntriesOf, AreMade, IsFlight}
 use Rattle.replay.proofs.Terms.{IsGroupEntry, before_others, front_writes, ManagerPass, coded, Outcome, IsClosed, StopsAtRefusal}
 use Rattle.replay.proofs.Terms.{answers_to, outcomes_of, own_requests, told, HasWorked, Desk, Floor, Reclaim, answers_in, ServedFromStart}
-use Rattle.replay.proofs.Terms.{ServedWindow, WereServed}
+use Rattle.replay.proofs.Terms.{ServedWindow, WereServed, Begins, Entry, IsFlightAt, Part, TellsFault, WasDown, notes_of, notes_seen, pass_seen}
 use Rattle.replay.proofs.AnswersServed.{own_answers}
 use Rattle.replay.proofs.FirstsServed.{EndsWell, here, later, never, none_behind, was_worked, window_answered}
 use Rattle.replay.proofs.Grouped.{all_wrote, all_wrote_answered, answers_behind, made_by_cases, none_stopped, stops_behind, wrote_all}
-use Rattle.replay.proofs.WindowBroken.{flight_joined}
+use Rattle.replay.proofs.LastWindow.{part_right}
+use Rattle.replay.proofs.WindowBroken.{flight_joined, part_down_in}
 use Rattle.wol_model.specs.Trace as trace
 use Rattle.wol_model.specs.declared.trace.Kind.TheVariants as kind
 use Rattle.manager.specs.declared.part.ReadRefusal.TheVariants as read
@@ -25,28 +26,48 @@ use Rattle.window_desks.specs.declared.request.Reclaim.TheVariants as reclaim
 abbrev pub next_requests : List Answered → List trace.Request
 next_requests answers = drop (length (answered_in answers)) (requests_in answers)
 
+-- nothing was in flight, or it was on its way to a part that was down behind one of these entries
+abbrev pub WasOnItsWay : (seen : List Noted) → List Write → Type 0
+WasOnItsWay seen ws = (ws ≡ []) ⊎ ((p : Part) × WasDown p seen × IsFlightAt p ws)
+
 -- The writes in flight are what some next requests ask for, each a write: several of them only on their way to a log together.
-pub record IsInFlight (answers : List Answered) (ws : List Write) : Type 0 where
+pub record IsInFlight (seen : List Noted) (answers : List Answered) (ws : List Write) : Type 0 where
   pub requests : List trace.Request
   pub next : requests ≡ take (length requests) (next_requests answers)
   pub are_writes : AllByRecursion (λ (r : trace.Request). r.kind ≡ kind.Write) requests
   pub same : map unversioned ws ≡ map payload requests
   pub together : (length requests ≤ 1) ⊎ AllByRecursion (λ (w : Write). is_some w.version ≡ true) ws
+  pub way : WasOnItsWay seen ws
 
 -- the writes in flight in these notes are those of the next requests
-abbrev pub HasFlight : List Answered → List Noted → Type 0
-HasFlight answers notes = (ws : List Write) → flight_of (entries_of notes) ≡ Some ws → IsInFlight answers ws
+abbrev pub HasFlight : (seen : List Noted) → List Answered → List Noted → Type 0
+HasFlight seen answers notes = (ws : List Write) → flight_of (entries_of notes) ≡ Some ws → IsInFlight seen answers ws
 
-pub no_write : (answers : List Answered) → IsInFlight answers []
-no_write answers = record { requests = []; next = refl; are_writes = tt; same = refl; together = inl (omega arith) }
+pub no_write : (seen : List Noted) (answers : List Answered) → IsInFlight seen answers []
+no_write seen answers = record { requests = []; next = refl; are_writes = tt; same = refl; together = inl (omega arith); way = inl refl }
 
-next_more : (answers more : List Answered) (ws : List Write) → next_requests more ≡ next_requests answers → IsInFlight answers ws → IsInFlight more ws
-next_more answers more ws same is = record {
+next_more : (seen : List Noted) (answers more : List Answered) (ws : List Write) → next_requests more ≡ next_requests answers → IsInFlight seen answers ws → IsInFlight seen more ws
+next_more seen answers more ws same is = record {
   requests = is.requests;
   next = is.next ∙ ap (λ (l : List trace.Request). take (length is.requests) l) (sym same);
   are_writes = is.are_writes;
   same = is.same;
   together = is.together;
+  way = is.way;
+}
+
+-- what a pass saw stays
+pub seen_more : (xs es : List Entry) (answers : List Answered) (ws : List Write) → Begins xs es → IsInFlight (notes_of xs) answers ws → IsInFlight (notes_of es) answers ws
+seen_more xs es answers ws begins is = record {
+  requests = is.requests;
+  next = is.next;
+  are_writes = is.are_writes;
+  same = is.same;
+  together = is.together;
+  way = elim is.way [
+    | inl none ↦ inl none
+    | inr (p, was, at) ↦ inr (p, part_down_in p xs es begins was, at)
+  ];
 }
 
 -- behind answered requests
@@ -70,8 +91,8 @@ none_mapped [] none = refl
 none_mapped (w ∷ ws) none = absurd (cc none)
 
 -- where all were answered none was in flight
-none_flying : (xs : List Answered) (ws : List Write) → AreAllAnswered xs → IsInFlight xs ws → ws ≡ []
-none_flying xs ws all is =
+none_flying : (seen : List Noted) (xs : List Answered) (ws : List Write) → AreAllAnswered xs → IsInFlight seen xs ws → ws ≡ []
+none_flying seen xs ws all is =
     let none : is.requests ≡ [] = is.next ∙ ap (λ (l : List trace.Request). take (length is.requests) l) (no_next xs all) ∙ none_taken (length is.requests) in
     none_mapped ws (is.same ∙ ap (λ (l : List trace.Request). map payload l) none)
 
@@ -151,9 +172,9 @@ quiet view rs os first rest n ws one kept others stops flight =
     let no : None ≡ Some ws = ap (λ (l : List Noted). flight_of (entries_of l)) (sym (not_run view rs os rest others stops)) ∙ sym (passing first rest n Kept one kept (λ x. refl)) ∙ flight in cc no
 
 -- a write that was refused, and the writes behind it that were to go with it
-refused_flight : (view : List ℕ) (r : Request) (rs : List Request) (o : Outcome) (os : List Outcome) (rest : List Noted) (ws : List Write) → is_answered (told o) ≡ false → r.kind ≡ kind.Write → AreMade view rs os rest → StopsAtRefusal false os
-    → IsFlight (payload (asked r) ∷ front_writes rs) ws → IsInFlight (answers_to (r ∷ rs) (o ∷ os)) ws
-refused_flight view r rs o os rest ws refused is_write others stops flight =
+refused_flight : (seen : List Noted) (view : List ℕ) (r : Request) (rs : List Request) (o : Outcome) (os : List Outcome) (rest : List Noted) (ws : List Write) → is_answered (told o) ≡ false → r.kind ≡ kind.Write → AreMade view rs os rest
+    → StopsAtRefusal false os → IsFlight (payload (asked r) ∷ front_writes rs) ws → WasOnItsWay seen ws → IsInFlight seen (answers_to (r ∷ rs) (o ∷ os)) ws
+refused_flight seen view r rs o os rest ws refused is_write others stops flight way =
     let front = more_front r rs (front_writes rs) is_write (front_of_writes rs) flight.count in
     let short = front.few in
     let answers : List Answered = answers_to (r ∷ rs) (o ∷ os) in
@@ -168,40 +189,42 @@ refused_flight view r rs o os rest ws refused is_write others stops flight =
         | inl few ↦ inl (omega (arith, few, short))
         | inr logged ↦ inr logged
       ];
+      way = way;
     }
 
-request_flight : (view : List ℕ) (r : Request) (rs : List Request) (o : Outcome) (os : List Outcome) (first rest : List Noted) → AreEntriesOf view r rs o first → AreMade view rs os rest → StopsAtRefusal true (o ∷ os)
-    → (StopsAtRefusal true os → HasFlight (answers_to rs os) rest) → HasFlight (answers_to (r ∷ rs) (o ∷ os)) (first ++ rest)
-request_flight view r rs (outcome.Read mark sources) os first rest (n, one, entry) others stops further ws flight =
-    next_more (answers_to rs os) (answers_to (r ∷ rs) (outcome.Read mark sources ∷ os)) ws refl (further stops.1 ws (sym (passing first rest n (Read r.lbn entry.reply) one entry.operation (λ x. refl)) ∙ flight))
-request_flight view r rs (outcome.Wrote place drained) os first rest (n, one, (is_write, entry)) others stops further ws flight =
-    next_more (answers_to rs os) (answers_to (r ∷ rs) (outcome.Wrote place drained ∷ os)) ws refl (further stops.1 ws (sym (passing first rest n (Wrote (entry.write ∷ [])) one entry.operation (λ x. refl)) ∙ flight))
-request_flight view r rs (outcome.NoRead (read.DiskFault p)) os first rest (n, one, (is_read, broke)) others stops further ws flight =
+request_flight : (seen : List Noted) (view : List ℕ) (r : Request) (rs : List Request) (o : Outcome) (os : List Outcome) (first rest : List Noted) → AreEntriesOf view r rs o first → AreMade view rs os rest → TellsFault seen o → StopsAtRefusal true (o ∷ os)
+    → (StopsAtRefusal true os → HasFlight seen (answers_to rs os) rest) → HasFlight seen (answers_to (r ∷ rs) (o ∷ os)) (first ++ rest)
+request_flight seen view r rs (outcome.Read mark sources) os first rest (n, one, entry) others tells stops further ws flight =
+    next_more seen (answers_to rs os) (answers_to (r ∷ rs) (outcome.Read mark sources ∷ os)) ws refl (further stops.1 ws (sym (passing first rest n (Read r.lbn entry.reply) one entry.operation (λ x. refl)) ∙ flight))
+request_flight seen view r rs (outcome.Wrote place drained) os first rest (n, one, (is_write, entry)) others tells stops further ws flight =
+    next_more seen (answers_to rs os) (answers_to (r ∷ rs) (outcome.Wrote place drained ∷ os)) ws refl (further stops.1 ws (sym (passing first rest n (Wrote (entry.write ∷ [])) one entry.operation (λ x. refl)) ∙ flight))
+request_flight seen view r rs (outcome.NoRead (read.DiskFault p)) os first rest (n, one, (is_read, broke)) others tells stops further ws flight =
     let none : [] ≡ ws = cc (sym (breaking first rest n [] one broke) ∙ flight) in
-    subst (λ (l : List Write). IsInFlight (answers_to (r ∷ rs) (outcome.NoRead (read.DiskFault p) ∷ os)) l) none (no_write (answers_to (r ∷ rs) (outcome.NoRead (read.DiskFault p) ∷ os)))
-request_flight view r rs (outcome.NoRead (read.Down p)) os first rest (n, one, (is_read, kept)) others stops further ws flight = absurd (quiet view rs os first rest n ws one kept others stops.1 flight)
-request_flight view r rs (outcome.NoWrite write.Full) os first rest (n, one, (is_write, full)) others stops further ws flight = absurd full
-request_flight view r rs (outcome.NoWrite (write.DiskFault p)) os first rest (n, one, (is_write, (vs, broke, flown))) others stops further ws flight =
+    subst (λ (l : List Write). IsInFlight seen (answers_to (r ∷ rs) (outcome.NoRead (read.DiskFault p) ∷ os)) l) none (no_write seen (answers_to (r ∷ rs) (outcome.NoRead (read.DiskFault p) ∷ os)))
+request_flight seen view r rs (outcome.NoRead (read.Down p)) os first rest (n, one, (is_read, kept)) others tells stops further ws flight = absurd (quiet view rs os first rest n ws one kept others stops.1 flight)
+request_flight seen view r rs (outcome.NoWrite write.Full) os first rest (n, one, (is_write, full)) others tells stops further ws flight = absurd full
+request_flight seen view r rs (outcome.NoWrite (write.DiskFault p)) os first rest (n, one, (is_write, (vs, broke, (flown, at)))) others tells stops further ws flight =
     let is : vs ≡ ws = cc (sym (breaking first rest n vs one broke) ∙ flight) in
-    subst (λ (l : List Write). IsInFlight (answers_to (r ∷ rs) (outcome.NoWrite (write.DiskFault p) ∷ os)) l) is (refused_flight view r rs (outcome.NoWrite (write.DiskFault p)) os rest vs refl is_write others stops.1 flown)
-request_flight view r rs (outcome.NoWrite (write.Down p)) os first rest (n, one, (is_write, kept)) others stops further ws flight = absurd (quiet view rs os first rest n ws one kept others stops.1 flight)
-request_flight view r rs (outcome.NoWrite write.VersionsSpent) os first rest (n, one, (is_write, (kept, spent))) others stops further ws flight = absurd (quiet view rs os first rest n ws one kept others stops.1 flight)
-request_flight view r rs (outcome.NoWrite write.NoMemory) os first rest (n, one, (is_write, kept)) others stops further ws flight = absurd (quiet view rs os first rest n ws one kept others stops.1 flight)
-request_flight view r rs outcome.NotRun os first rest entries others stops further ws flight = absurd (cc (stops.0))
+    subst (λ (l : List Write). IsInFlight seen (answers_to (r ∷ rs) (outcome.NoWrite (write.DiskFault p) ∷ os)) l) is (refused_flight seen view r rs (outcome.NoWrite (write.DiskFault p)) os rest vs refl is_write others stops.1 flown (inr (p, tells, at)))
+request_flight seen view r rs (outcome.NoWrite (write.Down p)) os first rest (n, one, (is_write, kept)) others tells stops further ws flight = absurd (quiet view rs os first rest n ws one kept others stops.1 flight)
+request_flight seen view r rs (outcome.NoWrite write.VersionsSpent) os first rest (n, one, (is_write, (kept, spent))) others tells stops further ws flight = absurd (quiet view rs os first rest n ws one kept others stops.1 flight)
+request_flight seen view r rs (outcome.NoWrite write.NoMemory) os first rest (n, one, (is_write, kept)) others tells stops further ws flight = absurd (quiet view rs os first rest n ws one kept others stops.1 flight)
+request_flight seen view r rs outcome.NotRun os first rest entries others tells stops further ws flight = absurd (cc (stops.0))
 
 -- several writes in one entry, and what was in flight behind them
-group_flight : (view : List ℕ) (group rs : List Request) (place : Place) (os : List Outcome) (n : Noted) (rest : List Noted) → IsGroupEntry view group place n → (StopsAtRefusal true os → HasFlight (answers_to rs os) rest)
-    → StopsAtRefusal true (all_wrote (length group) place ++ os) → HasFlight (answers_to (group ++ rs) (all_wrote (length group) place ++ os)) (n ∷ rest)
-group_flight view group rs place os n rest entry further stops ws flight =
+group_flight : (seen : List Noted) (view : List ℕ) (group rs : List Request) (place : Place) (os : List Outcome) (n : Noted) (rest : List Noted) → IsGroupEntry view group place n → (StopsAtRefusal true os → HasFlight seen (answers_to rs os) rest)
+    → StopsAtRefusal true (all_wrote (length group) place ++ os) → HasFlight seen (answers_to (group ++ rs) (all_wrote (length group) place ++ os)) (n ∷ rest)
+group_flight seen view group rs place os n rest entry further stops ws flight =
     let past : flight_of (entries_of (n ∷ rest)) ≡ flight_of (entries_of rest) = ap (λ (p : Operation). flight_from p (flight_of (entries_of rest))) entry.together.operation in
-    next_more (answers_to rs os) (answers_to (group ++ rs) (all_wrote (length group) place ++ os)) ws
+    next_more seen (answers_to rs os) (answers_to (group ++ rs) (all_wrote (length group) place ++ os)) ws
     (ap next_requests (answers_behind group rs place os) ∙ skipped_front (wrote_all group place) (answers_to rs os) (all_wrote_answered group place))
     (further (stops_behind (length group) place os stops) ws (sym past ∙ flight))
 
-pub made_flight : (view : List ℕ) (rs : List Request) (os : List Outcome) (notes : List Noted) → AreMade view rs os notes → StopsAtRefusal true os → HasFlight (answers_to rs os) notes
-made_flight view rs os notes made =
-    made_by_cases view (λ rs os notes. StopsAtRefusal true os → HasFlight (answers_to rs os) notes) (λ stops ws flight. absurd (cc flight))
-    (λ r rs o os first rest entries others further stops. request_flight view r rs o os first rest entries others stops further) (λ group rs place os n rest two entry further. group_flight view group rs place os n rest entry further) rs os notes made
+pub made_flight : (seen : List Noted) (view : List ℕ) (rs : List Request) (os : List Outcome) (notes : List Noted) → AreMade view rs os notes → AllByRecursion (TellsFault seen) os → StopsAtRefusal true os → HasFlight seen (answers_to rs os) notes
+made_flight seen view rs os notes made =
+    made_by_cases view (λ rs os notes. AllByRecursion (TellsFault seen) os → StopsAtRefusal true os → HasFlight seen (answers_to rs os) notes) (λ tells stops ws flight. absurd (cc flight))
+    (λ r rs o os first rest entries others further tells stops. request_flight seen view r rs o os first rest entries others tells.0 stops (further tells.1))
+    (λ group rs place os n rest two entry further tells stops. group_flight seen view group rs place os n rest entry (further (part_right (TellsFault seen) (all_wrote (length group) place) os tells)) stops) rs os notes made
 
 -- ---- A worker's pass
 
@@ -209,7 +232,7 @@ made_flight view rs os notes made =
 pub record AddsFlight {D : Type 0} (v : ℕ) (answers : List Answered) (p q : ManagerPass D) : Type 0 where
   pub notes : List Noted
   pub mine : pass_mine q ≡ pass_mine p ++ map coded notes
-  pub flight : HasFlight (answers_of v answers) notes
+  pub flight : HasFlight (notes_seen q) (answers_of v answers) notes
 
 adds_none : {D : Type 0} (v : ℕ) (p : ManagerPass D) → AddsFlight v [] p p
 adds_none v p = record { notes = []; mine = sym (append-nil (pass_mine p)); flight = λ ws none. absurd (cc none) }
@@ -230,11 +253,11 @@ adds_then : {D : Type 0} (v : ℕ) (xs ys : List Answered) (p q r : ManagerPass 
 adds_then {D} v xs ys p q r all left right = record {
   notes = left.notes ++ right.notes;
   mine = mine_both p q r left.notes right.notes left.mine right.mine;
-  flight = λ ws flight. subst (λ (l : List Answered). IsInFlight l ws) (sym (volume_joined v xs ys)) (elim (which left.notes right.notes ws flight) [
+  flight = λ ws flight. subst (λ (l : List Answered). IsInFlight (notes_seen r) l ws) (sym (volume_joined v xs ys)) (elim (which left.notes right.notes ws flight) [
     | inl first ↦
-        let none = none_flying (answers_of v xs) ws all (left.flight ws first) in
-        subst (λ (l : List Write). IsInFlight (answers_of v xs ++ answers_of v ys) l) (sym none) (no_write (answers_of v xs ++ answers_of v ys))
-    | inr second ↦ next_more (answers_of v ys) (answers_of v xs ++ answers_of v ys) ws (skipped_front (answers_of v xs) (answers_of v ys) all) (right.flight ws second)
+        let none = none_flying (notes_seen q) (answers_of v xs) ws all (left.flight ws first) in
+        subst (λ (l : List Write). IsInFlight (notes_seen r) (answers_of v xs ++ answers_of v ys) l) (sym none) (no_write (notes_seen r) (answers_of v xs ++ answers_of v ys))
+    | inr second ↦ next_more (notes_seen r) (answers_of v ys) (answers_of v xs ++ answers_of v ys) ws (skipped_front (answers_of v xs) (answers_of v ys) all) (right.flight ws second)
   ]);
 }
 
@@ -250,8 +273,10 @@ with_turn tells v fault answers p q r left closed = record {
   notes = left.notes ++ closed.note ∷ [];
   mine = mine_both p q r left.notes (closed.note ∷ []) left.mine closed.turned.mine;
   flight = λ ws flight. elim (which left.notes (closed.note ∷ []) ws flight) [
-    | inl first ↦ left.flight ws first
-    | inr second ↦ subst (λ (l : List Write). IsInFlight (answers_of v answers) l) (sym (help_flight closed.note.entry.operation ws closed.help second)) (no_write (answers_of v answers))
+    | inl first ↦
+        let before = seen_more (pass_seen q) closed.before (answers_of v answers) ws closed.turned.begins (left.flight ws first) in
+        seen_more closed.before (pass_seen r) (answers_of v answers) ws (_, sym closed.turned.seen) before
+    | inr second ↦ subst (λ (l : List Write). IsInFlight (notes_seen r) (answers_of v answers) l) (sym (help_flight closed.note.entry.operation ws closed.help second)) (no_write (notes_seen r) (answers_of v answers))
   ];
 }
 
@@ -265,7 +290,7 @@ worked_flight : {D : Type 0} (tells : Bool) (rs : List Request) (os : List Outco
 worked_flight tells rs os mode k d e w = with_reclaim tells mode k e.fault (answers_to rs os) d.worker w.middle e.worker (record {
   notes = w.notes;
   mine = w.gains.mine;
-  flight = subst (λ (l : List Answered). HasFlight l w.notes) (sym (own_answers k rs os)) (made_flight _ (own_requests k rs) (outcomes_of k rs os) w.notes w.made w.stops);
+  flight = subst (λ (l : List Answered). HasFlight (notes_seen w.middle) l w.notes) (sym (own_answers k rs os)) (made_flight (notes_seen w.middle) _ (own_requests k rs) (outcomes_of k rs os) w.notes w.made w.faults w.stops);
 }) w.closed
 
 -- ---- The desks of a floor

@@ -1,21 +1,24 @@
 -- What images a run leaves: each volume recovers to what its answered requests wrote, or to a cut of the next one.
 use Rattle.replay.proofs.Basics.{◌≡◌, ◌<◌, ◌⊎◌, ◌++◌, ℕ, zero, suc, Bool, true, false, cond, List, [], ◌∷◌, length, map, take, drop, refl}
 use Rattle.replay.proofs.Basics.{sym, ap, subst, ◌∙◌, Option, None, Some, is_some, inl, inr, append-nil, arith, Contains, IsTrue, slice_get}
-use Rattle.replay.proofs.Basics.{unwrap_or, AllByRecursion, cons_option, option_map_or, cases_lt, eq-eqb}
+use Rattle.replay.proofs.Basics.{unwrap_or, AllByRecursion, cons_option, option_map_or, cases_lt, eq-eqb, same_Some}
 use Rattle.replay.proofs.Terms.{PartName, Block, BayState, Told, unversioned, Write, after, IsCut, flight_of, whole, writes, in_flight}
 use Rattle.replay.proofs.Terms.{Images, all_segments, recovered_from, payload, payloads, write_to, Answered, answered_in, of_volume}
 use Rattle.replay.proofs.Terms.{entries_of, last_look, KeepsSound, answered_count, answers_of, requests_in, IsOneAction, AreAnsweredBy}
 use Rattle.replay.proofs.Terms.{cuts_are_plain, all_of, volume_requests, Config, notes_of, Station, AreLeft, images_read, shapes_of}
 use Rattle.replay.proofs.Terms.{AreListedOf, HasFaultyPart, IsClosedVolume, IsOnLogger, RecoversTo, recovered_out, segments_out}
 use Rattle.replay.proofs.Terms.{base_of_station, IsImageOut, ImageRest, AreHistories, BeginAsRead, History, is_broken, is_broken_at}
-use Rattle.replay.proofs.Terms.{LeavesImages, records_in, written_array, accepted_all, recovered_all}
+use Rattle.replay.proofs.Terms.{LeavesImages, records_in, written_array, accepted_all, recovered_all, IsFlightAt, Noted}
+use Rattle.replay.proofs.Terms.{Part, WasDown, part_named}
+use Rattle.manager.specs.Seen.{name_of}
 use Rattle.wol_model.specs.Extents.{AreDistinct, Extent, covers_of}
 use Rattle.wol_model.specs.Index.{Listed}
 use Rattle.wol_model.specs.Recovered.{extents_of}
 use Rattle.wol_model.specs.Trace.{Request}
 use Rattle.run_laws.proofs.GoOn.{no_cut}
-use Rattle.replay.proofs.FlightServed.{HasFlight, IsInFlight, next_requests, no_write}
+use Rattle.replay.proofs.FlightServed.{HasFlight, IsInFlight, WasOnItsWay, next_requests, no_write}
 use Rattle.replay.proofs.HistoriesLeft.{IsHistoryAt}
+use Rattle.replay.proofs.PartNamed.{at_named, down_last, none_at}
 use Rattle.replay.proofs.RacksServed.{a_member}
 use Rattle.wol_model.specs.History as history
 use Rattle.wol_model.specs.declared.trace.Kind.TheVariants as kind
@@ -45,8 +48,8 @@ written_to v (r ∷ rs) (volume, here) (is, writes) =
     ∙ ap (λ (l : List Write). payload r ∷ l) (written_to v rs here writes)
 
 -- the writes in flight are those of the next requests of the volume
-flown_to : (v : ℕ) (answers : List Answered) (ws : List Write) (is : IsInFlight (answers_of v answers) ws) → map unversioned ws ≡ payloads v is.requests
-flown_to v answers ws is =
+flown_to : (seen : List Noted) (v : ℕ) (answers : List Answered) (ws : List Write) (is : IsInFlight seen (answers_of v answers) ws) → map unversioned ws ≡ payloads v is.requests
+flown_to seen v answers ws is =
     let own = answers_of v answers in
     let here = all_front (λ (r : Request). r.volume ≡ v) (length is.requests) (next_requests own)
     (all_behind (λ (r : Request). r.volume ≡ v) (length (answered_in own)) (requests_in own) (of_its_volume v own (all_of v answers))) in
@@ -70,7 +73,7 @@ pub record FlightOf (config : Config) (answers : List Answered) (v : ℕ) (broke
 module _ {D : Type 0} (tells : Bool) (config : Config) (out : List (Option (ImageRest D))) (all_out : (k : ℕ) → k < length (shapes_of config) → IsImageOut out k) (old new : BayState) (ss : List (Station D))
     (ids : (v : ℕ) (s : Station D) → slice_get ss v ≡ Some s → s.id ≡ v) (answers : List Answered) (hs : List History) (are : AreHistories (IsTrue tells) config answers hs)
     (at : (v : ℕ) (h : History) → slice_get hs v ≡ Some h → IsHistoryAt tells config out old new ss v h)
-    (flew : (v : ℕ) (s : Station D) (c : IsClosedVolume tells config out old new s) → slice_get ss v ≡ Some s → HasFlight (answers_of v answers) (notes_of c.entries))
+    (flew : (v : ℕ) (s : Station D) (c : IsClosedVolume tells config out old new s) → slice_get ss v ≡ Some s → HasFlight (notes_of c.entries) (answers_of v answers) (notes_of c.entries))
     (entry opened left_ : Told) (begun : BeginAsRead config entry hs) (same_faulty : opened.faulty ≡ entry.faulty)
     (faulty : (s : Station D) (c : IsClosedVolume tells config out old new s) → (flight_of (entries_of (notes_of c.entries)) ≡ None → ⊥)
     → (name : PartName) × ((last_look (base_of_station s).volume.began.look (notes_of c.entries)).down ≡ Some name) × HasFaultyPart tells config s.id (base_of_station s).volume.began.view name opened left_)
@@ -82,8 +85,11 @@ module _ {D : Type 0} (tells : Bool) (config : Config) (out : List (Option (Imag
     abbrev station : Station D
     station = hist.station
 
+    abbrev noted : List Noted
+    noted = notes_of hist.closed.entries
+
     abbrev entries : List history.Entry
-    entries = entries_of (notes_of hist.closed.entries)
+    entries = entries_of noted
 
     abbrev array : List Block
     array = recovered_from (shapes_of config) (images_read config entry) v
@@ -148,10 +154,10 @@ module _ {D : Type 0} (tells : Bool) (config : Config) (out : List (Option (Imag
     action_here : IsOneAction v (drop (answered_count answers v) (requests_in (answers_of v answers))) (in_flight (entries_of h.notes))
     action_here = subst (λ (x : History). IsOneAction v (drop (answered_count answers v) (requests_in (answers_of v answers))) (in_flight (entries_of x.notes))) (sym hist.is) (by (flight_of entries) refl)
       where
-        of_flight : (ws : List Write) → IsInFlight (answers_of v answers) ws → IsOneAction v (drop (answered_count answers v) (requests_in (answers_of v answers))) ws
+        of_flight : (ws : List Write) → IsInFlight noted (answers_of v answers) ws → IsOneAction v (drop (answered_count answers v) (requests_in (answers_of v answers))) ws
         of_flight ws is = record {
           count = length is.requests;
-          asked = flown_to v answers ws is ∙ ap (payloads v) is.next;
+          asked = flown_to noted v answers ws is ∙ ap (payloads v) is.next;
           together = elim is.together [
             | inl few ↦ inl few
             | inr logged ↦ inr (subst (λ (l : List Request). AllByRecursion (λ (r : Request). r.kind ≡ kind.Write) l) is.next is.are_writes, logged)
@@ -160,7 +166,7 @@ module _ {D : Type 0} (tells : Bool) (config : Config) (out : List (Option (Imag
 
         by : (o : Option (List Write)) → flight_of entries ≡ o → IsOneAction v (drop (answered_count answers v) (requests_in (answers_of v answers))) (in_flight entries)
         by None none = subst (λ (l : List Write). IsOneAction v (drop (answered_count answers v) (requests_in (answers_of v answers))) l) (sym (ap (λ (o : Option (List Write)). unwrap_or o []) none))
-            (of_flight [] (no_write (answers_of v answers)))
+            (of_flight [] (no_write noted (answers_of v answers)))
         by (Some ws) some = subst (λ (l : List Write). IsOneAction v (drop (answered_count answers v) (requests_in (answers_of v answers))) l) (sym (ap (λ (o : Option (List Write)). unwrap_or o []) some))
             (of_flight ws (flew v station hist.closed hist.there ws some))
 
@@ -171,13 +177,13 @@ module _ {D : Type 0} (tells : Bool) (config : Config) (out : List (Option (Imag
         let cut : IsCut array (writes entries) [] (recovered_from (shapes_of config) images v) = whole 0 (omega arith) (raw ∙ ap (after array) (sym (append-nil (writes entries)))) in
         no_cut array asked_writes (recovered_from (shapes_of config) images v) (cuts_are_plain v array (recovered_from (shapes_of config) images v) answers entries [] (are.first v) answered cut)
 
-    flying : (ws : List Write) → flight_of entries ≡ Some ws → IsInFlight (answers_of v answers) ws → FlightOf config answers v (IsTrue (is_broken_at hs v)) entry left_
+    flying : (ws : List Write) → flight_of entries ≡ Some ws → IsInFlight noted (answers_of v answers) ws → FlightOf config answers v (IsTrue (is_broken_at hs v)) entry left_
     flying ws some is = record {
       requests = is.requests;
       follow = is.next ∙ ap (λ (l : List Request). take (length is.requests) (drop (answered_count answers v) l)) (volume_requests v answers);
       are_writes = is.are_writes;
       unless = λ whole. absurd (whole (broken_is ∙ ap is_some some));
-      cuts = λ lt images left. subst (λ (l : List Write). IsCut array asked_writes l (recovered_from (shapes_of config) images v)) (flown_to v answers ws is) (cut_is ws (inl some) lt images left);
+      cuts = λ lt images left. subst (λ (l : List Write). IsCut array asked_writes l (recovered_from (shapes_of config) images v)) (flown_to noted v answers ws is) (cut_is ws (inl some) lt images left);
     }
 
     flight_here : FlightOf config answers v (IsTrue (is_broken_at hs v)) entry left_
@@ -187,13 +193,32 @@ module _ {D : Type 0} (tells : Bool) (config : Config) (out : List (Option (Imag
         by None none = record { requests = []; follow = refl; are_writes = tt; unless = λ whole. refl; cuts = cut_is [] (inr (none, refl)) }
         by (Some ws) some = flying ws some (flew v station hist.closed hist.there ws some)
 
-    faulty_here : IsTrue (is_broken h) → (name : PartName) × ((last_look h.base.look h.notes).down ≡ Some name) × HasFaultyPart tells config v h.base.view name entry left_
+    -- what was in flight was on its way to the part that is down in the end
+    way_here : (name : PartName) → (last_look h.base.look h.notes).down ≡ Some name → IsFlightAt (part_named v name) (in_flight (entries_of h.notes))
+    way_here name down = subst (λ (x : History). IsFlightAt (part_named v name) (in_flight (entries_of x.notes))) (sym hist.is) (by (flight_of entries) refl)
+      where
+        same : (p : Part) → WasDown p noted → name ≡ name_of p
+        same p was =
+            let each = are.each v h here in
+            same_Some name (name_of p) (sym down ∙ down_last h.base.look p h.notes each.legal.ruled each.ruled each.legal.breaks (subst (λ (x : History). WasDown p x.notes) (sym hist.is) was))
+
+        of_way : (ws : List Write) → WasOnItsWay noted ws → IsFlightAt (part_named v name) ws
+        of_way ws (inl none) = subst (IsFlightAt (part_named v name)) (sym none) (none_at (part_named v name))
+        of_way ws (inr (p, was, at_part)) = subst (λ (n : PartName). IsFlightAt (part_named v n) ws) (sym (same p was)) (at_named v p ws at_part)
+
+        by : (o : Option (List Write)) → flight_of entries ≡ o → IsFlightAt (part_named v name) (in_flight entries)
+        by None none = subst (IsFlightAt (part_named v name)) (sym (ap (λ (o : Option (List Write)). unwrap_or o []) none)) (none_at (part_named v name))
+        by (Some ws) some = subst (IsFlightAt (part_named v name)) (sym (ap (λ (o : Option (List Write)). unwrap_or o []) some)) (of_way ws (flew v station hist.closed hist.there ws some).way)
+
+    faulty_here : IsTrue (is_broken h) → (name : PartName) × ((last_look h.base.look h.notes).down ≡ Some name) × IsFlightAt (part_named v name) (in_flight (entries_of h.notes)) × HasFaultyPart tells config v h.base.view name entry left_
     faulty_here broken =
         let some : is_some (flight_of entries) ≡ true = sym (ap is_broken hist.is) ∙ broken in
         let (name, down, part) = faulty station hist.closed (λ none. (let no : true ≡ false = sym some ∙ ap is_some none in absurd (cc no))) in
-        let here = subst (λ (x : History). HasFaultyPart tells config v x.base.view name opened left_) (sym hist.is) (subst (λ (n : ℕ). HasFaultyPart tells config n (base_of_station station).volume.began.view name opened left_) id part) in (
+        let here = subst (λ (x : History). HasFaultyPart tells config v x.base.view name opened left_) (sym hist.is) (subst (λ (n : ℕ). HasFaultyPart tells config n (base_of_station station).volume.began.view name opened left_) id part) in
+        let ended : (last_look h.base.look h.notes).down ≡ Some name = ap (λ (x : History). (last_look x.base.look x.notes).down) hist.is ∙ down in (
           name,
-          ap (λ (x : History). (last_look x.base.look x.notes).down) hist.is ∙ down,
+          ended,
+          way_here name ended,
           record {
             more = here.more;
             more_is = here.more_is ∙ ap (λ l. l ++ here.more) same_faulty;

@@ -3,9 +3,10 @@ use Rattle.replay.proofs.Basics.{◌≡◌, ◌++◌, ◌∷◌, [], ℕ, Bool, 
 use Rattle.replay.proofs.Basics.{slice_get, AllByRecursion, option_map_or, same_Some}
 use Rattle.replay.proofs.Terms.{BayState, BreaksOnce, Answered, Look, PartName, AreRuled, Noted, entries_of, last_look, Config, notes_of}
 use Rattle.replay.proofs.Terms.{Part, Station, Trouble, trouble_of_part, IsTold, HasFaultyPart, IsClosedVolume, part_named, base_of_station}
-use Rattle.replay.proofs.Terms.{ImageRest, WasDown, down_breaks, AreHistories, History, is_broken, is_broken_at}
+use Rattle.replay.proofs.Terms.{Write, IsFlightAt, ImageRest, WasDown, down_breaks, AreHistories, History, is_broken, is_broken_at}
 use Rattle.wol_promise.proofs.DownStays.{down_at_end}
 use Rattle.manager.specs.Seen.{name_of}
+use Rattle.manager.specs.declared.part.Part.TheVariants.{Home, Segment}
 use Rattle.troubles.proofs.Named.{named_alike}
 use Rattle.replay.proofs.HistoriesLeft.{histories_of, history_at}
 use Rattle.replay.proofs.WindowBroken.{HasDown, not_none}
@@ -22,7 +23,7 @@ breaks_at histories v t is =
     ap (λ (o : Option History). option_map_or is_broken o false) is.there ∙ down_breaks is.down.0 is.history.notes is.down.2
 
 -- the part that was down is down at the end, since each entry goes by the rules
-down_last : (l : Look) (p : Part) (notes : List Noted) → AreRuled l notes → AllByRecursion (λ (n : Noted). IsTrue n.ruled) notes → BreaksOnce (map (λ (e : history.Entry). e.operation) (entries_of notes)) → WasDown p notes
+pub down_last : (l : Look) (p : Part) (notes : List Noted) → AreRuled l notes → AllByRecursion (λ (n : Noted). IsTrue n.ruled) notes → BreaksOnce (map (λ (e : history.Entry). e.operation) (entries_of notes)) → WasDown p notes
     → (last_look l notes).down ≡ Some (name_of p)
 down_last l p notes rules all breaks was =
     ap (λ (ns : List Noted). (last_look l ns).down) was.notes_are
@@ -31,6 +32,15 @@ down_last l p notes rules all breaks was =
     (subst (λ (ns : List Noted). BreaksOnce (map (λ (e : history.Entry). e.operation) (entries_of ns))) was.notes_are breaks)
     (not_none (was.front ++ was.note ∷ []) was.broken)
     ∙ was.down
+
+-- writes on their way to a part were so to the part of its name
+pub at_named : (v : ℕ) (p : Part) (ws : List Write) → IsFlightAt p ws → IsFlightAt (part_named v (name_of p)) ws
+at_named v (Home volume) ws at = at
+at_named v (Segment volume index) ws at = at
+
+pub none_at : (p : Part) → IsFlightAt p []
+none_at (Home volume) = tt
+none_at (Segment volume index) = tt
 
 module _ {D : Type 0} (tells : Bool) (config : Config) (out : List (Option (ImageRest D))) (old new : BayState) (ss : List (Station D)) (all : All (IsClosedVolume tells config out old new) ss)
     (answers : List Answered) (are : AreHistories (IsTrue tells) config answers (histories_of tells config out old new ss all)) where

@@ -21,8 +21,8 @@ module _ {D : Type 0} (tells : Bool) (telling : IsTrue tells) (config : Config) 
   number_at : (v : ℕ) (s : Station D) → slice_get ss v ≡ Some s → pass_number s.worker ≡ worker
   number_at v s there = let (less, is) = at_place ss v s there in subst (λ (x : Station D). pass_number x.worker ≡ worker) (is s) (stations v s less).worker_.number_is
 
-  flown : (v : ℕ) (s : Station D) (c : IsClosedVolume tells config out opened left_ s) → slice_get ss v ≡ Some s → HasFlight (answers_of v answers) (notes_of c.entries)
-  flown v s c there = entries_flew v answers s c.entries (flew v s there) (number_at v s there) c.worker_part.mine c.history.helpers
+  flown : (v : ℕ) (s : Station D) (c : IsClosedVolume tells config out opened left_ s) → slice_get ss v ≡ Some s → HasFlight (notes_of c.entries) (answers_of v answers) (notes_of c.entries)
+  flown v s c there = entries_flew v answers s c.entries (flew v s there) (number_at v s there) c.worker_part c.history.helpers
 
   -- what each closed station says
   abbrev Faulty : (o n : Option Told) → Type 0

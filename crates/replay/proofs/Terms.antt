@@ -87,7 +87,7 @@ pub use Rattle.request_turns.proofs.Gaining.{broken_more, down_breaks, last_join
 pub use Rattle.request_turns.specs.Begun.{HasBegunVolume}
 pub use Rattle.request_turns.specs.Closed.{HasClosed}
 pub use Rattle.request_turns.specs.Counts.{added_between, added_up, dropped_by, records_dropped, Counts}
-pub use Rattle.request_turns.specs.Entries.{AreEntriesOf, AreMade, IsGroupEntry, TellsFault, none, one, several, WasSpent, IsFlight, before_others, front_writes}
+pub use Rattle.request_turns.specs.Entries.{AreEntriesOf, AreMade, IsGroupEntry, TellsFault, none, one, several, WasSpent, IsFlight, IsFlightAt, before_others, front_writes}
 pub use Rattle.request_turns.specs.Helped.{ManagerLock, AreKept, made_since}
 pub use Rattle.request_turns.specs.Turns.{ManagerPass, coded, IsBroken, faulty_part, IsHonest, began, notes_seen, Gains, LooksStay, HasTurned, WasDown, KeptStay}
 pub use Rattle.request_turns.specs.declared.outcome.Outcome.{Outcome}

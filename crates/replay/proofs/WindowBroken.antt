@@ -52,8 +52,11 @@ abbrev pub HasDown : Trouble → List Noted → Type 0
 HasDown t notes = (p : Part) × (t ≡ trouble_of_part p) × WasDown p notes
 
 -- what a pass saw stays
+pub part_down_in : (p : Part) (xs es : List Entry) → Begins xs es → WasDown p (notes_of xs) → WasDown p (notes_of es)
+part_down_in p xs es (more, same) was = subst (WasDown p) (sym (notes_joined xs more) ∙ ap notes_of same) (down_more p (notes_of xs) (notes_of more) was)
+
 pub down_in : (t : Trouble) (xs es : List Entry) → Begins xs es → HasDown t (notes_of xs) → HasDown t (notes_of es)
-down_in t xs es (more, same) (p, is, was) = (p, is, subst (WasDown p) (sym (notes_joined xs more) ∙ ap notes_of same) (down_more p (notes_of xs) (notes_of more) was))
+down_in t xs es begins (p, is, was) = (p, is, part_down_in p xs es begins was)
 
 -- ---- Requests
 

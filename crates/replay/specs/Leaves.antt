@@ -16,7 +16,8 @@ use Rattle.wol_promise.specs.Run.{KeepsSound, LeavesCuts}
 use Rattle.run_laws.specs.Answers.{answered_count, answers_of, requests_in}
 use Rattle.run_laws.specs.Headline.{IsOneAction}
 use Rattle.wol_config.specs.declared.config.Config.{Config}
-use Rattle.rack.specs.Closes.{AreListedOf, HasFaultyPart, IsOnLogger}
+use Rattle.rack.specs.Closes.{AreListedOf, HasFaultyPart, IsOnLogger, part_named}
+use Rattle.request_turns.specs.Entries.{IsFlightAt}
 use Rattle.volume_images.specs.Volumes.{AreLeft, images_read, shapes_of}
 use Rattle.replay.specs.Histories.{History, is_broken, is_broken_at}
 
@@ -34,9 +35,11 @@ records_in config images v = extents_of v (all_segments (shapes_of config) image
 -- What a crash may leave of the volumes, by their histories and the answers to the requests.
 pub record LeavesImages (tells : Bool) (config : Config) (answers : List Answered)
     (histories : List History) (entry new : Told) : Type 0 where
-  -- where a call of a disk of a volume failed, the part of it that is down in the end had a fault
+  -- where a call of a disk of a volume failed, the part of it that is down in the end had a fault,
+  -- and what was in flight was on its way to that part
   pub faulty : (v : ℕ) (h : History) → slice_get histories v ≡ Some h → IsTrue (is_broken h)
       → (name : PartName) × ((last_look h.base.look h.notes).down ≡ Some name)
+      × IsFlightAt (part_named v name) (in_flight (entries_of h.notes))
       × HasFaultyPart tells config v h.base.view name entry new
   -- whatever images a crash leaves, a volume recovers to what its answered requests wrote
   pub whole : (v : ℕ) → v < length (shapes_of config) → (IsTrue (is_broken_at histories v) → ⊥)
