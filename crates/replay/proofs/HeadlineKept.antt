@@ -1,16 +1,20 @@
 -- The headline holds of each run.
 use Rattle.replay.proofs.Basics.{◌≡◌, ◌<◌, ◌++◌, ℕ, Bool, false, List, [], ◌∷◌, length, take, refl, sym, ap, subst, ◌∙◌, Option, None, Some}
-use Rattle.replay.proofs.Basics.{is_some, Result, Ok, Err, inl, inr, append-nil, arith, IsTrue, slice_get, option_map_or, Appends}
+use Rattle.replay.proofs.Basics.{is_some, Result, Ok, Err, inl, inr, append-nil, arith, IsTrue, slice_get, option_map_or, Appends, true}
+use Rattle.replay.proofs.Basics.{unwrap_or}
 use Rattle.replay.proofs.Terms.{AppendsFront, appends_none, front_whole, BayState, Told, Block, Rose, State, AreLegalNext, IsCut, flight_of}
 use Rattle.replay.proofs.Terms.{writes, in_flight, recovered_from, TraceLine, Answered, entries_of, joined_lines, answers_of, HasOneHistory}
 use Rattle.replay.proofs.Terms.{IsReopened, Config, IsTold, AreLeft, images_read, shapes_of, status_of, Volume, targets_of, trouble_of}
 use Rattle.replay.proofs.Terms.{VolumeFault, HasGivenAll, AreAllOpen, ArePrinted, HasNotBegun, KeepsHeadline, MeetsHeadline, ArePlainMarks}
 use Rattle.replay.proofs.Terms.{BeginAsRead, History, answers_in, is_broken, is_broken_at, LeavesImages, AsksNone, LeavesBay, Replayed}
 use Rattle.replay.proofs.Terms.{Replays, status_in, ServedWindow, PrintsRun, lines_asked, Given, Options, Stop}
+use Rattle.replay.proofs.Terms.{CameBackFaulty, HasFaultyPart, IsFlightAt, PartName, Write, part_named}
 use Rattle.rack_closing.proofs.NewFaults.{told_with}
 use Rattle.replay.proofs.ImagesLeft.{none_or}
 use Rattle.replay.proofs.RacksServed.{a_member}
 use Rattle.replay.proofs.Statuses.{not_success}
+use Rattle.manager.specs.declared.part.Part.TheVariants.{Home}
+use Rattle.wol_promise.specs.Policy.{HomePart, SegmentPart}
 use Rattle.replay.specs.Ended as ended
 use Rattle.replay.specs.Replays as replays
 use Rattle.replay.specs.declared.stop.Stop.TheVariants as stop
@@ -46,6 +50,11 @@ told_thrice P Q R X None b p q r all = p
 told_thrice P Q R X (Some o) None p q r all = p
 told_thrice P Q R X (Some o) (Some n) p q r all = all o n p q r
 
+-- a single write was in flight
+one_flying : (x : Option (List Write)) (w : Write) → unwrap_or x [] ≡ w ∷ [] → is_some x ≡ true
+one_flying None w is = absurd (cc is)
+one_flying (Some ws) w is = refl
+
 -- at status 0 the trace was run to its end
 to_the_end : {S T : Type 0} (left : S → Option (List ℕ)) (config : Config) (start now : Given S) (run : List (Option TraceLine)) (last : List ServedWindow) (bay bay' sink sink' : ℕ) (result : Result T Stop)
     → ended.EndsFor left config start now run last bay bay' sink sink' result → status_in result ≡ 0 → HasGivenAll left (targets_of config) start now run
@@ -79,11 +88,22 @@ module _ {S T : Type 0} (tells : Bool) (left : S → Option (List ℕ)) (config 
           first = r.are.first v;
         }
 
-    reopened : IsReopened (shapes_of config) (AreLeft config exit) (Rose old.faults new.faults) v opened (answers_of v answers) (entries_of h.notes)
+    -- a single write in flight that has no version was on its way home, which came back with a fault
+    home_faulty : (w : Write) → in_flight (entries_of h.notes) ≡ w ∷ [] → w.version ≡ None → CameBackFaulty config (Home v) entry exit
+    home_faulty w flight unversioned_ =
+        let (name, down, way, faulty) = images.faulty v h here (one_flying (flight_of (entries_of h.notes)) w flight) in
+        at name (subst (IsFlightAt (part_named v name)) flight way) faulty
+      where
+        at : (name : PartName) → IsFlightAt (part_named v name) (w ∷ []) → HasFaultyPart tells config v h.base.view name entry exit → CameBackFaulty config (Home v) entry exit
+        at HomePart way faulty = (faulty.more, faulty.more_is, (faulty.conf, faulty.conf_is, faulty.among))
+        at (SegmentPart logger index) way faulty = let no : false ≡ true = ap is_some (sym unversioned_) ∙ way.0 in absurd (cc no)
+
+    reopened : IsReopened (shapes_of config) (AreLeft config exit) (Rose old.faults new.faults) (CameBackFaulty config (Home v) entry exit) v opened (answers_of v answers) (entries_of h.notes)
     reopened =
         let broken : is_broken_at r.histories v ≡ is_some (flight_of (entries_of h.notes)) = ap (λ (o : Option History). option_map_or is_broken o false) here in
         record {
           cut = λ left_ is_left. subst (λ (a : List Block). IsCut a (writes (entries_of h.notes)) (in_flight (entries_of h.notes)) (recovered_from (shapes_of config) left_ v)) array (images.stopped v h here left_ is_left);
+          torn = home_faulty;
           one_action = images.action v h here;
           calm = λ none. none_or (flight_of (entries_of h.notes)) (λ some. none (r.cause v (broken ∙ some)));
         }

@@ -15,8 +15,10 @@ use Rattle.run_laws.specs.Answers.{answered_count, requests_in}
 use Rattle.run_laws.specs.Headline.{Headline}
 use Rattle.wol_config.specs.declared.config.Config.{Config}
 use Rattle.wol_config.specs.declared.config.VolumeConf.{VolumeConf}
+use Rattle.manager.specs.declared.part.Part.TheVariants.{Home}
 use Rattle.volume_images.specs.Left.{IsTold}
 use Rattle.volume_images.specs.Volumes.{AreLeft, images_read, shapes_of}
+use Rattle.rack.specs.Closes.{CameBackFaulty}
 use Rattle.rack.specs.Opens.{WasAccepted}
 use Rattle.trace_gen.specs.Generated.{targets_of}
 use Rattle.replay.specs.Givens.{HasGiven, HasGivenAll}
@@ -56,9 +58,10 @@ pub record MeetsHeadline {S : Type 0} (left : S → Option (List ℕ)) (config :
   -- at status 0 that is the whole trace, and each request was answered
   pub done : status ≡ 0 → HasGivenAll left (targets_of config) start now lines
       × ((v : ℕ) → answered_count answers v ≡ length (of_volume v (requests_in answers)))
-  -- of these the headline holds
+  -- of these the headline holds; a home of which a call failed came back with a fault
   pub headline : Headline (shapes_of config) (images_read config entry) (AreLeft config entry)
-      (AreLeft config exit) (Rose faults faults') (line_of_read config) answers
+      (AreLeft config exit) (Rose faults faults') (λ v. CameBackFaulty config (Home v) entry exit)
+      (line_of_read config) answers
   -- the lines of the answered reads were printed, where they are asked for
   pub printed : ArePrinted (lines_asked config each answers) status taken taken'
 

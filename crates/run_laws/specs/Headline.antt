@@ -4,15 +4,17 @@
 -- Each volume has one legal history, for its reads and for recovery, which begins with what the
 -- volume was opened with. Each answered read has the mark of every block's last acknowledged write.
 -- Wherever the disks stop, within a write too, the images recover to that history's acknowledged
--- writes, followed at most by a prefix of the writes in flight, or by some blocks of a single one.
--- In flight is at most the next write, or several next ones that were to go to a log together.
+-- writes, followed at most by a prefix of the writes in flight, or by some blocks of a single one,
+-- and that only where a call of the volume's home failed: a write to a log is there whole or not at
+-- all. In flight is at most the next write, or several next ones that were to go to a log together.
 --
 -- A stopped disk fails each call from some call on, and that one may have written any of its
 -- blocks. `was` and `may_be` are the images that a stop may leave before and after the run: each
--- block as last synced or as written since. `failed`: a call of a disk failed. `answers`: the
--- requests with their outcomes, in the order of the trace. `text`: a read's line with its mark, the
--- sum, modulo 2^64, of the numbers in the first eight bytes of its blocks.
-use Rattle.std.specs.Prelude.{◌≡◌, ◌<◌, ◌≤◌, ◌⊎◌, ◌++◌, ℕ, true, List, length, map, take, drop, None, is_some}
+-- block as last synced or as written since. `failed`: a call of a disk failed. `home_failed`: so did
+-- one of the home of volume v. `answers`: the requests with their outcomes, in the order of the
+-- trace. `text`: a read's line with its mark, the sum, modulo 2^64, of the numbers in the first
+-- eight bytes of its blocks.
+use Rattle.std.specs.Prelude.{◌≡◌, ◌<◌, ◌≤◌, ◌⊎◌, ◌++◌, ◌∷◌, ℕ, true, List, [], length, map, take, drop, None, is_some}
 use Rattle.std.specs.List.{AllByRecursion}
 use Rattle.wol_disk.specs.Disk.{Block}
 use Rattle.wol_model.specs.ArrayLaws.{unversioned}
@@ -50,12 +52,16 @@ pub record IsOneAction (v : ℕ) (next : List Request) (flight : List Write) : T
       × AllByRecursion (λ (w : Write). is_some w.version ≡ true) flight)
 
 -- What the images recover to for volume v, wherever the disks stop.
-pub record IsReopened (shapes : List Shape) (may_be : Images → Type 0) (failed : Type 0) (v : ℕ)
-    (opened : List Block) (answers : List Answered) (history : List Entry) : Type 0 where
+pub record IsReopened (shapes : List Shape) (may_be : Images → Type 0)
+    (failed home_failed : Type 0) (v : ℕ) (opened : List Block) (answers : List Answered)
+    (history : List Entry) : Type 0 where
   -- the acknowledged writes, then at most a prefix of those in flight, or some blocks of a single
-  -- one that was to go home: in a log a write is there whole or not at all
+  -- one that has no version
   pub cut : (images : Images) → may_be images
       → IsCut opened (writes history) (in_flight history) (recovered_from shapes images v)
+  -- .. and a single one has none only where a call of the volume's home failed: a write to a log is
+  -- there whole or not at all
+  pub torn : (w : Write) → in_flight history ≡ w ∷ [] → w.version ≡ None → home_failed
   -- those in flight are of the next request, or of several next ones that were to go to a log
   -- together, and none where no call failed
   pub one_action : IsOneAction v (drop (length (answered_in answers)) (requests_in answers))
@@ -63,8 +69,8 @@ pub record IsReopened (shapes : List Shape) (may_be : Images → Type 0) (failed
   pub calm : (failed → ⊥) → flight_of history ≡ None
 
 pub record Headline (shapes : List Shape) (entry : Images) (was may_be : Images → Type 0)
-    (failed : Type 0) (text : Request → (mark : ℕ) → List ℕ) (answers : List Answered)
-    : Type 0 where
+    (failed : Type 0) (home_failed : (v : ℕ) → Type 0) (text : Request → (mark : ℕ) → List ℕ)
+    (answers : List Answered) : Type 0 where
   -- each volume has one legal history of its answered requests
   pub each_volume : (v : ℕ) → v < length shapes
       → HasOneHistory (recovered_from shapes entry v) (answers_of v answers)
@@ -75,8 +81,8 @@ pub record Headline (shapes : List Shape) (entry : Images) (was may_be : Images 
   -- wherever the disks stop, the images recover to that same history's acknowledged writes, and at
   -- most what was in flight
   pub reopens : (v : ℕ) (open_ : v < length shapes)
-      → IsReopened shapes may_be failed v (recovered_from shapes entry v) (answers_of v answers)
-      (each_volume v open_).history
+      → IsReopened shapes may_be failed (home_failed v) v (recovered_from shapes entry v)
+      (answers_of v answers) (each_volume v open_).history
   -- sound images stay sound
   pub sound : KeepsSound shapes was may_be
 
