@@ -59,7 +59,7 @@ request_drains view r rs (outcome.NoRead (read.DiskFault p)) os first rest (n, o
 request_drains view r rs (outcome.NoRead (read.Down p)) os first rest (n, one, (is_read, kept)) others =
     one_drain r rs (outcome.NoRead (read.Down p)) os first rest n one (ap (is_drained_write n.after_drain) kept) others
 request_drains view r rs (outcome.NoWrite write.Full) os first rest (n, one, (is_write, full)) others = absurd full
-request_drains view r rs (outcome.NoWrite (write.DiskFault p)) os first rest (n, one, (is_write, (ws, broke, flight))) others =
+request_drains view r rs (outcome.NoWrite (write.DiskFault p)) os first rest (n, one, (is_write, (ws, broke, flight, at))) others =
     one_drain r rs (outcome.NoWrite (write.DiskFault p)) os first rest n one (ap (is_drained_write n.after_drain) broke) others
 request_drains view r rs (outcome.NoWrite (write.Down p)) os first rest (n, one, (is_write, kept)) others =
     one_drain r rs (outcome.NoWrite (write.Down p)) os first rest n one (ap (is_drained_write n.after_drain) kept) others

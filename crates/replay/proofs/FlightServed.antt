@@ -203,7 +203,7 @@ request_flight seen view r rs (outcome.NoRead (read.DiskFault p)) os first rest 
     subst (λ (l : List Write). IsInFlight seen (answers_to (r ∷ rs) (outcome.NoRead (read.DiskFault p) ∷ os)) l) none (no_write seen (answers_to (r ∷ rs) (outcome.NoRead (read.DiskFault p) ∷ os)))
 request_flight seen view r rs (outcome.NoRead (read.Down p)) os first rest (n, one, (is_read, kept)) others tells stops further ws flight = absurd (quiet view rs os first rest n ws one kept others stops.1 flight)
 request_flight seen view r rs (outcome.NoWrite write.Full) os first rest (n, one, (is_write, full)) others tells stops further ws flight = absurd full
-request_flight seen view r rs (outcome.NoWrite (write.DiskFault p)) os first rest (n, one, (is_write, (vs, broke, (flown, at)))) others tells stops further ws flight =
+request_flight seen view r rs (outcome.NoWrite (write.DiskFault p)) os first rest (n, one, (is_write, (vs, broke, flown, at))) others tells stops further ws flight =
     let is : vs ≡ ws = cc (sym (breaking first rest n vs one broke) ∙ flight) in
     subst (λ (l : List Write). IsInFlight seen (answers_to (r ∷ rs) (outcome.NoWrite (write.DiskFault p) ∷ os)) l) is (refused_flight seen view r rs (outcome.NoWrite (write.DiskFault p)) os rest vs refl is_write others stops.1 flown (inr (p, tells, at)))
 request_flight seen view r rs (outcome.NoWrite (write.Down p)) os first rest (n, one, (is_write, kept)) others tells stops further ws flight = absurd (quiet view rs os first rest n ws one kept others stops.1 flight)
