@@ -68,7 +68,7 @@ leaves_all tells state config b b' entry left arrays_are all_there accepted = re
   there = λ images is v was. (let before = was (images_read config entry) (reads_left config entry) in all_there images is v (slice_get_within (shapes_of config) v before.0 before.2));
   refused = λ k. false;
   cause = λ k v at no. absurd (cc no);
-  kept = λ k v at or. absurd (elim or [ inl no ↦ cc no | inr never ↦ never (accepted k v at) ]);
+  kept = λ k v at or. absurd (elim or [ inl bad ↦ cc bad | inr never ↦ never (accepted k v at) ]);
   opened = λ v. false;
   are_opened = λ v no. absurd (cc no);
   left = λ images is v there.
