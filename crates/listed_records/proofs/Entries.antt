@@ -1,9 +1,9 @@
 -- Entries of an index: of one version, of a segment, and what they keep.
-use Rattle.std.proofs.Common.{◌≡◌, ◌<◌, ◌+◌, ◌-◌, ℕ, suc, Bool, true, false, cond, ◌||◌, List, [], ◌∷◌, ◌++◌, map, length, Option, None, Some, refl, sym, ap, subst, ◌∙◌, arith, leb, get_or, bit_or, ◌≢◌, ⊎_elim, ◌≤◌, ◌^◌, not, ◌&&◌, eqb, bit_and, ◌⊎◌, inl, inr, zero}
+use Rattle.std.proofs.Common.{◌≡◌, ◌<◌, ◌+◌, ◌-◌, ℕ, suc, Bool, true, false, cond, List, [], ◌∷◌, ◌++◌, map, length, Option, None, Some, refl, sym, ap, subst, ◌∙◌, arith, get_or, bit_or, ◌≢◌, ⊎_elim, ◌≤◌, ◌^◌, not, ◌&&◌, eqb, bit_and, ◌⊎◌, inl, inr, zero}
 use Rattle.std.specs.Prelude.{Contains, IfSome, filter}
-use Rattle.std.specs.List.{AllByRecursion, range_with_len, count_by}
+use Rattle.std.specs.List.{AllByRecursion, count_by}
 use Rattle.std.proofs.lemmas.Option.{none-some, same_Some}
-use Rattle.std.proofs.lemmas.Bool.{eqb-true, ne_eqb, le-leb, false≢true, eq-eqb, cases_eq, and_parts}
+use Rattle.std.proofs.lemmas.Bool.{eqb-true, ne_eqb, false≢true, eq-eqb, cases_eq, and_parts}
 use Rattle.std.specs.Int.{bit_at, bit_not, w128}
 use Rattle.std.proofs.lemmas.Nat.{and_le_l}
 use Rattle.std.proofs.Math.Nat.{pow-le-pow_right}
@@ -14,11 +14,11 @@ use Rattle.wol_model.specs.Extents.{remarked, marked, has_newer}
 use Rattle.wol_model.specs.Index.{Indexed, listed_in, AreRising, is_homed, cover_of, goes, keeping, keeps_a_block, is_live, listed_covers}
 use Rattle.wol_model.specs.Log.{has_bit, marks_of}
 use Rattle.wol_promise.proofs.Lists.{member_mid, all_member, all_map, all_front, all_back, all_push}
-use Rattle.block_cells.proofs.Bits.{has_bit-or, has_bit-without, some_bit}
+use Rattle.block_cells.proofs.Bits.{has_bit-without, some_bit}
 use Rattle.block_cells.proofs.Marks.{in_mask-bit, marks_at, marked-marks_of}
 use Rattle.block_cells.specs.Masks.{in_mask, IsMask}
 use Rattle.block_cells.specs.declared.record.Rec.{Rec}
-use Rattle.redirect_map.proofs.Changing.{remarked-marks_of}
+use Rattle.redirect_map.proofs.Changing.{remarked-marks_of, remarked-or}
 use Rattle.listed_records.specs.Changes.{with_put, with_kept, given_of, NoneLiveIn, lies_elsewhere}
 use Rattle.redirect_map.specs.Index.{entry_at, changed, has_version, with_homed, IsEntry, IsIndex, IsRecordOf, IsAnswer, given_up}
 use Rattle.log_segment.specs.Records.{IsProperPart}
@@ -99,32 +99,13 @@ entry_in es e index has = all_member (λ (d : Indexed). IsEntry (listed_in es) d
 
 -- ---- marks of home
 
--- marks are those of a mask with the same bits
-marks_from : (marks : List Bool) (k h : ℕ) → ((i : ℕ) → i < length marks → has_bit h (k + i) ≡ get_or marks i false) → marks ≡ map (has_bit h) (range_with_len k (length marks))
-marks_from [] k h same = refl
-marks_from (x ∷ marks) k h same =
-    let here : has_bit h k ≡ x = let e : k + 0 ≡ k = omega arith in rw e at (same 0 (omega arith)) in
-    let rest = marks_from marks (k + 1) h (λ i lt. let e : k + 1 + i ≡ k + suc i = omega arith in rw e (same (suc i) (omega arith))) in
-    λ i. sym here i ∷ rest i
-
-module _ (e : Indexed) (homed mask : ℕ) (marks : length e.listed.homed ≡ length e.listed.keep) (bits : IsMask e.listed.first (is_homed e.listed) homed) where
-  were : e.listed.homed ≡ marks_of (length e.listed.keep) homed
-  were = marks_from e.listed.homed 0 homed (λ i lt.
-      let zero_ : 0 + i ≡ i = omega arith in
-      let le : leb e.listed.first (e.listed.first + i) ≡ true = le-leb e.listed.first (e.listed.first + i) (omega arith) in
-      let place : e.listed.first + i - e.listed.first ≡ i = omega arith in
-      ap (has_bit homed) zero_ ∙ bits i ∙ rw (le, place) refl)
-      ∙ ap (λ (n : ℕ). marks_of n homed) marks
-
-  -- the entry with these bits set beside its marks of home
-  pub with_both : with_homed (bit_or homed mask) e ≡ with_put mask e
-  with_both = λ i. record e {
-    listed = record e.listed {
-      homed = (remarked-marks_of e.listed.first (length e.listed.keep) homed (bit_or homed mask) (λ b m. m || in_mask e.listed.first mask b)
-          (λ j. has_bit-or homed mask j ∙ ap (λ (t : Bool). has_bit homed j || t) (sym (in_mask-bit e.listed.first mask j)))
-          ∙ ap (λ (l : List Bool). remarked e.listed.first l (λ b m. m || in_mask e.listed.first mask b)) (sym were)) i;
-    };
-  }
+-- the entry with these bits set beside its marks of home
+pub with_both : (e : Indexed) (homed mask : ℕ) → length e.listed.homed ≡ length e.listed.keep → IsMask e.listed.first (is_homed e.listed) homed → with_homed (bit_or homed mask) e ≡ with_put mask e
+with_both e homed mask marks bits = λ i. record e {
+  listed = record e.listed {
+    homed = remarked-or e.listed (in_mask e.listed.first mask) homed mask marks bits (λ j. sym (in_mask-bit e.listed.first mask j)) i;
+  };
+}
 
 -- so is the index
 with_both_in : (es : List Indexed) (version : ℕ) (e : Indexed) (homed mask : ℕ) → IsIndex es → entry_at es version ≡ Some e → IsMask e.listed.first (is_homed e.listed) homed → changed version (with_homed (bit_or homed mask)) es ≡ changed version (with_put mask) es

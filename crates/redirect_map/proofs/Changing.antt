@@ -1,17 +1,17 @@
 -- What changes in an index where one of its entries is changed or removed.
-use Rattle.std.proofs.Common.{◌≡◌, ◌<◌, ◌+◌, ◌-◌, ◌^◌, ℕ, zero, suc, Bool, true, false, cond, not, ◌&&◌, List, [], ◌∷◌, ◌++◌, map, length, take, drop, Some, refl, sym, ap, ◌∙◌, subst, arith, leb, bit_and}
+use Rattle.std.proofs.Common.{◌≡◌, ◌<◌, ◌+◌, ◌-◌, ◌^◌, ℕ, zero, suc, Bool, true, false, cond, not, ◌&&◌, ◌||◌, List, [], ◌∷◌, ◌++◌, map, length, take, drop, get_or, Some, refl, sym, ap, ◌∙◌, subst, arith, leb, bit_and, bit_or}
 use Rattle.std.specs.Prelude.{slice_get}
 use Rattle.std.specs.Option.{ForSome}
 use Rattle.std.specs.Int.{bit_not, w128}
 use Rattle.std.specs.List.{AllByRecursion, range_with_len, filter, remove}
 use Rattle.std.proofs.Math.ListN.{set}
 use Rattle.std.proofs.lemmas.Nat.{pow_pos}
-use Rattle.std.proofs.lemmas.Bool.{and_parts, or_parts, or_from, false_from_ne_true, false≢true, eq-eqb, ne_eqb, not-true}
+use Rattle.std.proofs.lemmas.Bool.{and_parts, or_parts, or_from, false_from_ne_true, false≢true, eq-eqb, ne_eqb, le-leb, not-true}
 use Rattle.wol_model.specs.Log.{has_bit, marks_of}
 use Rattle.wol_model.specs.Extents.{marked, remarked}
-use Rattle.wol_model.specs.Index.{listed_in, Indexed, AreRising, cover_of, is_live, keeps_a_block}
-use Rattle.block_cells.specs.Masks.{in_mask}
-use Rattle.block_cells.proofs.Bits.{has_bit-above, has_bit-zero, has_bit-without, small_from_bits}
+use Rattle.wol_model.specs.Index.{listed_in, Listed, Indexed, AreRising, cover_of, is_homed, is_live, keeps_a_block}
+use Rattle.block_cells.specs.Masks.{in_mask, IsMask}
+use Rattle.block_cells.proofs.Bits.{has_bit-above, has_bit-or, has_bit-zero, has_bit-without, small_from_bits}
 use Rattle.block_cells.proofs.Meeting.{none_in_range}
 use Rattle.block_cells.proofs.Marks.{marked-marks_of, in_mask-bit, length-marks_of}
 use Rattle.redirect_map.specs.declared.entry.Entry.{Entry}
@@ -135,6 +135,29 @@ pub remarked-marks_of : (first count m n : ℕ) (f : ℕ → Bool → Bool) → 
 remarked-marks_of first count m n f bits =
     let e : first + 0 ≡ first = omega arith in
     remarked-from first m n 0 count f bits ∙ ap (λ (k : ℕ). remarked k (marks_of count m) f) e
+
+-- marks are those of a mask with the same bits
+marks_from : (marks : List Bool) (k h : ℕ) → ((i : ℕ) → i < length marks → has_bit h (k + i) ≡ get_or marks i false) → marks ≡ map (has_bit h) (range_with_len k (length marks))
+marks_from [] k h same = refl
+marks_from (x ∷ marks) k h same =
+    let here : has_bit h k ≡ x = let e : k + 0 ≡ k = omega arith in rw e at (same 0 (omega arith)) in
+    let rest = marks_from marks (k + 1) h (λ i lt. let e : k + 1 + i ≡ k + suc i = omega arith in rw e (same (suc i) (omega arith))) in
+    λ i. sym here i ∷ rest i
+
+-- the marks of home with the blocks of a mask set beside them
+pub remarked-or : (d : Listed) (due : ℕ → Bool) (homed mask : ℕ) → length d.homed ≡ length d.keep → IsMask d.first (is_homed d) homed → IsMask d.first due mask
+    → marks_of (length d.keep) (bit_or homed mask) ≡ remarked d.first d.homed (λ b m. m || due b)
+remarked-or d due homed mask marks bits dues =
+    remarked-marks_of d.first (length d.keep) homed (bit_or homed mask) (λ b m. m || due b) (λ j. has_bit-or homed mask j ∙ ap (λ (t : Bool). has_bit homed j || t) (dues j))
+    ∙ ap (λ (l : List Bool). remarked d.first l (λ b m. m || due b)) (sym were)
+  where
+    were : d.homed ≡ marks_of (length d.keep) homed
+    were = marks_from d.homed 0 homed (λ i lt.
+        let zero_ : 0 + i ≡ i = omega arith in
+        let le : leb d.first (d.first + i) ≡ true = le-leb d.first (d.first + i) (omega arith) in
+        let place : d.first + i - d.first ≡ i = omega arith in
+        ap (has_bit homed) zero_ ∙ bits i ∙ rw (le, place) refl)
+        ∙ ap (λ (n : ℕ). marks_of n homed) marks
 
 -- the entry without the blocks of the mask
 unfoldable pub trimmed : Entry → ℕ → Entry

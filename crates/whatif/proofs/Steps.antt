@@ -1,25 +1,23 @@
 -- The first entry that passes a test, in an index whose versions rise, and what the steps of reclaim make of an index.
-use Rattle.std.proofs.Common.{◌≡◌, ⊎_elim, ◌<◌, ◌≤◌, ◌+◌, ◌-◌, ◌^◌, ℕ, zero, suc, Bool, true, false, cond, not, ◌&&◌, ◌||◌, List, [], ◌∷◌, ◌++◌, map, length, get_or, Option, None, Some, refl, sym, ap, subst, ◌∙◌, arith, leb, bit_or}
-use Rattle.std.specs.Prelude.{find, position, nat_lt, Contains, IfSome, is_none, slice_get, slice_set, slice_index_or}
-use Rattle.std.specs.List.{AllByRecursion, filter, prefix_len, range_with_len}
+use Rattle.std.proofs.Common.{◌≡◌, ◌<◌, ◌+◌, ◌-◌, ℕ, zero, suc, Bool, true, false, cond, not, ◌&&◌, List, [], ◌∷◌, length, Option, None, Some, refl, sym, ap, subst, ◌∙◌, arith, bit_or}
+use Rattle.std.specs.Prelude.{find, position, IfSome, is_none, slice_get, slice_set, slice_index_or}
+use Rattle.std.specs.List.{AllByRecursion, filter}
 use Rattle.std.specs.Option.{option_map}
-use Rattle.std.proofs.lemmas.Bool.{false≢true, eq-eqb, ne_eqb, eqb-true, lt-ltb, le-leb, and_parts}
-use Rattle.std.proofs.lemmas.Option.{none-some, same_Some, slice_get_within}
+use Rattle.std.proofs.lemmas.Bool.{false≢true, and_parts}
+use Rattle.std.proofs.lemmas.Option.{none-some, same_Some}
 use Rattle.wol_model.specs.Extents.{remarked}
-use Rattle.wol_model.specs.Index.{Listed, Indexed, listed_in, AreRising, is_homed, is_due, goes, has_due, has_going, keeps_a_block, homing, keeping, block_numbers, left}
-use Rattle.wol_model.specs.Log.{has_bit, marks_of}
+use Rattle.wol_model.specs.Index.{Listed, Indexed, listed_in, is_homed, is_due, goes, has_due, has_going, keeps_a_block, homing, keeping, block_numbers, left}
 use Rattle.wol_promise.specs.Policy.{Look}
 use Rattle.wol_promise.proofs.Covers.{any_found}
 use Rattle.wol_promise.proofs.Lowering.{given_lowers, put_lowers, filter_listed}
-use Rattle.wol_promise.proofs.Lists.{all_map, all_member, member_map}
+use Rattle.wol_promise.proofs.Lists.{all_member}
 use Rattle.block_cells.specs.Masks.{in_mask, IsMask}
 use Rattle.block_cells.specs.declared.record.Rec.{Rec}
-use Rattle.block_cells.proofs.Bits.{has_bit-or}
 use Rattle.block_cells.proofs.Marks.{in_mask-bit}
-use Rattle.redirect_map.specs.Index.{Contents, entry_at, changed, given_up, has_version, with_homed, IsAnswer, IsEntry, IsIndex, IsRecordOf}
-use Rattle.redirect_map.proofs.Changing.{remarked-marks_of}
+use Rattle.redirect_map.specs.Index.{Contents, entry_at, changed, given_up, has_version, with_homed, IsAnswer, IsEntry, IsIndex}
+use Rattle.redirect_map.proofs.Changing.{remarked-or}
 use Rattle.garbage_list.specs.Least.{first_version, can_go, can_go_home}
-use Rattle.garbage_list.proofs.Nexts.{First, Answered, Spot, answered, found_there, found_passes, first_of_all, least_of, spot_of_version, unanswered, version_in}
+use Rattle.garbage_list.proofs.Nexts.{First, answered, found_there, first_of_all, least_of, version_in}
 use Rattle.whatif.specs.Machine.{Reach, Action, put_home, give_up, put_step, give_step, next_due, next_to_go, logger_at, step_at}
 use Rattle.whatif.specs.Volumes.{IsLogged, IsVolume, StaysOpen, give_answer, look_in, put_answer, reach_in}
 use Rattle.whatif.specs.declared.volume.Volume.{Volume}
@@ -27,29 +25,10 @@ use Rattle.whatif.proofs.Lists.{all_filter, found_none, none_found, none_mapped,
 
 -- ---- marks
 
-marks_from : (marks : List Bool) (k h : ℕ) → ((i : ℕ) → i < length marks → has_bit h (k + i) ≡ get_or marks i false) → marks ≡ map (has_bit h) (range_with_len k (length marks))
-marks_from [] k h same = refl
-marks_from (x ∷ marks) k h same =
-    let here : has_bit h k ≡ x = let e : k + 0 ≡ k = omega arith in rw e at (same 0 (omega arith)) in
-    let rest = marks_from marks (k + 1) h (λ i lt. let e : k + 1 + i ≡ k + suc i = omega arith in rw e (same (suc i) (omega arith))) in
-    λ i. sym here i ∷ rest i
-
 -- the blocks of a mask become homed, beside those that were
 pub homed_then : (e : Indexed) (due : ℕ → Bool) (homed mask : ℕ) → length e.listed.homed ≡ length e.listed.keep → IsMask e.listed.first (is_homed e.listed) homed → IsMask e.listed.first due mask
     → (with_homed (bit_or homed mask) e).listed ≡ homing due e.listed
-homed_then e due homed mask marks bits dues = λ i. record e.listed { homed = same i }
-  where
-    were : e.listed.homed ≡ marks_of (length e.listed.keep) homed
-    were = marks_from e.listed.homed 0 homed (λ i lt.
-        let zero_ : 0 + i ≡ i = omega arith in
-        let le : leb e.listed.first (e.listed.first + i) ≡ true = le-leb e.listed.first (e.listed.first + i) (omega arith) in
-        let place : e.listed.first + i - e.listed.first ≡ i = omega arith in
-        ap (has_bit homed) zero_ ∙ bits i ∙ rw (le, place) refl)
-        ∙ ap (λ (n : ℕ). marks_of n homed) marks
-
-    same : marks_of (length e.listed.keep) (bit_or homed mask) ≡ remarked e.listed.first e.listed.homed (λ b m. m || due b)
-    same = remarked-marks_of e.listed.first (length e.listed.keep) homed (bit_or homed mask) (λ b m. m || due b) (λ j. has_bit-or homed mask j ∙ ap (λ (t : Bool). has_bit homed j || t) (dues j))
-        ∙ ap (λ (l : List Bool). remarked e.listed.first l (λ b m. m || due b)) (sym were)
+homed_then e due homed mask marks bits dues = λ i. record e.listed { homed = remarked-or e.listed due homed mask marks bits dues i }
 
 remarked_same : (b : ℕ) (marks : List Bool) (f g : ℕ → Bool → Bool) → ((i : ℕ) (m : Bool) → f (b + i) m ≡ g (b + i) m) → remarked b marks f ≡ remarked b marks g
 remarked_same b [] f g same = refl
