@@ -11,7 +11,7 @@ use Rattle.manager.specs.declared.manager.Manager.{Manager}
 use Rattle.reclaimer.specs.Fetches.{due_entry, going_entry}
 
 -- where nothing is found each fails
-find_none : {X : Type 0} (p : X → Bool) (xs : List X) → find p xs ≡ None → AllByRecursion (λ x. p x ≡ false) xs
+pub find_none : {X : Type 0} (p : X → Bool) (xs : List X) → find p xs ≡ None → AllByRecursion (λ x. p x ≡ false) xs
 find_none p [] none = tt
 find_none p (x ∷ xs) none = at (p x) refl none (find_none p xs)
   where
@@ -19,7 +19,7 @@ find_none p (x ∷ xs) none = at (p x) refl none (find_none p xs)
     at true is found rest = absurd (none-some x (sym found))
     at false is found rest = (is, rest found)
 
-fails_then : (a b : Bool) → a ≡ true → (a && b) ≡ false → b ≡ false
+pub fails_then : (a b : Bool) → a ≡ true → (a && b) ≡ false → b ≡ false
 fails_then a b is fails = sym (λ i. is i && b) ∙ fails
 
 idle_all : (ups : List Bool) (home_up : Bool) (all es : List Indexed) → AllByRecursion (λ (e : Indexed). can_go ups all e ≡ false) es → (home_up ≡ true → AllByRecursion (λ (e : Indexed). can_go_home ups all e ≡ false) es)

@@ -1,9 +1,8 @@
 -- What a helper's turn tells: that it did something, or that there was nothing to do.
-use Rattle.std.proofs.Common.{◌≡◌, ◌<◌, ◌-◌, ◌==◌, ◌&&◌, length, ℕ, Bool, true, false, cond, List, [], ◌∷◌, ◌++◌, Option, None, Some, Result, Ok, Err, refl, sym, ap, subst, ◌∙◌, arith}
+use Rattle.std.proofs.Common.{◌≡◌, ◌<◌, ◌-◌, ◌==◌, ◌&&◌, length, ℕ, Bool, true, false, cond, List, [], ◌∷◌, Option, None, Some, Result, Ok, refl, sym, ap, subst, ◌∙◌, arith}
 use Rattle.std.specs.Prelude.{◌↔◌, IfOk, IsSome, IsTrue, find, is_some, slice_index_or}
 use Rattle.std.specs.List.{AllByRecursion}
 use Rattle.std.specs.Option.{option_map_or}
-use Rattle.std.proofs.lemmas.Option.{none-some}
 use Rattle.turn_lock.specs.Histories.{own, Begins}
 use Rattle.turn_lock.specs.LockIds.{LockId}
 use Rattle.turn_lock.specs.Passes.{pass_number, pass_seen, pass_mine, IsSamePass}
@@ -16,6 +15,7 @@ use Rattle.manager.specs.Stands.{notes_of}
 use Rattle.manager.specs.declared.base.ManagerBase.{ManagerBase}
 use Rattle.manager.specs.declared.manager.Manager.{Manager}
 use Rattle.manager.specs.declared.part.StepFault.{StepFault}
+use Rattle.reclaimer.proofs.Idle.{fails_then, find_none}
 use Rattle.reclaimer.specs.Counts.{LowersGone}
 use Rattle.reclaimer.specs.Fetches.{FindsDue, due_entry, going_entry, goes_home, is_still_due}
 use Rattle.reclaimer.specs.Records.{FetchedRecord}
@@ -33,32 +33,20 @@ use Rattle.request_turns.proofs.Turning.{turned}
 
 -- ---- Records
 
--- where none is found, none passes
-none_passes : {X : Type 0} (p : X → Bool) (xs : List X) → find p xs ≡ None → AllByRecursion (λ x. p x ≡ false) xs
-none_passes p [] none = tt
-none_passes p (x ∷ xs) none = at (p x) refl none (none_passes p xs)
-  where
-    at : (t : Bool) → p x ≡ t → cond t (Some x) (find p xs) ≡ None → (find p xs ≡ None → AllByRecursion (λ y. p y ≡ false) xs) → (p x ≡ false) × AllByRecursion (λ y. p y ≡ false) xs
-    at true is found rest = absurd (none-some x (sym found))
-    at false is found rest = (is, rest found)
-
-second_fails : (a b : Bool) → a ≡ true → (a && b) ≡ false → b ≡ false
-second_fails a b is fails = sym (λ t. is t && b) ∙ fails
-
 -- no record within reach is one that is sought, where no entry is
 none_within : (ups : List Bool) (sought : Listed → Bool) (es : List Indexed) → AllByRecursion (λ (e : Indexed). (slice_index_or ups e.listed.lane false && sought e.listed) ≡ false) es
     → AllByRecursion (λ (e : Listed). slice_index_or ups e.lane false ≡ true → sought e ≡ false) (listed_in es)
 none_within ups sought [] none = tt
-none_within ups sought (e ∷ es) none = ((λ awake. second_fails (slice_index_or ups e.listed.lane false) (sought e.listed) awake none.0), none_within ups sought es none.1)
+none_within ups sought (e ∷ es) none = ((λ awake. fails_then (slice_index_or ups e.listed.lane false) (sought e.listed) awake none.0), none_within ups sought es none.1)
 
 none_due : {D : Type 0} (m : Manager D) → due_entry m ≡ None → HasNoneDue (look_of_manager m)
 none_due m none up = none_within m.ups.items (has_due (listed_in m.index.entries)) m.index.entries
-    (none_passes (λ (e : Indexed). slice_index_or m.ups.items e.listed.lane false && has_due (listed_in m.index.entries) e.listed) m.index.entries
+    (find_none (λ (e : Indexed). slice_index_or m.ups.items e.listed.lane false && has_due (listed_in m.index.entries) e.listed) m.index.entries
     (sym (ap (λ (t : Bool). cond t (find (λ (e : Indexed). slice_index_or m.ups.items e.listed.lane false && has_due (listed_in m.index.entries) e.listed) m.index.entries) None) up) ∙ none))
 
 none_to_go : {D : Type 0} (m : Manager D) → going_entry m ≡ None → HasNoneToGo (look_of_manager m)
 none_to_go m none = none_within m.ups.items (has_going (listed_in m.index.entries)) m.index.entries
-    (none_passes (λ (e : Indexed). slice_index_or m.ups.items e.listed.lane false && has_going (listed_in m.index.entries) e.listed) m.index.entries none)
+    (find_none (λ (e : Indexed). slice_index_or m.ups.items e.listed.lane false && has_going (listed_in m.index.entries) e.listed) m.index.entries none)
 
 -- what is told of a listed record of a version is told of its entry
 listed_at : (test : Listed → Bool) (version : ℕ) (es : List Indexed) → option_map_or test (find (λ (e : Listed). e.version == version) (listed_in es)) false
@@ -76,7 +64,7 @@ none_to_put : {D : Type 0} (m : Manager D) (f : Option FetchedRecord) → ((b : 
 none_to_put m None none = tt
 none_to_put m (Some f) none = λ up b.
     ap (λ (t : Bool). was_due f b && t) (listed_at (λ (e : Listed). e.first == f.first && (length e.keep == length f.blocks && is_due (listed_in m.index.entries) e b)) f.version m.index.entries)
-    ∙ second_fails m.home_up (is_still_due m.index.entries f.version f.first (length f.blocks) f.due b) up (none b)
+    ∙ fails_then m.home_up (is_still_due m.index.entries f.version f.first (length f.blocks) f.due b) up (none b)
 
 -- ---- What was fetched
 
