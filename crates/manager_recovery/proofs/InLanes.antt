@@ -22,9 +22,7 @@ use Rattle.manager_recovery.proofs.Segs.{Seg, IsSeg, segs_of, logger_of_seg, lan
 module _ {D : Type 0} (state : D → State) where
   -- those on one logger, and what is held of them
   held_as : (v : ℕ) (os : List (OwnedPart D)) (ss : List Scan) (hs : List (HeldSegment D)) → AreAdopted state os ss hs → AllZip IsHeldAs (filter (λ (o : OwnedPart D). o.logger == v) os) (held_on v os hs)
-  held_as v [] [] [] adopted = tt
-  held_as v [] [] (h ∷ hs) adopted = absurd adopted
-  held_as v [] (s ∷ ss) hs adopted = absurd adopted
+  held_as v [] ss hs adopted = tt
   held_as v (o ∷ os) [] hs adopted = absurd adopted
   held_as v (o ∷ os) (s ∷ ss) [] adopted = absurd adopted
   held_as v (o ∷ os) (s ∷ ss) (h ∷ hs) adopted = at (eqb o.logger v) (held_as v os ss hs adopted.1)

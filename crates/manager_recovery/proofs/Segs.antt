@@ -63,9 +63,7 @@ module _ {D : Type 0} (state : D → State) where
       (record { scanned = zip.0; adopted = all.0; owned = owned.0; some = some.0; named = named.0 }, all_segs lanes id home view os ss hs zip.1 all.1 owned.1 some.1 named.1)
 
   pub held_segs : (logger : ℕ) (os : List (OwnedPart D)) (ss : List Scan) (hs : List (HeldSegment D)) → AreAdopted state os ss hs → held_on logger os hs ≡ map (λ (g : Seg D). g.held) (on logger_of_seg logger (segs_of os ss hs))
-  held_segs logger [] [] [] all = refl
-  held_segs logger [] [] (h ∷ hs) all = absurd all
-  held_segs logger [] (s ∷ ss) hs all = absurd all
+  held_segs logger [] ss hs all = refl
   held_segs logger (o ∷ os) [] hs all = absurd all
   held_segs logger (o ∷ os) (s ∷ ss) [] all = absurd all
   held_segs logger (o ∷ os) (s ∷ ss) (h ∷ hs) all = at (eqb o.logger logger) (held_segs logger os ss hs all.1)
@@ -76,17 +74,13 @@ module _ {D : Type 0} (state : D → State) where
       at false rest = rest
 
   pub places_segs : (os : List (OwnedPart D)) (ss : List Scan) (hs : List (HeldSegment D)) → AreAdopted state os ss hs → map place_of os ≡ map (λ (g : Seg D). place_of g.part) (segs_of os ss hs)
-  places_segs [] [] [] all = refl
-  places_segs [] [] (h ∷ hs) all = absurd all
-  places_segs [] (s ∷ ss) hs all = absurd all
+  places_segs [] ss hs all = refl
   places_segs (o ∷ os) [] hs all = absurd all
   places_segs (o ∷ os) (s ∷ ss) [] all = absurd all
   places_segs (o ∷ os) (s ∷ ss) (h ∷ hs) all = ap (λ l. place_of o ∷ l) (places_segs os ss hs all.1)
 
   pub records_segs : (id : ℕ) (os : List (OwnedPart D)) (ss : List Scan) (hs : List (HeldSegment D)) → AreAdopted state os ss hs → all_records state id os ≡ flat_map (λ (g : Seg D). records_at state id g.part) (segs_of os ss hs)
-  records_segs id [] [] [] all = refl
-  records_segs id [] [] (h ∷ hs) all = absurd all
-  records_segs id [] (s ∷ ss) hs all = absurd all
+  records_segs id [] ss hs all = refl
   records_segs id (o ∷ os) [] hs all = absurd all
   records_segs id (o ∷ os) (s ∷ ss) [] all = absurd all
   records_segs id (o ∷ os) (s ∷ ss) (h ∷ hs) all = ap (λ l. records_at state id o ++ l) (records_segs id os ss hs all.1)
@@ -96,9 +90,7 @@ module _ {D : Type 0} (state : D → State) where
   entries_at view g = entries_from (found_in view g.part g.scan)
 
   pub entries_segs : (view : List ℕ) (os : List (OwnedPart D)) (ss : List Scan) (hs : List (HeldSegment D)) → AreAdopted state os ss hs → entries_from (all_found view os ss) ≡ flat_map (entries_at view) (segs_of os ss hs)
-  entries_segs view [] [] [] all = refl
-  entries_segs view [] [] (h ∷ hs) all = absurd all
-  entries_segs view [] (s ∷ ss) hs all = absurd all
+  entries_segs view [] ss hs all = refl
   entries_segs view (o ∷ os) [] hs all = absurd all
   entries_segs view (o ∷ os) (s ∷ ss) [] all = absurd all
   entries_segs view (o ∷ os) (s ∷ ss) (h ∷ hs) all = map-append (λ (r : FoundRecord). entry_of r.entry 0) (found_in view o s) (all_found view os ss) ∙ ap (λ l. entries_from (found_in view o s) ++ l) (entries_segs view os ss hs all.1)
