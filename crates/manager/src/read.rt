@@ -8,6 +8,7 @@ ghost use Rattle.manager.specs.Stands.{CanServe, IsReady, IsHome, IsSameManager,
 ghost use Rattle.manager.specs.Stops.{StopsWith};
 ghost use Rattle.manager.specs.declared.base.ManagerBase.{ManagerBase};
 ghost use Rattle.manager.specs.declared.part.Part.{Part};
+ghost use Rattle.manager.specs.declared.part.Part.TheVariants.{Segment};
 ghost use Rattle.redirect_map.specs.Index.{entry_at, IsAnswer, IsIndex};
 ghost use Rattle.spin_model.specs.Spun.{state_of};
 ghost use Rattle.std.specs.List.{count_by, range_with_len};
@@ -43,6 +44,16 @@ pub(crate) fn spot_of(listed: &Rec) -> Spot
     Spot {
         segment: listed.segment,
         pos: listed.pos,
+    }
+}
+
+// The segment on the log of this volume where the index lists the record.
+fn segment_of(listed: &Rec, logger: u32) -> Part
+    ensures { result ≡ Segment logger listed.now.segment }
+{
+    Part::Segment {
+        volume: logger,
+        index: listed.segment,
     }
 }
 
@@ -142,10 +153,7 @@ impl<D: Disk> Manager<D> {
         self.ups[place] = true;
         let lane = &mut self.lanes[place];
         let spot = spot_of(record);
-        let segment = Part::Segment {
-            volume: lane.logger(),
-            index: record.segment,
-        };
+        let segment = segment_of(record, lane.logger());
         let skip = (lbn - record.lbn) as u32;
         let answer = lane.read(rt, shared, &spot, skip, out);
         at_part(segment, answer)
@@ -179,10 +187,7 @@ impl<D: Disk> Manager<D> {
         self.ups[place] = true;
         let lane = &mut self.lanes[place];
         let spot = spot_of(record);
-        let segment = Part::Segment {
-            volume: lane.logger(),
-            index: record.segment,
-        };
+        let segment = segment_of(record, lane.logger());
         let answer = lane.read(rt, shared, &spot, 0, out);
         at_part(segment, answer)
     }

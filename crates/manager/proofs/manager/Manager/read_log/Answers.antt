@@ -1,6 +1,6 @@
 -- A log is read where one of its records is the newest one of the blocks.
 use Rattle.std.proofs.Common.{◌≡◌, Bool, true, List, length, refl, sym, ap, subst, ◌∙◌, arith}
-use Rattle.std.specs.Prelude.{slice_set}
+use Rattle.std.specs.Prelude.{slice_set, IfErr}
 use Rattle.std.specs.Vec.{with_item}
 use Rattle.std.proofs.Math.ListN.{length-set}
 use Rattle.std.proofs.lemmas.Option.{slice_get_within}
@@ -8,6 +8,7 @@ use Rattle.wol_model.specs.Index.{listed_in}
 use Rattle.logger.specs.Lanes.{IsAt}
 use Rattle.manager.specs.Seen.{down_of, look_of_manager}
 use Rattle.manager.specs.Stands.{IsReady, IsReadyLane}
+use Rattle.manager.specs.declared.part.Part.{Part}
 use Rattle.volume_parts.proofs.Calm.{calm_read}
 use Rattle.manager.proofs.FetchRec.{readable_at, read_at}
 use Rattle.manager.proofs.Calm.{none_lane, segment_rose}
@@ -92,7 +93,7 @@ pub returns-clause-cause : goal.returns-clause-cause
 returns-clause-cause g c =
     let m = c.args.self.now in let state = g.D.Disk.state in let k = c.args.record.now.lane in let l = c.index_mut-lane.result.now in let l' = c.read-answer.new.self in let moved = read_at c.spot_of-spot.ensures c.read-answer.ensures.moved in
     let s = spotted_in state m c.requires.serves.ready c.requires.serves.up c.args.record.now c.args.lbn (length c.args.out.now) c.requires.some c.requires.source l c.index_mut-lane.ensures.value in
-    err_like _ c.read-answer.result c.at_part.result c.at_part.ensures.like c.at_part.ensures.part moved.cause (λ rose. segment_rose state m.lanes.items _ k moved.place l l' moved.old_segment moved.new_segment s.spot.lane_is refl moved.there moved.held _ _ c.logger.ensures (sym moved.named) rose)
+    err_like _ c.read-answer.result c.at_part.result c.at_part.ensures.like (subst (λ (q : Part). IfErr c.at_part.result (λ (p : Part). p ≡ q)) c.segment_of-segment.ensures c.at_part.ensures.part) moved.cause (λ rose. segment_rose state m.lanes.items _ k moved.place l l' moved.old_segment moved.new_segment s.spot.lane_is refl moved.there moved.held _ _ c.logger.ensures (sym moved.named) rose)
 
 pub returns-clause-calm : goal.returns-clause-calm
 returns-clause-calm g c =

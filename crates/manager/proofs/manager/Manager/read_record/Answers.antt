@@ -1,11 +1,12 @@
 -- A record is read where the index has it.
-use Rattle.std.proofs.Common.{Bool, true, List, length, refl, sym, ap, subst, arith}
-use Rattle.std.specs.Prelude.{slice_set}
+use Rattle.std.proofs.Common.{◌≡◌, Bool, true, List, length, refl, sym, ap, subst, arith}
+use Rattle.std.specs.Prelude.{slice_set, IfErr}
 use Rattle.std.specs.Vec.{with_item}
 use Rattle.std.proofs.Math.ListN.{length-set}
 use Rattle.std.proofs.lemmas.Option.{slice_get_within}
 use Rattle.logger.specs.Lanes.{IsAt}
 use Rattle.manager.specs.Stands.{IsReady, IsReadyLane}
+use Rattle.manager.specs.declared.part.Part.{Part}
 use Rattle.volume_parts.proofs.Calm.{calm_read}
 use Rattle.manager.proofs.Calm.{none_lane, segment_rose}
 use Rattle.listed_records.proofs.Elements.{refill_set, all_at}
@@ -86,7 +87,7 @@ pub returns-clause-cause : goal.returns-clause-cause
 returns-clause-cause g c =
     let m = c.args.self.now in let state = g.D.Disk.state in let r = c.args.record.now in let k = r.lane in let l = c.index_mut-lane.result.now in let l' = c.read-answer.new.self in let moved = read_at c.spot_of-spot.ensures c.read-answer.ensures.moved in
     let s = spot_in state m c.requires.serves.ready c.requires.serves.up r.version r c.requires.index (found_of m.index.entries r.version r c.requires.there) l c.index_mut-lane.ensures.value in
-    err_like _ c.read-answer.result c.at_part.result c.at_part.ensures.like c.at_part.ensures.part moved.cause (λ rose. segment_rose state m.lanes.items _ k moved.place l l' moved.old_segment moved.new_segment s.lane_is refl moved.there moved.held _ _ c.logger.ensures (sym moved.named) rose)
+    err_like _ c.read-answer.result c.at_part.result c.at_part.ensures.like (subst (λ (q : Part). IfErr c.at_part.result (λ (p : Part). p ≡ q)) c.segment_of-segment.ensures c.at_part.ensures.part) moved.cause (λ rose. segment_rose state m.lanes.items _ k moved.place l l' moved.old_segment moved.new_segment s.lane_is refl moved.there moved.held _ _ c.logger.ensures (sym moved.named) rose)
 
 pub returns-clause-calm : goal.returns-clause-calm
 returns-clause-calm g c =
