@@ -3,9 +3,8 @@ ghost use Rattle.nbd_session.specs.Turns.{look_turn, read_turn, write_turn};
 ghost use Rattle.nbd_station.specs.Stations.{OnlyWorks};
 ghost use Rattle.nbd_station.specs.Turns.{AnswersWrite, IsOfWrite, MakesTurn, read_refusal, write_refusal};
 ghost use Rattle.request_turns.specs.Full.{FitsVolume};
-ghost use Rattle.request_turns.specs.Helped.{IsPassAt};
 ghost use Rattle.std.specs.Prelude.{◌≡◌, ◌≤◌, length};
-ghost use Rattle.turn_lock.specs.Passes.{pass_lock, IsFree, IsPassOf};
+ghost use Rattle.turn_lock.specs.Passes.{pass_lock, IsFree, IsPassOf, IsPassAt};
 ghost use Rattle.wol_model.specs.History.{worker};
 
 use logger::Shared;

@@ -10,7 +10,7 @@ use Rattle.wol_model.specs.Heads.{Free, Owned, Shape}
 use Rattle.wol_model.specs.Log.{Record}
 use Rattle.wol_bay.specs.Bay.{BayState, Image, Told}
 use Rattle.wol_config.specs.declared.config.Config.{Config}
-use Rattle.turn_lock.specs.Passes.{lock_id}
+use Rattle.turn_lock.specs.Passes.{lock_id, IsPassAt}
 use Rattle.turn_lock.specs.declared.lock.TurnLock.{TurnLock}
 use Rattle.turn_lock.specs.declared.pass.PassOf.{PassOf}
 use Rattle.spin_model.specs.declared.spindle.Spindle.{Spindle}
@@ -26,7 +26,7 @@ use Rattle.rack.specs.Foreign.{AreForeign}
 use Rattle.rack.specs.Opens.{BeganWith, IsGone}
 use Rattle.rack.specs.Owners.{BeganInPlace, IsBegun, images_taken}
 use Rattle.rack.specs.Racks.{AreRising, IsClosable, IsOpenBase, IsRack, IsStation, KeepToViews, base_of_station}
-use Rattle.rack.specs.Rests.{IsPassAt, IsRest}
+use Rattle.rack.specs.Rests.{IsRest}
 use Rattle.rack_parts.specs.declared.rack.Rack.{Rack}
 use Rattle.open_rack.specs.Again.{IsPassAgain, IsRackAgain, IsStationAgain}
 

@@ -12,7 +12,7 @@ pub use Rattle.wol_model.specs.Heads.{owned_block, free_block, SpellsSegment, Sh
 pub use Rattle.wol_promise.specs.Manager.{SaysOwnerOrFree, Base}
 pub use Rattle.wol_config.specs.Configs.{IsValid}
 pub use Rattle.turn_lock.specs.Histories.{Entry}
-pub use Rattle.turn_lock.specs.Passes.{IsNewPass, IsSamePass, pass_lock, pass_number, pass_mine, lock_id, pass_seen, IsPassOf, IsFree, lock_passes}
+pub use Rattle.turn_lock.specs.Passes.{IsNewPass, IsSamePass, pass_lock, pass_number, pass_mine, lock_id, pass_seen, IsPassOf, IsFree, lock_passes, IsPassAt}
 pub use Rattle.log_layout.specs.Values.{shape_of, segment_head}
 pub use Rattle.log_layout.specs.declared.segment.SegHead.{SegHead}
 pub use Rattle.log_layout.specs.declared.segment.SegHead.TheVariants.{Free, Owned}
@@ -48,7 +48,7 @@ pub use Rattle.rack_closing.specs.Owners.{images_taken, IsOwnedIn, IsOpeningOf, 
 pub use Rattle.rack_parts.specs.Locks.{IsInOrder, AreSettled, AreSpindlesOf, IsWholeLock}
 pub use Rattle.rack_parts.specs.Parts.{TakesOpening, IsOwnedPlace, loggers_out, IsNewLane, IsBarePlace, CanPutLanes, IsOwedPlace, CanPutOwned, HasPlace, segments_of, IsUsablePlace, CanTake, segment_in, IsTakenOf, holder_by, IsHomeAway, IsSameBut, with_home, IsLaidOut, PutsOpening, IsSameRest, PutsManager, IsTogether, HasBack, of_head, IsIssuedPool, TakesFree, Supplies, in_image, CanIssue, Restores, IsRestored}
 pub use Rattle.rack_parts.specs.Racks.{AreOut, AreRising, IsOpenBase, base_of_station, IsStation, IsUnused, IsClosable, KeepToViews, IsRack, NamesVolumes, AreKeepers, AreUnused}
-pub use Rattle.rack_parts.specs.Rests.{image_here, IsImageOut, Away, IsRestBut, segment_here, held_here, away_with, AreRooms, IsRow, list_of, pool_pass, spindle_pass, IsPart, IsSpindleLock, IsImageRest, IsSegmentHere, indexes_here, AreImageRests, IsHolding, IsHeldHere, OnlyAccess, out_names, IsPassAt, IsPoolLock, ArePoolPasses, AreSpindlePasses, AreHandedBack, ArePlaced, AreLocks, IsRest}
+pub use Rattle.rack_parts.specs.Rests.{image_here, IsImageOut, Away, IsRestBut, segment_here, held_here, away_with, AreRooms, IsRow, list_of, pool_pass, spindle_pass, IsPart, IsSpindleLock, IsImageRest, IsSegmentHere, indexes_here, AreImageRests, IsHolding, IsHeldHere, OnlyAccess, out_names, IsPoolLock, ArePoolPasses, AreSpindlePasses, AreHandedBack, ArePlaced, AreLocks, IsRest}
 pub use Rattle.rack_parts.specs.declared.heads_said.Said.{Said}
 pub use Rattle.rack_parts.specs.declared.locks.Issued.{Issued}
 pub use Rattle.rack_parts.specs.declared.rack.Rooms.{Rooms}

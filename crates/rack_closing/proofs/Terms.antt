@@ -20,7 +20,7 @@ pub use Rattle.wol_promise.specs.Policy.{Look}
 pub use Rattle.wol_promise.specs.Stands.{IsHeldBy, IsSoundOf, LiesInHome}
 pub use Rattle.wol_config.specs.declared.config.Config.{Config}
 pub use Rattle.wol_config.specs.declared.config.VolumeConf.{VolumeConf}
-pub use Rattle.turn_lock.specs.Passes.{lock_id, pass_number, pass_mine, AreWhole}
+pub use Rattle.turn_lock.specs.Passes.{lock_id, pass_number, pass_mine, AreWhole, IsPassAt}
 pub use Rattle.turn_lock.specs.declared.lock.TurnLock.{TurnLock}
 pub use Rattle.turn_lock.specs.declared.pass.PassOf.{PassOf}
 pub use Rattle.spin_model.specs.Spun.{volume_of, state_of, disk_of}
@@ -55,7 +55,7 @@ pub use Rattle.rack_closing.specs.Closes.{IsOfExtent, AreListedOf, IsUnbroken, I
 pub use Rattle.rack_closing.specs.Opens.{RefusesVolume, HasFaulty, IsFaultAmong, HasNewFault, RefusesImage, BeganWith, HadSegmentBefore, WereThere, KeepsAllSound, fault_in_image, RefusesOpening, RefusesBay, AreRefused}
 pub use Rattle.rack_parts.specs.Closing.{CanCloseStations, CanClosePool, CanClosePools, CanCloseSpindles, KeepsSpindles, RefillsAll, AreComplete, Closing, IsClosing, ClosesStations, home_here, IsStoredAs, KeepsButHome, KeepsOtherRows, LeavesNoneOut, GivesBack, IsComplete, HasFaultHere, IsClosedPool, entries_made}
 pub use Rattle.rack_parts.specs.Racks.{IsClosable, AreKeepers, IsOpenBase, base_of_station, IsStation, KeepToViews, NamesVolumes, IsRack}
-pub use Rattle.rack_parts.specs.Rests.{image_here, segment_here, pool_pass, spindle_pass, held_here, IsPart, IsImageRest, AreImageRests, IsPassAt, AreLocks, OnlyAccess, IsRest, IsImageOut, list_of, IsRow, out_names, IsSegmentHere, away_with, indexes_here}
+pub use Rattle.rack_parts.specs.Rests.{image_here, segment_here, pool_pass, spindle_pass, held_here, IsPart, IsImageRest, AreImageRests, AreLocks, OnlyAccess, IsRest, IsImageOut, list_of, IsRow, out_names, IsSegmentHere, away_with, indexes_here}
 pub use Rattle.rack_parts.specs.declared.rack.ImageRest.{ImageRest}
 pub use Rattle.rack_parts.specs.declared.rack.Rack.{Rack}
 pub use Rattle.rack_parts.specs.declared.rack.Rest.{Rest}

@@ -7,7 +7,7 @@ pub use Rattle.wol_model.specs.Heads.{Shape}
 pub use Rattle.wol_config.specs.declared.config.Config.{Config}
 pub use Rattle.wol_config.specs.declared.config.VolumeConf.{VolumeConf}
 pub use Rattle.turn_lock.specs.Histories.{Entry, own}
-pub use Rattle.turn_lock.specs.Passes.{IsPassOf, IsFree, pass_number, pass_mine, IsPartOf, AreWhole, lock_passes, AreNewPasses, lock_id, pass_lock}
+pub use Rattle.turn_lock.specs.Passes.{IsPassOf, IsFree, pass_number, pass_mine, IsPartOf, AreWhole, lock_passes, AreNewPasses, lock_id, pass_lock, IsPassAt}
 pub use Rattle.turn_lock.specs.declared.lock.TurnLock.{TurnLock}
 pub use Rattle.turn_lock.specs.declared.pass.PassOf.{PassOf}
 pub use Rattle.log_layout.specs.Values.{shape_of}
@@ -44,7 +44,7 @@ pub use Rattle.rack_parts.specs.Closing.{pool_in, spindle_in, IsPoolTaken, ArePo
 pub use Rattle.rack_parts.specs.Locks.{IsInOrder, AreSettled, AreSpindlesOf, IsWholeLock}
 pub use Rattle.rack_parts.specs.Parts.{IsFilled, IsBarePlace, PutsLanes, CanPutLanes, ChangesHome, with_home, PutsManager, IsSameBut, KeepsImage, segment_in, in_image, IsOwedPlace, PutsOwned, CanPutOwned, KeepsPlace, KeepsRows, HasPlace, PutsLane, held_parts, HasBack, TakesPasses, IsSameRest, segments_of, segment_count, CanPutHeld, PutsHeld, PopsHeld, is_owned_by, count_owners, TakesOwners, TakesOne, owned_in, TakesOwnedIn, owned_total, IsOwnedPlace, IsTakenOf, TakesOwnedOf, CanTakeOwnedOf, AreOwnedHere, TakesOwned, TakesLanes, CanTake, loggers_out, holder_said, left_by, FillsSlot, IsFilledPool, TakesFree, of_head, either_part, item_part, IsBlankPart, IsRefilled, CanFill, IsRestored, Restores, IsSupplied, CanIssue, IsIssuedPool, Supplies, CanEnd, EndsInto, holder_by, IsUsablePlace, IsNewLane, TakesOneLane, HasPlaces, EmptiesInto, IsHomeAway, IsEndedInto, IsTogether, AreFillable}
 pub use Rattle.rack_parts.specs.Racks.{IsOpenBase, base_of_station, IsStation}
-pub use Rattle.rack_parts.specs.Rests.{list_of, IsPassAt, IsRow, image_here, pool_pass, spindle_pass, held_here, segment_here, indexes_here, IsImageOut, IsSpindleLock, IsHolding, IsHeldHere, IsPart, away_with, IsImageRest, AreLocks, OnlyAccess, IsRestBut, AreRooms, out_names, IsRest}
+pub use Rattle.rack_parts.specs.Rests.{list_of, IsRow, image_here, pool_pass, spindle_pass, held_here, segment_here, indexes_here, IsImageOut, IsSpindleLock, IsHolding, IsHeldHere, IsPart, away_with, IsImageRest, AreLocks, OnlyAccess, IsRestBut, AreRooms, out_names, IsRest}
 pub use Rattle.rack_parts.specs.declared.heads_said.Said.{Said}
 pub use Rattle.rack_parts.specs.declared.locks.Issued.{Issued}
 pub use Rattle.rack_parts.specs.declared.rack.ImageRest.{ImageRest}

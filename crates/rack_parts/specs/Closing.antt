@@ -11,7 +11,7 @@ use Rattle.wol_bay.specs.Parts.{blocks_of, faulty_places}
 use Rattle.wol_config.specs.declared.config.Config.{Config}
 use Rattle.wol_config.specs.declared.config.VolumeConf.{VolumeConf}
 use Rattle.turn_lock.specs.Histories.{Entry, own}
-use Rattle.turn_lock.specs.Passes.{lock_id, lock_passes, pass_number, pass_mine, IsPartOf, AreWhole}
+use Rattle.turn_lock.specs.Passes.{lock_id, lock_passes, pass_number, pass_mine, IsPartOf, AreWhole, IsPassAt}
 use Rattle.turn_lock.specs.declared.lock.TurnLock.{TurnLock}
 use Rattle.turn_lock.specs.declared.pass.PassOf.{PassOf}
 use Rattle.spin_model.specs.Operations.{has_token, use_of}
@@ -31,7 +31,7 @@ use Rattle.manager.specs.Stands.{StandsCoded}
 use Rattle.manager.specs.declared.manager.Manager.{Manager}
 use Rattle.manager.specs.declared.station.Station.{Station}
 use Rattle.volume_images.specs.Volumes.{shapes_of}
-use Rattle.rack_parts.specs.Rests.{image_here, segment_here, pool_pass, spindle_pass, held_here, indexes_here, away_with, IsImageOut, IsPassAt, IsPoolLock, IsRow, IsImageRest, IsPart, IsHeldHere, IsHolding, AreLocks, OnlyAccess, IsRest, IsSpindleAway, out_names}
+use Rattle.rack_parts.specs.Rests.{image_here, segment_here, pool_pass, spindle_pass, held_here, indexes_here, away_with, IsImageOut, IsPoolLock, IsRow, IsImageRest, IsPart, IsHeldHere, IsHolding, AreLocks, OnlyAccess, IsRest, IsSpindleAway, out_names}
 use Rattle.rack_parts.specs.Racks.{base_of_station, IsOpenBase, IsStation, AreRising}
 use Rattle.rack_parts.specs.Parts.{IsSameBut, IsTogether, IsBlankPart, HasBack, KeepsPlace, KeepsRows, KeepsImage, segment_in}
 use Rattle.rack_parts.specs.declared.rack.ImageRest.{ImageRest}

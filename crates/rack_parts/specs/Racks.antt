@@ -6,7 +6,7 @@ use Rattle.wol_model.specs.Heads.{Shape}
 use Rattle.wol_bay.specs.Bay.{BayState, IsHome, IsOut}
 use Rattle.wol_config.specs.declared.config.Config.{Config}
 use Rattle.wol_config.specs.declared.config.VolumeConf.{VolumeConf}
-use Rattle.turn_lock.specs.Passes.{lock_id, lock_passes, pass_seen, pass_mine}
+use Rattle.turn_lock.specs.Passes.{lock_id, lock_passes, pass_seen, pass_mine, IsPassAt}
 use Rattle.turn_lock.specs.declared.lock.TurnLock.{TurnLock}
 use Rattle.turn_lock.specs.declared.pass.PassOf.{PassOf}
 use Rattle.spin_model.specs.declared.spindle.Spindle.{Spindle}
@@ -22,7 +22,7 @@ use Rattle.manager.specs.declared.base.ManagerBase.{ManagerBase}
 use Rattle.manager.specs.declared.station.Station.{Station}
 use Rattle.volume_images.specs.Formatted.{part_sizes}
 use Rattle.volume_images.specs.Volumes.{shape_in, shapes_of}
-use Rattle.rack_parts.specs.Rests.{IsPassAt, AreLocks, IsRest, IsImageOut, OnlyAccess, image_here, pool_pass, spindle_pass}
+use Rattle.rack_parts.specs.Rests.{AreLocks, IsRest, IsImageOut, OnlyAccess, image_here, pool_pass, spindle_pass}
 use Rattle.rack_parts.specs.Foreign.{AreForeign}
 use Rattle.manager.specs.declared.part.Part.TheVariants.{Home, Segment}
 use Rattle.manager_recovery.specs.declared.refusal.OpenRefusal.TheVariants.{LabelDiffers, LoggerMissing, OutsideView, Damaged, Twins, DiskFault, NoMemory}

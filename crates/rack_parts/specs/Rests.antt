@@ -7,7 +7,7 @@ use Rattle.wol_disk.specs.Disk.{State}
 use Rattle.wol_model.specs.Blocks.{AreApart}
 use Rattle.wol_model.specs.Heads.{Shape}
 use Rattle.wol_config.specs.declared.config.Config.{Config}
-use Rattle.turn_lock.specs.Passes.{lock_id, lock_passes, pass_lock, pass_number, pass_mine, IsPassOf, IsFree}
+use Rattle.turn_lock.specs.Passes.{lock_id, lock_passes, pass_lock, pass_number, pass_mine, IsPassAt}
 use Rattle.turn_lock.specs.declared.lock.TurnLock.{TurnLock}
 use Rattle.turn_lock.specs.declared.pass.PassOf.{PassOf}
 use Rattle.spin_model.specs.Operations.{has_token}
@@ -141,12 +141,6 @@ AreImageRests {D} state config images =
     → image_here images k ≡ Some r → IsImageRest state k s r)
 
 -- ---- The locks
-
--- a pass of this lock with this number, in no turn
-pub record IsPassAt {T B : Type 0} (l : TurnLock T B) (number : ℕ) (p : PassOf T B) : Type 0 where
-  pub own : IsPassOf l p
-  pub free : IsFree p
-  pub number_is : pass_number p ≡ number
 
 -- the lock of the pool of volume k among so many: a pass for each volume
 pub record IsPoolLock {D : Type 0} (volumes k : ℕ) (s : Shape)

@@ -123,9 +123,9 @@ module _ {D : Type 0} (state : D → State) (config : Config) (b : BayState) (r 
       record {
         id = id;
         owner = was.id ∙ id;
-        worker_ = record { own = was.worker_.own; free = was.worker_.free; number_is = was.worker_.number_is };
-        helper_ = record { own = was.helper_.own; free = was.helper_.free; number_is = was.helper_.number_is };
-        keeper_ = record { own = was.keeper_.own; free = was.keeper_.free; number_is = was.keeper_.number_is };
+        worker_ = was.worker_;
+        helper_ = was.helper_;
+        keeper_ = was.keeper_;
       }
 
   pub can_serve : CanServe config r.shared stations r.keepers.items
@@ -214,9 +214,9 @@ module _ {D : Type 0} (state : D → State) (config : Config) (b : BayState) (ol
     stations = λ k d lt. (let s = can.each k d lt in record {
       id = s.owner ∙ sym s.id;
       passes = passes_same k d lt;
-      worker_ = record { own = s.worker_.own; free = s.worker_.free; number_is = s.worker_.number_is };
-      helper_ = record { own = s.helper_.own; free = s.helper_.free; number_is = s.helper_.number_is };
-      keeper_ = record { own = s.keeper_.own; free = s.keeper_.free; number_is = s.keeper_.number_is };
+      worker_ = s.worker_;
+      helper_ = s.helper_;
+      keeper_ = s.keeper_;
     });
     rising = λ i j n m less here there. (let a = id_at i n here in let c = id_at j m there in omega (arith, less, a, c));
     bases = all_unmapped (λ (x : ManagerBase). IsOpenBase config new.shared new.rest.images.items x) (λ (s : Station D). base_of_station s) new.stations.items

@@ -3,7 +3,7 @@ use Rattle.std.specs.Prelude.{⊤, ◌≡◌, ◌<◌, ◌-◌, ◌==◌, ◌&&�
 use Rattle.std.specs.List.{AllByRecursion}
 use Rattle.std.specs.Option.{option_map_or}
 use Rattle.turn_lock.specs.Histories.{Entry}
-use Rattle.turn_lock.specs.Passes.{pass_number, pass_mine, IsPassOf, IsFree}
+use Rattle.turn_lock.specs.Passes.{pass_mine}
 use Rattle.turn_lock.specs.declared.lock.TurnLock.{TurnLock}
 use Rattle.wol_model.specs.History.{Kept}
 use Rattle.wol_model.specs.Index.{Listed, is_due, has_due, has_going, left}
@@ -20,12 +20,6 @@ use Rattle.request_turns.specs.Turns.{ManagerPass, IsHonest, Gains, AreHelp}
 -- the lock of a manager
 abbrev pub ManagerLock : Type 0 → Type 0
 ManagerLock D = TurnLock (Manager D) ManagerBase
-
--- a pass of the lock in no turn, with this number
-pub record IsPassAt {D : Type 0} (l : ManagerLock D) (number : ℕ) (p : ManagerPass D) : Type 0 where
-  pub own : IsPassOf l p
-  pub free : IsFree p
-  pub number_is : pass_number p ≡ number
 
 -- turns whose entries change no content
 pub record HasHelped {D : Type 0} (tells : Bool) (p q : ManagerPass D) : Type 0 where

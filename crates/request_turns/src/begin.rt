@@ -2,10 +2,9 @@
 ghost use Rattle.logger.specs.Lanes.{logger_of};
 ghost use Rattle.manager.specs.declared.base.LaneBase.{LaneBase};
 ghost use Rattle.request_turns.specs.Begun.{CanBeTold, HasBegunVolume, HasFlags, WasTold};
-ghost use Rattle.request_turns.specs.Helped.{IsPassAt};
 ghost use Rattle.std.specs.List.{AllByRecursion};
 ghost use Rattle.std.specs.Prelude.{◌≡◌, ◌≤◌, ◌<◌, ◌↔◌, true, false, All, length, map, take, slice_index_or};
-ghost use Rattle.turn_lock.specs.Passes.{pass_lock};
+ghost use Rattle.turn_lock.specs.Passes.{pass_lock, IsPassAt};
 ghost use Rattle.wol_model.specs.History.{keeper};
 
 use crate::noted::leave_step_in_place;

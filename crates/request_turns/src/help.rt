@@ -2,10 +2,10 @@
 ghost use Rattle.manager.specs.Stands.{IsShared};
 ghost use Rattle.reclaimer.specs.Fetches.{HasData};
 ghost use Rattle.request_turns.specs.Counts.{CountsMore, HasCounted, ReclaimsNothing, gone_count};
-ghost use Rattle.request_turns.specs.Helped.{IsPassAt, HasHelped, AreKept, HasNoneDue, HasNoneToPut, HasNoneToGo, HasTakenSome};
+ghost use Rattle.request_turns.specs.Helped.{HasHelped, AreKept, HasNoneDue, HasNoneToPut, HasNoneToGo, HasTakenSome};
 ghost use Rattle.request_turns.specs.Turns.{look_seen, notes_seen, WasDown, faulty_part};
 ghost use Rattle.std.specs.Prelude.{◌≡◌, ◌↔◌, true, false, Ok, OnOk, IfOk, IfErr, IsSome, IsTrue};
-ghost use Rattle.turn_lock.specs.Passes.{pass_lock};
+ghost use Rattle.turn_lock.specs.Passes.{pass_lock, IsPassAt};
 ghost use Rattle.wol_model.specs.History.{helper};
 
 use crate::answer::has_failed;

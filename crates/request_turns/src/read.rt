@@ -8,13 +8,12 @@ ghost use Rattle.request_turns.specs.Blocks.{HasReadBlocks};
 ghost use Rattle.request_turns.specs.Counts.{ReclaimsNothing};
 ghost use Rattle.request_turns.specs.Entries.{note_of, read_outcome};
 ghost use Rattle.request_turns.specs.Full.{FitsVolume};
-ghost use Rattle.request_turns.specs.Helped.{IsPassAt};
 ghost use Rattle.request_turns.specs.Requests.{IsWithin};
 ghost use Rattle.request_turns.specs.Tried.{CanBeAsked, HasReplied};
 ghost use Rattle.request_turns.specs.Turns.{look_in_place, notes_seen, IsInTurnAt, HasLeftWith, HasLeftInPlace, StandsInPlace};
 ghost use Rattle.request_turns.specs.Written.{HasRead};
 ghost use Rattle.std.specs.Prelude.{◌≡◌, ◌++◌, ◌∷◌, [], false, length};
-ghost use Rattle.turn_lock.specs.Passes.{pass_lock, pass_number, IsPassOf};
+ghost use Rattle.turn_lock.specs.Passes.{pass_lock, pass_number, IsPassOf, IsPassAt};
 ghost use Rattle.wol_model.specs.History.{worker};
 
 use crate::noted::{Memo, leave_noted, leave_noted_in_place};

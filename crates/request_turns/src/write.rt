@@ -6,12 +6,11 @@ ghost use Rattle.request_turns.specs.Blocks.{HasWrittenBlocks};
 ghost use Rattle.request_turns.specs.Counts.{HasCounted};
 ghost use Rattle.request_turns.specs.Entries.{note_of, written_outcome, is_full};
 ghost use Rattle.request_turns.specs.Full.{FitsVolume};
-ghost use Rattle.request_turns.specs.Helped.{IsPassAt};
 ghost use Rattle.request_turns.specs.Tried.{CanBeAsked, HasTried, HasTriedInPlace};
 ghost use Rattle.request_turns.specs.Turns.{look_in_place, next_in_place, passed_by, notes_seen, HasLeftInPlace, StandsInPlace};
 ghost use Rattle.request_turns.specs.Written.{HasWritten};
 ghost use Rattle.std.specs.Prelude.{◌≡◌, ◌&&◌, List, is_ok, length};
-ghost use Rattle.turn_lock.specs.Passes.{pass_lock, pass_number, IsPassOf, IsInTurnWith};
+ghost use Rattle.turn_lock.specs.Passes.{pass_lock, pass_number, IsPassOf, IsInTurnWith, IsPassAt};
 ghost use Rattle.wol_model.specs.History.{worker};
 ghost use Rattle.wol_promise.specs.Ruled.{Noted};
 

@@ -1,7 +1,7 @@
 -- A floor before and after a window.
 use Rattle.std.proofs.Common.{All, ◌≡◌, ◌<◌, ◌+◌, ℕ, Bool, List, [], ◌∷◌, length, get_or, ap, ◌∙◌, sym, subst, arith, Option}
 use Rattle.turn_lock.specs.LockIds.{LockId}
-use Rattle.turn_lock.specs.Passes.{lock_id, pass_lock, pass_number, IsPassOf, IsFree, IsSamePass}
+use Rattle.turn_lock.specs.Passes.{lock_id, pass_lock, pass_number, IsPassOf, IsFree, IsSamePass, IsPassAt}
 use Rattle.wol_model.specs.History.{worker, helper}
 use Rattle.logger.specs.declared.shared.Shared.{Shared}
 use Rattle.manager.specs.Stands.{IsShared}
@@ -10,7 +10,7 @@ use Rattle.manager.specs.declared.part.StepFault.{StepFault}
 use Rattle.window_desks.specs.Closed.{IsClosed}
 use Rattle.window_desks.specs.Desks.{IsReadyDesk, AreReady, AreServed, AreAt, ShareDesks, AreEmpty}
 use Rattle.window_desks.specs.Floors.{IsFloor, IsOn, AreInside, AreSameButRoom}
-use Rattle.request_turns.specs.Helped.{ManagerLock, IsPassAt}
+use Rattle.request_turns.specs.Helped.{ManagerLock}
 use Rattle.request_turns.specs.Requests.{IsWithin}
 use Rattle.window_desks.specs.Handed.{IsHanded, HasOwn, AreHandedOut}
 use Rattle.window_desks.specs.Helped.{ArePassesAt, AreSharing}

@@ -46,6 +46,12 @@ module _ {T B : Type 0} where
   abbrev pub IsFree : PassOf T B → Type 0
   IsFree p = (p.seat.me.0.stage ≡ Idle) × (p.seat.me.1 ≡ [])
 
+  -- a pass of this lock with this number, in no turn
+  pub record IsPassAt (l : TurnLock T B) (number : ℕ) (p : PassOf T B) : Type 0 where
+    pub own : IsPassOf l p
+    pub free : IsFree p
+    pub number_is : pass_number p ≡ number
+
   -- it is in a turn
   abbrev pub IsInTurn : PassOf T B → Type 0
   IsInTurn p = ((t : ℕ) × (p.seat.me.0.stage ≡ Holding t)) × (p.seat.me.1 ≡ (0, None) ∷ [])

@@ -5,10 +5,9 @@ ghost use Rattle.manager.specs.Stands.{Keeps, Stands, IsReady, IsHome, IsShared}
 ghost use Rattle.manager.specs.declared.base.ManagerBase.{ManagerBase};
 ghost use Rattle.manager.specs.declared.part.Part.{Part};
 ghost use Rattle.request_turns.specs.Counts.{HasTaken};
-ghost use Rattle.request_turns.specs.Helped.{IsPassAt};
 ghost use Rattle.request_turns.specs.Turns.{notes_seen, HasLeft, WasDown, faulty_part};
 ghost use Rattle.std.specs.Prelude.{◌≡◌, ◌++◌, ◌∷◌, [], List, None, Some, OnOk, IfErr};
-ghost use Rattle.turn_lock.specs.Passes.{pass_lock, pass_number, IsPassOf, IsInTurn};
+ghost use Rattle.turn_lock.specs.Passes.{pass_lock, pass_number, IsPassOf, IsInTurn, IsPassAt};
 ghost use Rattle.view_change.specs.Drained.{Drains, HasDrainedAll, drain_note, drain_operation};
 ghost use Rattle.wol_model.specs.History.{worker};
 ghost use Rattle.wol_promise.specs.Policy.{drained};

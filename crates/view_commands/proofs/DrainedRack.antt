@@ -9,14 +9,13 @@ use Rattle.wol_disk.specs.Disk.{State}
 use Rattle.wol_model.specs.History.{IsHelp, worker}
 use Rattle.wol_promise.specs.Ruled.{Noted}
 use Rattle.turn_lock.specs.LockIds.{LockId}
-use Rattle.turn_lock.specs.Passes.{pass_lock, pass_mine}
+use Rattle.turn_lock.specs.Passes.{pass_lock, pass_mine, IsPassAt}
 use Rattle.manager.specs.Stands.{IsShared, notes_of}
 use Rattle.manager.specs.declared.base.ManagerBase.{ManagerBase}
 use Rattle.manager.specs.declared.part.StepFault.{StepFault}
 use Rattle.manager.specs.declared.part.StepFault.TheVariants.{DiskFault, Down}
 use Rattle.manager.specs.declared.station.Station.{Station}
 use Rattle.manager.proofs.Lanes.{get_set}
-use Rattle.request_turns.specs.Helped.{IsPassAt}
 use Rattle.request_turns.specs.Turns.{ManagerPass}
 use Rattle.request_turns.proofs.Noting.{notes_at}
 use Rattle.rack.specs.Racks.{IsStation, base_of_station}
@@ -86,8 +85,7 @@ module _ {D : Type 0} (config : Config) (r : Rack D) (place volume : ℕ) (s b :
 
   pub worker_at : IsPassAt b.lock worker b.worker
   worker_at =
-      subst (λ (u : Station D). IsPassAt u.lock worker u.worker) (sym is_it)
-      (record { own = stands.0.worker_.own; free = stands.0.worker_.free; number_is = stands.0.worker_.number_is })
+      subst (λ (u : Station D). IsPassAt u.lock worker u.worker) (sym is_it) stands.0.worker_
 
   pub shared_at : IsShared r.shared (pass_lock b.worker).base
   shared_at =

@@ -1,10 +1,10 @@
 -- Desks that are ready for a window, and what serving makes of all of them.
 use Rattle.std.specs.Prelude.{◌≡◌, ◌<◌, ◌≤◌, ◌+◌, ℕ, Bool, List, [], All, length, vec_capacity, slice_index_or}
-use Rattle.turn_lock.specs.Passes.{pass_lock}
+use Rattle.turn_lock.specs.Passes.{pass_lock, IsPassAt}
 use Rattle.wol_model.specs.History.{worker}
 use Rattle.logger.specs.declared.shared.Shared.{Shared}
 use Rattle.manager.specs.Stands.{IsShared}
-use Rattle.request_turns.specs.Helped.{ManagerLock, IsPassAt}
+use Rattle.request_turns.specs.Helped.{ManagerLock}
 use Rattle.request_turns.specs.Requests.{IsWithin}
 use Rattle.window_desks.specs.Requests.{own_requests}
 use Rattle.window_desks.specs.Served.{HasServed}

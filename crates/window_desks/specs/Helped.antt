@@ -1,10 +1,10 @@
 -- What a helper beside the workers makes of its passes.
 use Rattle.std.specs.Prelude.{◌≡◌, ◌<◌, ℕ, Bool, List, Option, None, Some, length, slice_index_or}
-use Rattle.turn_lock.specs.Passes.{pass_lock}
+use Rattle.turn_lock.specs.Passes.{pass_lock, IsPassAt}
 use Rattle.logger.specs.declared.shared.Shared.{Shared}
 use Rattle.manager.specs.Stands.{IsShared}
 use Rattle.manager.specs.declared.part.StepFault.{StepFault}
-use Rattle.request_turns.specs.Helped.{AreKept, ManagerLock, IsPassAt, HasHelped}
+use Rattle.request_turns.specs.Helped.{AreKept, ManagerLock, HasHelped}
 use Rattle.request_turns.specs.Turns.{ManagerPass, notes_seen, WasDown, faulty_part}
 use Rattle.window_desks.specs.Counted.{HaveCounted}
 use Rattle.window_desks.specs.declared.helper.HelperRoom.{HelperRoom}

@@ -1,10 +1,10 @@
 -- Locks and passes made of stations, and stations of these.
 use Rattle.std.specs.Prelude.{◌≡◌, ◌<◌, ◌≤◌, ◌+◌, ◌++◌, ℕ, List, [], map, reverse, length, vec_capacity, slice_index_or, All}
-use Rattle.turn_lock.specs.Passes.{lock_id}
+use Rattle.turn_lock.specs.Passes.{lock_id, IsPassAt}
 use Rattle.wol_model.specs.History.{worker, helper, keeper}
 use Rattle.std.specs.declared.alloc.Global.{Global}
 use Rattle.std.specs.declared.vec.Vec.{Vec}
-use Rattle.request_turns.specs.Helped.{ManagerLock, IsPassAt}
+use Rattle.request_turns.specs.Helped.{ManagerLock}
 use Rattle.window_desks.specs.Floors.{passes_of}
 use Rattle.window_desks.specs.declared.desk.Desk.{Desk}
 use Rattle.manager.specs.declared.station.Station.{Station}

@@ -1,10 +1,10 @@
 // A helper beside the workers.
 ghost use Rattle.manager.specs.Stands.{IsShared};
 ghost use Rattle.request_turns.specs.Counts.{HasCounted};
-ghost use Rattle.request_turns.specs.Helped.{IsPassAt, HasHelped, AreKept};
+ghost use Rattle.request_turns.specs.Helped.{HasHelped, AreKept};
 ghost use Rattle.request_turns.specs.Turns.{notes_seen, WasDown, faulty_part};
 ghost use Rattle.std.specs.Prelude.{◌≡◌, ◌⊎◌, ◌^◌, ◌≤◌, ◌<◌, length, Option, Some, None, Err, is_ok, true, false};
-ghost use Rattle.turn_lock.specs.Passes.{pass_lock};
+ghost use Rattle.turn_lock.specs.Passes.{pass_lock, IsPassAt};
 ghost use Rattle.window_desks.specs.Counted.{HaveCounted};
 ghost use Rattle.window_desks.specs.Helped.{ArePassesAt, AreSharing, AreHelped, AreAllKept, IsCause, HaveHelped};
 ghost use Rattle.wol_model.specs.History.{helper};

@@ -1,6 +1,7 @@
 use Rattle.std.proofs.Common.{◌≤◌, ◌<◌, length, arith, sym, subst, get_or}
 use Rattle.wol_model.specs.History.{keeper}
-use Rattle.request_turns.specs.Helped.{ManagerLock, IsPassAt}
+use Rattle.turn_lock.specs.Passes.{IsPassAt}
+use Rattle.request_turns.specs.Helped.{ManagerLock}
 use Rattle.window_desks.proofs.begin.begin_volumes.Goals as goal
 
 pub begin_volume-requires-clause-pass : goal.begin_volume-requires-clause-pass

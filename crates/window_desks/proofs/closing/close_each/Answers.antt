@@ -1,7 +1,8 @@
 use Rattle.std.proofs.Common.{◌≡◌, ◌≢◌, ◌≤◌, ◌<◌, length, arith, sym, subst, ◌∙◌, get_or}
 use Rattle.std.proofs.lemmas.List.{get_or_default, get_or-set_other}
 use Rattle.wol_model.specs.History.{worker}
-use Rattle.request_turns.specs.Helped.{ManagerLock, IsPassAt}
+use Rattle.turn_lock.specs.Passes.{IsPassAt}
+use Rattle.request_turns.specs.Helped.{ManagerLock}
 use Rattle.window_desks.specs.Closed.{HasClosedDesk}
 use Rattle.window_desks.specs.declared.desk.Desk.{Desk}
 use Rattle.window_desks.specs.declared.request.Reclaim.TheVariants as reclaim

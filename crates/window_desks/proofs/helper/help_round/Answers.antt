@@ -1,7 +1,8 @@
 use Rattle.std.proofs.Common.{rules, ◌≡◌, ◌≤◌, ◌<◌, length, slice_set, arith, refl, sym, subst, get_or}
 use Rattle.wol_model.specs.History.{helper}
 use Rattle.request_turns.specs.Counts.{HasCounted}
-use Rattle.request_turns.specs.Helped.{AreKept, ManagerLock, IsPassAt, HasHelped}
+use Rattle.turn_lock.specs.Passes.{IsPassAt}
+use Rattle.request_turns.specs.Helped.{AreKept, ManagerLock, HasHelped}
 use Rattle.request_turns.specs.Turns.{ManagerPass}
 use Rattle.window_desks.proofs.Counted.{have_none, have_set}
 use Rattle.window_desks.proofs.HelpTurn.{cause_set, step_helped, step_rest, step_all_kept, refused_before}
