@@ -5,7 +5,7 @@ use Rattle.std.proofs.lemmas.Grind.{flat_map-append}
 use Rattle.std.proofs.Math.Seq.{take-add, take-length}
 use Rattle.sha2.specs.Hashers.{Holds256}
 use Rattle.sha2.specs.declared.Sha256.{Sha256}
-use Rattle.wol_disk.specs.Disk.{Block, State, IsDisk}
+use Rattle.wol_disk.specs.Disk.{Block, State, IsDisk, bytes_of}
 use Rattle.wol_model.specs.Blocks.{after}
 use Rattle.wol_model.specs.History.{Entry, Kept, Operation, Read, written_by, worker, writes, AreLegalNext, IsLegalNext}
 use Rattle.wol_model.proofs.Overlay.{after_length, after_more, after_none}
@@ -30,7 +30,6 @@ use Rattle.manager.proofs.ReadThrough.{through_self, through_then}
 use Rattle.log_dump.specs.declared.fault.DumpFault.{DumpFault}
 use Rattle.log_dump.specs.declared.fault.DumpFault.TheVariants.{DiskFault, Down, NoMemory}
 use Rattle.log_dump.specs.Faults.{refused, was_told}
-use Rattle.log_dump.specs.Texts.{bytes_of}
 use Rattle.log_dump.specs.Volumes.{array_of}
 
 -- the last of the replies is that of the array that the entries before it leave

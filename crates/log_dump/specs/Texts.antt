@@ -1,10 +1,9 @@
 -- The lines of `check` and `dump`.
 use Rattle.std.specs.Prelude.{◌≡◌, ℕ, List, [], ◌∷◌, ◌++◌, codes, decimal}
-use Rattle.std.specs.List.{flat_map}
 use Rattle.std.specs.Int.{w128, to_be_bytes}
 use Rattle.hex.specs.Hex.{encode_lower}
 use Rattle.sha2.specs.Sha256.{sha256}
-use Rattle.wol_disk.specs.Disk.{Block}
+use Rattle.wol_disk.specs.Disk.{Block, bytes_of}
 use Rattle.wol_model.specs.Index.{Indexed, listed_in, is_live, is_homed}
 use Rattle.block_cells.specs.Masks.{IsMask}
 use Rattle.block_cells.specs.declared.record.Rec.{Rec}
@@ -13,10 +12,6 @@ use Rattle.report.specs.Words.{line_of}
 use Rattle.report.specs.Names.{name_at}
 
 -- ---- The line of `check`
-
--- the bytes of blocks, block after block
-abbrev pub bytes_of : List Block → List ℕ
-bytes_of blocks = flat_map (λ b. b) blocks
 
 -- the SHA-256 of blocks, in hexadecimal
 abbrev pub digest_text : List Block → List ℕ

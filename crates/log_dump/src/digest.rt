@@ -1,6 +1,6 @@
 // The digest of a volume's array, which is read piece by piece.
 ghost use Rattle.log_dump.specs.Faults.{was_told};
-ghost use Rattle.log_dump.specs.Texts.{bytes_of};
+ghost use Rattle.wol_disk.specs.Disk.{bytes_of};
 ghost use Rattle.log_dump.specs.Volumes.{array_of};
 ghost use Rattle.manager.specs.Causes.{NoneRose, PartRose};
 ghost use Rattle.manager.specs.Reading.{HasOnlyRead};

@@ -3,11 +3,11 @@ use Rattle.std.proofs.Common.{◌≡◌, ◌<◌, ◌≤◌, ◌+◌, ◌*◌, �
 use Rattle.std.proofs.Math.Seq.{take-add, take-length}
 use Rattle.std.proofs.lemmas.List.{length-take-le, take-append-drop}
 use Rattle.std.specs.Simd.{first_chunks}
-use Rattle.wol_disk.specs.Disk.{Block}
+use Rattle.wol_disk.specs.Disk.{Block, bytes_of}
 use Rattle.nbd_session.specs.declared.volume.Refusal.{Refusal}
 use Rattle.std.specs.List.{AllByRecursion}
 use Rattle.std.proofs.lemmas.List.Elements.{All-drop, All-from_recursion, All-take}
-use Rattle.nbd_session.specs.Ranges.{AreWhole, HasRead, HasTransferred, HasWritten, HasNotWritten, ReadsPiece, bytes_of, piece_of}
+use Rattle.nbd_session.specs.Ranges.{AreWhole, HasRead, HasTransferred, HasWritten, HasNotWritten, ReadsPiece, piece_of}
 use Rattle.nbd_session.specs.Turns.{Turn, Wrote, NotWrote}
 
 pub bytes-append : (xs ys : List Block) → bytes_of (xs ++ ys) ≡ bytes_of xs ++ bytes_of ys

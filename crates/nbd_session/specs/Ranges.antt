@@ -1,13 +1,8 @@
 -- A range is read and written in pieces, one turn each.
 use Rattle.std.specs.Prelude.{◌≡◌, ◌+◌, ◌-◌, ◌*◌, ◌++◌, ◌<◌, ℕ, List, [], length, min, take, All, Result, Ok, Err}
-use Rattle.std.specs.List.{flat_map}
 use Rattle.nbd_session.specs.declared.volume.Refusal.{Refusal}
-use Rattle.wol_disk.specs.Disk.{Block}
+use Rattle.wol_disk.specs.Disk.{Block, bytes_of}
 use Rattle.nbd_session.specs.Turns.{Turn, Read, Wrote, NotRead, NotWrote}
-
--- blocks one after another, as bytes
-abbrev pub bytes_of : List Block → List ℕ
-bytes_of blocks = flat_map (λ b. b) blocks
 
 -- each of these blocks has all its bytes
 abbrev pub AreWhole : List Block → Type 0

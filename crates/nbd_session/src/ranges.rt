@@ -1,5 +1,6 @@
 // A range is read and written in pieces, one turn each.
-ghost use Rattle.nbd_session.specs.Ranges.{AreWhole, HasRead, HasWritten, HasNotRead, HasNotWritten, ReadsPiece, bytes_of};
+ghost use Rattle.wol_disk.specs.Disk.{bytes_of};
+ghost use Rattle.nbd_session.specs.Ranges.{AreWhole, HasRead, HasWritten, HasNotRead, HasNotWritten, ReadsPiece};
 ghost use Rattle.nbd_session.specs.Turns.{StaysReady};
 ghost use Rattle.std.specs.Prelude.{◌≡◌, ◌≤◌, ◌+◌, ◌*◌, ◌/◌, ◌++◌, ◌<◌, ◌^◌, length, take, MatchResult};
 

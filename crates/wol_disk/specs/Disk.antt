@@ -1,6 +1,7 @@
 -- What the calls of a disk do to its blocks, and what a crash may leave.
 -- Everything is said of blocks of any type B: no proof has to look into the 512 bytes of one.
 use Rattle.std.specs.Prelude.{◌≡◌, ◌<◌, ◌≤◌, ◌⊎◌, ◌^◌, ◌-◌, min, ℕ, zero, suc, ◌+◌, List, [], ◌∷◌, length, map, Option, None, Some}
+use Rattle.std.specs.List.{flat_map}
 
 -- The values that a block had since the last sync that succeeded: the one that a read gives, and
 -- the earlier ones, the latest first.
@@ -76,6 +77,10 @@ IsBlend xs ys zs = ⊥
 -- the bytes of a block
 abbrev pub Block : Type 0
 Block = List ℕ
+
+-- the bytes of blocks, block after block
+abbrev pub bytes_of : List Block → List ℕ
+bytes_of blocks = flat_map (λ b. b) blocks
 
 -- A disk at one moment: the values of its blocks where it tells them, their number, the clock, the
 -- images since each earlier moment, and the number of faults so far.

@@ -1,6 +1,6 @@
 use Rattle.std.proofs.Common.{ℕ, List, ◌++◌, take}
 use Rattle.sha2.specs.Hashers.{Holds256}
-use Rattle.log_dump.specs.Texts.{bytes_of}
+use Rattle.wol_disk.specs.Disk.{bytes_of}
 use Rattle.log_dump.proofs.digest.feed.Given as goal
 
 abbrev pub invariant-loop-block : goal.invariant-loop-block

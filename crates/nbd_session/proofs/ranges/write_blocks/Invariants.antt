@@ -1,5 +1,6 @@
 use Rattle.std.proofs.Common.{◌≤◌, ◌-◌, length, take}
-use Rattle.nbd_session.specs.Ranges.{HasWritten, bytes_of}
+use Rattle.wol_disk.specs.Disk.{bytes_of}
+use Rattle.nbd_session.specs.Ranges.{HasWritten}
 use Rattle.nbd_session.specs.Turns.{StaysReady}
 use Rattle.nbd_session.proofs.ranges.write_blocks.Given as goal
 
