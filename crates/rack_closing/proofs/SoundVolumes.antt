@@ -4,7 +4,7 @@ use Rattle.rack_closing.proofs.Basics.{◌∙◌, subst, arith, ⊎_elim, ◌*�
 use Rattle.rack_closing.proofs.Basics.{find, AllByRecursion, range_with_len, position_or_len, eq-eqb, eqb-true, cases_lt, lt-ltb, length-append, map-append, length-map, filter-append}
 use Rattle.rack_closing.proofs.Basics.{All-contains, same_Some, none-some, slice_get-map, slice_get_within, slice_get-get_or, get_or_from_slice_get, fails_before_first, sum_by-cons}
 use Rattle.rack_closing.proofs.Basics.{Contains-append_right}
-use Rattle.rack_closing.proofs.Terms.{Block, State, Rose, reads, Image, Told, BayState, at_name, bytes_of, Extent, Cover, AreDistinct, covers_of, Shape, owned_block, free_block, SpellsView}
+use Rattle.rack_closing.proofs.Terms.{Block, State, Rose, reads, Image, Told, BayState, at_name, byte_length, Extent, Cover, AreDistinct, covers_of, Shape, owned_block, free_block, SpellsView}
 use Rattle.rack_closing.proofs.Terms.{Images, image_of, image_size, segment_of, segments_of, all_segments, IsSoundSegment, IsSoundImage, AreSound, accepted, Record, IsIdle, IsLog, IsNamed}
 use Rattle.rack_closing.proofs.Terms.{extent_of, extents_of, log_read, one_segment_head, one_log, one_label, one_view, Config, VolumeConf, HasView, Part, Station, Head, records_of, records_in}
 use Rattle.rack_closing.proofs.Terms.{heads_from, heads_of, heads_in, with_version, IsFault, LiesWithin, AreFirstTwins, owned_of, all_owned, HasHead, IsImageFault, part_sizes, shape_in, shapes_of}
@@ -293,9 +293,9 @@ module _ (config : Config) (valid : IsValid config) (t : Told) (sound : AreSound
       let long = length-map x.image.blocks (λ b. b.now) in
       let parts = sum_parts (shape_in config v) in
       let none = ap length x.whole in
-      let bytes : bytes_of x.image ≡ 512 * sum (part_sizes (shape_in config v)) = omega (arith, size, long, parts, none) in
+      let bytes : byte_length x.image ≡ 512 * sum (part_sizes (shape_in config v)) = omega (arith, size, long, parts, none) in
       ap (refusal_of (part_sizes (shape_in config v))) x.there
-      ∙ ap (λ (b : Bool). cond b None (Some (bay.WrongLength (bytes_of x.image)))) (eq-eqb (bytes_of x.image) (512 * sum (part_sizes (shape_in config v))) bytes)
+      ∙ ap (λ (b : Bool). cond b None (Some (bay.WrongLength (byte_length x.image)))) (eq-eqb (byte_length x.image) (512 * sum (part_sizes (shape_in config v))) bytes)
 
   pub volumes_known : (k : ℕ) → k < length shapes → k < 2 ^ 32
   volumes_known k lt = let c = valid.count in let m = length-map config.volumes.items (shape_in config) in omega (arith, lt, c, m)

@@ -1,7 +1,7 @@
 -- The terms of disks, images, logs, locks and volumes that these proofs are written in.
 pub use Rattle.wol_disk.specs.Disk.{State, IsAmong, Block, Values, IsDisk, TellsContent, IsImageOf, only, reads, settled, IsImage, Rose}
 pub use Rattle.wol_disk.proofs.Images.{image_reads}
-pub use Rattle.wol_bay.specs.Bay.{BayState, Name, Told, at_name, IsOut, sent_out, Image, bytes_of}
+pub use Rattle.wol_bay.specs.Bay.{BayState, Name, Told, at_name, IsOut, sent_out, Image, byte_length}
 pub use Rattle.wol_bay.specs.Parts.{blocks_of, AreCut, faulty_from, faulty_places}
 pub use Rattle.wol_model.specs.Blocks.{Write, after, block_of, overlaid}
 pub use Rattle.wol_model.specs.Extents.{Extent, IsValid, marked, AreDistinct, covers_of, with_extents, Cover, newer_of, newest, CoversNothing}

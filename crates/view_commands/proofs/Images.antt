@@ -5,7 +5,7 @@ use Rattle.std.proofs.lemmas.Bool.Decides.{nat_tests}
 use Rattle.std.proofs.lemmas.List.{length-map, take-map}
 use Rattle.wol_disk.specs.Disk.{Block, State, TellsContent, Values, IsDisk, IsImageOf, Rose, only, put, reads, settled}
 use Rattle.wol_disk.proofs.Images.{image_reads, settled_image}
-use Rattle.wol_bay.specs.Bay.{AreNamedApart, BayState, Image, Name, Told, at_name, bytes_of, came_back, sent_out}
+use Rattle.wol_bay.specs.Bay.{AreNamedApart, BayState, Image, Name, Told, at_name, byte_length, came_back, sent_out}
 use Rattle.wol_bay.specs.Parts.{AreCut, blocks_of, faulty_places, joined}
 use Rattle.wol_bay.specs.Refusals.{IsAnswered, blocks_at, refusal, refusal_of}
 use Rattle.wol_bay.specs.declared.fault.BayFault.{BayFault}
@@ -249,12 +249,12 @@ module _ {D : Type 0} (state : D → State) (sound : (d : D) → IsDisk (state d
 
 -- one of the length of its parts is refused for a failed call, or want of memory
 whole_handed : (T : Type 0) (sizes : List ℕ) (i : Image) (e : BayFault) → length i.blocks ≡ sum sizes → i.rest ≡ [] → IsAnswered {T = T} (refusal_of sizes (Some i)) (Err e) → (e ≡ bay.Failed) ⊎ (e ≡ bay.NoMemory)
-whole_handed T sizes i e count rest answered = go (nat_eq (bytes_of i) (512 * sum sizes)) refl answered
+whole_handed T sizes i e count rest answered = go (nat_eq (byte_length i) (512 * sum sizes)) refl answered
   where
-    bytes : bytes_of i ≡ 512 * sum sizes
+    bytes : byte_length i ≡ 512 * sum sizes
     bytes = let none : length i.rest ≡ 0 = ap length rest in omega (arith, count, none)
 
-    go : (b : Bool) → nat_eq (bytes_of i) (512 * sum sizes) ≡ b → IsAnswered {T = T} (cond b None (Some (bay.WrongLength (bytes_of i)))) (Err e) → (e ≡ bay.Failed) ⊎ (e ≡ bay.NoMemory)
+    go : (b : Bool) → nat_eq (byte_length i) (512 * sum sizes) ≡ b → IsAnswered {T = T} (cond b None (Some (bay.WrongLength (byte_length i)))) (Err e) → (e ≡ bay.Failed) ⊎ (e ≡ bay.NoMemory)
     go true is answered = answered
     go false is answered = absurd (grind (arith, nat_tests, is, bytes))
 

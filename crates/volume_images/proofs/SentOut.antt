@@ -6,7 +6,7 @@ use Rattle.std.proofs.lemmas.List.Sums.{sum_by-cons}
 use Rattle.std.proofs.lemmas.Bool.Decides.{nat_tests}
 use Rattle.std.proofs.lemmas.Option.{none-some}
 use Rattle.wol_disk.specs.Disk.{Block, Values, State, IsDisk}
-use Rattle.wol_bay.specs.Bay.{Image, bytes_of}
+use Rattle.wol_bay.specs.Bay.{Image, byte_length}
 use Rattle.wol_bay.specs.Parts.{AreCut, joined, blocks_of, sizes_of}
 use Rattle.wol_bay.specs.Refusals.{refusal_of, IsAnswered}
 use Rattle.wol_bay.specs.declared.fault.BayFault.{BayFault}
@@ -16,15 +16,15 @@ use Rattle.wol_bay.specs.declared.fault.BayFault.TheVariants.{Absent, WrongLengt
 pub record IsWhole (sizes : List ℕ) (o : Option Image) : Type 0 where
   pub image : Image
   pub there : o ≡ Some image
-  pub bytes : bytes_of image ≡ 512 * sum sizes
+  pub bytes : byte_length image ≡ 512 * sum sizes
 
 not_refused : (sizes : List ℕ) (o : Option Image) → refusal_of sizes o ≡ None → IsWhole sizes o
 not_refused sizes None e = absurd (none-some Absent (sym e))
-not_refused sizes (Some i) e = go (nat_eq (bytes_of i) (512 * sum sizes)) refl e
+not_refused sizes (Some i) e = go (nat_eq (byte_length i) (512 * sum sizes)) refl e
   where
-    go : (b : Bool) → nat_eq (bytes_of i) (512 * sum sizes) ≡ b → cond b None (Some (WrongLength (bytes_of i))) ≡ None → IsWhole sizes (Some i)
+    go : (b : Bool) → nat_eq (byte_length i) (512 * sum sizes) ≡ b → cond b None (Some (WrongLength (byte_length i))) ≡ None → IsWhole sizes (Some i)
     go true t s = record { image = i; there = refl; bytes = grind (arith, nat_tests, t) }
-    go false t s = absurd (none-some (WrongLength (bytes_of i)) (sym s))
+    go false t s = absurd (none-some (WrongLength (byte_length i)) (sym s))
 
 pub answered_ok : {T : Type 0} (sizes : List ℕ) (o : Option Image) (x : T) → IsAnswered (refusal_of sizes o) (Ok x) → IsWhole sizes o
 answered_ok {T} sizes o x a = go (refusal_of sizes o) refl a

@@ -11,7 +11,7 @@ use Rattle.wol_disk.specs.BlockValues.{values_of, all_values}
 use Rattle.wol_disk.specs.declared.values.BlockValues.{BlockValues}
 use Rattle.wol_disk.specs.declared.stop.StopDisk.{StopDisk}
 use Rattle.wol_disk.specs.declared.memory.MemDisk.{MemDisk}
-use Rattle.wol_bay.specs.Bay.{Name, Image, at_name, bytes_of}
+use Rattle.wol_bay.specs.Bay.{Name, Image, at_name, byte_length}
 use Rattle.wol_bay.specs.Parts.{sizes_of}
 use Rattle.wol_bay.specs.Names.{by_name}
 use Rattle.wol_bay.specs.Stored.{stored_blocks}
@@ -61,9 +61,9 @@ short_rest name (x ∷ images) i e = go (bytes_eq (string_bytes x.name) name) e 
 -- an image that isn't refused has just the blocks of its parts
 pub whole : (sizes : List ℕ) (o : Option Image) (list : List BlockValues) → None ≡ refusal_of sizes o → ((i : Image) → o ≡ Some i → length i.rest < 512) → IfSome (option_map (λ i. i.blocks) o) (λ vs. all_values list ≡ vs) → sum sizes ≡ length list
 whole sizes None list e short told = let f : false ≡ true = ap is_some e in absurd cc
-whole sizes (Some i) list e short told = go (nat_eq (bytes_of i) (512 * sum sizes)) refl e
+whole sizes (Some i) list e short told = go (nat_eq (byte_length i) (512 * sum sizes)) refl e
   where
-    go : (b : Bool) → nat_eq (bytes_of i) (512 * sum sizes) ≡ b → None ≡ cond b None (Some (WrongLength (bytes_of i))) → sum sizes ≡ length list
+    go : (b : Bool) → nat_eq (byte_length i) (512 * sum sizes) ≡ b → None ≡ cond b None (Some (WrongLength (byte_length i))) → sum sizes ≡ length list
     go false t s = let f : false ≡ true = ap is_some s in absurd cc
     go true t s =
         let few : length i.rest < 512 = short i refl in

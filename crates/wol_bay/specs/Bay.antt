@@ -16,8 +16,8 @@ pub record Image : Type 0 where
   pub rest : List ℕ
 
 -- its length in bytes
-abbrev pub bytes_of : Image → ℕ
-bytes_of i = 512 * length i.blocks + length i.rest
+abbrev pub byte_length : Image → ℕ
+byte_length i = 512 * length i.blocks + length i.rest
 
 -- What a bay tells: its images, the names that are out with the sizes of their parts, and the parts
 -- that came back with a fault, each by its name and place.

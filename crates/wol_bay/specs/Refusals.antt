@@ -1,7 +1,7 @@
 -- Why an image doesn't go out as parts of these sizes.
 use Rattle.std.specs.Prelude.{◌≡◌, ◌*◌, ◌⊎◌, ℕ, nat_eq, sum, List, Option, None, Some, option_map, option_and_then, Result, IfErr, IsErrOf, if◌then◌else◌}
 use Rattle.wol_disk.specs.Disk.{Block, Values}
-use Rattle.wol_bay.specs.Bay.{Name, Image, Told, at_name, bytes_of}
+use Rattle.wol_bay.specs.Bay.{Name, Image, Told, at_name, byte_length}
 use Rattle.wol_bay.specs.declared.fault.BayFault.{BayFault}
 use Rattle.wol_bay.specs.declared.fault.BayFault.TheVariants.{Absent, WrongLength, Failed, NoMemory}
 
@@ -9,7 +9,7 @@ use Rattle.wol_bay.specs.declared.fault.BayFault.TheVariants.{Absent, WrongLengt
 abbrev pub refusal_of : List ℕ → Option Image → Option BayFault
 refusal_of sizes None = Some Absent
 refusal_of sizes (Some i) =
-    if nat_eq (bytes_of i) (512 * sum sizes) then None else Some (WrongLength (bytes_of i))
+    if nat_eq (byte_length i) (512 * sum sizes) then None else Some (WrongLength (byte_length i))
 
 abbrev pub refusal : Name → List ℕ → Told → Option BayFault
 refusal name sizes t = refusal_of sizes (at_name name t.images)

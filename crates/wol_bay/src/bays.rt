@@ -1,6 +1,6 @@
 // A bay as its callers see it.
 ghost use Rattle.std.specs.Prelude.{◌≡◌, ◌≢◌, ◌≤◌, ◌<◌, ◌*◌, ◌⊎◌, [], length, sum, option_map, option_and_then, IfOk, IfErr, IfSome, OnOk, OnErr, IsErrOf, None};
-ghost use Rattle.wol_bay.specs.Bay.{BayState, AreNamedApart, IsHome, IsOut, at_name, bytes_of, sent_out, came_back};
+ghost use Rattle.wol_bay.specs.Bay.{BayState, AreNamedApart, IsHome, IsOut, at_name, sent_out, came_back};
 ghost use Rattle.wol_bay.specs.Parts.{AreBlank, AreCut, blocks_of, sizes_of, faulty_places};
 ghost use Rattle.wol_bay.specs.Refusals.{blocks_at, refusal, IsAnswered};
 ghost use Rattle.wol_disk.specs.Disk.{Rose};
