@@ -6,7 +6,7 @@ pub use Rattle.wol_model.specs.Blocks.{Write, after}
 pub use Rattle.wol_model.specs.History.{helper, keeper, worker, Operation, Wrote, Read, Kept, Broke, flight_from, flight_of, written_by, writes, IsHelp, IsCut, whole, in_flight, AreLegalNext, BreaksOnce}
 pub use Rattle.wol_model.specs.Images.{AreSound, Images, all_segments, recovered_from}
 pub use Rattle.wol_model.specs.Journal.{Began, new_spindle, Done, Needed, SpindleState, Started, Stayed, Use, spindle_after, used, needs_after, IsJournal}
-pub use Rattle.wol_model.specs.Trace.{requests, Target, TraceLine, started, timed, windows, joins, pieces_of, ended, payload, payloads, write_to, home_of, Timed, joined, opened, windows_by, windows_from, Numbered, numbered_from, pieces, requests_of, requests_on, volume_of}
+pub use Rattle.wol_model.specs.Trace.{requests, Target, TraceLine, started, timed, windows, joins, pieces_of, ended, payload, payloads, write_to, home_of, Timed, joined, opened, windows_by, windows_from, Numbered, numbered_from, pieces, requests_of, requests_on, volume_of, is_write}
 pub use Rattle.wol_model.specs.declared.trace.Kind.{Kind}
 pub use Rattle.wol_promise.proofs.ReadCode.{noted_is_back}
 pub use Rattle.wol_promise.specs.Code.{noted_of}
@@ -52,7 +52,7 @@ pub use Rattle.msr_trace.specs.declared.format.TraceFault.{TraceFault}
 pub use Rattle.open_rack.proofs.AllOut.{accepted_all, recovered_all, taken_all}
 pub use Rattle.open_rack.proofs.FirstClosed.{none_closed, opened_out}
 pub use Rattle.open_rack.specs.NotOpened.{first_closed}
-pub use Rattle.replay.specs.Completes.{Completes, MayComplete, is_write, writes_to}
+pub use Rattle.replay.specs.Completes.{Completes, MayComplete, writes_to}
 pub use Rattle.replay.specs.Counts.{was_drained, most_count, no_totals, was_logged, went_home, AddsAtMost, was_read, was_written, CountsWindow, CountsOutcomes}
 pub use Rattle.replay.specs.Ended.{EndsFor, HasRefusedWrite, IsPartFault, memory, no_line, refused, sink_failed}
 pub use Rattle.replay.specs.Endings.{fault_of_outcome, fault_of_reclaim, fault_of_window, first_refused, lacked_memory, fault_of_read, fault_of_write}

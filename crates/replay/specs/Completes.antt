@@ -1,12 +1,9 @@
 -- When a run has to come to its end.
-use Rattle.std.specs.Prelude.{◌≡◌, ◌⊎◌, ◌≤◌, ◌^◌, ◌+◌, ◌++◌, ℕ, Bool, true, false, List, Option, Some, Result, Err, IsOk, IsTrue}
-use Rattle.std.specs.List.{count_by}
+use Rattle.std.specs.Prelude.{◌≡◌, ◌⊎◌, ◌≤◌, ◌^◌, ◌+◌, ◌++◌, ℕ, Bool, List, Option, Some, Result, Err, IsOk, IsTrue}
 use Rattle.wol_disk.specs.Disk.{Rose}
 use Rattle.wol_bay.specs.Bay.{BayState, Told}
 use Rattle.wol_model.specs.Images.{AreSound}
-use Rattle.wol_model.specs.Trace.{Request, TraceLine, requests}
-use Rattle.wol_model.specs.declared.trace.Kind.{Kind}
-use Rattle.wol_model.specs.declared.trace.Kind.TheVariants as kind
+use Rattle.wol_model.specs.Trace.{Request, TraceLine, requests, write_count}
 use Rattle.wol_promise.specs.Manager.{Base}
 use Rattle.wol_promise.specs.Outcomes.{of_volume}
 use Rattle.wol_config.specs.declared.config.Config.{Config}
@@ -22,14 +19,9 @@ use Rattle.replay.specs.declared.stop.Stop.{Stop}
 use Rattle.replay.specs.declared.stop.Stop.TheVariants as stop
 use Rattle.wol_config.specs.Configs.{most_of}
 
--- it is a write
-abbrev pub is_write : Kind → Bool
-is_write kind.Read = false
-is_write kind.Write = true
-
 -- how many of these requests are writes to volume v
 abbrev pub writes_to : (v : ℕ) → List Request → ℕ
-writes_to v rs = count_by (λ (r : Request). is_write r.kind) (of_volume v rs)
+writes_to v rs = write_count (of_volume v rs)
 
 -- Nothing stands in the way of a run: the images at entry are sound as they read; no call failed;
 -- no line is bad or one too many; and each volume has versions for its writes.

@@ -1,11 +1,11 @@
 -- What a run over open volumes prints: the lines of the answered reads, and the summary with the
 -- account of each disk.
-use Rattle.std.specs.Prelude.{◌≡◌, ◌≢◌, ◌⊎◌, ◌++◌, ◌-◌, ℕ, Bool, true, false, is_none, count_by, List, [], ◌∷◌, length, map, not, take, Option, Some, slice_get, slice_index_or, Result, Ok, Err, Contains}
+use Rattle.std.specs.Prelude.{◌≡◌, ◌≢◌, ◌⊎◌, ◌++◌, ◌-◌, ℕ, Bool, true, false, is_none, count_by, List, [], ◌∷◌, length, map, take, Option, Some, slice_get, slice_index_or, Result, Ok, Err, Contains}
 use Rattle.std.specs.Io.KnownBytes.{Appends}
 use Rattle.wol_disk.specs.Disk.{Rose}
 use Rattle.wol_io.specs.Streams.{AppendsFront}
 use Rattle.wol_model.specs.Journal.{Use, Began, Started, Stayed, AreUses, needs_after, new_spindle, spindle_after}
-use Rattle.wol_model.specs.Trace.{Request, TraceLine, ended, requests, started, timed}
+use Rattle.wol_model.specs.Trace.{TraceLine, ended, read_count, requests, started, timed, write_count}
 use Rattle.wol_promise.specs.Outcomes.{Answered}
 use Rattle.wol_promise.specs.Run.{joined_lines}
 use Rattle.wol_promise.specs.Spindle.{keeper_uses}
@@ -19,7 +19,6 @@ use Rattle.report.specs.declared.totals.Totals.{Totals}
 use Rattle.spin_model.specs.Spindles.{SpindleView}
 use Rattle.trace_gen.specs.Generated.{targets_of}
 use Rattle.trace_windows.specs.Requests.{is_skipped}
-use Rattle.replay.specs.Completes.{is_write}
 use Rattle.replay.specs.Givens.{HasGivenAll}
 use Rattle.replay.specs.Histories.{line_of_read}
 use Rattle.replay.specs.Prints.{all_amounts}
@@ -121,10 +120,8 @@ pub record IsSummary (config : Config) (views : ℕ → List ℕ) (lines : List 
   pub span : totals.span ≡ ended (timed lines) - started (timed lines)
   pub counted : AreTotals windows totals
   -- all requests of the lines were answered
-  pub reads : totals.reads ≡ count_by (λ (r : Request). not (is_write r.kind))
-      (requests (most_of config) (targets_of config) lines)
-  pub writes : totals.writes ≡ count_by (λ (r : Request). is_write r.kind)
-      (requests (most_of config) (targets_of config) lines)
+  pub reads : totals.reads ≡ read_count (requests (most_of config) (targets_of config) lines)
+  pub writes : totals.writes ≡ write_count (requests (most_of config) (targets_of config) lines)
   pub each : length spindles ≡ length config.volumes.items
   pub accounts : (k : ℕ) (s : SpindleView) → slice_get spindles k ≡ Some s
       → IsAccount config views k (started (timed lines))

@@ -1,6 +1,6 @@
 -- What is counted of lines, one after another.
 use Rattle.std.proofs.Common.{◌≡◌, ℕ, suc, ◌+◌, Bool, true, false, cond, List, [], ◌∷◌, ◌++◌, length, map, Option, None, Some, refl, sym, ap, ◌∙◌, arith, length-append, append-nil}
-use Rattle.std.specs.Prelude.{if◌then◌else◌, count_by, is_none, is_some, ◌==◌, ◌&&◌, position}
+use Rattle.std.specs.Prelude.{if◌then◌else◌, count_by, is_none, is_some, not, ◌==◌, ◌&&◌, position}
 use Rattle.std.specs.Str.{bytes_eq}
 use Rattle.std.proofs.lemmas.Grind.{flat_map-append}
 use Rattle.std.proofs.lemmas.List.Sums.{sum_by-append, sum_by-cons}
@@ -8,9 +8,9 @@ use Rattle.wol_model.specs.declared.trace.Kind.{Kind}
 use Rattle.wol_model.specs.declared.trace.Kind.TheVariants as kind
 use Rattle.wol_model.specs.declared.trace.Piece.{Piece}
 use Rattle.wol_model.specs.Trace as model
-use Rattle.wol_model.specs.Trace.{Numbered, Target, TraceLine, numbered_from, requests_of, requests_on, volume_of}
+use Rattle.wol_model.specs.Trace.{Numbered, Target, TraceLine, is_write, numbered_from, read_count, requests_of, requests_on, volume_of, write_count}
 use Rattle.solo.specs.declared.tally.Tally.{Tally}
-use Rattle.solo.specs.Requests.{asked_of, is_read, is_skipped, is_write, line_requests, piece_request, reads_in, requests_at, tally_of, tally_with, writes_in}
+use Rattle.solo.specs.Requests.{asked_of, is_skipped, line_requests, piece_request, requests_at, tally_of, tally_with}
 
 -- ---- Whether a line belongs to the volume
 
@@ -40,13 +40,13 @@ one_more n m is = omega (arith, is)
 none_more : (n : ℕ) → n ≡ 0 → 0 + n ≡ 0
 none_more n is = omega (arith, is)
 
-reads_of : (number : ℕ) (k : Kind) (ps : List Piece) → reads_in (map (piece_request number k) ps) ≡ (if is_read k then length ps else 0)
+reads_of : (number : ℕ) (k : Kind) (ps : List Piece) → read_count (map (piece_request number k) ps) ≡ (if is_write k then 0 else length ps)
 reads_of number kind.Read [] = refl
 reads_of number kind.Write [] = refl
-reads_of number kind.Read (p ∷ ps) = sum_by-cons (λ (r : model.Request). cond (is_read r.kind) 1 0) (piece_request number kind.Read p) (map (piece_request number kind.Read) ps) ∙ one_more _ _ (reads_of number kind.Read ps)
-reads_of number kind.Write (p ∷ ps) = sum_by-cons (λ (r : model.Request). cond (is_read r.kind) 1 0) (piece_request number kind.Write p) (map (piece_request number kind.Write) ps) ∙ none_more _ (reads_of number kind.Write ps)
+reads_of number kind.Read (p ∷ ps) = sum_by-cons (λ (r : model.Request). cond (not (is_write r.kind)) 1 0) (piece_request number kind.Read p) (map (piece_request number kind.Read) ps) ∙ one_more _ _ (reads_of number kind.Read ps)
+reads_of number kind.Write (p ∷ ps) = sum_by-cons (λ (r : model.Request). cond (not (is_write r.kind)) 1 0) (piece_request number kind.Write p) (map (piece_request number kind.Write) ps) ∙ none_more _ (reads_of number kind.Write ps)
 
-writes_of : (number : ℕ) (k : Kind) (ps : List Piece) → writes_in (map (piece_request number k) ps) ≡ (if is_write k then length ps else 0)
+writes_of : (number : ℕ) (k : Kind) (ps : List Piece) → write_count (map (piece_request number k) ps) ≡ (if is_write k then length ps else 0)
 writes_of number kind.Read [] = refl
 writes_of number kind.Write [] = refl
 writes_of number kind.Read (p ∷ ps) = sum_by-cons (λ (r : model.Request). cond (is_write r.kind) 1 0) (piece_request number kind.Read p) (map (piece_request number kind.Read) ps) ∙ none_more _ (writes_of number kind.Read ps)
@@ -72,7 +72,7 @@ skipped_tally target number line t u none a b d e f =
     same_tally u (tally_with target number (Some line) t) a (omega (arith, b)) (rw one (omega (arith, d))) (rw nothing (omega (arith, e))) (rw nothing (omega (arith, f)))
 
 pub our_tally : (target : Target) (number count : ℕ) (line : TraceLine) (t u : Tally) → volume_of (target ∷ []) line ≡ Some 0 → count ≡ length (line_requests target.home number line) → u.lines ≡ t.lines + 1 → u.blank ≡ t.blank → u.skipped ≡ t.skipped
-    → u.reads ≡ t.reads + (if is_read line.kind then count else 0) → u.writes ≡ t.writes + (if is_write line.kind then count else 0) → u ≡ tally_with target number (Some line) t
+    → u.reads ≡ t.reads + (if is_write line.kind then 0 else count) → u.writes ≡ t.writes + (if is_write line.kind then count else 0) → u ≡ tally_with target number (Some line) t
 unfolding tally_with
 our_tally target number count line t u some counted a b d e f =
     let one : is_skipped target (Some line) ≡ false = ap is_none some in
@@ -113,5 +113,5 @@ tally_more target lines line =
     (sym (length-append lines (line ∷ [])))
     (sym (count_append is_none lines (line ∷ [])))
     (sym (count_append (is_skipped target) lines (line ∷ [])))
-    (rw asked (sym (count_append (λ (r : model.Request). is_read r.kind) (asked_of target lines) (requests_at target (length lines + 1) line))))
+    (rw asked (sym (count_append (λ (r : model.Request). not (is_write r.kind)) (asked_of target lines) (requests_at target (length lines + 1) line))))
     (rw asked (sym (count_append (λ (r : model.Request). is_write r.kind) (asked_of target lines) (requests_at target (length lines + 1) line))))

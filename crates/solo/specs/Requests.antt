@@ -1,9 +1,8 @@
 -- The lines of a trace, and what they ask of the one volume of a run.
-use Rattle.std.specs.Prelude.{◌≡◌, ℕ, ◌+◌, Bool, true, false, List, [], ◌∷◌, ◌++◌, length, map, count_by, Option, None, Some, is_none, Result, Ok, ⊤}
+use Rattle.std.specs.Prelude.{◌≡◌, ℕ, ◌+◌, Bool, false, List, [], ◌∷◌, ◌++◌, length, map, count_by, Option, None, Some, is_none, Result, Ok, ⊤}
 use Rattle.wol_model.specs.Trace as model
-use Rattle.wol_model.specs.Trace.{Target, TraceLine, pieces, requests, requests_of, volume_of}
+use Rattle.wol_model.specs.Trace.{Target, TraceLine, pieces, read_count, requests, requests_of, volume_of, write_count}
 use Rattle.wol_model.specs.declared.trace.Kind.{Kind}
-use Rattle.wol_model.specs.declared.trace.Kind.TheVariants as kind
 use Rattle.wol_model.specs.declared.trace.Piece.{Piece}
 use Rattle.msr_trace.specs.Lines.{lines_of, read_of}
 use Rattle.msr_trace.specs.declared.format.BadLine.{BadLine}
@@ -47,14 +46,6 @@ piece_request number kind piece =
 abbrev pub line_requests : (home number : ℕ) → TraceLine → List model.Request
 line_requests home number line = map (piece_request number line.kind) (pieces home 128 line)
 
-abbrev pub is_read : Kind → Bool
-is_read kind.Read = true
-is_read kind.Write = false
-
-abbrev pub is_write : Kind → Bool
-is_write kind.Read = false
-is_write kind.Write = true
-
 -- a line that doesn't belong to the volume
 abbrev pub is_skipped : Target → Option TraceLine → Bool
 is_skipped target None = false
@@ -65,20 +56,14 @@ abbrev pub requests_at : Target → (number : ℕ) → Option TraceLine → List
 requests_at target number None = []
 requests_at target number (Some line) = requests_of 128 (target ∷ []) number line
 
-abbrev pub reads_in : List model.Request → ℕ
-reads_in rs = count_by (λ (r : model.Request). is_read r.kind) rs
-
-abbrev pub writes_in : List model.Request → ℕ
-writes_in rs = count_by (λ (r : model.Request). is_write r.kind) rs
-
 -- what is counted of these lines and of all their requests
 unfoldable pub tally_of : Target → List (Option TraceLine) → Tally
 tally_of target lines = record {
   lines = length lines;
   blank = count_by is_none lines;
   skipped = count_by (is_skipped target) lines;
-  reads = reads_in (asked_of target lines);
-  writes = writes_in (asked_of target lines);
+  reads = read_count (asked_of target lines);
+  writes = write_count (asked_of target lines);
 }
 
 -- the same with one more line
@@ -87,6 +72,6 @@ tally_with target number line t = record {
   lines = t.lines + 1;
   blank = t.blank + count_by is_none (line ∷ []);
   skipped = t.skipped + count_by (is_skipped target) (line ∷ []);
-  reads = t.reads + reads_in (requests_at target number line);
-  writes = t.writes + writes_in (requests_at target number line);
+  reads = t.reads + read_count (requests_at target number line);
+  writes = t.writes + write_count (requests_at target number line);
 }

@@ -1,8 +1,9 @@
 // One line of the trace: whether it belongs to the volume, and what is counted of it.
 ghost use Rattle.msr_trace.specs.Lines.{Fits, trace_line};
-ghost use Rattle.solo.specs.Requests.{is_read, is_write, requests_at, tally_with};
+ghost use Rattle.solo.specs.Requests.{requests_at, tally_with};
 ghost use Rattle.solo.specs.Served.{Counts, IsCalm, IsSettled, Serves, content_of, content_after};
 ghost use Rattle.solo.specs.Volume.{IsVolume, target_of};
+ghost use Rattle.wol_model.specs.Trace.{is_write};
 ghost use Rattle.std.specs.Prelude.{◌≡◌, ◌+◌, ◌≤◌, ◌<◌, ◌^◌, length, option_map, if◌then◌else◌, IfSome, OnOk};
 
 use crate::fault::Fault;
@@ -75,7 +76,7 @@ fn add_requests(tally: &mut Tally, kind: Kind, count: u64)
     ensures lines { tally.new.lines ≡ tally.old.lines }
     ensures blank { tally.new.blank ≡ tally.old.blank }
     ensures skipped { tally.new.skipped ≡ tally.old.skipped }
-    ensures reads { tally.new.reads ≡ tally.old.reads + (if is_read kind then count else 0) }
+    ensures reads { tally.new.reads ≡ tally.old.reads + (if is_write kind then 0 else count) }
     ensures writes { tally.new.writes ≡ tally.old.writes + (if is_write kind then count else 0) }
 {
     match kind {

@@ -1,7 +1,7 @@
 -- Traces: the requests that their lines ask for, what a plain array answers them, and the windows
 -- that lines are served in.
-use Rattle.std.specs.Prelude.{ℕ, zero, suc, ◌+◌, ◌-◌, ◌/◌, ◌%◌, ◌^◌, min, max, Bool, ◌&&◌, List, [], ◌∷◌, ◌++◌, Option, None, Some, length, map, take, sum_by, slice_range, slice_get, nat_lt, nat_le, if◌then◌else◌, ◌==◌, position}
-use Rattle.std.specs.List.{range_with_len, flat_map, filter_map}
+use Rattle.std.specs.Prelude.{ℕ, zero, suc, ◌+◌, ◌-◌, ◌/◌, ◌%◌, ◌^◌, min, max, Bool, true, false, not, ◌&&◌, List, [], ◌∷◌, ◌++◌, Option, None, Some, length, map, take, sum_by, slice_range, slice_get, nat_lt, nat_le, if◌then◌else◌, ◌==◌, position}
+use Rattle.std.specs.List.{count_by, range_with_len, flat_map, filter_map}
 use Rattle.std.specs.Option.{option_map_or}
 use Rattle.std.specs.Int.{w64, to_le_bytes, from_le_bytes}
 use Rattle.std.specs.Str.{bytes_eq}
@@ -72,6 +72,19 @@ pub record Request : Type 0 where
   pub kind : Kind
   pub first : ℕ
   pub count : ℕ
+
+-- a request of this kind is a write
+abbrev pub is_write : Kind → Bool
+is_write Read = false
+is_write Write = true
+
+-- how many of these requests are reads
+abbrev pub read_count : List Request → ℕ
+read_count rs = count_by (λ (r : Request). not (is_write r.kind)) rs
+
+-- .. and how many are writes
+abbrev pub write_count : List Request → ℕ
+write_count rs = count_by (λ (r : Request). is_write r.kind) rs
 
 -- the volume of a line, if one has its host and disk
 abbrev pub volume_of : List Target → TraceLine → Option ℕ

@@ -9,7 +9,7 @@ use Rattle.std.proofs.lemmas.List.Elements.{filter-append}
 use Rattle.std.proofs.lemmas.List.Sums.{sum_by-append}
 use Rattle.wol_disk.specs.Disk.{Rose}
 use Rattle.wol_bay.specs.Bay.{BayState}
-use Rattle.wol_model.specs.Trace.{Request, Target, TraceLine, requests, requests_of}
+use Rattle.wol_model.specs.Trace.{Request, Target, TraceLine, requests, requests_of, is_write}
 use Rattle.wol_promise.specs.Manager.{Base}
 use Rattle.wol_promise.specs.Outcomes.{of_volume}
 use Rattle.wol_config.specs.declared.config.Config.{Config}
@@ -27,7 +27,7 @@ use Rattle.trace_gen.specs.Generated.{Generator, line, targets_of}
 use Rattle.trace_windows.proofs.Counting.{requests_blank, requests_more}
 use Rattle.comparison.specs.Compares.{MayCompare}
 use Rattle.replay.specs.Givens.{HasGiven, IsWithin, Refuses}
-use Rattle.replay.specs.Completes.{Completes, MayComplete, is_write, writes_to}
+use Rattle.replay.specs.Completes.{Completes, MayComplete, writes_to}
 use Rattle.replay.specs.declared.given.Given.{Given}
 use Rattle.replay.specs.declared.given.Given.TheVariants.{Generated, Trace}
 use Rattle.replay.specs.declared.stop.Stop.{Stop}

@@ -4,7 +4,7 @@ use Rattle.std.specs.Prelude.{IsTrue, slice_get}
 use Rattle.std.specs.List.{count_by}
 use Rattle.std.specs.Option.{option_map_or}
 use Rattle.wol_bay.specs.Bay.{BayState}
-use Rattle.wol_model.specs.Trace.{Request, TraceLine, requests}
+use Rattle.wol_model.specs.Trace.{Request, TraceLine, requests, is_write}
 use Rattle.wol_promise.specs.Manager.{Base}
 use Rattle.wol_promise.specs.Outcomes.{Answered, answered_in}
 use Rattle.wol_promise.specs.Report.{logged_writes}
@@ -17,7 +17,7 @@ use Rattle.volume_images.specs.Left.{IsTold}
 use Rattle.volume_images.specs.Volumes.{images_read}
 use Rattle.rack.specs.Owners.{IsBegun}
 use Rattle.trace_gen.specs.Generated.{targets_of}
-use Rattle.replay.specs.Completes.{is_write, writes_to}
+use Rattle.replay.specs.Completes.{writes_to}
 use Rattle.replay.specs.Ended.{HasRefusedWrite}
 use Rattle.replay.specs.Histories.{History, answers_in, next_after, next_at}
 use Rattle.replay.specs.Replays.{Replays}
