@@ -3,7 +3,7 @@ use Rattle.std.specs.Prelude.{⊤, ◌≡◌, ◌≢◌, ◌⊎◌, ◌≤◌, �
 use Rattle.std.specs.List.{flat_map, AllByRecursion}
 use Rattle.std.specs.Io.KnownBytes.{Appends, Keeps}
 use Rattle.wol_promise.specs.Run.{joined_lines}
-use Rattle.wol_model.specs.Trace.{TraceLine, Window, home_of, windows, timed, started, ended}
+use Rattle.wol_model.specs.Trace.{TraceLine, Window, home_of, windows, timed, started, ended, is_skipped}
 use Rattle.wol_config.specs.declared.config.Config.{Config}
 use Rattle.trace_gen.specs.Generated.{targets_of}
 use Rattle.turn_lock.specs.Passes.{lock_id}
@@ -20,7 +20,6 @@ use Rattle.window_desks.specs.declared.floor.Floor.{Floor}
 use Rattle.window_desks.specs.declared.request.Window.{Window as Answer}
 use Rattle.trace_windows.specs.Batches.{Batched, IsBatchOf}
 use Rattle.trace_windows.specs.Cutting.{Cutting, HasCut, next_number}
-use Rattle.trace_windows.specs.Requests.{is_skipped}
 use Rattle.trace_windows.specs.declared.request.Request.{Request}
 use Rattle.report.specs.Names.{printed_names}
 use Rattle.replay.specs.Counts.{CountsWindow}

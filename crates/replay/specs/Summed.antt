@@ -5,7 +5,7 @@ use Rattle.std.specs.Io.KnownBytes.{Appends}
 use Rattle.wol_disk.specs.Disk.{Rose}
 use Rattle.wol_io.specs.Streams.{AppendsFront}
 use Rattle.wol_model.specs.Journal.{Use, Began, Started, Stayed, AreUses, needs_after, new_spindle, spindle_after}
-use Rattle.wol_model.specs.Trace.{TraceLine, ended, read_count, requests, started, timed, write_count}
+use Rattle.wol_model.specs.Trace.{TraceLine, ended, read_count, requests, started, timed, write_count, is_skipped}
 use Rattle.wol_promise.specs.Outcomes.{Answered}
 use Rattle.wol_promise.specs.Run.{joined_lines}
 use Rattle.wol_promise.specs.Spindle.{keeper_uses}
@@ -18,7 +18,6 @@ use Rattle.report.specs.declared.fault.Fault.TheVariants.{Memory}
 use Rattle.report.specs.declared.totals.Totals.{Totals}
 use Rattle.spin_model.specs.Spindles.{SpindleView}
 use Rattle.trace_gen.specs.Generated.{targets_of}
-use Rattle.trace_windows.specs.Requests.{is_skipped}
 use Rattle.replay.specs.Givens.{HasGivenAll}
 use Rattle.replay.specs.Histories.{line_of_read}
 use Rattle.replay.specs.Prints.{all_amounts}

@@ -8,9 +8,9 @@ use Rattle.wol_model.specs.declared.trace.Kind.{Kind}
 use Rattle.wol_model.specs.declared.trace.Kind.TheVariants as kind
 use Rattle.wol_model.specs.declared.trace.Piece.{Piece}
 use Rattle.wol_model.specs.Trace as model
-use Rattle.wol_model.specs.Trace.{Numbered, Target, TraceLine, is_write, numbered_from, read_count, requests_of, requests_on, volume_of, write_count}
+use Rattle.wol_model.specs.Trace.{Numbered, Target, TraceLine, is_write, numbered_from, read_count, requests_of, requests_on, volume_of, write_count, is_skipped}
 use Rattle.solo.specs.declared.tally.Tally.{Tally}
-use Rattle.solo.specs.Requests.{asked_of, is_skipped, line_requests, piece_request, requests_at, tally_of, tally_with}
+use Rattle.solo.specs.Requests.{asked_of, line_requests, piece_request, requests_at, tally_of, tally_with}
 
 -- ---- Whether a line belongs to the volume
 
@@ -67,7 +67,7 @@ blank_tally target number t u a b d e f = same_tally u (tally_with target number
 pub skipped_tally : (target : Target) (number : ℕ) (line : TraceLine) (t u : Tally) → volume_of (target ∷ []) line ≡ None → u.lines ≡ t.lines + 1 → u.blank ≡ t.blank → u.skipped ≡ t.skipped + 1 → u.reads ≡ t.reads → u.writes ≡ t.writes → u ≡ tally_with target number (Some line) t
 unfolding tally_with
 skipped_tally target number line t u none a b d e f =
-    let one : is_skipped target (Some line) ≡ true = ap is_none none in
+    let one : is_skipped (target ∷ []) (Some line) ≡ true = ap is_none none in
     let nothing : requests_at target number (Some line) ≡ [] = no_requests target number line none in
     same_tally u (tally_with target number (Some line) t) a (omega (arith, b)) (rw one (omega (arith, d))) (rw nothing (omega (arith, e))) (rw nothing (omega (arith, f)))
 
@@ -75,7 +75,7 @@ pub our_tally : (target : Target) (number count : ℕ) (line : TraceLine) (t u :
     → u.reads ≡ t.reads + (if is_write line.kind then 0 else count) → u.writes ≡ t.writes + (if is_write line.kind then count else 0) → u ≡ tally_with target number (Some line) t
 unfolding tally_with
 our_tally target number count line t u some counted a b d e f =
-    let one : is_skipped target (Some line) ≡ false = ap is_none some in
+    let one : is_skipped (target ∷ []) (Some line) ≡ false = ap is_none some in
     let asked = our_requests target number line some in
     let all : count ≡ length (Rattle.wol_model.specs.Trace.pieces target.home 128 line) = counted ∙ length_requests number line.kind (Rattle.wol_model.specs.Trace.pieces target.home 128 line) in
     same_tally u (tally_with target number (Some line) t) a (omega (arith, b)) (rw one (omega (arith, d)))
@@ -112,6 +112,6 @@ tally_more target lines line =
     same_tally (tally_with target (length lines + 1) line (tally_of target lines)) (tally_of target (lines ++ line ∷ []))
     (sym (length-append lines (line ∷ [])))
     (sym (count_append is_none lines (line ∷ [])))
-    (sym (count_append (is_skipped target) lines (line ∷ [])))
+    (sym (count_append (is_skipped (target ∷ [])) lines (line ∷ [])))
     (rw asked (sym (count_append (λ (r : model.Request). not (is_write r.kind)) (asked_of target lines) (requests_at target (length lines + 1) line))))
     (rw asked (sym (count_append (λ (r : model.Request). is_write r.kind) (asked_of target lines) (requests_at target (length lines + 1) line))))

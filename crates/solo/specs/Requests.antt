@@ -1,7 +1,7 @@
 -- The lines of a trace, and what they ask of the one volume of a run.
-use Rattle.std.specs.Prelude.{◌≡◌, ℕ, ◌+◌, Bool, false, List, [], ◌∷◌, ◌++◌, length, map, count_by, Option, None, Some, is_none, Result, Ok, ⊤}
+use Rattle.std.specs.Prelude.{◌≡◌, ℕ, ◌+◌, List, [], ◌∷◌, ◌++◌, length, map, count_by, Option, None, Some, is_none, Result, Ok, ⊤}
 use Rattle.wol_model.specs.Trace as model
-use Rattle.wol_model.specs.Trace.{Target, TraceLine, pieces, read_count, requests, requests_of, volume_of, write_count}
+use Rattle.wol_model.specs.Trace.{Target, TraceLine, is_skipped, pieces, read_count, requests, requests_of, write_count}
 use Rattle.wol_model.specs.declared.trace.Kind.{Kind}
 use Rattle.wol_model.specs.declared.trace.Piece.{Piece}
 use Rattle.msr_trace.specs.Lines.{lines_of, read_of}
@@ -46,11 +46,6 @@ piece_request number kind piece =
 abbrev pub line_requests : (home number : ℕ) → TraceLine → List model.Request
 line_requests home number line = map (piece_request number line.kind) (pieces home 128 line)
 
--- a line that doesn't belong to the volume
-abbrev pub is_skipped : Target → Option TraceLine → Bool
-is_skipped target None = false
-is_skipped target (Some line) = is_none (volume_of (target ∷ []) line)
-
 -- the requests of one line
 abbrev pub requests_at : Target → (number : ℕ) → Option TraceLine → List model.Request
 requests_at target number None = []
@@ -61,7 +56,7 @@ unfoldable pub tally_of : Target → List (Option TraceLine) → Tally
 tally_of target lines = record {
   lines = length lines;
   blank = count_by is_none lines;
-  skipped = count_by (is_skipped target) lines;
+  skipped = count_by (is_skipped (target ∷ [])) lines;
   reads = read_count (asked_of target lines);
   writes = write_count (asked_of target lines);
 }
@@ -71,7 +66,7 @@ unfoldable pub tally_with : Target → (number : ℕ) → Option TraceLine → T
 tally_with target number line t = record {
   lines = t.lines + 1;
   blank = t.blank + count_by is_none (line ∷ []);
-  skipped = t.skipped + count_by (is_skipped target) (line ∷ []);
+  skipped = t.skipped + count_by (is_skipped (target ∷ [])) (line ∷ []);
   reads = t.reads + read_count (requests_at target number line);
   writes = t.writes + write_count (requests_at target number line);
 }

@@ -5,10 +5,10 @@ use Rattle.std.proofs.lemmas.Grind.{flat_map-append}
 use Rattle.std.proofs.lemmas.List.Sums.{sum_by-cons}
 use Rattle.std.proofs.lemmas.Bool.{eq-eqb, ne_eqb}
 use Rattle.wol_model.specs.Trace as trace
-use Rattle.wol_model.specs.Trace.{Target, Timed, TraceLine, Window, joined, joins, numbered_from, opened, pieces_of, requests, requests_of, requests_on, timed, timed_from, volume_of, windows}
+use Rattle.wol_model.specs.Trace.{Target, Timed, TraceLine, Window, joined, joins, numbered_from, opened, pieces_of, requests, requests_of, requests_on, timed, timed_from, volume_of, windows, is_skipped}
 use Rattle.trace_windows.specs.declared.request.Request.{Request}
 use Rattle.trace_windows.specs.declared.tally.Tally.{Tally}
-use Rattle.trace_windows.specs.Requests.{is_skipped, numbered, requests_in, requests_in_all}
+use Rattle.trace_windows.specs.Requests.{numbered, requests_in, requests_in_all}
 use Rattle.trace_windows.specs.Batches.{Admits, Batched, IsBatchOf, IsPut, no_lines, with_line}
 use Rattle.trace_windows.specs.Cutting.{AreWindows, Cutting, HasCut, Takes, next_number}
 use Rattle.trace_windows.proofs.Counting.{counts_more, have_requests, requests_blank, requests_more}

@@ -1,9 +1,9 @@
 -- What a cutter has cut, and what a further line comes to.
 use Rattle.std.specs.Prelude.{◌≡◌, ℕ, Bool, true, false, List, [], ◌∷◌, ◌++◌, Option, None, Some, is_none, length, count_by}
 use Rattle.wol_model.specs.Trace as trace
-use Rattle.wol_model.specs.Trace.{Target, TraceLine, Window, timed}
+use Rattle.wol_model.specs.Trace.{Target, TraceLine, Window, timed, is_skipped}
 use Rattle.trace_windows.specs.declared.tally.Tally.{Tally}
-use Rattle.trace_windows.specs.Requests.{is_skipped, requests_in_all}
+use Rattle.trace_windows.specs.Requests.{requests_in_all}
 use Rattle.trace_windows.specs.Batches.{Batched, IsBatchOf, no_lines}
 
 -- what contracts see of a cutter: what was counted, the open window, and the window that the last

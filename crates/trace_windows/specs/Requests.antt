@@ -1,8 +1,8 @@
 -- Requests as the program has them, with their numbers in the trace.
-use Rattle.std.specs.Prelude.{ℕ, ◌+◌, ◌≤◌, ◌<◌, Bool, false, List, [], ◌∷◌, Option, None, Some, is_none, length}
+use Rattle.std.specs.Prelude.{ℕ, ◌+◌, ◌≤◌, ◌<◌, List, [], ◌∷◌, length}
 use Rattle.std.specs.List.{flat_map}
 use Rattle.wol_model.specs.Trace as trace
-use Rattle.wol_model.specs.Trace.{Target, Timed, TraceLine, Window, home_of, requests_of, volume_of}
+use Rattle.wol_model.specs.Trace.{Target, Timed, Window, home_of, requests_of}
 use Rattle.trace_windows.specs.declared.request.Request.{Request}
 
 -- a request as the model has it
@@ -29,11 +29,6 @@ requests_in most targets w =
 -- the requests of windows, in order
 abbrev pub requests_in_all : (most : ℕ) → List Target → List Window → List trace.Request
 requests_in_all most targets ws = flat_map (requests_in most targets) ws
-
--- a line that belongs to no volume
-abbrev pub is_skipped : List Target → Option TraceLine → Bool
-is_skipped targets None = false
-is_skipped targets (Some l) = is_none (volume_of targets l)
 
 -- it names one of these volumes, and has 1 to `most` blocks, which lie in it
 pub record IsInside (most : ℕ) (targets : List Target) (r : Request) : Type 0 where

@@ -1,6 +1,6 @@
 -- Traces: the requests that their lines ask for, what a plain array answers them, and the windows
 -- that lines are served in.
-use Rattle.std.specs.Prelude.{ℕ, zero, suc, ◌+◌, ◌-◌, ◌/◌, ◌%◌, ◌^◌, min, max, Bool, true, false, not, ◌&&◌, List, [], ◌∷◌, ◌++◌, Option, None, Some, length, map, take, sum_by, slice_range, slice_get, nat_lt, nat_le, if◌then◌else◌, ◌==◌, position}
+use Rattle.std.specs.Prelude.{ℕ, zero, suc, ◌+◌, ◌-◌, ◌/◌, ◌%◌, ◌^◌, min, max, Bool, true, false, not, ◌&&◌, List, [], ◌∷◌, ◌++◌, Option, None, Some, is_none, length, map, take, sum_by, slice_range, slice_get, nat_lt, nat_le, if◌then◌else◌, ◌==◌, position}
 use Rattle.std.specs.List.{count_by, range_with_len, flat_map, filter_map}
 use Rattle.std.specs.Option.{option_map_or}
 use Rattle.std.specs.Int.{w64, to_le_bytes, from_le_bytes}
@@ -89,6 +89,11 @@ write_count rs = count_by (λ (r : Request). is_write r.kind) rs
 -- the volume of a line, if one has its host and disk
 abbrev pub volume_of : List Target → TraceLine → Option ℕ
 volume_of targets l = position (λ t. bytes_eq t.host l.host && t.disk == l.disk) targets
+
+-- a line that belongs to no volume
+abbrev pub is_skipped : List Target → Option TraceLine → Bool
+is_skipped targets None = false
+is_skipped targets (Some l) = is_none (volume_of targets l)
 
 -- the home blocks of volume v
 abbrev pub home_of : List Target → ℕ → ℕ
