@@ -9,7 +9,8 @@ use Rattle.wol_disk.proofs.Images.{put_nothing}
 use Rattle.wol_model.specs.Heads.{Shape, view_block, free_block}
 use Rattle.wol_bay.specs.Parts.{sizes_of}
 use Rattle.logger_view.specs.Stored.{with_label, with_view, with_free_head}
-use Rattle.volume_images.specs.Settled.{joined_blocks, changed_at}
+use Rattle.wol_model.specs.Blocks.{changed_at}
+use Rattle.volume_images.specs.Settled.{joined_blocks}
 use Rattle.volume_images.specs.Formatted.{part_sizes, blank_parts, formatted_parts, formatted, free_segment, HasZeroLabel, IsUnlabelledOrFormatted}
 
 -- the first i of n segments are free

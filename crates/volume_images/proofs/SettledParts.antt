@@ -8,7 +8,8 @@ use Rattle.wol_disk.specs.Zeros.{zeros, zero_block}
 use Rattle.wol_disk.proofs.Images.{only_image}
 use Rattle.wol_bay.specs.Bay.{Told}
 use Rattle.wol_bay.specs.Parts.{IsBlank, AreBlank, joined, blocks_of, sizes_of, faulty_from}
-use Rattle.volume_images.specs.Settled.{IsSettledAs, AreSettled, HasFault, joined_blocks, changed_at}
+use Rattle.wol_model.specs.Blocks.{changed_at}
+use Rattle.volume_images.specs.Settled.{IsSettledAs, AreSettled, HasFault, joined_blocks}
 
 -- ---- Images of blocks in a row
 

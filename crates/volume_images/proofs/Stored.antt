@@ -11,7 +11,8 @@ use Rattle.logger_view.specs.Stored.{IsWithOrWithout}
 use Rattle.volume_images.specs.declared.content.Content.{Content}
 use Rattle.volume_images.specs.declared.content.Content.TheVariants.{View, Nothing, FreeHead, Label}
 use Rattle.volume_images.specs.Contents.{changed}
-use Rattle.volume_images.specs.Settled.{IsSettledAs, AreSettled, HasFault, joined_blocks, changed_at}
+use Rattle.wol_model.specs.Blocks.{changed_at}
+use Rattle.volume_images.specs.Settled.{IsSettledAs, AreSettled, HasFault, joined_blocks}
 use Rattle.volume_images.proofs.SettledParts.{settled_part, sizes_set, settled_set, images_set, told_set, fault_set}
 
 pub length-changed : (content : Content) (bs : List Block) → length (changed content bs) ≡ length bs

@@ -1,5 +1,5 @@
 -- The parts of an image of which each has one image. `state` is that of a part.
-use Rattle.std.specs.Prelude.{◌≡◌, ◌<◌, ℕ, zero, suc, List, [], ◌∷◌, length, IfSome, slice_index_or, ⊤}
+use Rattle.std.specs.Prelude.{◌≡◌, ◌<◌, ℕ, List, [], ◌∷◌, length, IfSome, slice_index_or, ⊤}
 use Rattle.std.specs.List.{flat_map}
 use Rattle.wol_disk.specs.Disk.{Block, State, only}
 
@@ -20,13 +20,6 @@ AreSettled state (bs ∷ bss) (part ∷ parts) =
 -- the blocks of all parts in order
 abbrev pub joined_blocks : List (List Block) → List Block
 joined_blocks bss = flat_map (λ bs. bs) bss
-
--- the blocks of the parts, with those at this place changed
-abbrev pub changed_at : (place : ℕ) → (List Block → List Block) → List (List Block)
-    → List (List Block)
-changed_at place change [] = []
-changed_at zero change (bs ∷ bss) = change bs ∷ bss
-changed_at (suc place) change (bs ∷ bss) = bs ∷ changed_at place change bss
 
 -- the part at this place had a fault
 abbrev pub HasFault : {D : Type 0} → (D → State) → (place : ℕ) → List D → Type 0

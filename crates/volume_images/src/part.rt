@@ -1,7 +1,8 @@
 // One part of an image is written, in the list of all of them.
 ghost use Rattle.std.specs.Prelude.{◌≡◌, ◌<◌, ◌⊎◌, List, OnOk, OnErr, IsSome, slice_index_or, vec_len};
 ghost use Rattle.volume_images.specs.Contents.{changed, Fits};
-ghost use Rattle.volume_images.specs.Settled.{AreSettled, HasFault, joined_blocks, changed_at};
+ghost use Rattle.wol_model.specs.Blocks.{changed_at};
+ghost use Rattle.volume_images.specs.Settled.{AreSettled, HasFault, joined_blocks};
 ghost use Rattle.wol_bay.specs.Parts.{sizes_of, blocks_of};
 ghost use Rattle.wol_disk.specs.Disk.{Block, IsImageOf};
 

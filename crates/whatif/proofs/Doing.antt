@@ -13,7 +13,8 @@ use Rattle.wol_promise.specs.Policy.{Look}
 use Rattle.whatif.specs.declared.disk.Disk.{Disk}
 use Rattle.whatif.specs.declared.volume.Volume.{Volume}
 use Rattle.whatif.specs.Disks.{AreDisks, moments_of}
-use Rattle.whatif.specs.Machine.{Reach, Action, accessed, all_accessed, changed_at, followed, give_step, give_up, logger_at, put_home, put_step, reclaiming, repeated, source_of, step_at, still}
+use Rattle.wol_model.specs.Blocks.{changed_at}
+use Rattle.whatif.specs.Machine.{Reach, Action, accessed, all_accessed, followed, give_step, give_up, logger_at, put_home, put_step, reclaiming, repeated, source_of, step_at, still}
 use Rattle.whatif.specs.Volumes.{HasDone, IsSettled, IsWithin, look_in, reach_in}
 
 -- disks that are used after others

@@ -10,7 +10,8 @@ use Rattle.wol_model.specs.declared.journal.Turned.TheVariants.{Down, Up}
 use Rattle.wol_model.specs.Journal.{SpindleState, Began, used, is_empty, standby, wakes, sleeps, next_up, turns_up}
 use Rattle.whatif.specs.declared.disk.Disk.{Disk}
 use Rattle.whatif.specs.Disks.{AreDisks, IsDisk, moments_of, standby_of}
-use Rattle.whatif.specs.Machine.{accessed, changed_at}
+use Rattle.wol_model.specs.Blocks.{changed_at}
+use Rattle.whatif.specs.Machine.{accessed}
 
 next_up_joined : (j k : List Turned) (to : ℕ) → next_up (j ++ k) to ≡ next_up j (next_up k to)
 next_up_joined [] k to = refl

@@ -7,6 +7,7 @@ use Rattle.wol_model.specs.declared.trace.Kind.{Kind}
 use Rattle.wol_model.specs.declared.trace.Kind.TheVariants.{Read, Write}
 use Rattle.wol_model.specs.declared.journal.Powers.{Powers}
 use Rattle.wol_model.specs.Blocks as blocks
+use Rattle.wol_model.specs.Blocks.{changed_at}
 use Rattle.wol_model.specs.Extents.{newest}
 use Rattle.wol_model.specs.Index.{Listed, cover_of, is_due, has_due, has_going, keeps_a_block, homing, keeping, left}
 use Rattle.wol_model.specs.Journal.{SpindleState, Started, Began, Needed, Done, new_spindle, used, wakes, sleeps, units}
@@ -136,12 +137,6 @@ pub record Machine : Type 0 where
 -- a disk is used: it is needed, and then done with
 abbrev pub accessed : (timeout : ℕ) → SpindleState → SpindleState
 accessed timeout s = used timeout (used timeout s 0 Needed) 0 Done
-
--- what becomes of the element at a place
-abbrev pub changed_at : {X : Type 0} → (k : ℕ) → (X → X) → List X → List X
-changed_at k f [] = []
-changed_at zero f (x ∷ xs) = f x ∷ xs
-changed_at (suc k) f (x ∷ xs) = x ∷ changed_at k f xs
 
 -- disks are used, one after another
 abbrev pub all_accessed : (timeout : ℕ) → (uses : List ℕ) → List SpindleState → List SpindleState

@@ -2,7 +2,8 @@
 ghost use Rattle.std.specs.List.{AllByRecursion};
 ghost use Rattle.std.specs.Prelude.{◌≡◌, ◌<◌, ◌≤◌, ◌+◌, ◌-◌, ◌*◌, ◌^◌, ℕ, List, length, map, max};
 ghost use Rattle.whatif.specs.Disks.{AreDisks, IsDisk, IsKept, moments_of, standby_of};
-ghost use Rattle.whatif.specs.Machine.{accessed, changed_at};
+ghost use Rattle.wol_model.specs.Blocks.{changed_at};
+ghost use Rattle.whatif.specs.Machine.{accessed};
 ghost use Rattle.wol_model.specs.Journal.{SpindleState, Started, Began, ArePowers, new_spindle, used, wakes, sleeps, units};
 
 use crate::policy::Compared;

@@ -1,5 +1,5 @@
 -- Blocks, arrays of blocks, and what an array is after writes.
-use Rattle.std.specs.Prelude.{⊤, ◌≡◌, ◌≢◌, ◌<◌, ℕ, ◌+◌, ◌-◌, List, [], ◌∷◌, Option, None, unwrap_or, nat_le, if◌then◌else◌, slice_get, length}
+use Rattle.std.specs.Prelude.{⊤, ◌≡◌, ◌≢◌, ◌<◌, ℕ, zero, suc, ◌+◌, ◌-◌, List, [], ◌∷◌, Option, None, unwrap_or, nat_le, if◌then◌else◌, slice_get, length}
 use Rattle.std.specs.List.{AllByRecursion}
 use Rattle.std.specs.Option.{option_or}
 use Rattle.wol_disk.specs.Disk.{Block}
@@ -32,6 +32,12 @@ overlaid a over = overlaid_from 0 a over
 -- a's own
 unfoldable pub after : List Block → List Write → List Block
 after a ws = overlaid a (last_written ws)
+
+-- a list in which the element at this place becomes what f makes of it
+abbrev pub changed_at : {X : Type 0} → (place : ℕ) → (X → X) → List X → List X
+changed_at place f [] = []
+changed_at zero f (x ∷ xs) = f x ∷ xs
+changed_at (suc place) f (x ∷ xs) = x ∷ changed_at place f xs
 
 -- no two numbers are the same
 abbrev pub AreApart : List ℕ → Type 0

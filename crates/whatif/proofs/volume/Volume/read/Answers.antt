@@ -4,7 +4,8 @@ use Rattle.std.specs.List.{range_with_len}
 use Rattle.wol_model.specs.Index.{Listed, listed_in}
 use Rattle.wol_promise.specs.Policy.{Look, woken}
 use Rattle.whatif.specs.Disks.{AreDisks}
-use Rattle.whatif.specs.Machine.{Reach, accessed, all_accessed, changed_at, source_of}
+use Rattle.wol_model.specs.Blocks.{changed_at}
+use Rattle.whatif.specs.Machine.{Reach, accessed, all_accessed, source_of}
 use Rattle.whatif.specs.Volumes.{IsWithin, look_in, reach_in}
 use Rattle.whatif.proofs.Doing.{read_more, same_length, same_within, source_within}
 use Rattle.wol_promise.proofs.Woken.{woken_more, woken_none}

@@ -7,7 +7,8 @@ use Rattle.wol_model.specs.Placing.{Home, Log, Full}
 use Rattle.wol_promise.specs.Policy.{Look}
 use Rattle.whatif.specs.declared.volume.Volume.{Volume}
 use Rattle.whatif.specs.Disks.{AreDisks}
-use Rattle.whatif.specs.Machine.{Reach, accessed, changed_at}
+use Rattle.wol_model.specs.Blocks.{changed_at}
+use Rattle.whatif.specs.Machine.{Reach, accessed}
 use Rattle.whatif.specs.Volumes.{look_in, reach_in}
 use Rattle.whatif.proofs.Lists.{same_default}
 use Rattle.whatif.proofs.Steps.{logger_within}
