@@ -25,7 +25,8 @@ use Rattle.volume_images.specs.Volumes.{shape_in, shapes_of}
 use Rattle.rack.specs.Foreign.{AreForeign}
 use Rattle.rack.specs.Opens.{BeganWith, IsGone}
 use Rattle.rack.specs.Owners.{BeganInPlace, IsBegun, images_taken}
-use Rattle.rack.specs.Racks.{AreRising, IsClosable, IsOpenBase, IsRack, IsStation, KeepToViews, base_of_station}
+use Rattle.wol_model.specs.Index.{AreRising}
+use Rattle.rack.specs.Racks.{IsClosable, IsOpenBase, IsRack, IsStation, KeepToViews, base_of_station}
 use Rattle.rack.specs.Rests.{IsRest}
 use Rattle.rack_parts.specs.declared.rack.Rack.{Rack}
 use Rattle.open_rack.specs.Again.{IsPassAgain, IsRackAgain, IsStationAgain}

@@ -2,7 +2,7 @@
 use Rattle.rack.proofs.Basics.{◌≡◌, ⊎_elim, ℕ, ◌<◌, ◌≤◌, List, ◌∷◌, ◌++◌, length, Option, None, Some, refl, sym, ap, ◌∙◌, subst, arith, ◌⊎◌, inl, inr, ◌+◌, ◌^◌, map, vec_capacity, Bool}
 use Rattle.rack.proofs.Basics.{get_or, slice_get, IsSome, is_some, All, Contains, cases_lt, length_push, length-map, map_push, same_Some, slice_get_within, none-some, option_map_or}
 use Rattle.rack.proofs.Basics.{option_to_list, Global, Vec, All-push, Contains-push, Contains-push_cases, Contains-append_left, slice_index_or, [], nil_from_length, get_or_from_slice_get}
-use Rattle.rack.proofs.Basics.{◌≢◌, option_map, slice_range, IsTrue, slice_get-map, AllByRecursion, cases_eq}
+use Rattle.rack.proofs.Basics.{◌≢◌, option_map, slice_range, IsTrue, slice_get-map, AllByRecursion, cases_eq, zero, suc}
 use Rattle.rack.proofs.Terms.{State, Block, TellsContent, IsImageOf, BayState, Config, ManagerBase, image_here, IsRestBut, segment_here, away_with, AreRooms, AreRising, IsOpenBase}
 use Rattle.rack.proofs.Terms.{base_of_station, IsStation, IsUnused, IsClosable, KeepToViews, ImageRest, Rest, Rooms, Record, IsLog, IsValid, SegHead, Free, Owned, state_of, Spun, Station}
 use Rattle.rack.proofs.Terms.{place_of, Opening, shape_in, shapes_of, TakesOpening, IsOwnedPlace, loggers_out, said_at, view_at, fault_at, IsSaidOf, AreTried, IsOpeningRack, Said, Rack}
@@ -10,9 +10,10 @@ use Rattle.rack.proofs.Terms.{IsNewPass, TurnLock, PassOf, Manager, IsLocked, re
 use Rattle.rack.proofs.Terms.{VolumeConf, Base, shape_of, segment_head, HasView, Shared, Begins, StandsInOwned, Opens, IsListedOf, read_of, all_owned, records_in, writes_in, heads_in}
 use Rattle.rack.proofs.Terms.{recovered_of, AreIntact, HaveNoTwins, IsRecoverable, head_place, IsLeftHere, IsGone, images_taken, AreOwnedIn, BeganInPlace, IsBegun, IsOpeningOf, VolumeFault}
 use Rattle.rack_closing.proofs.Places.{some_at}
-use Rattle.rack_parts.proofs.Members.{segment_in_image, a_value, no_value, here_within, get_left, none_in, of_map}
+use Rattle.rack_parts.proofs.Members.{segment_in_image, a_value, no_value, here_within, none_in, of_map}
 use Rattle.rack.proofs.OpenAway.{open_away, owner_new, view_new, all_new, inside_new, base_new}
 use Rattle.rack.proofs.Openable.{image_id, said_id, ids_below, one_owner, owned_in_image, nowhere}
+use Rattle.wol_promise.proofs.Lists.{rising_push}
 use Rattle.wol_promise.specs.Stands.{next_version}
 use Rattle.rack_closing.proofs.CutParts.{reads_range}
 use Rattle.rack.proofs.OpeningOf.{sized, opening_of, read_at}
@@ -28,25 +29,10 @@ use Rattle.wol_model.specs.Heads as head
 all_push : {X : Type 0} (P : X → Type 0) (xs ys : List X) (x : X) → ys ≡ xs ++ x ∷ [] → All P xs → P x → All P ys
 all_push P xs ys x are all one = subst (All P) (sym are) (All-push P xs x all one)
 
--- one number more that is above all others
-pub rising_push : (ns : List ℕ) (n : ℕ) → AreRising ns → ((j m : ℕ) → slice_get ns j ≡ Some m → m < n) → AreRising (ns ++ n ∷ [])
-rising_push ns n rising above i j a c lt at at' =
-    let within = slice_get_within (ns ++ n ∷ []) j c at' in
-    let long = length_push ns n in
-    ⊎_elim
-    (λ (less : j < length ns). rising i j a c lt (sym (front i (omega (arith, lt, less))) ∙ at) (sym (front j less) ∙ at'))
-    (λ (last : length ns ≤ j).
-    let e : j ≡ length ns = omega (arith, last, within, long) in
-    let is : n ≡ c = same_Some n c (sym (behind ns n) ∙ sym (ap (λ (k : ℕ). slice_get (ns ++ n ∷ []) k) e) ∙ at') in
-    subst (λ (m : ℕ). a < m) is (above i a (sym (front i (omega (arith, lt, e))) ∙ at)))
-    (cases_lt j (length ns))
-  where
-    front : (k : ℕ) → k < length ns → slice_get (ns ++ n ∷ []) k ≡ slice_get ns k
-    front k less = let x = some_at ns k less in get_left ns (n ∷ []) k x.0 x.1 ∙ sym x.1
-
-    behind : (xs : List ℕ) (x : ℕ) → slice_get (xs ++ x ∷ []) (length xs) ≡ Some x
-    behind [] x = refl
-    behind (y ∷ xs) x = behind xs x
+-- a number that is above the one at each place is above all
+all_below : (n : ℕ) (ns : List ℕ) → ((j m : ℕ) → slice_get ns j ≡ Some m → m < n) → AllByRecursion (λ v. v < n) ns
+all_below n [] above = tt
+all_below n (x ∷ ns) above = (above zero x refl, all_below n ns (λ j m found. above (suc j) m found))
 
 -- ---- The rack may be closed once one volume more is open
 
@@ -104,7 +90,7 @@ module _ {D : Type 0} (state : D → State) (config : Config) (valid : IsValid c
         keepers = old.keepers;
         stations = all_push (λ (x : Station D). IsStation x) r.stations.items stations.items s stations_are old.stations station;
         rising = subst (λ (ns : List ℕ). AreRising ns) (sym ids_are) (rising_push (map (λ (x : Station D). x.id) r.stations.items) s.id old.rising
-            (λ j m found. subst (λ (n : ℕ). m < n) (sym s_id) (below j m found)));
+            (all_below s.id (map (λ (x : Station D). x.id) r.stations.items) (λ j m found. subst (λ (n : ℕ). m < n) (sym s_id) (below j m found))));
         bases = all_push (λ (x : Station D). IsOpenBase config r.shared new.images.items (base_of_station x)) r.stations.items stations.items s stations_are
             (λ j d within. base_stays config r.shared r.rest.images.items new.images.items (base_of_station (slice_index_or r.stations.items j d)) (λ k out. without.out_without state config said id view r.rest new o takes k ∙ out) (old.bases j d within)) base_ok;
         rest = record {

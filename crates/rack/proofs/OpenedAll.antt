@@ -341,7 +341,7 @@ module _ {D : Type 0} (state : D → State) (config : Config) (spindles : List (
             locks = first_locks;
             keepers = first_keepers;
             stations = subst (All (λ (s : Station D). IsStation s)) (sym none) (All-nil (λ (s : Station D). IsStation s));
-            rising = subst (λ (l : List (Station D)). AreRising (map (λ (s : Station D). s.id) l)) (sym none) (λ i j n m lt is other. absurd (none-some n is));
+            rising = subst (λ (l : List (Station D)). AreRising (map (λ (s : Station D). s.id) l)) (sym none) tt;
             bases = subst (All (λ (s : Station D). IsOpenBase config r.shared r.rest.images.items (base_of_station s))) (sym none) (All-nil (λ (s : Station D). IsOpenBase config r.shared r.rest.images.items (base_of_station s)));
             rest = subst (λ (l : List (Station D)). IsRest state config r.shared (map (λ (s : Station D). base_of_station s) l) r.rest) (sym none) (first_rest);
             foreign = subst (λ (l : List (Station D)). AreForeign state (map (λ (s : Station D). base_of_station s) l) r.rest) (sym none) (record {

@@ -47,7 +47,8 @@ pub use Rattle.rack_closing.specs.Opens.{HasFaulty, RefusesVolume, RefusesImage,
 pub use Rattle.rack_closing.specs.Owners.{images_taken, IsOwnedIn, IsOpeningOf, BeganInPlace, IsBegun, AreOwnedIn, HadRefused, RecoversSame}
 pub use Rattle.rack_parts.specs.Locks.{IsInOrder, AreSettled, AreSpindlesOf, IsWholeLock}
 pub use Rattle.rack_parts.specs.Parts.{TakesOpening, IsOwnedPlace, loggers_out, IsNewLane, IsBarePlace, CanPutLanes, IsOwedPlace, CanPutOwned, HasPlace, segments_of, IsUsablePlace, CanTake, segment_in, IsTakenOf, holder_by, IsHomeAway, IsSameBut, with_home, IsLaidOut, PutsOpening, IsSameRest, PutsManager, IsTogether, HasBack, of_head, IsIssuedPool, TakesFree, Supplies, in_image, CanIssue, Restores, IsRestored}
-pub use Rattle.rack_parts.specs.Racks.{AreOut, AreRising, IsOpenBase, base_of_station, IsStation, IsUnused, IsClosable, KeepToViews, IsRack, NamesVolumes, AreKeepers, AreUnused}
+pub use Rattle.wol_model.specs.Index.{AreRising}
+pub use Rattle.rack_parts.specs.Racks.{AreOut, IsOpenBase, base_of_station, IsStation, IsUnused, IsClosable, KeepToViews, IsRack, NamesVolumes, AreKeepers, AreUnused}
 pub use Rattle.rack_parts.specs.Rests.{image_here, IsImageOut, Away, IsRestBut, segment_here, held_here, away_with, AreRooms, IsRow, list_of, pool_pass, spindle_pass, IsPart, IsSpindleLock, IsImageRest, IsSegmentHere, indexes_here, AreImageRests, IsHolding, IsHeldHere, OnlyAccess, out_names, IsPoolLock, ArePoolPasses, AreSpindlePasses, AreHandedBack, ArePlaced, AreLocks, IsRest}
 pub use Rattle.rack_parts.specs.declared.heads_said.Said.{Said}
 pub use Rattle.rack_parts.specs.declared.locks.Issued.{Issued}

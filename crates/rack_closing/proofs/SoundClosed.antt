@@ -7,7 +7,7 @@ use Rattle.rack_closing.proofs.Terms.{IsLog, IsIdle, after, writes, flight_of, I
 use Rattle.rack_closing.proofs.Terms.{IsTold, AreLeftOfParts, segments_out, is_kept_home, recovered_out, ComesFrom, from_here, from_pool, from_manager, IsLogOfStation, IsClosedVolume, RecoversTo}
 use Rattle.rack_closing.proofs.Terms.{BeganWith, WereThere, IsBegun, images_taken, HadRefused, IsOpenBase, IsStation, base_of_station, image_here, IsImageOut, IsSegmentHere, ImageRest, Rack, Rest}
 use Rattle.rack_closing.proofs.Terms.{AreForeign, IsForeign, FollowsOn, OpensAgain, OpensCut}
-use Rattle.rack_parts.specs.Racks.{AreRising}
+use Rattle.wol_model.specs.Index.{AreRising}
 use Rattle.rack_parts.proofs.Members.{a_value, of_recursion, element_at, here_within, in_map}
 use Rattle.wol_model.specs.Recovered.{recovered}
 use Rattle.rack_closing.proofs.SoundBefore.{Fewer, none, fewer_same, fewer_distinct, fewer_image, fewer_images, none_of, IsClosed, IsOpen, other_log, sound_came, fewer_came, segments_are}

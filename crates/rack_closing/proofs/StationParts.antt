@@ -8,11 +8,12 @@ use Rattle.rack_closing.proofs.Terms.{Rest, Block, IsImageOf, Shape, Record, Hel
 use Rattle.rack_closing.proofs.Terms.{all_held, parts_of, IsReadyLane, Station, shapes_of, CanCloseStations, HasBack, AreComplete, Closing, IsClosing, home_here, IsOpenBase, base_of_station, IsStation}
 use Rattle.rack_closing.proofs.Terms.{segment_here, AreImageRests, IsDisk, TellsContent}
 use Rattle.rack_parts.specs.Closing.{IsRefilledAll}
-use Rattle.rack_parts.specs.Racks.{AreRising}
+use Rattle.wol_model.specs.Index.{AreRising}
 use Rattle.turn_lock.specs.Histories.{Entry}
 use Rattle.wol_config.specs.Configs.{IsValid}
 use Rattle.manager.specs.declared.manager.Manager.{Manager}
 use Rattle.rack_parts.proofs.Members.{a_value, element_at, here_within, in_map, of_recursion}
+use Rattle.rack_parts.proofs.Rising.{rising_at}
 use Rattle.rack_parts.specs.declared.rack.VolumePasses.{VolumePasses}
 use Rattle.rack_closing.proofs.Closable.{stations_may, blocks_at, image_was, images_rest, images_whole}
 use Rattle.rack_closing.proofs.HeldSegments.{of_held}
@@ -33,10 +34,10 @@ place_of {X} xs x has = slice_get-get_or xs has.0 x has.1 ∙ ap (λ (y : X). So
 pub one_place : {D : Type 0} (ss : List (Station D)) → AreRising (map (λ (s : Station D). s.id) ss) → (s t : Station D) (x : Contains ss s) (y : Contains ss t) → s.id ≡ t.id → x.0 ≡ y.0
 one_place {D} ss rising s t x y same =
     ⊎_elim
-    (λ (less : x.0 < y.0). let rise = rising x.0 y.0 s.id t.id less (id_at s x) (id_at t y) in absurd (omega (arith, rise, same)))
+    (λ (less : x.0 < y.0). let rise = rising_at (map (λ (w : Station D). w.id) ss) rising x.0 y.0 s.id t.id less (id_at s x) (id_at t y) in absurd (omega (arith, rise, same)))
     (λ (le : y.0 ≤ x.0).
     ⊎_elim
-    (λ (less : y.0 < x.0). let rise = rising y.0 x.0 t.id s.id less (id_at t y) (id_at s x) in absurd (omega (arith, rise, same)))
+    (λ (less : y.0 < x.0). let rise = rising_at (map (λ (w : Station D). w.id) ss) rising y.0 x.0 t.id s.id less (id_at t y) (id_at s x) in absurd (omega (arith, rise, same)))
     (λ (also : x.0 ≤ y.0). let e : x.0 ≡ y.0 = omega (arith, le, also) in e)
     (cases_lt y.0 x.0))
     (cases_lt x.0 y.0)

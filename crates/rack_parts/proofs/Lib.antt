@@ -4,6 +4,7 @@ pub mod LocksIssued
 pub mod SpindlesClosed
 pub mod GivenBack
 pub mod Members
+pub mod Rising
 pub mod ManagerBack
 pub mod StationsClosed
 pub mod PoolsClosed

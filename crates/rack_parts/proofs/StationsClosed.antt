@@ -8,8 +8,9 @@ use Rattle.rack_parts.proofs.Terms.{State, Config, Entry, AreWhole, PassOf, logg
 use Rattle.rack_parts.proofs.Terms.{Manager, ManagerParts, Station, shapes_of, away_with, IsRestBut, AreRooms, image_here, base_of_station}
 use Rattle.rack_parts.proofs.Terms.{IsOpenBase, IsStation, HasBack, CanPutLanes, IsHomeAway, PutsManager, CanCloseStations, ClosesStation}
 use Rattle.rack_parts.proofs.Terms.{Closing, IsClosing, KeepsButHome, ClosesStations, Rest, Rooms, ImageRest}
-use Rattle.rack_parts.specs.Racks.{AreRising}
+use Rattle.wol_model.specs.Index.{AreRising}
 use Rattle.rack_parts.proofs.ManagerBack.{lane_came, lanes_with, kept_all}
+use Rattle.rack_parts.proofs.Rising.{rising_at, rising_from}
 use Rattle.rack_parts.proofs.Members.{get_left, get_last, all_last, all_front, all_member, of_map, first_in, later_in}
 use Rattle.rack_parts.proofs.ManagerBack as back
 
@@ -55,7 +56,7 @@ module _ {D : Type 0} (state : D → State) (tells : Bool) (config : Config) (sh
       in_front : (t : Station D) → Contains before t → t.id ≡ s.id → ⊥
       in_front t is same =
           let at = slice_get-get_or before is.0 t is.1 ∙ ap (λ (x : Station D). Some x) is.2 in
-          let less = can.rising is.0 (length before) t.id s.id is.1 (number t is.0 (get_left before (s ∷ []) is.0 t at)) (number s (length before) (get_last before s (length before) refl)) in
+          let less = rising_at (map (λ (x : Station D). x.id) (before ++ s ∷ [])) can.rising is.0 (length before) t.id s.id is.1 (number t is.0 (get_left before (s ∷ []) is.0 t at)) (number s (length before) (get_last before s (length before) refl)) in
           omega (arith, less, same)
 
   pub home_away : IsHomeAway (record old { rooms = rooms }) s.id
@@ -85,7 +86,7 @@ module _ {D : Type 0} (state : D → State) (tells : Bool) (config : Config) (sh
             subst (λ (l : List ℕ). slice_get l i ≡ Some n) (sym (map_push (λ (t : Station D). t.id) before s)) (get_left (map (λ (t : Station D). t.id) before) (s.id ∷ []) i n is)
 
         rising : AreRising (map (λ (t : Station D). t.id) before)
-        rising i j x y less at_i at_j = can.rising i j x y less (longer i x at_i) (longer j y at_j)
+        rising = rising_from (map (λ (t : Station D). t.id) before) (λ i j x y less at_i at_j. rising_at (map (λ (t : Station D). t.id) (before ++ s ∷ [])) can.rising i j x y less (longer i x at_i) (longer j y at_j))
 
     -- the station is closed
     pub station_closed : AreWhole entries (s.worker ∷ s.helper ∷ s.keeper ∷ []) → ClosesStation tells state s old new
@@ -195,7 +196,7 @@ apart_behind {D} all n s rising at t has same =
     let place : length (drop (n + 1) all) ≡ length all - (n + 1) = length-drop (n + 1) all in
     let within : n + 1 + has.0 < length all = omega (arith, place, has.1) in
     let there : slice_get all (n + 1 + has.0) ≡ Some t = slice_get-get_or all (n + 1 + has.0) t within ∙ ap (λ (x : Station D). Some x) (sym (get_or-drop (n + 1) all has.0 t) ∙ has.2) in
-    let less = rising n (n + 1 + has.0) s.id t.id (omega arith)
+    let less = rising_at (map (λ (x : Station D). x.id) all) rising n (n + 1 + has.0) s.id t.id (omega arith)
     (slice_get-map (λ (x : Station D). x.id) all n ∙ ap (option_map (λ (x : Station D). x.id)) at)
     (slice_get-map (λ (x : Station D). x.id) all (n + 1 + has.0) ∙ ap (option_map (λ (x : Station D). x.id)) there) in
     absurd (omega (arith, less, same))

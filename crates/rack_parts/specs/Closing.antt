@@ -32,7 +32,8 @@ use Rattle.manager.specs.declared.manager.Manager.{Manager}
 use Rattle.manager.specs.declared.station.Station.{Station}
 use Rattle.volume_images.specs.Volumes.{shapes_of}
 use Rattle.rack_parts.specs.Rests.{image_here, segment_here, pool_pass, spindle_pass, held_here, indexes_here, away_with, IsImageOut, IsPoolLock, IsRow, IsImageRest, IsPart, IsHeldHere, IsHolding, AreLocks, OnlyAccess, IsRest, IsSpindleAway, out_names}
-use Rattle.rack_parts.specs.Racks.{base_of_station, IsOpenBase, IsStation, AreRising}
+use Rattle.wol_model.specs.Index.{AreRising}
+use Rattle.rack_parts.specs.Racks.{base_of_station, IsOpenBase, IsStation}
 use Rattle.rack_parts.specs.Parts.{IsSameBut, IsTogether, IsBlankPart, HasBack, KeepsPlace, KeepsRows, KeepsImage, segment_in}
 use Rattle.rack_parts.specs.declared.rack.ImageRest.{ImageRest}
 use Rattle.rack_parts.specs.declared.rack.Rest.{Rest}

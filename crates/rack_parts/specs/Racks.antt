@@ -15,6 +15,7 @@ use Rattle.seg_pool.specs.declared.base.PoolBase.{PoolBase}
 use Rattle.seg_pool.specs.declared.pool.Pool.{Pool}
 use Rattle.log_segment.specs.declared.free.FreeSegment.{FreeSegment}
 use Rattle.wol_model.specs.History.{worker, helper, keeper}
+use Rattle.wol_model.specs.Index.{AreRising}
 use Rattle.logger.specs.declared.shared.Shared.{Shared}
 use Rattle.manager.specs.Stands.{IsShared}
 use Rattle.manager.specs.declared.base.LaneBase.{LaneBase}
@@ -64,10 +65,6 @@ pub record IsStation {D : Type 0} (s : Station D) : Type 0 where
   pub worker_ : IsPassAt s.lock worker s.worker
   pub helper_ : IsPassAt s.lock helper s.helper
   pub keeper_ : IsPassAt s.lock keeper s.keeper
-
--- the numbers rise
-abbrev pub AreRising : List ℕ → Type 0
-AreRising ns = (i j n m : ℕ) → i < j → slice_get ns i ≡ Some n → slice_get ns j ≡ Some m → n < m
 
 -- a keeper's pass of each spindle's lock, in no turn
 abbrev pub AreKeepers : {D : Type 0} → Config → Shared D → List (PassOf Spindle SpindleBase)

@@ -9,6 +9,7 @@ use Rattle.replay.proofs.Terms.{OnlyAccess, ImageRest, Rack, Rest, ManagerLock, 
 use Rattle.replay.proofs.Terms.{none_closed, CanServe, locks_of, AreSamePasses}
 use Rattle.turn_lock.specs.declared.lock.TurnLock.{TurnLock}
 use Rattle.rack.specs.Foreign.{AreForeign}
+use Rattle.rack_parts.proofs.Rising.{rising_at, rising_from}
 
 -- ---- Places in lists
 
@@ -58,8 +59,8 @@ in_order m (x ∷ xs) count bounds rising has =
     let (low, high) = bounds zero x refl in
     let first : x ≡ m = at (has m (omega arith) (omega (arith, low, high))) low in
     let (each, all) = in_order (m + 1) xs count
-    (λ j n there. (let above = rising zero (suc j) x n (omega arith) refl there in omega (arith, above, first), (bounds (suc j) n there).1))
-    (λ i j n o less here there. rising (suc i) (suc j) n o (omega (arith, less)) here there)
+    (λ j n there. (let above = rising_at (x ∷ xs) rising zero (suc j) x n (omega arith) refl there in omega (arith, above, first), (bounds (suc j) n there).1))
+    rising.1
     (λ k above below. rest k above (has k (omega (arith, above)) below) first) in (
       λ j n there. place j n there first each,
       λ most. (let so = all (omega (arith, first, high)) in omega (arith, so)),
@@ -69,7 +70,7 @@ in_order m (x ∷ xs) count bounds rising has =
     at (zero, less, is) low = is
     at (suc j, less, is) low =
         let here : slice_get xs j ≡ Some m = there_at xs j m (omega (arith, less)) ∙ ap (λ (n : ℕ). Some n) is in
-        let above : x < m = rising zero (suc j) x m (omega arith) refl here in
+        let above : x < m = rising_at (x ∷ xs) rising zero (suc j) x m (omega arith) refl here in
         absurd (omega (arith, above, low))
 
     rest : (k : ℕ) → m + 1 ≤ k → Contains (x ∷ xs) k → x ≡ m → Contains xs k
@@ -218,7 +219,7 @@ module _ {D : Type 0} (state : D → State) (config : Config) (b : BayState) (ol
       helper_ = s.helper_;
       keeper_ = s.keeper_;
     });
-    rising = λ i j n m less here there. (let a = id_at i n here in let c = id_at j m there in omega (arith, less, a, c));
+    rising = rising_from (map (λ (s : Station D). s.id) new.stations.items) (λ i j n m less here there. (let a = id_at i n here in let c = id_at j m there in omega (arith, less, a, c)));
     bases = all_unmapped (λ (x : ManagerBase). IsOpenBase config new.shared new.rest.images.items x) (λ (s : Station D). base_of_station s) new.stations.items
         (subst (λ (bs : List ManagerBase). All (λ (x : ManagerBase). IsOpenBase config new.shared new.rest.images.items x) bs) (sym bases_same)
         (subst (λ (s : Shared D). All (λ (x : ManagerBase). IsOpenBase config s new.rest.images.items x) (bases old)) (sym shared_same)

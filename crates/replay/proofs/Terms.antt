@@ -43,7 +43,8 @@ pub use Rattle.rack.specs.Closes.{CameBackFaulty, HasFaultyPart, IsClosedVolume,
 pub use Rattle.rack.specs.Opens.{KeepsAllSound, BeganWith, HadSegmentBefore, IsGone, IsLeftHere, WereThere, HasFaulty, AreRefused, LeavesAll, RefusesVolume}
 pub use Rattle.rack.specs.Owners.{BeganInPlace, HadRefused, IsBegun, images_taken}
 pub use Rattle.rack.specs.PoolUses.{ArePools, PassesEmpty, TakesFew}
-pub use Rattle.rack.specs.Racks.{AreUnused, IsUnused, base_of_station, IsClosable, IsRack, KeepToViews, AreOut, AreRising, IsOpenBase}
+pub use Rattle.wol_model.specs.Index.{AreRising}
+pub use Rattle.rack.specs.Racks.{AreUnused, IsUnused, base_of_station, IsClosable, IsRack, KeepToViews, AreOut, IsOpenBase}
 pub use Rattle.rack.specs.Rests.{IsImageOut, IsSegmentHere, held_here, image_here, spindle_pass, AreLocks, IsRest, OnlyAccess, out_names}
 pub use Rattle.errands.specs.declared.ends.Errands.{Errands}
 pub use Rattle.msr_trace.specs.Lines.{is_feed, trace_line}

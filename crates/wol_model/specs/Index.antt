@@ -87,7 +87,7 @@ keeping es e = record e {
   homed = remarked e.first e.homed (λ b m. m && not (goes es e b));
 }
 
--- versions that rise
+-- numbers that rise
 abbrev pub AreRising : List ℕ → Type 0
 AreRising [] = ⊤
 AreRising (v ∷ vs) = AllByRecursion (λ w. v < w) vs × AreRising vs
