@@ -1,0 +1,1 @@
+pub use Rattle.wol_model.specs.Journal

@@ -1,7 +1,8 @@
 -- What is printed of a run that was done: its reads, what it formatted, what it counted, and what
 -- its disks used.
-use Rattle.std.specs.Prelude.{ℕ, ◌++◌, ◌/◌, List, [], ◌∷◌, codes, decimal, sum_by, Option, None, Some}
+use Rattle.std.specs.Prelude.{ℕ, ◌++◌, List, [], ◌∷◌, codes, decimal, sum_by, Option, None, Some}
 use Rattle.std.specs.List.{flat_map, zip}
+use Rattle.energy.specs.Journal.{millijoules}
 use Rattle.energy.specs.declared.Amounts.{Amounts}
 use Rattle.report.specs.declared.totals.Totals.{Totals}
 use Rattle.report.specs.Words.{line_of}
@@ -41,16 +42,12 @@ places_text t =
     ∷ [])
     ++ line_of (codes "span" ∷ decimal t.span ∷ [])
 
--- energy in mJ, rounded down, of units of 100 pJ
-abbrev pub energy_of : (units : ℕ) → ℕ
-energy_of units = units / 10000000
-
 -- what the disk of one volume used
 unfoldable pub volume_text : (name : List ℕ) → Amounts → List ℕ
 volume_text name a =
     line_of (codes "volume" ∷ name ∷ codes "wakes" ∷ decimal a.wakes ∷ codes "sleeps"
     ∷ decimal a.sleeps ∷ codes "awake" ∷ decimal a.awake
-    ∷ codes "standby" ∷ decimal a.standby ∷ codes "energy" ∷ decimal (energy_of a.units) ∷ [])
+    ∷ codes "standby" ∷ decimal a.standby ∷ codes "energy" ∷ decimal (millijoules a.units) ∷ [])
 
 -- what the disks of the volumes used, a line for each volume in order
 abbrev pub volumes_text : (names : List (List ℕ)) → List Amounts → List ℕ
@@ -69,7 +66,7 @@ units_of amounts = sum_by (λ (a : Amounts). a.units) amounts
 unfoldable pub total_text : List Amounts → List ℕ
 total_text amounts =
     line_of (codes "total wakes" ∷ decimal (wakes_of amounts) ∷ codes "sleeps"
-    ∷ decimal (sleeps_of amounts) ∷ codes "energy" ∷ decimal (energy_of (units_of amounts))
+    ∷ decimal (sleeps_of amounts) ∷ codes "energy" ∷ decimal (millijoules (units_of amounts))
     ∷ [])
 
 -- the summary of a run over volumes of these names

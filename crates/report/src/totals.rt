@@ -1,6 +1,7 @@
 // What is printed at the end of a run.
+ghost use Rattle.energy.specs.Journal.{millijoules};
 ghost use Rattle.report.specs.Names.{printed_names};
-ghost use Rattle.report.specs.Summaries.{energy_of, places_text, requests_text, sleeps_of, solo_text, summary_text, total_text, units_of, volume_text, volumes_text, wakes_of};
+ghost use Rattle.report.specs.Summaries.{places_text, requests_text, sleeps_of, solo_text, summary_text, total_text, units_of, volume_text, volumes_text, wakes_of};
 ghost use Rattle.std.specs.Io.{StartsWith};
 ghost use Rattle.std.specs.Prelude.{◌≡◌, ◌++◌, ◌≤◌, ◌<◌, ◌^◌, length, OnOk, OnErr};
 
@@ -248,7 +249,7 @@ fn sum_up(amounts: &[Amounts]) -> Sums
 
 // Energy in mJ, rounded down.
 fn millijoules(units: u128) -> u128
-    ensures { result ≡ energy_of units }
+    ensures { result ≡ millijoules units }
 {
     units / 10_000_000
 }

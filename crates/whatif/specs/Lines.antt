@@ -1,7 +1,7 @@
 -- What is printed of the policies.
-use Rattle.std.specs.Prelude.{ℕ, ◌/◌, List, [], ◌∷◌, ◌++◌, codes, decimal}
+use Rattle.std.specs.Prelude.{ℕ, List, [], ◌∷◌, ◌++◌, codes, decimal}
+use Rattle.wol_model.specs.Journal.{millijoules}
 use Rattle.report.specs.Words.{line_of}
-use Rattle.report.specs.Summaries.{energy_of}
 use Rattle.wol_config.specs.declared.config.Config.{Config}
 use Rattle.whatif.specs.declared.policy.Policy.{Policy}
 use Rattle.whatif.specs.declared.policy.Policy.TheVariants.{Always, SpinDown, Host, All}
@@ -19,7 +19,7 @@ name_of All = codes "all"
 -- the line of a policy: how often disks woke and slept, and the energy in mJ
 unfoldable pub policy_text : Policy → Compared → List ℕ
 policy_text p c = line_of (name_of p ∷ codes "wakes" ∷ decimal c.wakes ∷ codes "sleeps"
-    ∷ decimal c.sleeps ∷ codes "energy" ∷ decimal (energy_of c.units) ∷ [])
+    ∷ decimal c.sleeps ∷ codes "energy" ∷ decimal (millijoules c.units) ∷ [])
 
 -- the four lines of windows
 unfoldable pub whatif_text : Config → (from : ℕ) → List Asked → (to : ℕ) → List ℕ
