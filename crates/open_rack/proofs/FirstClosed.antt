@@ -1,10 +1,10 @@
 -- The first volume that isn't open, and why.
 use Rattle.std.proofs.Common.{◌≡◌, ◌<◌, ◌+◌, ℕ, zero, suc, Bool, true, false, List, [], ◌∷◌, length, map, refl, sym, ap, subst, ◌∙◌, Option, None, Some, arith}
-use Rattle.std.specs.Prelude.{Contains, IfSome, IsTrue, slice_get, slice_index_or}
-use Rattle.std.specs.List.{AllByRecursion}
+use Rattle.std.specs.Prelude.{Contains, IfSome, IsTrue, not, slice_get, slice_index_or}
 use Rattle.std.proofs.lemmas.List.{length-map}
 use Rattle.std.proofs.lemmas.Option.{slice_get_within, slice_get-get_or, get_or_from_slice_get}
 use Rattle.wol_disk.specs.Disk.{Rose, State}
+use Rattle.wol_promise.proofs.Lists.{all_map}
 use Rattle.wol_bay.specs.Bay.{BayState, Told}
 use Rattle.wol_config.specs.declared.config.Config.{Config}
 use Rattle.wol_config.specs.declared.config.VolumeConf.{VolumeConf}
@@ -19,9 +19,9 @@ use Rattle.volume_images.specs.Refusals.{IsCallFault}
 use Rattle.volume_images.specs.Volumes.{shape_in, shapes_of}
 use Rattle.volume_images.specs.declared.reading.ImageFault.{ImageFault}
 use Rattle.volume_images.specs.declared.reading.ImageFault.TheVariants as image
-use Rattle.rack.specs.Closes.{CameBackFaulty}
+use Rattle.rack.specs.Closes.{CameBackFaulty, is_kept_home}
 use Rattle.rack.specs.Opens.{AreRefused, BeganWith, RefusesVolume, WereThere, fault_in_image}
-use Rattle.rack.specs.Owners.{IsBegun, images_taken}
+use Rattle.rack.specs.Owners.{IsBegun, WasOpened, images_taken}
 use Rattle.rack.specs.Racks.{IsOpenBase, IsRack, IsStation, NamesVolumes, base_of_station}
 use Rattle.rack.specs.Rests.{IsImageOut}
 use Rattle.rack_parts.specs.declared.rack.ImageRest.{ImageRest}
@@ -29,7 +29,7 @@ use Rattle.rack_parts.specs.declared.rack.Rack.{Rack}
 use Rattle.rack_parts.specs.declared.volume_fault.VolumeFault.{VolumeFault}
 use Rattle.rack_parts.specs.declared.volume_fault.VolumeFault.TheVariants as fault
 use Rattle.rack_closing.proofs.Places.{some_at}
-use Rattle.open_rack.specs.NotOpened.{IsFirstClosed, IsOfCall, IsOpened, first_closed}
+use Rattle.open_rack.specs.NotOpened.{IsFirstClosed, IsOfCall, first_closed}
 use Rattle.open_rack.proofs.Since.{all_at, out_of, refused_missing, unmapped}
 
 -- ---- Which volume
@@ -94,7 +94,7 @@ module _ {D : Type 0} (state : D → State) (config : Config) (b : BayState) (r 
   opened_out j lt none = out_of state config b r is j ((is.faults j lt).0 none)
 
   -- it has a station, which was opened
-  pub opened_at : (t : Told) → BeganWith state config t r → (j : ℕ) → j < length (shapes_of config) → slice_index_or r.faults.items j None ≡ None → IsOpened config r.rest.images.items t j
+  pub opened_at : (t : Told) → BeganWith state config t r → (j : ℕ) → j < length (shapes_of config) → slice_index_or r.faults.items j None ≡ None → WasOpened config (is_kept_home r.rest.images.items) t j
   opened_at t began j lt none =
       let (at, less, id) = (is.faults j lt).0 none in
       let (s, there, same) = unmapped (λ (s : Station D). s.id) r.stations.items at j (slice_get-get_or (map (λ (s : Station D). s.id) r.stations.items) at j less ∙ ap (λ (n : ℕ). Some n) id) in
@@ -102,17 +102,19 @@ module _ {D : Type 0} (state : D → State) (config : Config) (b : BayState) (r 
         base = (base_of_station s).volume.began;
         owner = (all_at (λ (x : Station D). IsStation x) r.stations.items at s is.stations there).id ∙ same;
         begun = all_at (λ (x : Station D). IsBegun config (images_taken config r.rest.images.items t) (base_of_station x).volume.began) r.stations.items at s began.stations there;
-        loggers = (all_at (λ (x : Station D). IsOpenBase config r.shared r.rest.images.items (base_of_station x)) r.stations.items at s is.bases there).loggers_out;
+        loggers =
+            all_map (IsImageOut r.rest.images.items) (λ l. is_kept_home r.rest.images.items l ≡ false) (λ l out. ap not out) (base_of_station s).volume.began.view
+            (all_at (λ (x : Station D). IsOpenBase config r.shared r.rest.images.items (base_of_station x)) r.stations.items at s is.bases there).loggers_out;
       }
 
   module _ (tells : Bool) (old new : BayState) (refused : AreRefused tells state config old new r)
       (failed : (k : ℕ) (p : Part) → slice_get r.faults.items k ≡ Some (Some (fault.Refused (refusal.DiskFault p))) → Rose old.faults new.faults)
       (part : (k : ℕ) (p : Part) → slice_get r.faults.items k ≡ Some (Some (fault.Refused (refusal.DiskFault p))) → IsTold (CameBackFaulty config p) old.told new.told)
       (began : IsTrue tells → IfSome old.told (λ t. BeganWith state config t r)) (there : IsTrue tells → IfSome old.told (λ t. WereThere config r.rest.images.items t)) where
-    opened_before : (j : ℕ) → j < length (shapes_of config) → slice_index_or r.faults.items j None ≡ None → IsTrue tells → IfSome old.told (λ t. IsOpened config r.rest.images.items t j)
+    opened_before : (j : ℕ) → j < length (shapes_of config) → slice_index_or r.faults.items j None ≡ None → IsTrue tells → IfSome old.told (λ t. WasOpened config (is_kept_home r.rest.images.items) t j)
     opened_before j lt none telling = at old.told (began telling)
       where
-        at : (o : Option Told) → IfSome o (λ t. BeganWith state config t r) → IfSome o (λ t. IsOpened config r.rest.images.items t j)
+        at : (o : Option Told) → IfSome o (λ t. BeganWith state config t r) → IfSome o (λ t. WasOpened config (is_kept_home r.rest.images.items) t j)
         at None all = tt
         at (Some t) all = opened_at t all j lt none
 

@@ -1,10 +1,8 @@
 -- The first volume that isn't open, and what a bay is left with where not all volumes could be
 -- opened.
 use Rattle.std.specs.Prelude.{⊤, ◌≡◌, ◌<◌, ◌+◌, ℕ, Bool, List, [], ◌∷◌, length, Option, None, Some, IfSome, slice_get, IsTrue}
-use Rattle.std.specs.List.{AllByRecursion}
 use Rattle.wol_disk.specs.Disk.{Rose, State}
-use Rattle.wol_bay.specs.Bay.{BayState, Told}
-use Rattle.wol_promise.specs.Manager.{Base}
+use Rattle.wol_bay.specs.Bay.{BayState}
 use Rattle.wol_config.specs.declared.config.Config.{Config}
 use Rattle.wol_config.specs.declared.config.VolumeConf.{VolumeConf}
 use Rattle.manager.specs.declared.part.Part.{Part}
@@ -13,9 +11,9 @@ use Rattle.volume_images.specs.Left.{IsTold}
 use Rattle.report.specs.declared.fault.Fault.{Fault}
 use Rattle.report.specs.declared.fault.Fault.TheVariants.{Volume}
 use Rattle.troubles.specs.Troubles.{trouble_of}
-use Rattle.rack.specs.Closes.{CameBackFaulty}
+use Rattle.rack.specs.Closes.{CameBackFaulty, is_kept_home}
 use Rattle.rack.specs.Opens.{KeepsAllSound, LeavesAll, RefusesVolume, WereThere}
-use Rattle.rack.specs.Owners.{IsBegun, images_taken}
+use Rattle.rack.specs.Owners.{WasOpened}
 use Rattle.rack.specs.Racks.{NamesVolumes}
 use Rattle.rack.specs.Rests.{IsImageOut, image_here}
 use Rattle.rack_parts.specs.declared.rack.ImageRest.{ImageRest}
@@ -42,15 +40,6 @@ IsOfCall (fault.Refused (refusal.Damaged volume block)) = ⊥
 IsOfCall (fault.Refused (refusal.Twins first_volume first second_volume second)) = ⊥
 IsOfCall (fault.Refused refusal.NoMemory) = ⊥
 
--- Volume j was opened of these images: its own and those of the loggers of its view were handed
--- out.
-pub record IsOpened {D : Type 0} (config : Config) (out : List (Option (ImageRest D)))
-    (entry : Told) (j : ℕ) : Type 0 where
-  pub base : Base
-  pub owner : base.owner ≡ j
-  pub begun : IsBegun config (images_taken config out entry) base
-  pub loggers : AllByRecursion (IsImageOut out) base.view
-
 -- Volume k is the first that isn't open, and is so for its first cause: those before it were
 -- opened, each image that was handed out was there and may be opened as it reads, and each other
 -- one was refused. Where a call failed the bay's count rose, and the part that is named came back
@@ -64,7 +53,8 @@ pub record IsFirstClosed {D : Type 0} (tells : Bool) (state : D → State) (conf
       → (g : VolumeFault) × RefusesVolume tells state config out old new j v g
   pub there : IsTrue tells → IfSome old.told (λ t. WereThere config out t)
   pub before : (j : ℕ) → j < k
-      → IsImageOut out j × (IsTrue tells → IfSome old.told (λ t. IsOpened config out t j))
+      → IsImageOut out j
+      × (IsTrue tells → IfSome old.told (λ t. WasOpened config (is_kept_home out) t j))
   pub conf : VolumeConf
   pub conf_is : slice_get config.volumes.items k ≡ Some conf
   pub refused : RefusesVolume tells state config out old new k conf f

@@ -1,12 +1,13 @@
 -- Why each command ended with its status.
 use Rattle.std.proofs.Common.{◌≡◌, ◌≢◌, ◌⊎◌, inl, inr, ℕ, zero, suc, ◌<◌, Bool, true, false, List, [], ◌∷◌, Option, None, Some, Result, Ok, Err, refl, sym, ap, subst, ◌∙◌, true≢false, arith}
-use Rattle.rack.specs.Closes.{part_named}
-use Rattle.std.specs.Prelude.{IfSome, IsTrue, codes, slice_get}
+use Rattle.rack.specs.Closes.{is_kept_home, part_named}
+use Rattle.std.specs.Prelude.{IfSome, IsTrue, codes, not, slice_get}
 use Rattle.std.specs.Io.KnownBytes.{IsAtEnd}
 use Rattle.std.proofs.lemmas.Option.{same_Some}
 use Rattle.wol_disk.specs.Disk.{Rose, State}
 use Rattle.wol_bay.specs.Bay.{Told}
 use Rattle.wol_model.specs.Trace.{TraceLine}
+use Rattle.wol_promise.proofs.Lists.{all_map}
 use Rattle.wol_config.specs.declared.config.Config.{Config}
 use Rattle.wol_config.specs.declared.config.VolumeConf.{VolumeConf}
 use Rattle.report.specs.Faults.{fault_text, status_of}
@@ -28,9 +29,10 @@ use Rattle.replay.specs.Ended.{EndsFor, HasRefusedWrite, whole, no_line, refused
 use Rattle.comparison.specs.Compares.{EndsBehind}
 use Rattle.comparison.specs.Compares as behind
 use Rattle.replay.specs.Givens.{HasGivenAll, Refuses}
-use Rattle.replay.specs.NotOpened.{IsFirstClosed, IsOpened}
+use Rattle.replay.specs.NotOpened.{IsFirstClosed}
 use Rattle.rack.specs.Opens.{RefusesVolume, WereThere}
-use Rattle.rack.specs.Rests.{image_here}
+use Rattle.rack.specs.Owners.{WasOpened}
+use Rattle.rack.specs.Rests.{IsImageOut, image_here}
 use Rattle.rack_parts.specs.declared.rack.ImageRest.{ImageRest}
 use Rattle.rack_parts.specs.declared.volume_fault.VolumeFault.{VolumeFault}
 use Rattle.replay.specs.Replays.{Replayed, Replays, closed, no_memory, ran}
@@ -241,7 +243,7 @@ module _ {D : Type 0} (tells : Bool) (state : D → State) (words : List (List �
       refused_cause : (config : Config) → HasConfig before.config.bytes config → (k : ℕ) (conf : VolumeConf) (out : List (Option (ImageRest D))) (f : VolumeFault) → slice_get config.volumes.items k ≡ Some conf
           → ((j : ℕ) (v : VolumeConf) → slice_get config.volumes.items j ≡ Some v → image_here out j ≡ None → (e : VolumeFault) × RefusesVolume tells state config out before.bay after.bay j v e)
           → (IsTrue tells → IfSome before.bay.told (λ t. WereThere config out t)) → RefusesVolume tells state config out before.bay after.bay k conf f
-          → ((j : ℕ) → j < k → IsTrue tells → IfSome before.bay.told (λ images. IsOpened config out images j)) → (trouble_status (trouble_of f) ≡ 4 → Rose before.bay.faults after.bay.faults) → Cause (trouble_status (trouble_of f))
+          → ((j : ℕ) → j < k → IsTrue tells → IfSome before.bay.told (λ images. WasOpened config (is_kept_home out) images j)) → (trouble_status (trouble_of f) ≡ 4 → Rose before.bay.faults after.bay.faults) → Cause (trouble_status (trouble_of f))
       refused_cause config has k conf out f conf_is missing there refuses first =
           trouble_cause for_config for_bay (trouble_of f) (record { config = config; has = has; volume = k; conf = conf; conf_is = conf_is; out = out; missing = missing; there = there; fault = f; refused = refuses; status_is = refl; first = first })
 
@@ -257,10 +259,16 @@ module _ {D : Type 0} (tells : Bool) (state : D → State) (words : List (List �
 
       -- a volume that was told in order was opened
       was_opened : (config : Config) (what : Asked) (told : List Telling) (are : AreTold tells state what config before.bay after.bay told) (j : ℕ) (u : Telling) → slice_get told j ≡ Some u → u.trouble ≡ None
-          → IsTrue tells → IfSome before.bay.told (λ images. IsOpened config are.out images j)
+          → IsTrue tells → IfSome before.bay.told (λ images. WasOpened config (is_kept_home are.out) images j)
       was_opened config what told are j u here none telling = elim (are.each j u here) [
         | inl refusal ↦ absurd (let no : None ≡ Some (trouble_of refusal.fault) = sym none ∙ refusal.trouble in cc)
-        | inr (inl order) ↦ if_told _ _ before.bay.told (λ images o. record { base = o.base.volume.began; owner = o.owner; begun = o.began; loggers = o.loggers_out }) (order.lines_ telling)
+        | inr (inl order) ↦
+            if_told _ _ before.bay.told (λ images o. record {
+              base = o.base.volume.began;
+              owner = o.owner;
+              begun = o.began;
+              loggers = all_map (IsImageOut are.out) (λ l. is_kept_home are.out l ≡ false) (λ l out. ap not out) o.base.volume.began.view o.loggers_out;
+            }) (order.lines_ telling)
         | inr (inr part) ↦ absurd (let no : None ≡ Some _ = sym none ∙ part.trouble in cc)
       ]
 

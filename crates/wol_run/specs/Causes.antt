@@ -9,8 +9,9 @@ use Rattle.wol_config.specs.declared.config.Config.{Config}
 use Rattle.wol_config.specs.declared.config.VolumeConf.{VolumeConf}
 use Rattle.volume_images.specs.Left.{IsTold}
 use Rattle.volume_images.specs.Volumes.{images_read}
+use Rattle.rack.specs.Closes.{is_kept_home}
 use Rattle.rack.specs.Opens.{RefusesVolume, WereThere}
-use Rattle.rack.specs.Owners.{IsBegun}
+use Rattle.rack.specs.Owners.{IsBegun, WasOpened}
 use Rattle.rack.specs.Rests.{image_here}
 use Rattle.rack_parts.specs.declared.rack.ImageRest.{ImageRest}
 use Rattle.rack_parts.specs.declared.volume_fault.VolumeFault.{VolumeFault}
@@ -20,7 +21,6 @@ use Rattle.troubles.specs.Troubles.{trouble_of}
 use Rattle.trace_gen.specs.Generated.{targets_of}
 use Rattle.replay.specs.Completes.{writes_to}
 use Rattle.replay.specs.Givens.{HasGiven}
-use Rattle.replay.specs.NotOpened.{IsOpened}
 use Rattle.replay.specs.declared.session.Options.{Options as Serving}
 use Rattle.cleaning.specs.Runs.{LacksVersions}
 use Rattle.command_words.specs.Commands.{IsCommand, NoCommand}
@@ -67,7 +67,7 @@ pub record IsClosedFor {D : Type 0} (tells : Bool) (state : D → State) (before
   pub refused : RefusesVolume tells state config out before.bay after.bay volume conf fault
   pub status_is : trouble_status (trouble_of fault) ≡ status
   pub first : (j : ℕ) → j < volume → IsTrue tells
-      → IfSome before.bay.told (λ images. IsOpened config out images j)
+      → IfSome before.bay.told (λ images. WasOpened config (is_kept_home out) images j)
 
 -- how a command replays lines on the volumes, and which; none of another command
 abbrev pub replayed_by : Command → (trace : Option (List ℕ)) → Option (Serving × GivenLines)
