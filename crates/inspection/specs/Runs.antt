@@ -2,7 +2,7 @@
 use Rattle.std.specs.Prelude.{◌≡◌, ◌≢◌, ◌⊎◌, ◌≤◌, ℕ, Bool, List, [], length, Option, None, Some, Result, Ok, Err, IfSome, slice_get, IsTrue}
 use Rattle.std.specs.List.{AllByRecursion}
 use Rattle.wol_disk.specs.Disk.{State, Rose}
-use Rattle.wol_model.specs.Images.{AreSound, recovered_from}
+use Rattle.wol_model.specs.Images.{recovered_from}
 use Rattle.wol_bay.specs.Bay.{Told, BayState}
 use Rattle.wol_promise.specs.Manager.{Base}
 use Rattle.wol_promise.specs.Policy.{PartName}
@@ -21,12 +21,13 @@ use Rattle.report.specs.Troubles.{trouble_status}
 use Rattle.report.specs.declared.trouble.Trouble.{Trouble}
 use Rattle.troubles.specs.Troubles.{trouble_of, trouble_of_part}
 use Rattle.volume_images.specs.Left.{IsTold}
-use Rattle.volume_images.specs.Volumes.{images_read, shapes_of}
+use Rattle.volume_images.specs.Volumes.{shapes_of}
 use Rattle.rack.specs.Closes.{CameBackFaulty, HasFaultyPart, part_named}
 use Rattle.rack.specs.Opens.{RefusesVolume, WereThere}
 use Rattle.rack.specs.Owners.{images_taken, IsBegun, StandAsRead}
 use Rattle.rack.specs.Racks.{NamesVolumes}
 use Rattle.rack.specs.Rests.{IsImageOut, image_here}
+pub use Rattle.open_rack.specs.Sessions.{MayComplete}
 use Rattle.rack_parts.specs.declared.rack.ImageRest.{ImageRest}
 use Rattle.rack_parts.specs.declared.volume_fault.VolumeFault.{VolumeFault}
 use Rattle.rack_parts.specs.declared.volume_fault.VolumeFault.TheVariants.{Refused}
@@ -130,17 +131,6 @@ pub record Inspects {D : Type 0} (tells : Bool) (state : D → State) (config : 
   pub each : (k : ℕ) (t : Telling) → slice_get told k ≡ Some t
       → IsToldOf tells state config asked out old new k t
   pub prints : PrintsBy result config told faults faults' printed printed'
-
--- Nothing stands in the way of a look: the images at entry are sound as they read, and no call
--- failed.
-pub record MayComplete (tells : Bool) (config : Config) (old new : BayState) (sink sink' : ℕ) :
-    Type 0 where
-  pub telling : IsTrue tells
-  pub entry : Told
-  pub entry_is : old.told ≡ Some entry
-  pub sound : AreSound (shapes_of config) (images_read config entry)
-  pub bay_calm : Rose old.faults new.faults → ⊥
-  pub sink_calm : Rose sink sink' → ⊥
 
 -- all volumes are in order, or there was no memory
 abbrev pub Completes : Result (Option Trouble) Stop → Type 0

@@ -97,3 +97,14 @@ pub record OpensAndCloses {D : Type 0} (tells : Bool) (state : D → State) (con
       → IsTold (LeavesOpen config after) old.told new.told
   pub left : IsTrue tells → All (λ s. IsQuiet s) after.stations.items
       → IsTold (LeavesAll tells state config old new) old.told new.told
+
+-- Nothing stands in the way of a command that opens all volumes: the images at entry are sound as
+-- they read, and no call failed.
+pub record MayComplete (tells : Bool) (config : Config) (old new : BayState) (sink sink' : ℕ) :
+    Type 0 where
+  pub telling : IsTrue tells
+  pub entry : Told
+  pub entry_is : old.told ≡ Some entry
+  pub sound : AreSound (shapes_of config) (images_read config entry)
+  pub bay_calm : Rose old.faults new.faults → ⊥
+  pub sink_calm : Rose sink sink' → ⊥

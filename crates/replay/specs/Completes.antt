@@ -1,14 +1,14 @@
 -- When a run has to come to its end.
-use Rattle.std.specs.Prelude.{◌≡◌, ◌⊎◌, ◌≤◌, ◌^◌, ◌+◌, ◌++◌, ℕ, Bool, List, Option, Some, Result, Err, IsOk, IsTrue}
+use Rattle.std.specs.Prelude.{◌≡◌, ◌⊎◌, ◌≤◌, ◌^◌, ◌+◌, ◌++◌, ℕ, Bool, List, Option, Result, Err, IsOk}
 use Rattle.wol_disk.specs.Disk.{Rose}
-use Rattle.wol_bay.specs.Bay.{BayState, Told}
-use Rattle.wol_model.specs.Images.{AreSound}
+use Rattle.wol_bay.specs.Bay.{BayState}
 use Rattle.wol_model.specs.Trace.{Request, TraceLine, requests, write_count}
 use Rattle.wol_promise.specs.Manager.{Base}
 use Rattle.wol_promise.specs.Outcomes.{of_volume}
 use Rattle.wol_config.specs.declared.config.Config.{Config}
-use Rattle.volume_images.specs.Volumes.{images_read, shapes_of}
+use Rattle.volume_images.specs.Volumes.{images_read}
 use Rattle.rack.specs.Owners.{IsBegun}
+use Rattle.open_rack.specs.Sessions as session
 use Rattle.report.specs.declared.fault.Fault.TheVariants.{Memory}
 use Rattle.msr_trace.specs.declared.format.BadLine.{BadLine}
 use Rattle.msr_trace.specs.declared.format.TraceFault.TheVariants as trace
@@ -27,12 +27,8 @@ writes_to v rs = write_count (of_volume v rs)
 -- no line is bad or one too many; and each volume has versions for its writes.
 pub record MayComplete {S : Type 0} (tells : Bool) (left : S → Option (List ℕ)) (config : Config)
     (start now : Given S) (old new : BayState) (sink sink' source source' : ℕ) : Type 0 where
-  pub telling : IsTrue tells
-  pub entry : Told
-  pub entry_is : old.told ≡ Some entry
-  pub sound : AreSound (shapes_of config) (images_read config entry)
-  pub bay_calm : Rose old.faults new.faults → ⊥
-  pub sink_calm : Rose sink sink' → ⊥
+  pub opens : session.MayComplete tells config old new sink sink'
+  pub open opens use *
   pub source_calm : Rose source source' → ⊥
   pub spelled : (line : ℕ) (why : BadLine) (ls : List (Option TraceLine))
       → Refuses left (trace.Bad line why) start now ls → ⊥

@@ -179,12 +179,14 @@ may_run : {S : Type 0} (tells : Bool) (left : S → Option (List ℕ)) (config :
     → ((ls : List (Option TraceLine)) → Refuses left trace.Spent start now ls → ⊥) → (lines : Config → List (Option TraceLine)) → HaveVersions bytes is.entry lines
     → ((ls : List (Option TraceLine)) → HasGiven left (targets_of config) start now ls → (rest : List (Option TraceLine)) × (lines config ≡ ls ++ rest)) → MayComplete tells left config start now old new sink sink' source source'
 may_run tells left config bytes has start now old new sink sink' source source' is bay_calm sink_calm source_calm spelled few lines versions front = record {
-  telling = is.telling;
-  entry = is.entry;
-  entry_is = is.entry_is;
-  sound = is.sound config has;
-  bay_calm = bay_calm;
-  sink_calm = sink_calm;
+  opens = record {
+    telling = is.telling;
+    entry = is.entry;
+    entry_is = is.entry_is;
+    sound = is.sound config has;
+    bay_calm = bay_calm;
+    sink_calm = sink_calm;
+  };
   source_calm = source_calm;
   spelled = spelled;
   few = few;
@@ -306,15 +308,15 @@ told_memory names f status printed new is whole (inr ends) = elim (wanted_or_sin
 pub earlier_calm : {S : Type 0} (tells : Bool) (left : S → Option (List ℕ)) (config : Config) (start now : Given S) (old new : BayState) (sink sink' later source source' : ℕ) → sink' ≤ later
     → MayComplete tells left config start now old new sink later source source' → MayComplete tells left config start now old new sink sink' source source'
 earlier_calm tells left config start now old new sink sink' later source source' on is = record {
-  telling = is.telling;
-  entry = is.entry;
-  entry_is = is.entry_is;
-  sound = is.sound;
-  bay_calm = is.bay_calm;
-  sink_calm = λ rose. is.sink_calm (rose_later sink sink' later rose on);
-  source_calm = is.source_calm;
-  spelled = is.spelled;
-  few = is.few;
+  opens = record {
+    telling = is.telling;
+    entry = is.entry;
+    entry_is = is.entry_is;
+    sound = is.sound;
+    bay_calm = is.bay_calm;
+    sink_calm = λ rose. is.sink_calm (rose_later sink sink' later rose on);
+  };
+  gives = is.gives;
   versions = is.versions;
 }
 
