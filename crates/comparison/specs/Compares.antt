@@ -6,11 +6,10 @@ use Rattle.wol_io.specs.Streams.{AppendsFront}
 use Rattle.wol_model.specs.Trace.{TraceLine}
 use Rattle.wol_config.specs.declared.config.Config.{Config}
 use Rattle.report.specs.declared.fault.Fault.TheVariants.{Memory}
-use Rattle.msr_trace.specs.declared.format.BadLine.{BadLine}
 use Rattle.msr_trace.specs.declared.format.TraceFault.{TraceFault}
 use Rattle.msr_trace.specs.declared.format.TraceFault.TheVariants as trace
 use Rattle.trace_gen.specs.Generated.{targets_of}
-use Rattle.replay.specs.Givens.{HasGiven, HasGivenAll, Refuses}
+use Rattle.replay.specs.Givens.{HasGiven, HasGivenAll, MayGiveAll, Refuses}
 use Rattle.replay.specs.Stops.{fault_of_trace}
 use Rattle.replay.specs.declared.given.Given.{Given}
 use Rattle.replay.specs.declared.stop.Stop.{Stop}
@@ -42,10 +41,8 @@ module _ {S : Type 0} (left : S → Option (List ℕ)) (config : Config) (start 
 pub record MayCompare {S : Type 0} (left : S → Option (List ℕ)) (start now : Given S)
     (sink sink' source source' : ℕ) : Type 0 where
   pub sink_calm : Rose sink sink' → ⊥
-  pub source_calm : Rose source source' → ⊥
-  pub spelled : (line : ℕ) (why : BadLine) (ls : List (Option TraceLine))
-      → Refuses left (trace.Bad line why) start now ls → ⊥
-  pub few : (ls : List (Option TraceLine)) → Refuses left trace.Spent start now ls → ⊥
+  pub gives : MayGiveAll left start now source source'
+  pub open gives use *
 
 module _ {S : Type 0} (left : S → Option (List ℕ)) (config : Config) (start now : Given S) where
   -- all lines were run, and these are the four lines of them

@@ -1,6 +1,5 @@
 -- When a run has to come to its end.
 use Rattle.std.specs.Prelude.{◌≡◌, ◌⊎◌, ◌≤◌, ◌^◌, ◌+◌, ◌++◌, ℕ, Bool, List, Option, Result, Err, IsOk}
-use Rattle.wol_disk.specs.Disk.{Rose}
 use Rattle.wol_bay.specs.Bay.{BayState}
 use Rattle.wol_model.specs.Trace.{Request, TraceLine, requests, write_count}
 use Rattle.wol_promise.specs.Manager.{Base}
@@ -10,10 +9,8 @@ use Rattle.volume_images.specs.Volumes.{images_read}
 use Rattle.rack.specs.Owners.{IsBegun}
 use Rattle.open_rack.specs.Sessions as session
 use Rattle.report.specs.declared.fault.Fault.TheVariants.{Memory}
-use Rattle.msr_trace.specs.declared.format.BadLine.{BadLine}
-use Rattle.msr_trace.specs.declared.format.TraceFault.TheVariants as trace
 use Rattle.trace_gen.specs.Generated.{targets_of}
-use Rattle.replay.specs.Givens.{HasGiven, Refuses}
+use Rattle.replay.specs.Givens.{HasGiven, MayGiveAll}
 use Rattle.replay.specs.declared.given.Given.{Given}
 use Rattle.replay.specs.declared.stop.Stop.{Stop}
 use Rattle.replay.specs.declared.stop.Stop.TheVariants as stop
@@ -29,10 +26,8 @@ pub record MayComplete {S : Type 0} (tells : Bool) (left : S → Option (List �
     (start now : Given S) (old new : BayState) (sink sink' source source' : ℕ) : Type 0 where
   pub opens : session.MayComplete tells config old new sink sink'
   pub open opens use *
-  pub source_calm : Rose source source' → ⊥
-  pub spelled : (line : ℕ) (why : BadLine) (ls : List (Option TraceLine))
-      → Refuses left (trace.Bad line why) start now ls → ⊥
-  pub few : (ls : List (Option TraceLine)) → Refuses left trace.Spent start now ls → ⊥
+  pub gives : MayGiveAll left start now source source'
+  pub open gives use *
   pub versions : (b : Base) → IsBegun config (images_read config entry) b
       → (run more : List (Option TraceLine))
       → HasGiven left (targets_of config) start now (run ++ more)

@@ -2,9 +2,11 @@
 use Rattle.std.specs.Prelude.{⊤, ◌≡◌, ◌≤◌, ◌+◌, ◌^◌, ℕ, true, false, List, [], ◌∷◌, length, map, Option, Some, Err}
 use Rattle.std.specs.List.{list_any, range_with_len}
 use Rattle.std.specs.Io.KnownBytes.{IsAtEnd, prepend_known}
+use Rattle.wol_disk.specs.Disk.{Rose}
 use Rattle.wol_model.specs.Trace.{Target, TraceLine}
 use Rattle.msr_trace.specs.Lines.{is_feed}
 use Rattle.msr_trace.specs.Reading.{pending}
+use Rattle.msr_trace.specs.declared.format.BadLine.{BadLine}
 use Rattle.msr_trace.specs.declared.format.TraceFault.{TraceFault}
 use Rattle.msr_trace.specs.declared.format.TraceFault.TheVariants as fault
 use Rattle.trace_gen.specs.Generated.{line}
@@ -83,3 +85,12 @@ Refuses left e (Trace r) (Trace q) ls =
 Refuses left e (Trace r) (Generated h m) ls = ⊥
 Refuses left e (Generated g n) (Trace q) ls = ⊥
 Refuses left e (Generated g n) (Generated h m) ls = e ≡ fault.NoMemory
+
+-- Nothing stands in the way of the lines: no call of their source failed, and no line is bad or one
+-- too many.
+pub record MayGiveAll {S : Type 0} (left : S → Option (List ℕ)) (start now : Given S)
+    (source source' : ℕ) : Type 0 where
+  pub source_calm : Rose source source' → ⊥
+  pub spelled : (line : ℕ) (why : BadLine) (ls : List (Option TraceLine))
+      → Refuses left (fault.Bad line why) start now ls → ⊥
+  pub few : (ls : List (Option TraceLine)) → Refuses left fault.Spent start now ls → ⊥

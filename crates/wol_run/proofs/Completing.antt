@@ -187,9 +187,7 @@ may_run tells left config bytes has start now old new sink sink' source source' 
     bay_calm = bay_calm;
     sink_calm = sink_calm;
   };
-  source_calm = source_calm;
-  spelled = spelled;
-  few = few;
+  gives = record { source_calm = source_calm; spelled = spelled; few = few };
   versions = λ b begun run more given.
       let first = front (run ++ more) given in
       versions_of config b (lines config) run more first.0 (versions config has b begun) first.1;
@@ -219,7 +217,7 @@ module _ {S : Type 0} (left : S → Option (List ℕ)) (config : Config) (lines 
 
     module _ (sink sink' source source' : ℕ) (sink_calm : ¬ Rose sink sink') (source_calm : ¬ Rose source source') where
       pub may_compare : MayCompare left (Trace r) (Trace q) sink sink' source source'
-      may_compare = record { sink_calm = sink_calm; source_calm = source_calm; spelled = none_bad; few = not_spent }
+      may_compare = record { sink_calm = sink_calm; gives = record { source_calm = source_calm; spelled = none_bad; few = not_spent } }
 
       pub may_replay : (tells : Bool) (bytes : Option (List ℕ)) → HasConfig bytes config → (old new : BayState) (is : HasSoundImages tells bytes old) → HaveVersions bytes is.entry (λ c. lines) → ¬ Rose old.faults new.faults
           → MayComplete tells left config (Trace r) (Trace q) old new sink sink' source source'
@@ -308,14 +306,7 @@ told_memory names f status printed new is whole (inr ends) = elim (wanted_or_sin
 pub earlier_calm : {S : Type 0} (tells : Bool) (left : S → Option (List ℕ)) (config : Config) (start now : Given S) (old new : BayState) (sink sink' later source source' : ℕ) → sink' ≤ later
     → MayComplete tells left config start now old new sink later source source' → MayComplete tells left config start now old new sink sink' source source'
 earlier_calm tells left config start now old new sink sink' later source source' on is = record {
-  opens = record {
-    telling = is.telling;
-    entry = is.entry;
-    entry_is = is.entry_is;
-    sound = is.sound;
-    bay_calm = is.bay_calm;
-    sink_calm = λ rose. is.sink_calm (rose_later sink sink' later rose on);
-  };
+  opens = record is.opens { sink_calm = λ rose. is.sink_calm (rose_later sink sink' later rose on) };
   gives = is.gives;
   versions = is.versions;
 }
@@ -324,7 +315,5 @@ pub earlier_compared : {S : Type 0} (left : S → Option (List ℕ)) (start now 
     → MayCompare left start now sink later source source' → MayCompare left start now sink sink' source source'
 earlier_compared left start now sink sink' later source source' on is = record {
   sink_calm = λ rose. is.sink_calm (rose_later sink sink' later rose on);
-  source_calm = is.source_calm;
-  spelled = is.spelled;
-  few = is.few;
+  gives = is.gives;
 }
