@@ -177,7 +177,8 @@ module _ {D : Type 0} (tells : Bool) (mode : Reclaim) (config : Config) (out : L
     unfolding hs
     ran = has_ran tells config out opened left_ olds news closed same k h here
 
-    open ran use {old, new, is_old, is_new, its, is_left}
+    open ran use {old, is_old}
+    open ran.now use {station as new, there as is_new, closed as its, is as is_left}
 
     abbrev es : List Entry
     es = its.entries
