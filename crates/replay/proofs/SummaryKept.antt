@@ -83,7 +83,6 @@ module _ {D S : Type 0} (state : D → State) (tells : Bool) (left : S → Optio
         → IsSummary config views w.lines (w.served ++ []) awake (summary_text counted.totals (printed_names config.volumes.items) (all_amounts config.powers counted.started counted.ended spindles))
     summary_now told all sized = subst (λ (ss : List ServedWindow). IsSummary config views w.lines ss awake (summary_text counted.totals (printed_names config.volumes.items) (all_amounts config.powers counted.started counted.ended spindles))) (sym (append-nil w.served)) (record {
       totals = counted.totals;
-      spindles = spindles;
       line_count = w.line_count;
       blank = w.blank;
       skipped = w.skipped;
@@ -91,7 +90,10 @@ module _ {D S : Type 0} (state : D → State) (tells : Bool) (left : S → Optio
       counted = w.totals_;
       reads = w.totals_.reads ∙ all.reads;
       writes = w.totals_.writes ∙ all.writes;
-      each = sized;
-      accounts = accounts_of w.lines w.served w.are f g w.from_start closable keep spindles count each told;
+      disks = record {
+        spindles = spindles;
+        count = sized;
+        each = accounts_of w.lines w.served w.are f g w.from_start closable keep spindles count each told;
+      };
       text_is = λ i. summary_text counted.totals (printed_names config.volumes.items) (all_amounts config.powers (w.started_ i) (w.ended_ i) spindles);
     })

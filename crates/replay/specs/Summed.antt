@@ -112,7 +112,6 @@ pub record HaveShortAccounts (config : Config) (views : ℕ → List ℕ)
 pub record IsSummary (config : Config) (views : ℕ → List ℕ) (lines : List (Option TraceLine))
     (windows : List ServedWindow) (awake : List (List Bool)) (text : List ℕ) : Type 0 where
   pub totals : Totals
-  pub spindles : List SpindleView
   pub line_count : totals.lines ≡ length lines
   pub blank : totals.blank ≡ count_by is_none lines
   pub skipped : totals.skipped ≡ count_by (is_skipped (targets_of config)) lines
@@ -121,12 +120,9 @@ pub record IsSummary (config : Config) (views : ℕ → List ℕ) (lines : List 
   -- all requests of the lines were answered
   pub reads : totals.reads ≡ read_count (requests (most_of config) (targets_of config) lines)
   pub writes : totals.writes ≡ write_count (requests (most_of config) (targets_of config) lines)
-  pub each : length spindles ≡ length config.volumes.items
-  pub accounts : (k : ℕ) (s : SpindleView) → slice_get spindles k ≡ Some s
-      → IsAccount config views k (started (timed lines))
-      (map (λ (w : ServedWindow). w.batch.moment) windows) awake s
+  pub disks : HaveAccounts config views lines windows awake
   pub text_is : text ≡ summary_text totals (printed_names config.volumes.items)
-      (all_amounts config.powers (started (timed lines)) (ended (timed lines)) spindles)
+      (all_amounts config.powers (started (timed lines)) (ended (timed lines)) disks.spindles)
 
 -- the summary of a trace that was run to its end; else nothing, and then the run ended with a fault
 pub data IsSummaryOf {S T : Type 0} (left : S → Option (List ℕ)) (config : Config)
