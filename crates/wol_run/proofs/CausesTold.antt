@@ -69,7 +69,7 @@ use Rattle.nbd_serving.specs.Racks.{Begins}
 use Rattle.nbd_serving.specs.declared.serving.Beginning.{Beginning}
 use Rattle.nbd_serving.specs.Runs.{ServesNamed, ServesOpen}
 use Rattle.nbd_serving.specs.Runs as nbd_case
-use Rattle.nbd_serving.specs.Wires.{Wire, answer_of, status_of as status_of_answer, unagreed_status}
+use Rattle.nbd_serving.specs.Wires.{Wire, answer_of, status_of as status_of_answer, unagreed_status, wire}
 use Rattle.nbd_serving.specs.declared.stop.Stop.{Stop as NbdStop}
 use Rattle.command_words.specs.Commands.{IsCommand}
 use Rattle.command_words.specs.Table.{Named}
@@ -85,7 +85,7 @@ use Rattle.wol_run.specs.Outside.{Outside}
 use Rattle.wol_run.specs.Comparing.{IsComparison}
 use Rattle.wol_run.specs.Replaying.{EndsReplay, GivenLines, HasLeft, IsReplay, trace_of}
 use Rattle.wol_run.specs.Run.{IsCleaningOf, IsComparisonOf, IsFormat, IsListingOf, IsLookFor, IsReplayOf, IsServingOf, IsViewChangeOf}
-use Rattle.wol_run.specs.Serving.{HasBadBytes, served_as, wire}
+use Rattle.wol_run.specs.Serving.{HasBadBytes, served_as}
 use Rattle.wol_run.specs.Settings.{HasConfig, IsFaultLine, line_of_fault}
 use Rattle.wol_run.specs.Tops.{EndsWith, HasBadLine, HasMoreLines}
 use Rattle.wol_run.specs.Viewing.{EndsChange, IsViewChange, RefusesChange, view_change_by}
