@@ -24,9 +24,11 @@ module _ {D : Type 0} (S : Station D → Station D → Type 0) (only : (s t : St
       subst IsStation (sym o.0) (record {
         id = was.id;
         passes = was.passes;
-        worker_ = record { own = o.1.0 ∙ was.worker_.own; free = o.2 was.worker_.free; number_is = o.1.1 ∙ was.worker_.number_is };
-        helper_ = was.helper_;
-        keeper_ = was.keeper_;
+        own_passes = record {
+          worker_ = record { own = o.1.0 ∙ was.worker_.own; free = o.2 was.worker_.free; number_is = o.1.1 ∙ was.worker_.number_is };
+          helper_ = was.helper_;
+          keeper_ = was.keeper_;
+        };
       })
 
   pub all_by : (P Q : Station D → Type 0) → ((s t : Station D) → S s t → P s → Q t) → (ss ts : List (Station D)) → AllZip S ss ts → All P ss → All Q ts

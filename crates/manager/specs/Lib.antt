@@ -12,3 +12,4 @@ pub use Rattle.volume_parts.specs.Accesses
 pub use Rattle.volume_parts.specs.Joining
 pub use Rattle.volume_parts.specs.Listing
 pub use Rattle.volume_parts.specs.Puts
+pub mod Stations

@@ -91,9 +91,11 @@ module _ {D : Type 0} (config : Config) (r : Rack D) (place volume : ℕ) (s b :
       passes = λ old. subst IsStation (sym only_s) (record {
         id = old.id;
         passes = old.passes;
-        worker_ = record { own = own_s; free = ready.free; number_is = ready.number };
-        helper_ = old.helper_;
-        keeper_ = old.keeper_;
+        own_passes = record {
+          worker_ = record { own = own_s; free = ready.free; number_is = ready.number };
+          helper_ = old.helper_;
+          keeper_ = old.keeper_;
+        };
       });
     }
 

@@ -469,9 +469,11 @@ module _ {D : Type 0} (tells : Bool) (state : D → State) (config : Config) (va
         record {
           id = ap (λ (x : ManagerBase). x.volume.began.owner) locked.base ∙ owner_new tells state config valid b said id r own ready lt at view own_view new o takes locked.manager locked.opens;
           passes = locked.passes;
-          worker_ = record { own = are_new.0.own; free = are_new.0.free; number_is = are_new.0.number };
-          helper_ = record { own = are_new.1.own; free = are_new.1.free; number_is = are_new.1.number };
-          keeper_ = record { own = are_new.2.own; free = are_new.2.free; number_is = are_new.2.number };
+          own_passes = record {
+            worker_ = record { own = are_new.0.own; free = are_new.0.free; number_is = are_new.0.number };
+            helper_ = record { own = are_new.1.own; free = are_new.1.free; number_is = are_new.1.number };
+            keeper_ = record { own = are_new.2.own; free = are_new.2.free; number_is = are_new.2.number };
+          };
         }
 
     unused : IsUnused worker × IsUnused helper × IsUnused keeper

@@ -14,10 +14,10 @@ use Rattle.spin_model.specs.declared.spindle.SpindleBase.{SpindleBase}
 use Rattle.seg_pool.specs.declared.base.PoolBase.{PoolBase}
 use Rattle.seg_pool.specs.declared.pool.Pool.{Pool}
 use Rattle.log_segment.specs.declared.free.FreeSegment.{FreeSegment}
-use Rattle.wol_model.specs.History.{worker, helper, keeper}
 use Rattle.wol_model.specs.Index.{AreRising}
 use Rattle.logger.specs.declared.shared.Shared.{Shared}
 use Rattle.manager.specs.Stands.{IsShared}
+use Rattle.manager.specs.Stations.{HasOwnPasses}
 use Rattle.manager.specs.declared.base.LaneBase.{LaneBase}
 use Rattle.manager.specs.declared.base.ManagerBase.{ManagerBase}
 use Rattle.manager.specs.declared.station.Station.{Station}
@@ -62,9 +62,8 @@ pub record IsOpenBase {D : Type 0} (config : Config) (shared : Shared D)
 pub record IsStation {D : Type 0} (s : Station D) : Type 0 where
   pub id : (base_of_station s).volume.began.owner ≡ s.id
   pub passes : lock_passes s.lock ≡ 3
-  pub worker_ : IsPassAt s.lock worker s.worker
-  pub helper_ : IsPassAt s.lock helper s.helper
-  pub keeper_ : IsPassAt s.lock keeper s.keeper
+  pub own_passes : HasOwnPasses s
+  pub open own_passes use *
 
 -- a keeper's pass of each spindle's lock, in no turn
 abbrev pub AreKeepers : {D : Type 0} → Config → Shared D → List (PassOf Spindle SpindleBase)

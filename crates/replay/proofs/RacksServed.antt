@@ -124,9 +124,7 @@ module _ {D : Type 0} (state : D → State) (config : Config) (b : BayState) (r 
       record {
         id = id;
         owner = was.id ∙ id;
-        worker_ = was.worker_;
-        helper_ = was.helper_;
-        keeper_ = was.keeper_;
+        own_passes = was.own_passes;
       }
 
   pub can_serve : CanServe config r.shared stations r.keepers.items
@@ -215,9 +213,7 @@ module _ {D : Type 0} (state : D → State) (config : Config) (b : BayState) (ol
     stations = λ k d lt. (let s = can.each k d lt in record {
       id = s.owner ∙ sym s.id;
       passes = passes_same k d lt;
-      worker_ = s.worker_;
-      helper_ = s.helper_;
-      keeper_ = s.keeper_;
+      own_passes = s.own_passes;
     });
     rising = rising_from (map (λ (s : Station D). s.id) new.stations.items) (λ i j n m less here there. (let a = id_at i n here in let c = id_at j m there in omega (arith, less, a, c)));
     bases = all_unmapped (λ (x : ManagerBase). IsOpenBase config new.shared new.rest.images.items x) (λ (s : Station D). base_of_station s) new.stations.items

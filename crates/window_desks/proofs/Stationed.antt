@@ -69,9 +69,11 @@ stations_of {D} ss ls f m is k s h =
     record {
       id = sym (shown (λ (x : Desk D). x.id) (λ (x : Station D). x.id) ss f.desks.items k s d m.ids h desks) ∙ is.numbered k d desks;
       owner = rw (← lock_is) (is.owners k l locks);
-      worker_ = rw (← lock_is, ← shown (λ (x : Desk D). x.worker) (λ (x : Station D). x.worker) ss f.desks.items k s d m.workers h desks) (is.workers k l d desks);
-      helper_ = rw (← lock_is, ← moved_to (λ (x : Station D). x.helper) ss f.helpers.items k s helper m.helpers h) (is.help k l helper helpers);
-      keeper_ = rw (← lock_is, ← moved_to (λ (x : Station D). x.keeper) ss f.keepers.items k s keeper m.keepers h) (is.keep k l keeper keepers);
+      own_passes = record {
+        worker_ = rw (← lock_is, ← shown (λ (x : Desk D). x.worker) (λ (x : Station D). x.worker) ss f.desks.items k s d m.workers h desks) (is.workers k l d desks);
+        helper_ = rw (← lock_is, ← moved_to (λ (x : Station D). x.helper) ss f.helpers.items k s helper m.helpers h) (is.help k l helper helpers);
+        keeper_ = rw (← lock_is, ← moved_to (λ (x : Station D). x.keeper) ss f.keepers.items k s keeper m.keepers h) (is.keep k l keeper keepers);
+      };
     }
 
 empty_of : {A : Type 0} (xs : List A) → length xs ≡ 0 → xs ≡ []

@@ -1,12 +1,12 @@
 -- Locks and passes made of stations, and stations of these.
 use Rattle.std.specs.Prelude.{◌≡◌, ◌<◌, ◌≤◌, ◌+◌, ◌++◌, ℕ, List, [], map, reverse, length, vec_capacity, slice_index_or, All}
-use Rattle.turn_lock.specs.Passes.{lock_id, IsPassAt}
-use Rattle.wol_model.specs.History.{worker, helper, keeper}
+use Rattle.turn_lock.specs.Passes.{lock_id}
 use Rattle.std.specs.declared.alloc.Global.{Global}
 use Rattle.std.specs.declared.vec.Vec.{Vec}
 use Rattle.request_turns.specs.Helped.{ManagerLock}
 use Rattle.window_desks.specs.Floors.{passes_of}
 use Rattle.window_desks.specs.declared.desk.Desk.{Desk}
+use Rattle.manager.specs.Stations.{HasOwnPasses}
 use Rattle.manager.specs.declared.station.Station.{Station}
 use Rattle.window_desks.specs.declared.floor.Floor.{Floor}
 use Rattle.window_desks.specs.declared.floor.Passes.{Passes}
@@ -16,9 +16,8 @@ use Rattle.window_desks.specs.declared.floor.Passes.{Passes}
 pub record IsStation {D : Type 0} (k : ℕ) (s : Station D) : Type 0 where
   pub id : s.id ≡ k
   pub owner : (lock_id s.lock).base.volume.began.owner ≡ k
-  pub worker_ : IsPassAt s.lock worker s.worker
-  pub helper_ : IsPassAt s.lock helper s.helper
-  pub keeper_ : IsPassAt s.lock keeper s.keeper
+  pub own_passes : HasOwnPasses s
+  pub open own_passes use *
 
 abbrev pub AreStations : {D : Type 0} → List (Station D) → Type 0
 AreStations {D} ss = (k : ℕ) (d : Station D) → k < length ss → IsStation k (slice_index_or ss k d)
