@@ -67,9 +67,7 @@ module _ {D : Type 0} (config : Config) (r : Rack D) (place volume : ℕ) (s b :
 
   pub can_serve : (most : ℕ) → most ≡ most_of config → 1 ≤ most → most ≤ 128 → CanServe b r.shared v.home most
   can_serve most is some few = subst (λ (u : Station D). CanServe u r.shared v.home most) (sym is_it) (record {
-    own = stands.0.worker_.own;
-    free = stands.0.worker_.free;
-    number = stands.0.worker_.number_is;
+    pass = stands.0.worker_;
     at = subst (IsShared r.shared) (sym based) stands.1.at;
     home_ = ap (λ (m : ManagerBase). m.volume.began.home_blocks) based ∙ home_is;
     most_ = ap (λ (m : ManagerBase). m.volume.began.most) based ∙ stands.1.most ∙ sym is;
@@ -92,7 +90,7 @@ module _ {D : Type 0} (config : Config) (r : Rack D) (place volume : ℕ) (s b :
         id = old.id;
         passes = old.passes;
         own_passes = record {
-          worker_ = record { own = own_s; free = ready.free; number_is = ready.number };
+          worker_ = record { own = own_s; free = ready.free; number_is = ready.number_is };
           helper_ = old.helper_;
           keeper_ = old.keeper_;
         };
@@ -116,7 +114,7 @@ module _ {D : Type 0} (config : Config) (r : Rack D) (place volume : ℕ) (s b :
       station = s;
       is_station = at;
       pass = t.worker;
-      same = (own_s ∙ sym stands.0.worker_.own, ready.number ∙ sym stands.0.worker_.number_is);
+      same = (own_s ∙ sym stands.0.worker_.own, ready.number_is ∙ sym stands.0.worker_.number_is);
       stations = set ∙ ap (slice_set r.stations.items place) only_s;
       session = subst (λ (k : ℕ). IsSession (MakesTurn tells) v.home k s.worker t.worker wire.left wire'.left wire.taken wire'.taken answer) is_most
           (subst (λ (u : Station D). IsSession (MakesTurn tells) v.home most u.worker t.worker wire.left wire'.left wire.taken wire'.taken answer) is_it session);

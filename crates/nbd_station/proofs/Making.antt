@@ -24,9 +24,7 @@ use Rattle.nbd_station.specs.Turns.{AnswersWrite, IsOfWrite, MakesTurn, read_ref
 pub still : {D : Type 0} (tells : Bool) (s : Station D) (q : ManagerPass D) (before : List Entry) (n : Noted) (shared : Shared D) (home most : ℕ) → HasTurned tells s.worker q before n → CanServe s shared home most → CanServe (record s { worker = q }) shared home most
 still tells s q before n shared home most turned can =
     let based : (pass_lock q).base ≡ (pass_lock s.worker).base = ap (λ (l : LockId ManagerBase). l.base) turned.same.0 in record {
-      own = turned.same.0 ∙ can.own;
-      free = turned.free;
-      number = turned.same.1 ∙ can.number;
+      pass = record { own = turned.same.0 ∙ can.own; free = turned.free; number_is = turned.same.1 ∙ can.number_is };
       at = subst (IsShared shared) (sym based) can.at;
       home_ = ap (λ (b : ManagerBase). b.volume.began.home_blocks) based ∙ can.home_;
       most_ = ap (λ (b : ManagerBase). b.volume.began.most) based ∙ can.most_;
@@ -39,9 +37,7 @@ pub can_again : {D : Type 0} (s u : Station D) (shared other : Shared D) (home m
 can_again s u shared other home most h m can only now =
     let lock_is : pass_lock u.worker ≡ pass_lock s.worker = now.own ∙ ap (λ (x : Station _). lock_id x.lock) only ∙ sym can.own in
     let based : (pass_lock u.worker).base ≡ (pass_lock s.worker).base = ap (λ (l : LockId ManagerBase). l.base) lock_is in record {
-      own = now.own;
-      free = now.free;
-      number = now.number;
+      pass = now.pass;
       at = subst (IsShared shared) (sym based) can.at;
       home_ = ap (λ (b : ManagerBase). b.volume.began.home_blocks) based ∙ can.home_;
       most_ = ap (λ (b : ManagerBase). b.volume.began.most) based ∙ can.most_;
