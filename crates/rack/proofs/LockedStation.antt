@@ -470,9 +470,9 @@ module _ {D : Type 0} (tells : Bool) (state : D → State) (config : Config) (va
           id = ap (λ (x : ManagerBase). x.volume.began.owner) locked.base ∙ owner_new tells state config valid b said id r own ready lt at view own_view new o takes locked.manager locked.opens;
           passes = locked.passes;
           own_passes = record {
-            worker_ = record { own = are_new.0.own; free = are_new.0.free; number_is = are_new.0.number };
-            helper_ = record { own = are_new.1.own; free = are_new.1.free; number_is = are_new.1.number };
-            keeper_ = record { own = are_new.2.own; free = are_new.2.free; number_is = are_new.2.number };
+            worker_ = are_new.0.at;
+            helper_ = are_new.1.at;
+            keeper_ = are_new.2.at;
           };
         }
 

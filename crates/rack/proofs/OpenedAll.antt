@@ -184,7 +184,7 @@ module _ {D : Type 0} (state : D → State) (config : Config) (spindles : List (
           let lt : v < volumes = omega (arith, row, first.set_up.count) in
           let p = element_at i.0.passes.items v (let c = (first.pools_are k s.0 i.0 s.1 i.1).count in omega (arith, c, lt)) in
           (λ some. none_in (v, k), λ none. ap is_some (first.set_up.pool_passes v k i.0 lt i.1 ∙ p.1));
-      each = λ v k l p lock here. (let new = pool_new v k l p lock here in record { own = new.own; free = new.free; number_is = new.number });
+      each = λ v k l p lock here. (pool_new v k l p lock here).at;
     }
 
     spindles_here : AreSpindlePasses r.shared (away_with []) r.rest
@@ -218,7 +218,7 @@ module _ {D : Type 0} (state : D → State) (config : Config) (spindles : List (
         let new = pool_new v k l p lock here in
         ap (λ (es : List Entry). holds (pass_lock p).base (pass_number p) es i) new.mine
         ∙ ap (λ (x : LockId PoolBase). is_held_by (pass_number p) (holder x.base.holders i)) new.own
-        ∙ ap (λ (n : ℕ). is_held_by n (holder (lock_id l).base.holders i)) new.number
+        ∙ ap (λ (n : ℕ). is_held_by n (holder (lock_id l).base.holders i)) new.number_is
         ∙ ap (is_held_by v) (holder_is k i l lock)
 
     pool_lock_at : (k : ℕ) (image : ImageRest D) → image_here r.rest.images.items k ≡ Some image → (l : TurnLock (Pool (FreeSegment D)) PoolBase) × (slice_get r.shared.pools.items k ≡ Some l)

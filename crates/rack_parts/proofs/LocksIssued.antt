@@ -22,7 +22,7 @@ use Rattle.rack_parts.proofs.Returned.{same_but_then}
 pub new_in_order : {T B : Type 0} → (i : Issued T B) → length i.passes.items ≡ lock_passes i.lock → AreNewPasses i.lock i.passes.items → IsInOrder i
 new_in_order i count new = record {
   whole = record { count = count; each = λ n d within. ((new n d within).own, (new n d within).free) };
-  numbered = λ n d within. (new n d within).number;
+  numbered = λ n d within. (new n d within).number_is;
 }
 
 -- no pass of a spindle was used

@@ -70,9 +70,8 @@ module _ {T B : Type 0} where
 
   -- a pass that was not used yet
   pub record IsNewPass (l : TurnLock T B) (n : ℕ) (p : PassOf T B) : Type 0 where
-    pub own : IsPassOf l p
-    pub free : IsFree p
-    pub number : pass_number p ≡ n
+    pub at : IsPassAt l n p
+    pub open at use *
     pub seen : pass_seen p ≡ []
     pub mine : pass_mine p ≡ []
 

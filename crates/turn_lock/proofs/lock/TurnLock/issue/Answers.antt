@@ -22,9 +22,11 @@ loop-number-preserved g c =
       len = search rules;
       room = search rules;
       passes = rw c.push_reserved.ensures.items (each_more (IsNewPass c.args.self.now) _ _ c.loop-number.invariant.passes record {
-        own = λ i. record { table = (let h : c.split_seat-seat.result.table_id ≡ c.args.self.now.table.shared.table_id = search rules in h i); base = (let h : c.pick.result.value ≡ c.args.self.now.base.value = search rules in h i) };
-        free = (ap (λ m. m.0.stage) e.4, ap (λ m. m.1) e.4);
-        number = search rules;
+        at = record {
+          own = λ i. record { table = (let h : c.split_seat-seat.result.table_id ≡ c.args.self.now.table.shared.table_id = search rules in h i); base = (let h : c.pick.result.value ≡ c.args.self.now.base.value = search rules in h i) };
+          free = (ap (λ m. m.0.stage) e.4, ap (λ m. m.1) e.4);
+          number_is = search rules;
+        };
         seen = ap (λ m. m.0.seen) e.4;
         mine = ap (λ m. m.0.mine) e.4;
       });
