@@ -2,6 +2,7 @@
 ghost use Rattle.std.specs.Prelude.{◌≡◌};
 
 use crate::errand::Errand;
+use crate::patience::Patience;
 use crate::rule::{Handing, View};
 use atomic_table::{Seat, Table};
 use std::alloc::Global;
@@ -24,16 +25,18 @@ pub struct Errands<T: Errand> {
     pub(crate) ghost sized: { (table.shared.table_id.words ≡ 1) × (table.shared.table_id.slots ≡ 1) },
 }
 
-/// The end that hands over and takes back. It has a byte for the same reason as a `Worker`.
+/// The end that hands over and takes back.
 #[derive(Drop)]
 pub struct Sender<T> {
-    pub(crate) place: u8,
+    // how it waits for what was handed over
+    pub(crate) patience: Patience,
     pub(crate) seat: ErrandSeat<T>,
 }
 
-/// The end that serves. It has a byte, so that workers can lie in a slice, in which what has no bytes gets no proof.
+/// The end that serves.
 #[derive(Drop)]
 pub struct Worker<T> {
-    pub(crate) place: u8,
+    // how it waits for what is handed over. The seat has no bytes, and what has none gets no proof in a slice
+    pub(crate) patience: Patience,
     pub(crate) seat: ErrandSeat<T>,
 }

@@ -5,6 +5,7 @@ ghost use Rattle.std.specs.Prelude.{◌≡◌, true, false, [], ◌∷◌, None,
 
 use crate::ends::{ErrandSeat, ErrandTable, Errands, NoMemory, Sender, Worker};
 use crate::errand::Errand;
+use crate::patience::Patience;
 use crate::rule::{Asks, Ends, Gives, Hires, Leaves, Looks, Opens};
 use atomic_table::{Refused, Table};
 use std::alloc::Global;
@@ -45,9 +46,12 @@ fn open<T: Errand>(
             table,
             came: AtomicBool::new(false),
         },
-        Sender { place: 0, seat },
+        Sender {
+            patience: Patience::new(),
+            seat,
+        },
         Worker {
-            place: 1,
+            patience: Patience::new(),
             seat: worker,
         },
     )
@@ -81,19 +85,24 @@ impl<T: Errand> Errands<T> {
         self.came.load(SeqCst)
     }
 
-    // How often a thread looks before it sleeps. On a busy machine 1 was as fast with four workers, and slower by half
-    // with two.
-    const LOOKS: u32 = 100;
-
-    // Waits until the phase is no longer the one that was seen, or for no reason.
-    fn rest<R: Wait>(&self, rt: &R, seen: u32) {
-        for _ in 0..Self::LOOKS {
+    // Whether one of so many looks sees another phase than this one.
+    fn sees_change(&self, seen: u32, looks: u32) -> bool {
+        for _ in 0..looks {
             if self.table.shared.peek(PHASE) != u64::from(seen) {
-                return;
+                return true;
             }
             hint::spin_loop();
         }
-        self.table.shared.park(rt, PHASE, seen);
+        false
+    }
+
+    // Waits until the phase is no longer the one that was seen, or for no reason.
+    fn rest<R: Wait>(&self, rt: &R, patience: &mut Patience, seen: u32) {
+        let found = self.sees_change(seen, patience.looks());
+        patience.learn(found);
+        if !found {
+            self.table.shared.park(rt, PHASE, seen);
+        }
     }
 
     /// Hands something over, and wakes the worker.
@@ -110,7 +119,7 @@ impl<T: Errand> Errands<T> {
     }
 
     // Waits until what was handed over is served.
-    fn ask<R: Wait>(&self, rt: &R, seat: &mut ErrandSeat<T>)
+    fn ask<R: Wait>(&self, rt: &R, patience: &mut Patience, seat: &mut ErrandSeat<T>)
         requires own { seat.old.table_id ≡ self.now.table.shared.table_id }
         requires away { (x : T) × (seat.old.me ≡ (away x, [])) }
         ensures own { seat.new.table_id ≡ seat.old.table_id }
@@ -120,7 +129,7 @@ impl<T: Errand> Errands<T> {
             if self.table.shared.load::<Asks<T>>(seat, PHASE) == DONE {
                 return;
             }
-            self.rest(rt, GIVEN as u32);
+            self.rest(rt, patience, GIVEN as u32);
         }
         unreachable!()
     }
@@ -131,7 +140,7 @@ impl<T: Errand> Errands<T> {
         ensures idle { IsIdle self.now sender.new }
         ensures served { (x : T) → IsAway self.now sender.old x → T.served x result }
     {
-        self.ask(rt, &mut sender.seat);
+        self.ask(rt, &mut sender.patience, &mut sender.seat);
         match self.table.shared.exchange(&mut sender.seat, SLOT, None) {
             Some(item) => item,
             None => unreachable!(),
@@ -150,7 +159,7 @@ impl<T: Errand> Errands<T> {
     }
 
     // Waits until something is handed over. False where nothing more comes.
-    fn look<R: Wait>(&self, rt: &R, seat: &mut ErrandSeat<T>) -> bool
+    fn look<R: Wait>(&self, rt: &R, patience: &mut Patience, seat: &mut ErrandSeat<T>) -> bool
         requires own { seat.old.table_id ≡ self.now.table.shared.table_id }
         requires waits { seat.old.me ≡ (waits, []) }
         ensures own { seat.new.table_id ≡ seat.old.table_id }
@@ -165,7 +174,8 @@ impl<T: Errand> Errands<T> {
             if found == OVER {
                 return false;
             }
-            self.rest(rt, if found == DONE { DONE as u32 } else { 0 });
+            let seen = if found == DONE { DONE as u32 } else { 0 };
+            self.rest(rt, patience, seen);
         }
         unreachable!()
     }
@@ -177,7 +187,7 @@ impl<T: Errand> Errands<T> {
         ensures none { IfNone result (IsTold self.now worker.new) }
     {
         self.came.store(true, SeqCst);
-        if !self.look(rt, &mut worker.seat) {
+        if !self.look(rt, &mut worker.patience, &mut worker.seat) {
             return None;
         }
         match self.table.shared.exchange(&mut worker.seat, SLOT, None) {
