@@ -8,31 +8,49 @@ use Rattle.wol_model.specs.History.{Kept, worker}
 use Rattle.wol_promise.specs.Manager.{Base}
 use Rattle.wol_promise.specs.Policy.{Look}
 use Rattle.wol_promise.specs.Ruled.{AreRuled, IsStep, Noted, last_look}
+use Rattle.manager.specs.Answers.{home_write}
 use Rattle.manager.specs.Stands.{notes_of}
 use Rattle.manager.specs.declared.base.ManagerBase.{ManagerBase}
+use Rattle.manager.specs.declared.part.WriteRefusal.TheVariants as refused_write
+use Rattle.request_turns.specs.Causes as causes
 use Rattle.request_turns.specs.Turns.{ManagerPass, began, coded, HasTurned, Stays}
+use Rattle.request_turns.specs.declared.outcome.Outcome.TheVariants as outcome
+use Rattle.request_turns.proofs.Gaining.{stays_so}
 use Rattle.request_turns.proofs.Noting.{notes_at}
 use Rattle.nbd_session.specs.Turns.{Turn, Looked, NotLooked, Read, NotRead, Wrote, NotWrote}
 use Rattle.nbd_station.specs.Pieces.{IsTurnAt, Pieces, pieces_of}
-use Rattle.nbd_station.specs.Turns.{MakesTurn}
+use Rattle.nbd_station.specs.Turns.{MakesTurn, write_refusal}
 use Rattle.nbd_station.proofs.Alone.{AreOf, all_begins, own_all}
 use Rattle.nbd_station.proofs.Law.{IsWorkerOf, step}
-use Rattle.nbd_serving.specs.Entries.{AddsEntry}
+use Rattle.nbd_serving.specs.Entries.{AddsEntry, LackedMemory}
 
 -- the entry of one turn, behind these
-record IsOneTurn {D : Type 0} (tells : Bool) (p q : ManagerPass D) : Type 0 where
+record IsOneTurn {D : Type 0} (tells : Bool) (t : Turn) (p q : ManagerPass D) : Type 0 where
   before : List Entry
   note : Noted
   turned : HasTurned tells p q before note
-  stays : note.entry.operation ≡ Kept → Stays (last_look (began p).look (notes_of before)) note
+  stays : note.entry.operation ≡ Kept → Stays (LackedMemory t) (last_look (began p).look (notes_of before)) note
 
-one_turn : {D : Type 0} (tells : Bool) (t : Turn) (p q : ManagerPass D) → MakesTurn tells t p q → IsOneTurn tells p q
+one_turn : {D : Type 0} (tells : Bool) (t : Turn) (p q : ManagerPass D) → MakesTurn tells t p q → IsOneTurn tells t p q
 one_turn tells Looked p q h = record { before = h.before; note = h.note; turned = h.turned; stays = λ kept. inl h.same }
 one_turn tells (NotLooked r) p q (part, h, is) = record { before = h.before; note = h.note; turned = h.turned; stays = λ kept. inl h.same }
-one_turn tells (Read at blocks) p q (sources, h) = record { before = h.before; note = h.note; turned = h.turned; stays = h.stays }
-one_turn tells (NotRead at count r) p q (why, open_, h, long, is) = record { before = h.before; note = h.note; turned = h.turned; stays = h.stays }
-one_turn tells (Wrote at blocks) p q (place, drained, h) = record { before = h.before; note = h.note; turned = h.turned; stays = h.stays }
-one_turn tells (NotWrote at blocks r) p q (why, h, is) = record { before = h.before; note = h.note; turned = h.turned; stays = h.stays }
+one_turn tells (Read at blocks) p q (sources, h) = record { before = h.before; note = h.note; turned = h.turned; stays = λ kept. inl (h.stays kept) }
+one_turn tells (NotRead at count r) p q (why, open_, h, long, is) = record { before = h.before; note = h.note; turned = h.turned; stays = λ kept. inl (h.stays kept) }
+one_turn tells (Wrote at blocks) p q (place, drained, h) = record {
+  before = h.before;
+  note = h.note;
+  turned = h.turned;
+  stays = λ kept. stays_so (causes.LackedMemory (home_write at blocks) (outcome.Wrote place drained)) (LackedMemory (Wrote at blocks))
+      (λ w lacked. absurd (let no : outcome.Wrote place drained ≡ outcome.NoWrite refused_write.NoMemory = lacked.1 in cc)) (last_look (began p).look (notes_of h.before)) h.note (h.stays kept);
+}
+one_turn tells (NotWrote at blocks r) p q (why, h, is) = record {
+  before = h.before;
+  note = h.note;
+  turned = h.turned;
+  stays = λ kept. stays_so (causes.LackedMemory (home_write at blocks) (outcome.NoWrite why)) (LackedMemory (NotWrote at blocks r))
+      (λ w lacked. let out : outcome.NoWrite why ≡ outcome.NoWrite refused_write.NoMemory = lacked.1 in let wanting : why ≡ refused_write.NoMemory = cc out in (at, blocks, ap (NotWrote at blocks) (is ∙ ap write_refusal wanting), lacked.0))
+      (last_look (began p).look (notes_of h.before)) h.note (h.stays kept);
+}
 
 ruled_last : (l : Look) (notes : List Noted) (n : Noted) → AreRuled l (notes ++ n ∷ []) → IsTrue n.ruled → IsStep n n.entry.pass n.entry.operation (last_look l notes) n.look
 ruled_last l [] n all ruled = all.0 ruled
@@ -47,7 +65,7 @@ abbrev pub noted : {D : Type 0} → ManagerPass D → List Noted
 noted p = notes_of (pass_mine p)
 
 module _ {D : Type 0} (tells : Bool) (lock : LockId ManagerBase) (es : List Entry) (alone : AreOf worker es) where
-  module _ (p q : ManagerPass D) (fits : IsWorkerOf lock es p) (fits_then : IsWorkerOf lock es q) (one : IsOneTurn tells p q) where
+  module _ (p q : ManagerPass D) (fits : IsWorkerOf lock es p) (fits_then : IsWorkerOf lock es q) (t : Turn) (one : IsOneTurn tells t p q) where
     abbrev n : Noted
     n = one.note
 
@@ -82,13 +100,13 @@ module _ {D : Type 0} (tells : Bool) (lock : LockId ManagerBase) (es : List Entr
     pieces_at : (r : ManagerPass D) → IsWorkerOf lock es r → pieces_of (began r).look (noted r) ≡ pieces_of (base_in lock).look (noted r)
     pieces_at r is = ap (λ (l : LockId ManagerBase). pieces_of l.base.volume.began.look (noted r)) is.own_lock
 
-    adds_at : (t : Turn) → IsTurnAt (IsTrue tells) (base_in lock).array t (pieces_of (began p).look (noted p)) (pieces_of (began q).look (noted q)) → AddsEntry (IsTrue tells) (base_in lock) t (noted p) (noted q)
-    adds_at t turn = record {
+    adds_at : IsTurnAt (IsTrue tells) (base_in lock).array t (pieces_of (began p).look (noted p)) (pieces_of (began q).look (noted q)) → AddsEntry (IsTrue tells) (base_in lock) t (noted p) (noted q)
+    adds_at turn = record {
       note = n;
       adds = adds_one;
       pass = pass_is;
       step = ruled;
-      stays = λ kept. subst (λ (l : Look). Stays l n) look_before (one.stays kept);
+      stays = λ kept. subst (λ (l : Look). Stays (LackedMemory t) l n) look_before (one.stays kept);
       is_turn = subst (λ (x : Pieces). IsTurnAt (IsTrue tells) (base_in lock).array t x (pieces_of (base_in lock).look (noted q))) (pieces_at p fits)
           (subst (λ (x : Pieces). IsTurnAt (IsTrue tells) (base_in lock).array t (pieces_of (began p).look (noted p)) x) (pieces_at q fits_then) turn);
     }
@@ -96,4 +114,4 @@ module _ {D : Type 0} (tells : Bool) (lock : LockId ManagerBase) (es : List Entr
   pub adds : (t : Turn) (p q : ManagerPass D) → IsWorkerOf lock es q → MakesTurn tells t p q → IsWorkerOf lock es p × AddsEntry (IsTrue tells) (base_in lock) t (noted p) (noted q)
   adds t p q fits makes =
       let at = step tells lock es alone t p q fits makes in
-      (at.0, adds_at p q at.0 fits (one_turn tells t p q makes) t at.1)
+      (at.0, adds_at p q at.0 fits t (one_turn tells t p q makes) at.1)

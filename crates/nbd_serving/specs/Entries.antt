@@ -1,20 +1,29 @@
 -- What a turn of a session adds to the entries of the volume that is served.
-use Rattle.std.specs.Prelude.{◌≡◌, ◌++◌, ◌∷◌, [], List}
+use Rattle.std.specs.Prelude.{◌≡◌, ◌++◌, ◌∷◌, [], ℕ, List}
+use Rattle.wol_disk.specs.Disk.{Block}
+use Rattle.wol_model.specs.Blocks.{Write}
 use Rattle.wol_model.specs.History.{Kept, worker}
 use Rattle.wol_promise.specs.Manager.{Base}
 use Rattle.wol_promise.specs.Ruled.{IsStep, Noted, last_look}
 use Rattle.request_turns.specs.Turns.{Stays}
-use Rattle.nbd_session.specs.Turns.{Turn}
-use Rattle.nbd_station.specs.Pieces.{IsTurnAt, pieces_of}
+use Rattle.nbd_session.specs.Turns.{NotWrote, Turn}
+use Rattle.nbd_session.specs.declared.volume.Refusal.TheVariants as refusal
+use Rattle.nbd_station.specs.Pieces.{IsTurnAt, piece, pieces_of}
+
+-- the turn refused the write w for want of memory
+abbrev pub LackedMemory : Turn → (w : Write) → Type 0
+LackedMemory turn w = (at : ℕ) × (blocks : List Block)
+    × (turn ≡ NotWrote at blocks refusal.NoMemory) × (w ≡ piece at blocks)
 
 -- A turn adds one entry, the worker's, to those of a volume that began with this base. The entry
 -- follows the rules of placing and reclaim, from the look that those before it leave; one that
--- changes no content leaves that look, or its turn drained for a write that was then refused.
+-- changes no content leaves that look, or its turn drained for the write that lacked memory then.
 pub record AddsEntry (told : Type 0) (base : Base) (turn : Turn) (old new : List Noted) :
     Type 0 where
   pub note : Noted
   pub adds : new ≡ old ++ note ∷ []
   pub pass : note.entry.pass ≡ worker
   pub step : IsStep note worker note.entry.operation (last_look base.look old) note.look
-  pub stays : note.entry.operation ≡ Kept → Stays (last_look base.look old) note
+  pub stays : note.entry.operation ≡ Kept
+      → Stays (LackedMemory turn) (last_look base.look old) note
   pub is_turn : IsTurnAt told base.array turn (pieces_of base.look old) (pieces_of base.look new)

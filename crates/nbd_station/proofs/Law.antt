@@ -12,13 +12,16 @@ use Rattle.wol_promise.specs.Manager.{Base}
 use Rattle.wol_promise.specs.Policy.{Look}
 use Rattle.wol_promise.specs.Ruled.{Noted, last_look}
 use Rattle.wol_promise.specs.Stands.{HasHistory}
+use Rattle.manager.specs.Answers.{home_write}
 use Rattle.manager.specs.Stands.{notes_of}
 use Rattle.manager.specs.declared.base.ManagerBase.{ManagerBase}
 use Rattle.manager.specs.declared.part.ReadRefusal.TheVariants as refused_read
+use Rattle.manager.specs.declared.part.WriteRefusal.{WriteRefusal}
 use Rattle.manager.specs.declared.part.WriteRefusal.TheVariants as refused_write
-use Rattle.request_turns.specs.Causes.{CanTake}
+use Rattle.request_turns.specs.Causes.{CanTake, LackedMemory}
 use Rattle.request_turns.specs.Entries.{IsFlight}
 use Rattle.request_turns.specs.Turns.{ManagerPass, began, notes_seen, coded, HasTurned, Stays}
+use Rattle.request_turns.specs.declared.outcome.Outcome.TheVariants as outcome
 use Rattle.request_turns.proofs.Noting.{notes_at}
 use Rattle.nbd_session.specs.Turns.{Turn, Looked, NotLooked, Read, NotRead, Wrote, NotWrote}
 use Rattle.nbd_session.specs.declared.volume.Refusal.{Refusal}
@@ -93,8 +96,8 @@ module _ {D : Type 0} (tells : Bool) (lock : LockId ManagerBase) (es : List Entr
     pub so : (t : Turn) → IsTurnAt (IsTrue tells) (base_in lock).array t (pieces_of (base_in lock).look ns) (pieces_of (base_in lock).look (ns ++ n ∷ [])) → IsWorkerOf lock es p × IsTurnAt (IsTrue tells) (base_in lock).array t (made p) (made q)
     so t h = (fits_before, subst (λ (x : Pieces). IsTurnAt (IsTrue tells) (base_in lock).array t (made p) x) new_is (subst (λ (x : Pieces). IsTurnAt (IsTrue tells) (base_in lock).array t x (pieces_of (base_in lock).look (ns ++ n ∷ []))) old_is h))
 
-    stays_at : Stays (last_look (began p).look ns) n → Stays (last_look (base_in lock).look ns) n
-    stays_at h = subst (λ (k : LockId ManagerBase). Stays (last_look k.base.volume.began.look ns) n) lock_is h
+    stays_at : (lacked : Write → Type 0) → Stays lacked (last_look (began p).look ns) n → Stays lacked (last_look (base_in lock).look ns) n
+    stays_at lacked h = subst (λ (k : LockId ManagerBase). Stays lacked (last_look k.base.volume.began.look ns) n) lock_is h
 
     next_at : (last_look (began p).look ns).next ≡ (pieces_of (base_in lock).look ns).next
     next_at = ap (λ (k : LockId ManagerBase). (last_look k.base.volume.began.look ns).next) lock_is
@@ -102,8 +105,16 @@ module _ {D : Type 0} (tells : Bool) (lock : LockId ManagerBase) (es : List Entr
     pub takes_at : CanTake ns (last_look (began p).look ns) → TakesWrites (pieces_of (base_in lock).look ns)
     takes_at h = record { up = is_up (base_in lock).look ns h.unbroken; left = subst (λ (k : ℕ). k < 2 ^ 63) next_at h.left }
 
-    pub kept_at : n.entry.operation ≡ Kept → Stays (last_look (began p).look ns) n → pieces_of (base_in lock).look (ns ++ n ∷ []) ≡ pieces_of (base_in lock).look ns
-    kept_at kept stays = kept_same (base_in lock).look ns n kept (stays_at stays)
+    kept_at : (lacked : Write → Type 0) → n.entry.operation ≡ Kept → Stays lacked (last_look (began p).look ns) n → pieces_of (base_in lock).look (ns ++ n ∷ []) ≡ pieces_of (base_in lock).look ns
+    kept_at lacked kept stays = kept_same (base_in lock).look ns n lacked kept (stays_at lacked stays)
+
+    -- nothing was drained, or it was for this write
+    pub same_at : n.entry.operation ≡ Kept → n.look ≡ last_look (began p).look ns → pieces_of (base_in lock).look (ns ++ n ∷ []) ≡ pieces_of (base_in lock).look ns
+    same_at kept same = kept_at (λ w. ⊥) kept (inl same)
+
+    pub refused_at : (at : ℕ) (blocks : List Block) (why : WriteRefusal) → n.entry.operation ≡ Kept → Stays (LackedMemory (home_write at blocks) (outcome.NoWrite why)) (last_look (began p).look ns) n
+        → pieces_of (base_in lock).look (ns ++ n ∷ []) ≡ pieces_of (base_in lock).look ns
+    refused_at at blocks why kept stays = kept_at (LackedMemory (home_write at blocks) (outcome.NoWrite why)) kept stays
 
     pub spent_at : (last_look (began p).look ns).next ≡ 2 ^ 63 → (pieces_of (base_in lock).look ns).next ≡ 2 ^ 63
     spent_at h = sym next_at ∙ h
@@ -112,10 +123,10 @@ module _ {D : Type 0} (tells : Bool) (lock : LockId ManagerBase) (es : List Entr
   step Looked p q fits h =
       so p q h.before h.note h.turned fits Looked (
         is_up (base_in lock).look (notes_of h.before) (λ broken. absurd (let no : false ≡ true = h.cause.1 broken in cc)),
-        kept_at p q h.before h.note h.turned fits h.kept (inl h.same),
+        same_at p q h.before h.note h.turned fits h.kept h.same,
       )
   step (NotLooked r) p q fits (part, h, is) =
-      so p q h.before h.note h.turned fits (NotLooked r) (is, is_broken (base_in lock).look (notes_of h.before) (h.cause.0 refl), kept_at p q h.before h.note h.turned fits h.kept (inl h.same))
+      so p q h.before h.note h.turned fits (NotLooked r) (is, is_broken (base_in lock).look (notes_of h.before) (h.cause.0 refl), same_at p q h.before h.note h.turned fits h.kept h.same)
   step (Read at blocks) p q fits (sources, h) =
       let history = history_is p q h.before h.note h.turned fits in
       so p q h.before h.note h.turned fits (Read at blocks) (
@@ -128,7 +139,7 @@ module _ {D : Type 0} (tells : Bool) (lock : LockId ManagerBase) (es : List Entr
       so p q h.before h.note h.turned fits (NotRead at count r) (subst P (sym is) (is_up (base_in lock).look (notes_of h.before) h.cause, broke_with (base_in lock).look (notes_of h.before) h.note [] h.entry h.cause))
   step (NotRead at count r) p q fits (refused_read.Down d, open_, h, long, is) =
       let P : Refusal → Type 0 = λ (x : Refusal). RefusesRead x (pieces_of (base_in lock).look (notes_of h.before)) (pieces_of (base_in lock).look (notes_of h.before ++ h.note ∷ [])) in
-      so p q h.before h.note h.turned fits (NotRead at count r) (subst P (sym is) (is_broken (base_in lock).look (notes_of h.before) h.cause, kept_at p q h.before h.note h.turned fits h.entry (h.stays h.entry)))
+      so p q h.before h.note h.turned fits (NotRead at count r) (subst P (sym is) (is_broken (base_in lock).look (notes_of h.before) h.cause, same_at p q h.before h.note h.turned fits h.entry (h.stays h.entry)))
   step (Wrote at blocks) p q fits (place, drained, h) =
       let history = history_is p q h.before h.note h.turned fits in
       let more = wrote_more (base_in lock).look (notes_of h.before) h.note (IsTrue tells) (base_in lock) refl h.turned.ruled history (piece at blocks) h.entry.write h.entry.operation h.entry.same h.cause.unbroken in
@@ -145,10 +156,10 @@ module _ {D : Type 0} (tells : Bool) (lock : LockId ManagerBase) (es : List Entr
       ))
   step (NotWrote at blocks r) p q fits (refused_write.Down d, h, is) =
       let P : Refusal → Type 0 = λ (x : Refusal). RefusesWrite (piece at blocks) x (pieces_of (base_in lock).look (notes_of h.before)) (pieces_of (base_in lock).look (notes_of h.before ++ h.note ∷ [])) in
-      so p q h.before h.note h.turned fits (NotWrote at blocks r) (subst P (sym is) (is_broken (base_in lock).look (notes_of h.before) h.cause, kept_at p q h.before h.note h.turned fits h.entry (h.stays h.entry)))
+      so p q h.before h.note h.turned fits (NotWrote at blocks r) (subst P (sym is) (is_broken (base_in lock).look (notes_of h.before) h.cause, refused_at p q h.before h.note h.turned fits at blocks (refused_write.Down d) h.entry (h.stays h.entry)))
   step (NotWrote at blocks r) p q fits (refused_write.VersionsSpent, h, is) =
       let P : Refusal → Type 0 = λ (x : Refusal). RefusesWrite (piece at blocks) x (pieces_of (base_in lock).look (notes_of h.before)) (pieces_of (base_in lock).look (notes_of h.before ++ h.note ∷ [])) in
-      so p q h.before h.note h.turned fits (NotWrote at blocks r) (subst P (sym is) (is_up (base_in lock).look (notes_of h.before) h.cause.0, spent_at p q h.before h.note h.turned fits h.cause.1, kept_at p q h.before h.note h.turned fits h.entry.0 (h.stays h.entry.0)))
+      so p q h.before h.note h.turned fits (NotWrote at blocks r) (subst P (sym is) (is_up (base_in lock).look (notes_of h.before) h.cause.0, spent_at p q h.before h.note h.turned fits h.cause.1, refused_at p q h.before h.note h.turned fits at blocks refused_write.VersionsSpent h.entry.0 (h.stays h.entry.0)))
   step (NotWrote at blocks r) p q fits (refused_write.NoMemory, h, is) =
       let P : Refusal → Type 0 = λ (x : Refusal). RefusesWrite (piece at blocks) x (pieces_of (base_in lock).look (notes_of h.before)) (pieces_of (base_in lock).look (notes_of h.before ++ h.note ∷ [])) in
-      so p q h.before h.note h.turned fits (NotWrote at blocks r) (subst P (sym is) (takes_at p q h.before h.note h.turned fits h.cause, kept_at p q h.before h.note h.turned fits h.entry (h.stays h.entry)))
+      so p q h.before h.note h.turned fits (NotWrote at blocks r) (subst P (sym is) (takes_at p q h.before h.note h.turned fits h.cause, refused_at p q h.before h.note h.turned fits at blocks refused_write.NoMemory h.entry (h.stays h.entry)))

@@ -46,9 +46,9 @@ module _ (l : Look) (notes : List Noted) where
 
 -- ---- The next version
 
-stays_next : (l : Look) (n : Noted) → Stays l n → n.look.next ≡ l.next
-stays_next l n (inl same) = ap (λ (k : Look). k.next) same
-stays_next l n (inr (w, d)) = ap (λ (k : Look). k.next) d.bare
+stays_next : (lacked : Write → Type 0) (l : Look) (n : Noted) → Stays lacked l n → n.look.next ≡ l.next
+stays_next lacked l n (inl same) = ap (λ (k : Look). k.next) same
+stays_next lacked l n (inr (w, is, d)) = ap (λ (k : Look). k.next) d.bare
 
 placed_next : (p : Place) (l : Look) (w : Write) → ((placed p l w).next ≡ l.next) ⊎ ((placed p l w).next ≡ l.next + 1)
 placed_next Home l w = inl refl
@@ -76,8 +76,8 @@ module _ (l : Look) (notes : List Noted) (n : Noted) where
       or_nothing None = refl
       or_nothing (Some ws) = refl
 
-  pub kept_same : n.entry.operation ≡ Kept → Stays (last_look l notes) n → new ≡ old
-  kept_same kept stays = same_pieces Kept kept refl refl (stays_next (last_look l notes) n stays)
+  pub kept_same : (lacked : Write → Type 0) → n.entry.operation ≡ Kept → Stays lacked (last_look l notes) n → new ≡ old
+  kept_same lacked kept stays = same_pieces Kept kept refl refl (stays_next lacked (last_look l notes) n stays)
 
   module _ (told : Type 0) (b : Base) (is_l : b.look ≡ l) (ruled : IsTrue n.ruled) (history : HasHistory told b (notes ++ n ∷ [])) where
     step : (o : Operation) → n.entry.operation ≡ o → IsStep n n.entry.pass o (last_look l notes) n.look

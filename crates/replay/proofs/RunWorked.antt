@@ -7,7 +7,7 @@ use Rattle.replay.proofs.Terms.{Noted, entries_of, last_look, Config, Entry, own
 use Rattle.replay.proofs.Terms.{Station, IsBroken, KeptStay, ManagerPass, began, coded, notes_seen, AreOthersIdle, kept_join, notes_joined}
 use Rattle.replay.proofs.Terms.{nothing_more, IsMoved, Desk, Floor, Reclaim, IsClosedVolume, AreUnused, IsUnused}
 use Rattle.replay.proofs.Terms.{base_of_station, ImageRest, History, is_broken, is_broken_at, ServedFromStart, ServedWindow, WentWell}
-use Rattle.replay.proofs.Terms.{AreBegun, AreWorked, AreWorks, DrainsAlone, KeepsRecords, WorksAs, by_keeper}
+use Rattle.replay.proofs.Terms.{AreBegun, AreWorked, AreWorks, DrainsAlone, KeepsRecords, LackedIn, WorksAs, by_keeper}
 use Rattle.replay.proofs.EntriesOwn.{OfEntry, all_of_three, coded_all, noted_all, notes_back}
 use Rattle.replay.proofs.HistoriesLeft.{histories_of}
 use Rattle.replay.proofs.KeeperIdle.{none_first, own_joined}
@@ -24,15 +24,15 @@ use Rattle.window_desks.specs.declared.request.Reclaim.TheVariants as reclaim
 -- ---- Where nothing is reclaimed
 
 -- entries that aren't the worker's
-kept_rest : (l : Look) (es : List Entry) → own worker es ≡ [] → KeptStay l (notes_of es)
-kept_rest l [] none = tt
-kept_rest l (e ∷ es) none = let (other, rest) = none_first worker e es none in (λ mine kept. absurd (other mine), kept_rest (noted_of e.0 e.1).look es rest)
+kept_rest : (lacked : Write → Type 0) (l : Look) (es : List Entry) → own worker es ≡ [] → KeptStay lacked l (notes_of es)
+kept_rest lacked l [] none = tt
+kept_rest lacked l (e ∷ es) none = let (other, rest) = none_first worker e es none in (λ mine kept. absurd (other mine), kept_rest lacked (noted_of e.0 e.1).look es rest)
 
-drains_alone : (l : Look) (notes : List Noted) → KeptStay l notes → AreOthersIdle l notes → HasNoHelp notes → DrainsAlone l notes
-drains_alone l [] stay idle none = tt
-drains_alone l (n ∷ notes) (stay, stays) (idle, idles) (none, nones) = (λ kept. at idle kept, drains_alone n.look notes stays idles nones)
+drains_alone : (lacked : Write → Type 0) (l : Look) (notes : List Noted) → KeptStay lacked l notes → AreOthersIdle l notes → HasNoHelp notes → DrainsAlone lacked l notes
+drains_alone lacked l [] stay idle none = tt
+drains_alone lacked l (n ∷ notes) (stay, stays) (idle, idles) (none, nones) = (λ kept. at idle kept, drains_alone lacked n.look notes stays idles nones)
   where
-    at : (n.entry.pass ≡ worker) ⊎ ((n.entry.pass ≡ helper) ⊎ ((n.entry.pass ≡ keeper) × (n.look.listed ≡ l.listed))) → n.entry.operation ≡ Kept → (n.look.listed ≡ l.listed) ⊎ ((w : Write) × IsDrained n.passed l w n.look)
+    at : (n.entry.pass ≡ worker) ⊎ ((n.entry.pass ≡ helper) ⊎ ((n.entry.pass ≡ keeper) × (n.look.listed ≡ l.listed))) → n.entry.operation ≡ Kept → (n.look.listed ≡ l.listed) ⊎ ((w : Write) × lacked w × IsDrained n.passed l w n.look)
     at (inl mine) kept = elim (stay mine kept) [
       | inl same ↦ inl (ap (λ (x : Look). x.listed) same)
       | inr drains ↦ inr drains
@@ -142,8 +142,8 @@ module _ {D : Type 0} (tells : Bool) (mode : Reclaim) (config : Config) (out : L
     idle : AreOthersIdle h.base.look h.notes
     idle = others_idle tells mode config out opened left_ olds news closed before middle after ps qs moved back ss served ends unused numbers new_numbers free looks same some k h here
 
-    off_is : mode ≡ reclaim.Off → DrainsAlone h.base.look h.notes
-    off_is off = drains_alone h.base.look h.notes stays idle
+    off_is : mode ≡ reclaim.Off → DrainsAlone (LackedIn k ss) h.base.look h.notes
+    off_is off = drains_alone (LackedIn k ss) h.base.look h.notes stays idle
         (none (λ beside. (let no : reclaim.Off ≡ reclaim.Beside = sym off ∙ beside in absurd (cc no))))
       where
         honest : own (pass_number new.worker) (pass_seen new.worker) ≡ pass_mine new.worker
@@ -164,13 +164,13 @@ module _ {D : Type 0} (tells : Bool) (mode : Reclaim) (config : Config) (out : L
             = sym (own_joined (pass_number new.worker) (pass_seen new.worker) rest) ∙ ap (own (pass_number new.worker)) its.worker_part.seen.1 ∙ its.worker_part.mine ∙ sym honest in
             subst (λ (n : ℕ). own n rest ≡ []) (new_numbers k new is_new).0 (nothing_more (own (pass_number new.worker) (pass_seen new.worker)) (own (pass_number new.worker) rest) all)
 
-        front : KeptStay h.base.look (notes_of works.more)
-        front = subst (λ (l : Look). KeptStay l (notes_of works.more)) (ap (λ (x : List Entry). last_look (began old.worker).look (notes_of x)) unused_here.0.seen ∙ ap (λ b. b.look) (bases.0 ∙ base_is))
+        front : KeptStay (LackedIn k ss) h.base.look (notes_of works.more)
+        front = subst (λ (l : Look). KeptStay (LackedIn k ss) l (notes_of works.more)) (ap (λ (x : List Entry). last_look (began old.worker).look (notes_of x)) unused_here.0.seen ∙ ap (λ b. b.look) (bases.0 ∙ base_is))
             (works.stays off (honest_unused tells old.worker unused_here.0))
 
-        stays : KeptStay h.base.look h.notes
-        stays = subst (λ (ns : List Noted). KeptStay h.base.look ns) (sym (ap (λ (x : History). x.notes) is_left ∙ ap notes_of entries ∙ notes_joined works.more rest))
-            (kept_join h.base.look (notes_of works.more) (notes_of rest) front (kept_rest (last_look h.base.look (notes_of works.more)) rest none_behind))
+        stays : KeptStay (LackedIn k ss) h.base.look h.notes
+        stays = subst (λ (ns : List Noted). KeptStay (LackedIn k ss) h.base.look ns) (sym (ap (λ (x : History). x.notes) is_left ∙ ap notes_of entries ∙ notes_joined works.more rest))
+            (kept_join (LackedIn k ss) h.base.look (notes_of works.more) (notes_of rest) front (kept_rest (LackedIn k ss) (last_look h.base.look (notes_of works.more)) rest none_behind))
 
     -- ---- Where all windows went well
 
@@ -228,5 +228,5 @@ none_worked tells mode config out opened left_ ss closed numbers unused = record
   begun_ = (omega arith, omega arith);
   each = λ v h here.
       let none = none_noted tells config out opened left_ ss closed numbers unused v h here in
-      record { worker_ = ap by_worker none; keeper_ = ap by_keeper none; records = subst (λ (ns : List Noted). KeepsRecords h.base.look ns) (sym none) tt; off = λ off. subst (λ (ns : List Noted). DrainsAlone h.base.look ns) (sym none) tt };
+      record { worker_ = ap by_worker none; keeper_ = ap by_keeper none; records = subst (λ (ns : List Noted). KeepsRecords h.base.look ns) (sym none) tt; off = λ off. subst (λ (ns : List Noted). DrainsAlone (LackedIn v []) h.base.look ns) (sym none) tt };
 }

@@ -70,7 +70,7 @@ pub use Rattle.replay.specs.Served.{ServedFromStart, ServedWindow, WasNotRun, ou
 pub use Rattle.replay.specs.Sessions.{WentWell, AreWindowsOf, EndsBy, RunsLines, ServesSome, ServesWhole, ServesWindows, at_end, lines_of_window, AreVolumes, IsSession, AreServedOf, Closes, EndsIn, EndsWithWindow, GoesOn, HasBegunWindow, HasFailedToBegin, HasServed, StopsAfter, StopsAtLine, TakesOn, at_refusal, lines_of_windows, opens, AreServedFrom, Finishes}
 pub use Rattle.replay.specs.Stops.{fault_of_trace}
 pub use Rattle.replay.specs.Summed.{HaveAccounts, HaveShortAccounts, IsAccountBy, IsCutShort, IsSummaryOf, PrintsRun, column, lines_asked, of_all, of_none, started_uses, window_uses, IsAccount, IsSummary}
-pub use Rattle.replay.specs.Works.{AreClosings, AreWorked, AreWorks, AreBegun, IsClosing, IsWork, DrainsAlone, KeepsRecords, WorksAs, by_keeper}
+pub use Rattle.replay.specs.Works.{AreClosings, AreWorked, AreWorks, AreBegun, IsClosing, IsWork, DrainsAlone, KeepsRecords, LackedIn, WorksAs, by_keeper}
 pub use Rattle.replay.specs.declared.counting.Counted.{Counted}
 pub use Rattle.replay.specs.declared.given.Given.{Given}
 pub use Rattle.replay.specs.declared.session.Options.{Options}
@@ -84,8 +84,9 @@ pub use Rattle.report.specs.declared.fault.Fault.TheVariants.{Memory, TraceSourc
 pub use Rattle.report.specs.declared.totals.Totals.{Totals}
 pub use Rattle.report.specs.declared.trouble.Trouble.{Trouble}
 pub use Rattle.request_turns.proofs.CountLaws.{AreOthersIdle, IsWhole, dropped_by_pass, home_by_pass, records_add_up}
-pub use Rattle.request_turns.proofs.Gaining.{broken_more, down_breaks, last_joined, notes_joined, pass_kept, nothing_more, gains_turn, gains_both, gains_none, stays_both, turn_more, down_more, kept_join}
+pub use Rattle.request_turns.proofs.Gaining.{broken_more, down_breaks, last_joined, notes_joined, pass_kept, nothing_more, gains_turn, gains_both, gains_none, looks_so, stays_both, turn_more, down_more, kept_join}
 pub use Rattle.request_turns.specs.Begun.{HasBegunVolume}
+pub use Rattle.request_turns.specs.Causes.{OneLacked}
 pub use Rattle.request_turns.specs.Closed.{HasClosed}
 pub use Rattle.request_turns.specs.Counts.{added_between, added_up, dropped_by, records_dropped, Counts}
 pub use Rattle.request_turns.specs.Entries.{AreEntriesOf, AreMade, IsGroupEntry, TellsFault, none, one, several, WasSpent, IsFlight, IsFlightAt, before_others, front_writes}

@@ -1,7 +1,7 @@
 -- What the worker and the keeper of a volume did while windows were served.
 use Rattle.replay.proofs.Basics.{◌≡◌, ◌<◌, ◌≤◌, ◌⊎◌, ℕ, suc, Bool, List, [], ◌∷◌, ◌++◌, length, map, refl, sym, ap, subst, ◌∙◌}
 use Rattle.replay.proofs.Basics.{append_assoc, append-nil, Option, None, Some, arith, inl, inr, slice_index_or, map-append}
-use Rattle.replay.proofs.Terms.{Entry, IsFree, IsSamePass, pass_mine, pass_number, pass_seen, keeper, worker, Noted, StepFault}
+use Rattle.replay.proofs.Terms.{LackedIn, OneLacked, looks_so, own_requests, outcomes_of, Entry, IsFree, IsSamePass, pass_mine, pass_number, pass_seen, keeper, worker, Noted, StepFault}
 use Rattle.replay.proofs.Terms.{HasBegunVolume, HasClosed, Gains, IsBroken, IsHonest, LooksStay, ManagerPass, began, coded, faulty_part}
 use Rattle.replay.proofs.Terms.{notes_seen, down_breaks, gains_both, gains_none, gains_turn, stays_both, turn_more, HaveBegunVolumes}
 use Rattle.replay.proofs.Terms.{IsClosed, HasWorked, Desk, Floor, Reclaim, ServedFromStart, ServedWindow, WasNotRun, WereServed, AreBegun}
@@ -25,7 +25,7 @@ module _ {D : Type 0} (tells : Bool) (whole : Type 0) where
     pub notes : List Noted
     pub gains : Gains tells p q more notes
     pub work : (whole → IsBroken (notes_seen q) → ⊥) → IsWork mode (began p).view v whole s notes
-    pub stays : mode ≡ reclaim.Off → IsHonest tells p → LooksStay p more
+    pub stays : mode ≡ reclaim.Off → IsHonest tells p → LooksStay (OneLacked (own_requests v s.batch.requests) (outcomes_of v s.batch.requests s.answer.outcomes.items)) p more
 
   closing_of : (fault : Option StepFault) (p q : ManagerPass D) (c : HasClosed tells fault p q) → (whole → IsBroken (notes_seen q) → ⊥) → IsClosing whole c.note
   closing_of fault p q c unbroken = record {
@@ -60,7 +60,7 @@ module _ {D : Type 0} (tells : Bool) (whole : Type 0) where
     pub notes : List Noted
     pub gains : Gains tells p q more notes
     pub works : (whole → IsBroken (notes_seen q) → ⊥) → AreWorks mode (began p).view v whole ss notes
-    pub stays : mode ≡ reclaim.Off → IsHonest tells p → LooksStay p more
+    pub stays : mode ≡ reclaim.Off → IsHonest tells p → LooksStay (LackedIn v ss) p more
 
   works_none : (mode : Reclaim) (v : ℕ) (p : ManagerPass D) → IsFree p → WorksOn mode v [] p p
   works_none mode v p free = record { more = []; notes = []; gains = gains_none tells p free; works = λ unbroken. refl; stays = λ off honest. tt }
@@ -77,7 +77,9 @@ module _ {D : Type 0} (tells : Bool) (whole : Type 0) where
       a.work (λ w broken. unbroken w (broken_in (pass_seen q) (pass_seen r) (b.more, sym b.gains.seen) broken)),
       subst (λ (view : List ℕ). AreWorks mode view v whole ss b.notes) (ap (λ x. x.base.volume.began.view) a.gains.same.0) (b.works unbroken),
     );
-    stays = λ off honest. stays_both tells p q r a.more b.more a.notes b.notes a.gains b.gains (a.stays off honest) (b.stays off (a.gains.honest honest));
+    stays = λ off honest. stays_both tells p q r a.more b.more a.notes b.notes a.gains b.gains (LackedIn v (s ∷ ss))
+        (looks_so (OneLacked (own_requests v s.batch.requests) (outcomes_of v s.batch.requests s.answer.outcomes.items)) (LackedIn v (s ∷ ss)) (λ w lacked. inl lacked) p a.more (a.stays off honest))
+        (looks_so (LackedIn v ss) (LackedIn v (s ∷ ss)) (λ w lacked. inr lacked) q b.more (b.stays off (a.gains.honest honest)));
   }
 
   module _ (mode : Reclaim) (k : ℕ) (d : Desk D) where

@@ -7,6 +7,7 @@ use Rattle.wol_model.specs.History.{IsHelp, Kept, keeper}
 use Rattle.wol_promise.specs.Policy.{IsIdleLook, Look}
 use Rattle.wol_promise.specs.Report.{IsBegun, by_worker}
 use Rattle.wol_promise.specs.Ruled.{IsDrained, Noted}
+use Rattle.request_turns.specs.Causes.{OneLacked}
 use Rattle.request_turns.specs.Entries.{AreMade}
 use Rattle.request_workers.specs.Requests.{StopsAtRefusal, outcomes_of, own_requests}
 use Rattle.window_desks.specs.declared.request.Reclaim.{Reclaim}
@@ -73,13 +74,20 @@ AreWorks mode view v whole (s ∷ ss) notes =
 
 -- ---- Where nothing is reclaimed
 
--- each Kept leaves the records as they were listed, or its turn drained for a write that was then
--- refused
-abbrev pub DrainsAlone : Look → List Noted → Type 0
-DrainsAlone l [] = ⊤
-DrainsAlone l (n ∷ notes) = (n.entry.operation ≡ Kept
-    → (n.look.listed ≡ l.listed) ⊎ ((w : Write) × IsDrained n.passed l w n.look))
-    × DrainsAlone n.look notes
+-- w is the write of one of volume v's requests in these windows, and by its outcome it was refused
+-- for want of memory
+abbrev pub LackedIn : (v : ℕ) → List ServedWindow → (w : Write) → Type 0
+LackedIn v [] w = ⊥
+LackedIn v (s ∷ ss) w = OneLacked (own_requests v s.batch.requests)
+    (outcomes_of v s.batch.requests s.answer.outcomes.items) w ⊎ LackedIn v ss w
+
+-- each Kept leaves the records as they were listed, or its turn drained for a write that lacked
+-- memory then
+abbrev pub DrainsAlone : (lacked : Write → Type 0) → Look → List Noted → Type 0
+DrainsAlone lacked l [] = ⊤
+DrainsAlone lacked l (n ∷ notes) = (n.entry.operation ≡ Kept
+    → (n.look.listed ≡ l.listed) ⊎ ((w : Write) × lacked w × IsDrained n.passed l w n.look))
+    × DrainsAlone lacked n.look notes
 
 -- ---- The whole
 
@@ -89,7 +97,7 @@ pub record WorksAs (mode : Reclaim) (windows : List ServedWindow) (awake : List 
   pub worker_ : AreWorks mode h.base.view v (IsTrue (is_broken h) → ⊥) windows (by_worker h.notes)
   pub keeper_ : AreBegun v h.base.view awake (by_keeper h.notes)
   pub records : KeepsRecords h.base.look h.notes
-  pub off : mode ≡ reclaim.Off → DrainsAlone h.base.look h.notes
+  pub off : mode ≡ reclaim.Off → DrainsAlone (LackedIn v windows) h.base.look h.notes
 
 -- so of each volume; a window may have begun of which no request was run
 pub record AreWorked (mode : Reclaim) (windows : List ServedWindow) (awake : List (List Bool))

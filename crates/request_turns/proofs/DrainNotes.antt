@@ -29,7 +29,7 @@ use Rattle.manager.specs.declared.part.StepFault.{StepFault}
 use Rattle.manager.specs.declared.part.StepFault.TheVariants as fault
 use Rattle.manager.specs.declared.part.WriteRefusal.{WriteRefusal}
 use Rattle.manager.specs.declared.part.WriteRefusal.TheVariants.{Full, DiskFault, Down, VersionsSpent, NoMemory}
-use Rattle.request_turns.specs.Causes.{CanTake, IsCauseOfWrite}
+use Rattle.request_turns.specs.Causes.{CanTake, IsCauseOfWrite, LackedMemory}
 use Rattle.request_turns.specs.Counts.{CountsMore, CountsEntry, IsTakenOff}
 use Rattle.request_turns.specs.Entries.{note_of, written_outcome, refused_as, has_broken, IsFlightAt, IsWrittenAs}
 use Rattle.request_turns.specs.Turns.{ManagerPass, began, notes_seen, HasLeft, IsBroken, WasDown, faulty_part, Stays}
@@ -90,14 +90,15 @@ module _ {D : Type 0} (old new : Manager D) (first : ℕ) (blocks : List Block) 
   drain_cause view before (Err VersionsSpent) takes up at down spent = (takes.unbroken, ap (λ (k : Look). k.next) (sym bare) ∙ spent refl)
   drain_cause view before (Err NoMemory) takes up at down spent = takes
 
-  drain_stays : (view : List ℕ) (a : Result Place WriteRefusal) → IsPlaceOf view a P → HasLook P w a (look_of_manager old) (look_of_manager new) → written next first blocks a ≡ Kept → Stays l (drain_note a)
-  drain_stays view (Ok place.Home) at look kept = absurd (let no : Wrote (w ∷ []) ≡ Kept = kept in cc)
-  drain_stays view (Ok (place.Log logger)) at look kept = absurd (let no : Wrote (log_write next first blocks ∷ []) ≡ Kept = kept in cc)
-  drain_stays view (Err Full) at look kept = absurd (let no : AtHome ≡ Nowhere = sym at_home ∙ at in cc)
-  drain_stays view (Err (DiskFault p)) at look kept = absurd (let no : Broke (failed_write next first blocks p ∷ []) ≡ Kept = kept in cc)
-  drain_stays view (Err (Down p)) at look kept = inr (w, is_drained look)
-  drain_stays view (Err VersionsSpent) at look kept = inr (w, is_drained look)
-  drain_stays view (Err NoMemory) at look kept = inr (w, is_drained look)
+  drain_stays : (view : List ℕ) (before : List Noted) (a : Result Place WriteRefusal) → CanTake before l → old.down ≡ None → IsPlaceOf view a P → HasLook P w a (look_of_manager old) (look_of_manager new) → ((d : Part) → (a ≡ Err (Down d)) ↔ (old.down ≡ Some d))
+      → ((a ≡ Err VersionsSpent) → old.next ≡ 2 ^ 63) → written next first blocks a ≡ Kept → Stays (LackedMemory w (written_outcome true a)) l (drain_note a)
+  drain_stays view before (Ok place.Home) takes up at look down spent kept = absurd (let no : Wrote (w ∷ []) ≡ Kept = kept in cc)
+  drain_stays view before (Ok (place.Log logger)) takes up at look down spent kept = absurd (let no : Wrote (log_write next first blocks ∷ []) ≡ Kept = kept in cc)
+  drain_stays view before (Err Full) takes up at look down spent kept = absurd (let no : AtHome ≡ Nowhere = sym at_home ∙ at in cc)
+  drain_stays view before (Err (DiskFault p)) takes up at look down spent kept = absurd (let no : Broke (failed_write next first blocks p ∷ []) ≡ Kept = kept in cc)
+  drain_stays view before (Err (Down p)) takes up at look down spent kept = absurd (let no : true ≡ false = sym (ap is_some ((down p).0 refl)) ∙ ap is_some up in cc)
+  drain_stays view before (Err VersionsSpent) takes up at look down spent kept = let none : l.next ≡ 2 ^ 63 = ap (λ (k : Look). k.next) (sym bare) ∙ spent refl in let some = takes.left in absurd (omega (arith, none, some))
+  drain_stays view before (Err NoMemory) takes up at look down spent kept = inr (w, (refl, refl), is_drained look)
 
   pub drain_stands : (tells : Bool) (state : D → State) (b : ManagerBase) (notes : List Noted) (n1 : Noted) (view : List ℕ) (a : Result Place WriteRefusal) → l ≡ last_look b.volume.began.look notes → pass ≡ worker → next ≡ old.next
       → n1.entry.operation ≡ Kept → passed ≡ n1.passed → IsPlaceOf view a P → HasLook P w a (look_of_manager old) (look_of_manager new)
@@ -141,7 +142,7 @@ has_drained tells state old new first blocks next passed view a p q done t u fai
   left = left;
   ruled = refl;
   entry = drain_entry old new first blocks (pass_number p) next passed (last_look (began p).look (notes_seen p)) bare full view (began p).view a at look (λ e. (spent.0 e).1);
-  stays = drain_stays old new first blocks (pass_number p) next passed (last_look (began p).look (notes_seen p)) bare full view a at look;
+  stays = drain_stays old new first blocks (pass_number p) next passed (last_look (began p).look (notes_seen p)) bare full view (notes_seen p) a takes up at look down (λ e. (spent.0 e).1);
   cause = drain_cause old new first blocks (pass_number p) next passed (last_look (began p).look (notes_seen p)) bare full view (notes_seen p) a takes up at down (λ e. (spent.0 e).1);
   fault = write_fault state old new true (notes_seen q) a told down broken
       (was_spent tells state old new (ruled_place old new first blocks) (home_write first blocks) (note_of (pass_number p) (written next first blocks a) (look_of_manager new) passed (is_ok a)) p q refl left a look told spent unbroken);

@@ -1,5 +1,5 @@
 -- Turns of a pass, one after another.
-use Rattle.std.proofs.Common.{◌≡◌, ◌+◌, ◌==◌, ℕ, Bool, true, false, cond, List, [], ◌∷◌, ◌++◌, map, length, drop, Option, None, Some, refl, sym, ap, subst, ◌∙◌, append_assoc, length-append, arith}
+use Rattle.std.proofs.Common.{◌≡◌, ◌+◌, ◌==◌, ℕ, Bool, true, false, cond, List, [], ◌∷◌, ◌++◌, map, length, drop, Option, None, Some, inl, inr, refl, sym, ap, subst, ◌∙◌, append_assoc, length-append, arith}
 use Rattle.std.specs.Prelude.{⊤, IsTrue, is_some, unwrap_or}
 use Rattle.std.specs.Option.{option_map, option_and_then, option_or}
 use Rattle.std.proofs.lemmas.Bool.{eq-eqb}
@@ -10,6 +10,7 @@ use Rattle.std.proofs.lemmas.List.Elements.{filter-append}
 use Rattle.turn_lock.specs.Histories.{Entry, own}
 use Rattle.turn_lock.specs.LockIds.{LockId}
 use Rattle.turn_lock.specs.Passes.{pass_number, pass_seen, pass_mine, IsFree}
+use Rattle.wol_model.specs.Blocks.{Write}
 use Rattle.wol_model.specs.History.{Kept, worker, flight_of}
 use Rattle.wol_model.proofs.Histories.{flight_more}
 use Rattle.wol_promise.specs.Code.{noted_of, read_noted, read_operation, read_look, read_list, read_number, read_flag, no_note}
@@ -55,15 +56,28 @@ pub last_joined : (l : Look) (xs ys : List Noted) → last_look l (xs ++ ys) ≡
 last_joined l [] ys = refl
 last_joined l (x ∷ xs) ys = last_joined x.look xs ys
 
-pub kept_join : (l : Look) (xs ys : List Noted) → KeptStay l xs → KeptStay (last_look l xs) ys → KeptStay l (xs ++ ys)
-kept_join l [] ys a b = b
-kept_join l (x ∷ xs) ys a b = (a.0, kept_join x.look xs ys a.1 b)
+-- what lacked memory among some lacked it among more
+module _ (some more : Write → Type 0) (so : (w : Write) → some w → more w) where
+  pub stays_so : (l : Look) (n : Noted) → Stays some l n → Stays more l n
+  stays_so l n (inl same) = inl same
+  stays_so l n (inr (w, lacked, drained)) = inr (w, so w lacked, drained)
 
-kept_others : (l : Look) (es : List Entry) → own worker es ≡ [] → KeptStay l (notes_of es)
-kept_others l [] none = tt
-kept_others l (e ∷ es) none = by (λ further. kept_others (noted_of e.0 e.1).look es further) (e.0 == worker) refl
+  pub kept_so : (l : Look) (ns : List Noted) → KeptStay some l ns → KeptStay more l ns
+  kept_so l [] stay = tt
+  kept_so l (n ∷ ns) (stay, stays) = ((λ mine kept. stays_so l n (stay mine kept)), kept_so n.look ns stays)
+
+  pub looks_so : {D : Type 0} (p : ManagerPass D) (es : List Entry) → LooksStay some p es → LooksStay more p es
+  looks_so p es stay = kept_so (last_look (began p).look (notes_seen p)) (notes_of es) stay
+
+pub kept_join : (lacked : Write → Type 0) (l : Look) (xs ys : List Noted) → KeptStay lacked l xs → KeptStay lacked (last_look l xs) ys → KeptStay lacked l (xs ++ ys)
+kept_join lacked l [] ys a b = b
+kept_join lacked l (x ∷ xs) ys a b = (a.0, kept_join lacked x.look xs ys a.1 b)
+
+kept_others : (lacked : Write → Type 0) (l : Look) (es : List Entry) → own worker es ≡ [] → KeptStay lacked l (notes_of es)
+kept_others lacked l [] none = tt
+kept_others lacked l (e ∷ es) none = by (λ further. kept_others lacked (noted_of e.0 e.1).look es further) (e.0 == worker) refl
   where
-    by : (own worker es ≡ [] → KeptStay (noted_of e.0 e.1).look (notes_of es)) → (t : Bool) → (e.0 == worker) ≡ t → KeptStay l (notes_of (e ∷ es))
+    by : (own worker es ≡ [] → KeptStay lacked (noted_of e.0 e.1).look (notes_of es)) → (t : Bool) → (e.0 == worker) ≡ t → KeptStay lacked l (notes_of (e ∷ es))
     by rest true is = absurd (let no : e ∷ own worker es ≡ [] = sym (ap (λ (t : Bool). cond t (e ∷ own worker es) (own worker es)) is) ∙ none in cc)
     by rest false is = (
       (λ mine kept. absurd (let no : true ≡ false = sym (eq-eqb e.0 worker (sym (pass_kept e.0 e.1) ∙ mine)) ∙ is in cc)),
@@ -113,11 +127,11 @@ module _ {D : Type 0} (tells : Bool) (p q : ManagerPass D) (before : List Entry)
       let same : own (pass_number p) (pass_seen p) ++ own (pass_number p) t.begins.0 ≡ own (pass_number p) (pass_seen p) = sym split ∙ t.others ∙ sym honest.mine in
       subst (λ (k : ℕ). own k t.begins.0 ≡ []) client (nothing_more (own (pass_number p) (pass_seen p)) (own (pass_number p) t.begins.0) same)
 
-  pub stays_turn : pass_number p ≡ worker → (n.entry.operation ≡ Kept → Stays (last_look (began p).look (notes_of before)) n) → IsHonest tells p → LooksStay p turn_more
-  stays_turn client stays honest =
-      subst (KeptStay (last_look (began p).look (notes_seen p))) (sym (notes_at t.begins.0 n.entry.pass n refl))
-      (kept_join (last_look (began p).look (notes_seen p)) (notes_of t.begins.0) (n ∷ []) (kept_others (last_look (began p).look (notes_seen p)) t.begins.0 (none_others client honest)) (
-        (λ mine kept. subst (λ (l : Look). Stays l n) (ap (λ (es : List Entry). last_look (began p).look (notes_of es)) (sym t.begins.1)
+  pub stays_turn : (lacked : Write → Type 0) → pass_number p ≡ worker → (n.entry.operation ≡ Kept → Stays lacked (last_look (began p).look (notes_of before)) n) → IsHonest tells p → LooksStay lacked p turn_more
+  stays_turn lacked client stays honest =
+      subst (KeptStay lacked (last_look (began p).look (notes_seen p))) (sym (notes_at t.begins.0 n.entry.pass n refl))
+      (kept_join lacked (last_look (began p).look (notes_seen p)) (notes_of t.begins.0) (n ∷ []) (kept_others lacked (last_look (began p).look (notes_seen p)) t.begins.0 (none_others client honest)) (
+        (λ mine kept. subst (λ (l : Look). Stays lacked l n) (ap (λ (es : List Entry). last_look (began p).look (notes_of es)) (sym t.begins.1)
             ∙ ap (last_look (began p).look) (notes_joined (pass_seen p) t.begins.0) ∙ last_joined (began p).look (notes_seen p) (notes_of t.begins.0)) (stays kept)),
         tt,
       ))
@@ -140,10 +154,10 @@ module _ {D : Type 0} (tells : Bool) where
       honest = λ h. b.honest (a.honest h);
     }
 
-    pub stays_both : LooksStay p more → LooksStay q rest → LooksStay p (more ++ rest)
-    stays_both first then =
-        subst (KeptStay (last_look (began p).look (notes_seen p))) (sym (notes_joined more rest)) (kept_join (last_look (began p).look (notes_seen p)) (notes_of more) (notes_of rest) first
-        (subst (λ (l : Look). KeptStay l (notes_of rest)) (ap (λ (l : LockId ManagerBase). last_look l.base.volume.began.look (notes_seen q)) a.same.0
+    pub stays_both : (lacked : Write → Type 0) → LooksStay lacked p more → LooksStay lacked q rest → LooksStay lacked p (more ++ rest)
+    stays_both lacked first then =
+        subst (KeptStay lacked (last_look (began p).look (notes_seen p))) (sym (notes_joined more rest)) (kept_join lacked (last_look (began p).look (notes_seen p)) (notes_of more) (notes_of rest) first
+        (subst (λ (l : Look). KeptStay lacked l (notes_of rest)) (ap (λ (l : LockId ManagerBase). last_look l.base.volume.began.look (notes_seen q)) a.same.0
         ∙ ap (last_look (began p).look) (ap notes_of a.seen ∙ notes_joined (pass_seen p) more) ∙ last_joined (began p).look (notes_seen p) (notes_of more)) then))
 
   -- what was seen goes on

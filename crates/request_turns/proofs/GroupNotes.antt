@@ -30,7 +30,6 @@ use Rattle.request_turns.specs.Counts.{CountsEntry}
 use Rattle.request_turns.specs.Entries.{note_of, written_outcome, is_full, IsFlight, IsFlightAt, IsPlaced, IsRefusedWrite}
 use Rattle.request_turns.specs.Groups.{AreWrittenAs, one, several, answered_of}
 use Rattle.request_turns.specs.declared.outcome.Outcome.TheVariants as outcome
-use Rattle.request_turns.specs.Turns.{Stays}
 use Rattle.request_turns.specs.declared.tally.Tally.{Tally}
 use Rattle.request_turns.proofs.Counting.{entry_same, entry_quiet}
 
@@ -186,13 +185,13 @@ module _ {D : Type 0} (tells : Bool) (state : D → State) (old new : Manager D)
       (refl, ap (λ (k : Look). k.next) (kept_look old new (Err VersionsSpent) refl was) ∙ spent refl)
   group_entry view (Err NoMemory) some not_full are at look was spent = refused_entry view items from NoMemory (group_note (Err NoMemory)) some refl
 
-  pub group_stays : (a : Result Place WriteRefusal) → IsAsBefore a old new → (k : Look) → k ≡ l → run_written (ws a) a ≡ Kept → Stays k (group_note a)
-  group_stays (Ok p) was k is kept = absurd (let no : Wrote (ws (Ok p)) ≡ Kept = kept in cc)
-  group_stays (Err Full) was k is kept = inl (kept_look old new (Err Full) refl was ∙ sym is)
-  group_stays (Err (DiskFault p)) was k is kept = absurd (let no : Broke (ws (Err (DiskFault p))) ≡ Kept = kept in cc)
-  group_stays (Err (Down p)) was k is kept = inl (kept_look old new (Err (Down p)) refl was ∙ sym is)
-  group_stays (Err VersionsSpent) was k is kept = inl (kept_look old new (Err VersionsSpent) refl was ∙ sym is)
-  group_stays (Err NoMemory) was k is kept = inl (kept_look old new (Err NoMemory) refl was ∙ sym is)
+  pub group_same : (a : Result Place WriteRefusal) → IsAsBefore a old new → (k : Look) → k ≡ l → run_written (ws a) a ≡ Kept → look_of_manager new ≡ k
+  group_same (Ok p) was k is kept = absurd (let no : Wrote (ws (Ok p)) ≡ Kept = kept in cc)
+  group_same (Err Full) was k is kept = kept_look old new (Err Full) refl was ∙ sym is
+  group_same (Err (DiskFault p)) was k is kept = absurd (let no : Broke (ws (Err (DiskFault p))) ≡ Kept = kept in cc)
+  group_same (Err (Down p)) was k is kept = kept_look old new (Err (Down p)) refl was ∙ sym is
+  group_same (Err VersionsSpent) was k is kept = kept_look old new (Err VersionsSpent) refl was ∙ sym is
+  group_same (Err NoMemory) was k is kept = kept_look old new (Err NoMemory) refl was ∙ sym is
 
   pub group_counted : (a : Result Place WriteRefusal) → IsAsBefore a old new → (k : Look) → k ≡ l → (t : Tally) → CountsEntry k (group_note a) t t
   group_counted (Ok p) was k is t = entry_quiet k (group_note (Ok p)) t refl

@@ -1,5 +1,5 @@
 -- A turn of several writes, from entering to leaving.
-use Rattle.std.proofs.Common.{◌≡◌, ◌≤◌, ◌+◌, ◌^◌, ℕ, zero, suc, Bool, true, false, List, [], ◌∷◌, ◌++◌, map, length, take, drop, get_or, None, Some, Result, Ok, Err, refl, sym, ap, subst, ◌∙◌, arith}
+use Rattle.std.proofs.Common.{◌≡◌, ◌≤◌, ◌+◌, ◌^◌, ℕ, zero, suc, Bool, true, false, List, [], ◌∷◌, ◌++◌, map, length, take, drop, get_or, None, Some, Result, Ok, Err, inl, refl, sym, ap, subst, ◌∙◌, arith}
 use Rattle.std.specs.Prelude.{◌↔◌}
 use Rattle.std.specs.List.{AllByRecursion, sum_by, take-map}
 use Rattle.std.proofs.lemmas.List.{length-map}
@@ -32,7 +32,7 @@ use Rattle.manager.specs.declared.part.WriteRefusal.TheVariants.{Down, VersionsS
 use Rattle.trace_windows.specs.Requests.{asked}
 use Rattle.trace_windows.specs.declared.request.Request.{Request}
 use Rattle.request_turns.specs.Answered.{HasAnsweredMany}
-use Rattle.request_turns.specs.Causes.{IsCauseOfWrite}
+use Rattle.request_turns.specs.Causes.{IsCauseOfWrite, LackedMemory, OneLacked}
 use Rattle.request_turns.specs.Entries.{note_of, full_note, written_outcome, is_full, AreWrittenTogether, IsEntryOf, IsEntryOfFirst, IsWrittenAs, IsRefusedWrite, before_others, front_writes}
 use Rattle.request_turns.specs.Entries as entries
 use Rattle.request_turns.specs.Groups.{AreWrittenAs, one, several, HasWrittenMany, item_of, answered_of}
@@ -42,7 +42,8 @@ use Rattle.request_turns.specs.Written.{HasWritten}
 use Rattle.request_turns.specs.declared.outcome.Outcome.{Outcome}
 use Rattle.request_turns.specs.declared.outcome.Outcome.TheVariants as outcome
 use Rattle.request_turns.specs.declared.tally.Tally.{Tally}
-use Rattle.request_turns.proofs.GroupNotes.{group_note, is_group_note, group_entry, group_stays, group_counted, kept_look}
+use Rattle.request_turns.proofs.Gaining.{stays_so}
+use Rattle.request_turns.proofs.GroupNotes.{group_note, is_group_note, group_entry, group_same, group_counted, kept_look}
 use Rattle.request_turns.proofs.MadeLaws.{refused_more}
 use Rattle.request_turns.proofs.Turning.{turned}
 use Rattle.request_turns.proofs.WriteNotes.{full_is, spent_behind, write_fault, write_cause}
@@ -72,7 +73,7 @@ module _ {D : Type 0} (tells : Bool) (state : D → State) (old new : Manager D)
     left = left_here;
     ruled = refl;
     entry = group_entry tells state old new items from (pass_number p) n (began p).view a some not_full run.are (subst (λ (v : List ℕ). IsPlaceOf v a (ruled_run old new items from)) view at) run.look was (λ e. (spent.0 e).1);
-    stays = group_stays tells state old new items from (pass_number p) n a was (last_look (began p).look (notes_seen p)) is;
+    stays = λ kept. inl (group_same tells state old new items from (pass_number p) n a was (last_look (began p).look (notes_seen p)) is kept);
     cause = write_cause tells state old (pass_lock p).base (notes_seen p) keeps (last_look (began p).look (notes_seen p)) is false a not_full down spent;
     fault = write_fault state old new false (notes_seen q) a told down broken
         (spent_behind tells state old new (group_note tells state old new items from (pass_number p) n a) p q refl left_here a (λ e. kept_look old new a (ap was_tried e) was) told spent unbroken);
@@ -165,6 +166,13 @@ of_requests view rs count o n all (several place two within o_is is) = entries.s
     (let e = length-map rs (λ (r : Request). payload (asked r)) in omega (arith, within, e)) o_is
     (record { kinds = all_front count rs all; together = subst (λ (ws : List Write). AreWrittenTogether view ws place n) (take-map (λ (r : Request). payload (asked r)) count rs) is })
 
+-- where the first of some writes lacked memory it is that of the first request
+first_lacked : (items : List Item) (from : List Block) (rs : List Request) (o : Outcome) → AllByRecursion (λ (r : Request). r.kind ≡ kind.Write) rs → writes_to_home items from ≡ map (λ (r : Request). payload (asked r)) rs → 1 ≤ length items
+    → (w : Write) → LackedMemory (home_write (first_lbn items) (first_blocks items from)) o w → OneLacked rs (o ∷ []) w
+first_lacked [] from rs o all are some w lacked = absurd (omega (arith, some))
+first_lacked (i ∷ items) from [] o all are some w lacked = absurd (let no : home_write i.lbn (take i.count from) ∷ writes_to_home items (drop i.count from) ≡ [] = are in cc)
+first_lacked (i ∷ items) from (r ∷ rs) o all are some w (same, out) = let is : home_write i.lbn (take i.count from) ≡ payload (asked r) = cc are in inl (all.0, (same ∙ is, out))
+
 pub answered_many : {D : Type 0} (tells : Bool) (rs : List Request) (items : List Item) (from : List Block) (count : ℕ) (o : Outcome) (p i q : ManagerPass D) (t u : Tally) → AllByRecursion (λ (r : Request). r.kind ≡ kind.Write) rs
     → writes_to_home items from ≡ map (λ (r : Request). payload (asked r)) rs → length items ≡ length rs
     → IsSamePass p i → Begins (pass_seen p) (pass_seen i) → pass_mine i ≡ pass_mine p → own (pass_number i) (pass_seen i) ≡ pass_mine i → HasWrittenMany tells items from count o t u i q → HasAnsweredMany tells rs count o p q
@@ -176,7 +184,9 @@ answered_many tells rs items from count o p i q t u all payloads long same begin
   turned = turned tells p i q w.note same begins mine owns w.left w.ruled;
   entry = of_requests (began p).view rs count o w.note all (subst (λ (ws : List Write). AreWrittenAs (began p).view ws count o w.note) payloads
       (subst (λ (l : LockId ManagerBase). AreWrittenAs l.base.volume.began.view (writes_to_home items from) count o w.note) same.0 w.entry));
-  stays = λ kept. subst (λ (l : LockId ManagerBase). Stays (last_look l.base.volume.began.look (notes_seen i)) w.note) same.0 (w.stays kept);
+  stays = λ kept. let s = w.some in let le = w.within in
+      stays_so (LackedMemory (home_write (first_lbn items) (first_blocks items from)) o) (OneLacked rs (o ∷ [])) (first_lacked items from rs o all payloads (omega (arith, s, le))) (last_look (began p).look (notes_seen i)) w.note
+      (subst (λ (l : LockId ManagerBase). Stays (LackedMemory (home_write (first_lbn items) (first_blocks items from)) o) (last_look l.base.volume.began.look (notes_seen i)) w.note) same.0 (w.stays kept));
   cause = λ r first writes. subst (λ (l : LockId ManagerBase). IsCauseOfWrite (notes_seen i) (last_look l.base.volume.began.look (notes_seen i)) o) same.0 w.cause;
   fault = w.fault;
 }

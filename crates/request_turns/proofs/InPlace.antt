@@ -14,7 +14,7 @@ use Rattle.manager.specs.declared.base.ManagerBase.{ManagerBase}
 use Rattle.manager.specs.declared.manager.Manager.{Manager}
 use Rattle.manager.specs.declared.part.Part.{Part}
 use Rattle.manager.specs.Answers.{home_write}
-use Rattle.request_turns.specs.Causes.{IsCauseOfWrite}
+use Rattle.request_turns.specs.Causes.{IsCauseOfWrite, LackedMemory}
 use Rattle.request_turns.specs.Counts.{CountsEntry}
 use Rattle.request_turns.specs.Entries.{note_of, full_note, IsWrittenAs}
 use Rattle.request_turns.specs.Stepped.{step_note, StandsSteppedInPlace}
@@ -135,7 +135,7 @@ module _ {D : Type 0} (p i : ManagerPass D) (same : IsSamePass p i) (seen : pass
       left = left_from w.note w.note refl w.left;
       ruled = w.ruled;
       entry = at_first (λ l es. IsWrittenAs l.base.volume.began.view (home_write first blocks) [] o w.note) w.entry;
-      stays = λ kept. at_first (λ l es. Stays (last_look l.base.volume.began.look (notes_of es)) w.note) (w.stays kept);
+      stays = λ kept. at_first (λ l es. Stays (LackedMemory (home_write first blocks) o) (last_look l.base.volume.began.look (notes_of es)) w.note) (w.stays kept);
       cause = at_first (λ l es. IsCauseOfWrite (notes_of es) (last_look l.base.volume.began.look (notes_of es)) o) w.cause;
       fault = w.fault;
       counted = at_first (λ l es. CountsEntry (last_look l.base.volume.began.look (notes_of es)) w.note t u) w.counted;

@@ -29,7 +29,7 @@ use Rattle.turn_lock.specs.Passes.{pass_lock, pass_number, pass_seen, pass_mine,
 use Rattle.wol_promise.specs.Ruled.{last_look}
 use Rattle.manager.specs.declared.base.ManagerBase.{ManagerBase}
 use Rattle.request_turns.specs.Answered.{HasAnswered}
-use Rattle.request_turns.specs.Turns.{ManagerPass, began, notes_seen, HasLeft, IsBroken, WasDown, Stays}
+use Rattle.request_turns.specs.Turns.{ManagerPass, began, notes_seen, HasLeft, IsBroken, WasDown}
 use Rattle.request_turns.specs.declared.tally.Tally.{Tally}
 use Rattle.request_turns.proofs.Counting.{entry_same, counted_turn}
 use Rattle.request_turns.proofs.Noting.{was_broken, was_unbroken}
@@ -54,13 +54,13 @@ module _ {D : Type 0} (old new : Manager D) (first : ℕ) (out : List Block) (an
   pub read_note : IsNote l (was_read first out answer) [] (look_of_manager new) note
   read_note = record { operation_is = refl; look_is = refl; passed_is = refl; drain = refl; follows = λ _. step answer refl look }
 
-  pub read_stays : (n : Noted) → n ≡ note → n.entry.operation ≡ Kept → Stays l n
-  read_stays n is kept = by answer refl (subst (λ (k : Noted). k.entry.operation ≡ Kept) is kept)
+  pub read_same : (n : Noted) → n ≡ note → n.entry.operation ≡ Kept → n.look ≡ l
+  read_same n is kept = by answer refl (subst (λ (k : Noted). k.entry.operation ≡ Kept) is kept)
     where
-      by : (a : Result Sources ReadRefusal) → answer ≡ a → was_read first out a ≡ Kept → Stays l n
+      by : (a : Result Sources ReadRefusal) → answer ≡ a → was_read first out a ≡ Kept → n.look ≡ l
       by (Ok s) same is_kept = absurd (let no : Rattle.wol_model.specs.History.Read first out ≡ Kept = is_kept in cc)
       by (Err (DiskFault p)) same is_kept = absurd (let no : Rattle.wol_model.specs.History.Broke [] ≡ Kept = is_kept in cc)
-      by (Err (Down p)) same is_kept = inl (ap (λ (k : Noted). k.look) is ∙ kept_look p same)
+      by (Err (Down p)) same is_kept = ap (λ (k : Noted). k.look) is ∙ kept_look p same
 
   pub read_counted : (t : Tally) → CountsEntry l note t t
   read_counted t = entry_same l note t (by answer refl)
@@ -118,7 +118,7 @@ has_read {D} tells state old new first out answer p q n long stands look logged 
   left = left;
   ruled = refl;
   entry = read_as old new first out (pass_number p) n long answer look logged all;
-  stays = read_stays old new first out answer (last_look (began p).look (notes_seen p)) (pass_number p) stands.look n long look down unchanged (note_of (pass_number p) (was_read first out answer) (look_of_manager new) [] false) refl;
+  stays = read_same old new first out answer (last_look (began p).look (notes_seen p)) (pass_number p) stands.look n long look down unchanged (note_of (pass_number p) (was_read first out answer) (look_of_manager new) [] false) refl;
   cause = read_cause old new out (notes_seen p) answer down (was_broken tells state old (pass_lock p).base (notes_seen p) stands.keeps) (was_unbroken tells state old (pass_lock p).base (notes_seen p) stands.keeps);
   fault = read_fault old new out (notes_seen q) answer failed (λ d is. let was = (down d).0 is in ap (λ (m : Manager D). m.down) (unchanged (ap is_some was)) ∙ was) broken;
   counted = read_counted old new first out answer (last_look (began p).look (notes_seen p)) (pass_number p) stands.look n long look down unchanged;
@@ -134,7 +134,7 @@ module _ {D : Type 0} (tells : Bool) (first : ℕ) (out : List Block) (answer : 
     note = r.note;
     turned = turned tells p i q r.note same begins mine owns r.left r.ruled;
     entry = r.entry;
-    stays = λ kept. subst (λ (l : LockId ManagerBase). Stays (last_look l.base.volume.began.look (notes_seen i)) r.note) same.0 (r.stays kept);
+    stays = λ kept. subst (λ (l : LockId ManagerBase). r.note.look ≡ last_look l.base.volume.began.look (notes_seen i)) same.0 (r.stays kept);
     cause = r.cause;
     fault = r.fault;
   }

@@ -30,7 +30,7 @@ use Rattle.wol_model.specs.History.{worker}
 use Rattle.request_turns.specs.Causes.{CanTake, IsCauseOfWrite, IsUnbroken}
 use Rattle.request_turns.specs.Counts.{CountsEntry}
 use Rattle.request_turns.specs.Entries.{note_of, full_note, written_outcome, is_full, IsFlightAt, IsWrittenAs, TellsFault, WasSpent}
-use Rattle.request_turns.specs.Turns.{ManagerPass, began, notes_seen, HasLeft, IsBroken, WasDown, Stays}
+use Rattle.request_turns.specs.Turns.{ManagerPass, began, notes_seen, HasLeft, IsBroken, WasDown}
 use Rattle.request_turns.specs.Written.{HasWritten}
 use Rattle.request_turns.specs.declared.tally.Tally.{Tally}
 use Rattle.request_turns.proofs.Counting.{entry_same, entry_quiet}
@@ -106,14 +106,14 @@ module _ {D : Type 0} (old new : Manager D) (first : ℕ) (blocks : List Block) 
   write_entry view (Err VersionsSpent) not_full at look spent = (refl, ap (λ (k : Look). k.next) look ∙ spent refl)
   write_entry view (Err NoMemory) not_full at look spent = refl
 
-  write_stays : (a : Result Place WriteRefusal) → HasLook P w a l (look_of_manager new) → (k : Look) → k ≡ l → written old.next first blocks a ≡ Kept → Stays k (write_note a)
-  write_stays (Ok place.Home) look k is kept = absurd (let no : Wrote (w ∷ []) ≡ Kept = kept in cc)
-  write_stays (Ok (place.Log logger)) look k is kept = absurd (let no : Wrote (log_write old.next first blocks ∷ []) ≡ Kept = kept in cc)
-  write_stays (Err Full) look k is kept = inl (look ∙ sym is)
-  write_stays (Err (DiskFault p)) look k is kept = absurd (let no : Broke (failed_write old.next first blocks p ∷ []) ≡ Kept = kept in cc)
-  write_stays (Err (Down p)) look k is kept = inl (look ∙ sym is)
-  write_stays (Err VersionsSpent) look k is kept = inl (look ∙ sym is)
-  write_stays (Err NoMemory) look k is kept = inl (look ∙ sym is)
+  write_same : (a : Result Place WriteRefusal) → HasLook P w a l (look_of_manager new) → (k : Look) → k ≡ l → written old.next first blocks a ≡ Kept → look_of_manager new ≡ k
+  write_same (Ok place.Home) look k is kept = absurd (let no : Wrote (w ∷ []) ≡ Kept = kept in cc)
+  write_same (Ok (place.Log logger)) look k is kept = absurd (let no : Wrote (log_write old.next first blocks ∷ []) ≡ Kept = kept in cc)
+  write_same (Err Full) look k is kept = look ∙ sym is
+  write_same (Err (DiskFault p)) look k is kept = absurd (let no : Broke (failed_write old.next first blocks p ∷ []) ≡ Kept = kept in cc)
+  write_same (Err (Down p)) look k is kept = look ∙ sym is
+  write_same (Err VersionsSpent) look k is kept = look ∙ sym is
+  write_same (Err NoMemory) look k is kept = look ∙ sym is
 
   write_counted : (a : Result Place WriteRefusal) → HasLook P w a l (look_of_manager new) → (k : Look) → k ≡ l → (t : Tally) → CountsEntry k (write_note a) t t
   write_counted (Ok place.Home) look k is t = entry_quiet k (write_note (Ok place.Home)) t refl
@@ -234,7 +234,7 @@ module _ {D : Type 0} (tells : Bool) (state : D → State) (old new : Manager D)
     left = left_here;
     ruled = refl;
     entry = write_entry old new first blocks (pass_number p) (began p).view a not_full (subst (λ (v : List ℕ). IsPlaceOf v a (ruled_place old new first blocks)) view at) look (λ e. (spent.0 e).1);
-    stays = write_stays old new first blocks (pass_number p) a look (last_look (began p).look (notes_seen p)) is;
+    stays = λ kept. inl (write_same old new first blocks (pass_number p) a look (last_look (began p).look (notes_seen p)) is kept);
     cause = write_cause tells state old (pass_lock p).base (notes_seen p) keeps (last_look (began p).look (notes_seen p)) is false a not_full down spent;
     fault = write_fault state old new false (notes_seen q) a told down broken
         (was_spent tells state old new (ruled_place old new first blocks) (home_write first blocks) (write_note old new first blocks (pass_number p) a) p q refl left_here a look told spent unbroken);

@@ -9,7 +9,7 @@ use Rattle.manager.specs.Answers.{home_write}
 use Rattle.manager.specs.declared.base.ManagerBase.{ManagerBase}
 use Rattle.request_turns.specs.Entries.{IsWrittenAs}
 use Rattle.request_turns.specs.Blocks.{HasWrittenBlocks}
-use Rattle.request_turns.specs.Causes.{IsCauseOfWrite}
+use Rattle.request_turns.specs.Causes.{IsCauseOfWrite, LackedMemory}
 use Rattle.request_turns.specs.Turns.{ManagerPass, notes_seen, Stays}
 use Rattle.request_turns.specs.Written.{HasWritten}
 use Rattle.request_turns.specs.declared.outcome.Outcome.{Outcome}
@@ -24,7 +24,7 @@ wrote_blocks tells first blocks o p i q t u same begins mine owns w = record {
   note = w.note;
   turned = turned tells p i q w.note same begins mine owns w.left w.ruled;
   entry = subst (λ (l : LockId ManagerBase). IsWrittenAs l.base.volume.began.view (home_write first blocks) [] o w.note) same.0 w.entry;
-  stays = λ kept. subst (λ (l : LockId ManagerBase). Stays (last_look l.base.volume.began.look (notes_seen i)) w.note) same.0 (w.stays kept);
+  stays = λ kept. subst (λ (l : LockId ManagerBase). Stays (LackedMemory (home_write first blocks) o) (last_look l.base.volume.began.look (notes_seen i)) w.note) same.0 (w.stays kept);
   cause = subst (λ (l : LockId ManagerBase). IsCauseOfWrite (notes_seen i) (last_look l.base.volume.began.look (notes_seen i)) o) same.0 w.cause;
   fault = w.fault;
 }

@@ -10,7 +10,7 @@ use Rattle.manager.specs.Stands.{notes_of}
 use Rattle.manager.specs.declared.part.Part.{Part}
 use Rattle.manager.specs.declared.part.ReadRefusal.{ReadRefusal}
 use Rattle.manager.specs.declared.part.Sources.{Sources}
-use Rattle.request_turns.specs.Causes.{IsCauseOfRead, IsCauseOfWrite}
+use Rattle.request_turns.specs.Causes.{IsCauseOfRead, IsCauseOfWrite, LackedMemory}
 use Rattle.request_turns.specs.Entries.{IsReadAs, IsWrittenAs, TellsFault, read_outcome}
 use Rattle.request_turns.specs.Turns.{ManagerPass, began, notes_seen, HasTurned, IsBroken, Stays}
 use Rattle.request_turns.specs.declared.outcome.Outcome.{Outcome}
@@ -22,7 +22,8 @@ pub record HasReadBlocks {D : Type 0} (tells : Bool) (first : ℕ) (blocks : Lis
   pub note : Noted
   pub turned : HasTurned tells p q before note
   pub entry : IsReadAs first blocks answer note
-  pub stays : note.entry.operation ≡ Kept → Stays (last_look (began p).look (notes_of before)) note
+  pub stays : note.entry.operation ≡ Kept
+      → note.look ≡ last_look (began p).look (notes_of before)
   pub cause : IsCauseOfRead (notes_of before) answer
   pub fault : TellsFault (notes_seen q) (read_outcome blocks answer)
 
@@ -33,7 +34,9 @@ pub record HasWrittenBlocks {D : Type 0} (tells : Bool) (first : ℕ) (blocks : 
   pub note : Noted
   pub turned : HasTurned tells p q before note
   pub entry : IsWrittenAs (began p).view (home_write first blocks) [] o note
-  pub stays : note.entry.operation ≡ Kept → Stays (last_look (began p).look (notes_of before)) note
+  pub stays : note.entry.operation ≡ Kept
+      → Stays (LackedMemory (home_write first blocks) o)
+      (last_look (began p).look (notes_of before)) note
   pub cause : IsCauseOfWrite (notes_of before) (last_look (began p).look (notes_of before)) o
   pub fault : TellsFault (notes_seen q) o
 

@@ -1,5 +1,8 @@
 -- Why a turn came to its answer: by what the volume was before it.
-use Rattle.std.specs.Prelude.{◌≡◌, ◌<◌, ◌^◌, List, Result, Ok, Err}
+use Rattle.std.specs.Prelude.{◌≡◌, ◌⊎◌, ◌<◌, ◌∷◌, ◌^◌, List, [], Result, Ok, Err}
+use Rattle.wol_model.specs.Blocks.{Write}
+use Rattle.wol_model.specs.Trace.{payload}
+use Rattle.wol_model.specs.declared.trace.Kind.TheVariants as kind
 use Rattle.wol_promise.specs.Policy.{Look}
 use Rattle.wol_promise.specs.Ruled.{Noted}
 use Rattle.manager.specs.declared.part.ReadRefusal.{ReadRefusal}
@@ -7,6 +10,8 @@ use Rattle.manager.specs.declared.part.ReadRefusal.TheVariants as refused_read
 use Rattle.manager.specs.declared.part.Sources.{Sources}
 use Rattle.manager.specs.declared.part.WriteRefusal.{WriteRefusal}
 use Rattle.manager.specs.declared.part.WriteRefusal.TheVariants as refused
+use Rattle.trace_windows.specs.Requests.{asked}
+use Rattle.trace_windows.specs.declared.request.Request.{Request}
 use Rattle.request_turns.specs.Turns.{IsBroken}
 use Rattle.request_turns.specs.declared.outcome.Outcome.{Outcome}
 use Rattle.request_turns.specs.declared.outcome.Outcome.TheVariants as outcome
@@ -41,3 +46,14 @@ IsCauseOfWrite before l (outcome.Wrote place drained) = CanTake before l
 IsCauseOfWrite before l (outcome.NoRead refusal) = ⊥
 IsCauseOfWrite before l (outcome.NoWrite refusal) = IsCauseOfRefusal before l refusal
 IsCauseOfWrite before l outcome.NotRun = ⊥
+
+-- w is the write that was given, and by its outcome it was refused for want of memory
+abbrev pub LackedMemory : (given : Write) → Outcome → (w : Write) → Type 0
+LackedMemory given o w = (w ≡ given) × (o ≡ outcome.NoWrite refused.NoMemory)
+
+-- w is the write of one of these requests, and by their outcomes it was refused so
+abbrev pub OneLacked : List Request → List Outcome → (w : Write) → Type 0
+OneLacked [] os w = ⊥
+OneLacked (r ∷ rs) [] w = ⊥
+OneLacked (r ∷ rs) (o ∷ os) w =
+    ((r.kind ≡ kind.Write) × LackedMemory (payload (asked r)) o w) ⊎ OneLacked rs os w

@@ -7,11 +7,12 @@ use Rattle.wol_model.specs.History.{Kept}
 use Rattle.wol_model.specs.Trace.{payload_block}
 use Rattle.wol_promise.specs.Ruled.{Noted, last_look}
 use Rattle.log_segment.specs.declared.item.Item.{Item}
-use Rattle.manager.specs.Groups.{writes_to_home}
+use Rattle.manager.specs.Answers.{home_write}
+use Rattle.manager.specs.Groups.{first_blocks, first_lbn, writes_to_home}
 use Rattle.manager.specs.declared.part.Place.{Place}
 use Rattle.manager.specs.declared.part.WriteRefusal.{WriteRefusal}
 use Rattle.trace_windows.specs.declared.request.Request.{Request}
-use Rattle.request_turns.specs.Causes.{IsCauseOfWrite}
+use Rattle.request_turns.specs.Causes.{IsCauseOfWrite, LackedMemory}
 use Rattle.request_turns.specs.Counts.{CountsEntry}
 use Rattle.request_turns.specs.Entries.{AreWrittenTogether, IsWrittenAs, TellsFault}
 use Rattle.request_turns.specs.Turns.{ManagerPass, began, notes_seen, HasLeft, Stays}
@@ -55,7 +56,9 @@ pub record HasWrittenMany {D : Type 0} (tells : Bool) (items : List Item) (from 
   pub left : HasLeft tells note p q
   pub ruled : IsTrue note.ruled
   pub entry : AreWrittenAs (began p).view (writes_to_home items from) count o note
-  pub stays : note.entry.operation ≡ Kept → Stays (last_look (began p).look (notes_seen p)) note
+  pub stays : note.entry.operation ≡ Kept
+      → Stays (LackedMemory (home_write (first_lbn items) (first_blocks items from)) o)
+      (last_look (began p).look (notes_seen p)) note
   pub cause : IsCauseOfWrite (notes_seen p) (last_look (began p).look (notes_seen p)) o
   pub fault : TellsFault (notes_seen q) o
   pub counted : CountsEntry (last_look (began p).look (notes_seen p)) note t u

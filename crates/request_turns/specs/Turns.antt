@@ -157,19 +157,22 @@ pub record Gains {D : Type 0} (tells : Bool) (p q : ManagerPass D) (more : List 
 
 -- ---- Looks
 
--- an entry leaves the look as it was, or its turn drained for a write that was then refused
-abbrev pub Stays : Look → Noted → Type 0
-Stays l n = (n.look ≡ l) ⊎ ((w : Write) × IsDrained n.passed l w n.look)
+-- an entry leaves the look as it was, or its turn drained for a write that lacked memory then
+abbrev pub Stays : (lacked : Write → Type 0) → Look → Noted → Type 0
+Stays lacked l n = (n.look ≡ l) ⊎ ((w : Write) × lacked w × IsDrained n.passed l w n.look)
 
 -- each Kept of the worker does so
-abbrev pub KeptStay : Look → List Noted → Type 0
-KeptStay l [] = ⊤
-KeptStay l (n ∷ notes) =
-    (n.entry.pass ≡ worker → n.entry.operation ≡ Kept → Stays l n) × KeptStay n.look notes
+abbrev pub KeptStay : (lacked : Write → Type 0) → Look → List Noted → Type 0
+KeptStay lacked l [] = ⊤
+KeptStay lacked l (n ∷ notes) =
+    (n.entry.pass ≡ worker → n.entry.operation ≡ Kept → Stays lacked l n)
+    × KeptStay lacked n.look notes
 
 -- so do the entries that the pass saw since
-abbrev pub LooksStay : {D : Type 0} → ManagerPass D → List Entry → Type 0
-LooksStay p more = KeptStay (last_look (began p).look (notes_seen p)) (notes_of more)
+abbrev pub LooksStay : {D : Type 0} → (lacked : Write → Type 0) → ManagerPass D → List Entry
+    → Type 0
+LooksStay lacked p more =
+    KeptStay lacked (last_look (began p).look (notes_seen p)) (notes_of more)
 
 -- entries that change no content
 abbrev pub AreHelp : List Noted → Type 0

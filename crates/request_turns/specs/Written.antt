@@ -8,7 +8,7 @@ use Rattle.manager.specs.declared.part.ReadRefusal.{ReadRefusal}
 use Rattle.manager.specs.declared.part.Sources.{Sources}
 use Rattle.manager.specs.declared.part.StepFault.{StepFault}
 use Rattle.manager.specs.declared.part.StepFault.TheVariants as fault
-use Rattle.request_turns.specs.Causes.{IsCauseOfRead, IsCauseOfWrite}
+use Rattle.request_turns.specs.Causes.{IsCauseOfRead, IsCauseOfWrite, LackedMemory}
 use Rattle.request_turns.specs.Counts.{CountsEntry}
 use Rattle.request_turns.specs.Entries.{IsReadAs, IsWrittenAs, TellsFault, read_outcome}
 use Rattle.request_turns.specs.Turns.{ManagerPass, began, notes_seen, HasLeft, Stays}
@@ -23,7 +23,9 @@ pub record HasWritten {D : Type 0} (tells : Bool) (first : ℕ) (blocks : List B
   pub left : HasLeft tells note p q
   pub ruled : IsTrue note.ruled
   pub entry : IsWrittenAs (began p).view (home_write first blocks) [] o note
-  pub stays : note.entry.operation ≡ Kept → Stays (last_look (began p).look (notes_seen p)) note
+  pub stays : note.entry.operation ≡ Kept
+      → Stays (LackedMemory (home_write first blocks) o)
+      (last_look (began p).look (notes_seen p)) note
   pub cause : IsCauseOfWrite (notes_seen p) (last_look (began p).look (notes_seen p)) o
   pub fault : TellsFault (notes_seen q) o
   pub counted : CountsEntry (last_look (began p).look (notes_seen p)) note t u
@@ -35,7 +37,7 @@ pub record HasRead {D : Type 0} (tells : Bool) (first : ℕ) (blocks : List Bloc
   pub left : HasLeft tells note p q
   pub ruled : IsTrue note.ruled
   pub entry : IsReadAs first blocks answer note
-  pub stays : note.entry.operation ≡ Kept → Stays (last_look (began p).look (notes_seen p)) note
+  pub stays : note.entry.operation ≡ Kept → note.look ≡ last_look (began p).look (notes_seen p)
   pub cause : IsCauseOfRead (notes_seen p) answer
   pub fault : TellsFault (notes_seen q) (read_outcome blocks answer)
   pub counted : (t : Tally) → CountsEntry (last_look (began p).look (notes_seen p)) note t t

@@ -132,7 +132,8 @@ fn write_within<D: Disk, R: Wait, B: Memo>(
 /// Writes blocks from block `lbn` of the volume on, in one turn. Where no log has room, all records are drained first.
 ///
 /// A refusal comes in this order: `Down` exactly where a disk call had failed before, `VersionsSpent` exactly where no version
-/// was left then, and else `NoMemory` and `DiskFault`.
+/// was left then, and else `NoMemory` and `DiskFault`. After a refusal the volume is as it was, but `NoMemory` may come behind
+/// the drain, and what a failed call leaves is open.
 pub fn write_blocks<D: Disk, R: Wait>(
     rt: &R,
     lock: &TurnLock<Manager<D>>,

@@ -18,12 +18,13 @@ use Rattle.manager.specs.declared.part.WriteRefusal.TheVariants as refused
 use Rattle.window_desks.specs.Closed.{IsClosed, HasClosedDesk, AreClosed}
 use Rattle.window_desks.specs.Collects.{IsCollected, HoldsOutcomes}
 use Rattle.window_desks.specs.Desks.{HaveOwn, AreServed}
+use Rattle.request_turns.specs.Causes.{OneLacked}
 use Rattle.request_turns.specs.Counts.{Counts, blocks_between, records_between}
 use Rattle.request_turns.specs.Entries.{AreEntriesOf, AreMade, none, one, several, IsGroupEntry, IsRefusedRead, IsRefusedWrite, TellsFault, is_log}
 use Rattle.trace_windows.specs.Requests.{asked}
 use Rattle.window_desks.specs.Requests.{own_requests, outcomes_of, answers_to, StopsAtRefusal}
 use Rattle.window_desks.specs.Served.{HasServed}
-use Rattle.request_turns.specs.Turns.{ManagerPass, began, notes_seen}
+use Rattle.request_turns.specs.Turns.{ManagerPass, began, notes_seen, LooksStay}
 use Rattle.window_desks.specs.Worked.{HasWorked, AreWorked}
 use Rattle.window_desks.specs.declared.desk.Desk.{Desk}
 use Rattle.window_desks.specs.declared.request.Reclaim.{Reclaim}
@@ -141,7 +142,8 @@ module _ {D : Type 0} (tells : Bool) (rs : List Request) (mode : Reclaim) (k : �
         made = made;
         answered = made_outcomes (began d.worker).view (own_requests k rs) (outcomes_of k rs os) s.notes made;
         stops = subst (StopsAtRefusal Rattle.std.proofs.Common.true) are s.stops;
-        stays = s.stays;
+        stays = λ honest. subst (λ (xs : List Outcome). LooksStay (OneLacked (own_requests k rs) xs) d.worker s.more) are
+            (subst (λ (qs : List Request). LooksStay (OneLacked qs e.outcomes.items) d.worker s.more) own (s.stays honest));
         faults = subst (AllByRecursion (TellsFault (notes_seen e.worker))) are s.faults;
         closed = subst (λ (x : Option StepFault). IsClosed tells mode x e.worker g.worker) (sym t.same.fault) (subst (λ (p : ManagerPass D). IsClosed tells mode f.fault e.worker p) (sym t.same.worker) c.closed);
         empty = t.empty;

@@ -1,5 +1,5 @@
 -- The entries that a turn leaves for the first ones of some requests.
-use Rattle.std.proofs.Common.{◌≡◌, ◌≤◌, ◌+◌, ℕ, Bool, true, false, List, [], ◌∷◌, ◌++◌, length, take, drop, get_or, replicate, refl, ap, sym, ◌∙◌, subst, arith}
+use Rattle.std.proofs.Common.{◌≡◌, ◌≤◌, ◌+◌, ℕ, Bool, true, false, List, [], ◌∷◌, ◌++◌, length, take, drop, get_or, replicate, inl, refl, ap, sym, ◌∙◌, subst, arith}
 use Rattle.std.proofs.lemmas.List.{append-nil, length-take-le, drop_more}
 use Rattle.std.proofs.lemmas.Option.{get_or_from_slice_get}
 use Rattle.wol_model.specs.declared.trace.Kind.TheVariants as kind
@@ -77,7 +77,7 @@ one_answered tells rs d o p q some reads a = record {
   note = a.note;
   turned = a.turned;
   entry = one (get_or rs 0 d) (drop 1 rs) (drop_more rs 0 d (omega arith)) refl (entry_more (began p).view (get_or rs 0 d) [] (drop 1 rs) o a.note a.entry);
-  stays = a.stays;
-  cause = λ r first writes. absurd (let no : kind.Read ≡ kind.Write = sym reads ∙ ap (λ (x : Request). x.kind) (get_or_from_slice_get rs 0 r d first) ∙ writes in cc);
+  stays = λ kept. inl (a.stays kept);
+  cause = λ r first writes. absurd (let no : kind.Read ≡ kind.Write = sym reads ∙ ap (λ (x : Request). x.kind) (get_or_from_slice_get rs 0 r d first) ∙ writes in cc no);
   fault = a.fault;
 }

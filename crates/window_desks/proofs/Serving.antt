@@ -1,10 +1,11 @@
 -- Serving more requests.
-use Rattle.std.proofs.Common.{◌≡◌, ◌≤◌, ◌<◌, ◌+◌, ◌-◌, zero, suc, vec_capacity, take, drop, ℕ, Bool, true, false, List, [], ◌∷◌, ◌++◌, length, replicate, refl, ap, ◌∙◌, sym, subst, append_assoc, arith}
+use Rattle.std.proofs.Common.{◌≡◌, ◌≤◌, ◌<◌, ◌+◌, ◌-◌, zero, suc, vec_capacity, take, drop, ℕ, Bool, true, false, List, [], ◌∷◌, ◌++◌, length, replicate, inl, inr, refl, ap, ◌∙◌, sym, subst, append_assoc, arith}
 use Rattle.std.specs.List.{AllByRecursion}
 use Rattle.std.specs.Prelude.{All}
 use Rattle.std.proofs.lemmas.List.{append-nil, length-append, take_rest}
 use Rattle.turn_lock.specs.LockIds.{LockId}
 use Rattle.turn_lock.specs.Passes.{pass_lock, pass_number, IsFree}
+use Rattle.wol_model.specs.Blocks.{Write}
 use Rattle.wol_model.specs.History.{worker}
 use Rattle.wol_promise.specs.Ruled.{Noted}
 use Rattle.wol_promise.proofs.Lists.{all_joined, all_map}
@@ -16,15 +17,16 @@ use Rattle.manager.specs.declared.part.ReadRefusal.TheVariants as refused_read
 use Rattle.manager.specs.declared.part.WriteRefusal.{WriteRefusal}
 use Rattle.manager.specs.declared.part.WriteRefusal.TheVariants as refused
 use Rattle.request_turns.specs.Answered.{HasAnsweredMany}
+use Rattle.request_turns.specs.Causes.{OneLacked}
 use Rattle.request_turns.specs.Counts.{HasCounted}
 use Rattle.request_turns.specs.Entries.{AreMade, none, TellsFault, TellsOfRead, TellsOfWrite}
 use Rattle.request_turns.specs.Helped.{ManagerLock}
 use Rattle.request_turns.specs.Requests.{IsWithin}
-use Rattle.request_turns.specs.Turns.{began, notes_seen}
+use Rattle.request_turns.specs.Turns.{began, notes_seen, LooksStay}
 use Rattle.request_turns.specs.declared.outcome.Outcome.{Outcome}
 use Rattle.request_turns.specs.declared.outcome.Outcome.TheVariants as outcome
 use Rattle.request_turns.proofs.Counting.{counted_both, counted_none}
-use Rattle.request_turns.proofs.Gaining.{gains_none, gains_both, gains_turn, stays_both, stays_turn, seen_more, down_more}
+use Rattle.request_turns.proofs.Gaining.{gains_none, gains_both, gains_turn, looks_so, stays_both, stays_turn, turn_more, seen_more, down_more}
 pub use Rattle.request_turns.proofs.Gaining.{spent_more}
 use Rattle.request_turns.proofs.MadeLaws.{made_length, made_append}
 use Rattle.window_desks.specs.Desks.{IsReadyDesk, IsReadyAt}
@@ -71,6 +73,30 @@ stops_refused count o left one run refused =
 going_refused : (count : ℕ) (o : Outcome) (left : ℕ) → count ≡ 1 → was_answered o ≡ false → going_after true (replicate count o ++ replicate left outcome.NotRun) ≡ false
 going_refused count o left one refused =
     ap (λ n. going_after true (replicate n o ++ replicate left outcome.NotRun)) one ∙ (ap (λ b. going_after b (replicate left outcome.NotRun)) refused ∙ stopped_after left)
+
+-- ---- Writes that lacked memory
+
+lacked_front : (rs qs : List Request) (os ps : List Outcome) (w : Write) → OneLacked rs os w → OneLacked (rs ++ qs) (os ++ ps) w
+lacked_front [] qs os ps w is = absurd is
+lacked_front (r ∷ rs) qs [] ps w is = absurd is
+lacked_front (r ∷ rs) qs (o ∷ os) ps w (inl here) = inl here
+lacked_front (r ∷ rs) qs (o ∷ os) ps w (inr later) = inr (lacked_front rs qs os ps w later)
+
+lacked_behind : (rs qs : List Request) (os ps : List Outcome) → length os ≡ length rs → (w : Write) → OneLacked qs ps w → OneLacked (rs ++ qs) (os ++ ps) w
+lacked_behind [] qs [] ps same w is = is
+lacked_behind [] qs (o ∷ os) ps same w is = absurd (omega (arith, same))
+lacked_behind (r ∷ rs) qs [] ps same w is = absurd (omega (arith, same))
+lacked_behind (r ∷ rs) qs (o ∷ os) ps same w is = inr (lacked_behind rs qs os ps (omega (arith, same)) w is)
+
+-- none did where the first was answered
+lacked_none : (rs : List Request) (o : Outcome) (w : Write) → was_answered o ≡ true → OneLacked rs (o ∷ []) w → ⊥
+lacked_none [] o w answered is = is
+lacked_none (r ∷ rs) o w answered (inl (writes, (same, out))) = let no : true ≡ false = sym answered ∙ ap was_answered out in cc no
+lacked_none (r ∷ rs) o w answered (inr later) = none_told rs later
+  where
+    none_told : (qs : List Request) → OneLacked qs [] w → ⊥
+    none_told [] is = is
+    none_told (q ∷ qs) is = is
 
 all_same : (P : Outcome → Type 0) (count : ℕ) (o : Outcome) → P o → AllByRecursion P (replicate count o)
 all_same P zero o is = tt
@@ -132,7 +158,9 @@ served_both {D} tells rs qs going mid next d e f s h = record {
   made = made_append (began d.worker).view rs s.told s.notes qs h.told h.notes s.made (subst (λ (l : LockId ManagerBase). AreMade l.base.volume.began.view qs h.told h.notes) s.gains.same.0 h.made);
   stops = stops_both going s.told h.told s.stops (subst (λ b. StopsAtRefusal b h.told) s.next_is h.stops);
   next_is = h.next_is ∙ (ap (λ b. going_after b h.told) s.next_is ∙ sym (going_both going s.told h.told));
-  stays = λ honest. stays_both tells d.worker e.worker f.worker s.more h.more s.notes h.notes s.gains h.gains (s.stays honest) (h.stays (s.gains.honest honest));
+  stays = λ honest. stays_both tells d.worker e.worker f.worker s.more h.more s.notes h.notes s.gains h.gains (OneLacked (rs ++ qs) (s.told ++ h.told))
+      (looks_so (OneLacked rs s.told) (OneLacked (rs ++ qs) (s.told ++ h.told)) (lacked_front rs qs s.told h.told) d.worker s.more (s.stays honest))
+      (looks_so (OneLacked qs h.told) (OneLacked (rs ++ qs) (s.told ++ h.told)) (lacked_behind rs qs s.told h.told (made_length (began d.worker).view rs s.told s.notes s.made)) e.worker h.more (h.stays (s.gains.honest honest)));
   faults = all_joined (TellsFault (notes_seen f.worker)) s.told h.told
       (all_map (TellsFault (notes_seen e.worker)) (TellsFault (notes_seen f.worker)) (λ x t. subst (λ (ns : List Noted). TellsFault ns x) (sym (seen_more tells e.worker f.worker h.more h.notes h.gains)) (tells_more (notes_seen e.worker) (notes_of h.more) x t)) s.told s.faults) h.faults;
   reclaim = h.reclaim ∙ s.reclaim;
@@ -194,7 +222,8 @@ all_served {D} tells n d e empty all h =
       gains = s.gains;
       made = subst (λ (l : List Outcome). AreMade (began d.worker).view d.requests.items l s.notes) (sym are) (subst (λ (l : List Request). AreMade (began d.worker).view l s.told s.notes) whole s.made);
       stops = subst (StopsAtRefusal true) (sym are) s.stops;
-      stays = s.stays;
+      stays = λ honest. subst (λ (l : List Outcome). LooksStay (OneLacked d.requests.items l) d.worker s.more) (sym are)
+          (subst (λ (l : List Request). LooksStay (OneLacked l s.told) d.worker s.more) whole (s.stays honest));
       faults = subst (AllByRecursion (TellsFault (notes_seen e.worker))) (sym are) s.faults;
       reclaim = s.reclaim;
       counted = s.counted;
@@ -214,8 +243,8 @@ module _ {D : Type 0} (tells : Bool) (d e : Desk D) (at end count : ℕ) (o : Ou
 
   -- these requests were served, of which this was told
   served_by : (rs : List Request) (told : List Outcome) (next : Bool) → e.outcomes.items ≡ d.outcomes.items ++ told → AreMade (began d.worker).view rs told (a.note ∷ []) → StopsAtRefusal true told → next ≡ going_after true told
-      → AllByRecursion (TellsFault (notes_seen e.worker)) told → HasServedNext tells rs true d e next
-  served_by rs told next outcomes made stops next_is faults = record {
+      → ((w : Write) → OneLacked (take (end - at) (drop at d.requests.items)) (o ∷ []) w → OneLacked rs told w) → AllByRecursion (TellsFault (notes_seen e.worker)) told → HasServedNext tells rs true d e next
+  served_by rs told next outcomes made stops next_is lacked faults = record {
     told = told;
     outcomes = outcomes;
     id = id;
@@ -227,7 +256,8 @@ module _ {D : Type 0} (tells : Bool) (d e : Desk D) (at end count : ℕ) (o : Ou
     made = made;
     stops = stops;
     next_is = next_is;
-    stays = stays_turn tells d.worker e.worker a.before a.note a.turned number a.stays;
+    stays = λ honest. looks_so (OneLacked (take (end - at) (drop at d.requests.items)) (o ∷ [])) (OneLacked rs told) lacked d.worker (turn_more tells d.worker e.worker a.before a.note a.turned)
+        (stays_turn tells d.worker e.worker a.before a.note a.turned (OneLacked (take (end - at) (drop at d.requests.items)) (o ∷ [])) number a.stays honest);
     faults = faults;
     reclaim = fault;
     counted = counted;
@@ -242,7 +272,7 @@ module _ {D : Type 0} (tells : Bool) (d e : Desk D) (at end count : ℕ) (o : Ou
     next = true;
     served = subst (λ (l : List Request). HasServedNext tells l true d e true) (front_of_part d.requests.items at end count few)
         (served_by _ (replicate count o) true outcomes (first_made (began d.worker).view batch count o a.note answered a.entry) (stops_never count o (first_run (began d.worker).view batch count o a.note a.entry) answered) (sym (going_on count o answered))
-        (all_same (TellsFault (notes_seen e.worker)) count o a.fault));
+        (λ w lacked. absurd (lacked_none batch o w answered lacked)) (all_same (TellsFault (notes_seen e.worker)) count o a.fault));
     goes_on = λ _. refl;
   }
 
@@ -263,6 +293,7 @@ module _ {D : Type 0} (tells : Bool) (d e : Desk D) (at end count : ℕ) (o : Ou
         served = subst (λ (l : List Request). HasServedNext tells l true d e false) whole
             (served_by _ (replicate count o ++ replicate left outcome.NotRun) false (outcomes ∙ append_assoc d.outcomes.items (replicate count o) (replicate left outcome.NotRun))
             (first_refused (began d.worker).view batch count o a.note refused a.entry later left sum) (stops_refused count o left single run refused) (sym (going_refused count o left single refused))
+            (λ w lacked. subst (λ n. OneLacked (batch ++ later) (replicate n o ++ replicate left outcome.NotRun) w) (sym single) (lacked_front batch later (o ∷ []) (replicate left outcome.NotRun) w lacked))
             (all_joined (TellsFault (notes_seen e.worker)) (replicate count o) (replicate left outcome.NotRun) (all_same (TellsFault (notes_seen e.worker)) count o a.fault) (all_same (TellsFault (notes_seen e.worker)) left outcome.NotRun tt)));
         goes_on = λ more. absurd (omega (arith, more));
       }

@@ -4,6 +4,7 @@ use Rattle.std.specs.List.{AllByRecursion}
 use Rattle.turn_lock.specs.Histories.{Entry}
 use Rattle.wol_promise.specs.Ruled.{Noted}
 use Rattle.window_desks.specs.Requests.{going_after, StopsAtRefusal}
+use Rattle.request_turns.specs.Causes.{OneLacked}
 use Rattle.request_turns.specs.Counts.{HasCounted}
 use Rattle.request_turns.specs.Turns.{began, notes_seen, IsHonest, Gains, LooksStay}
 use Rattle.request_turns.specs.Entries.{AreMade, TellsFault}
@@ -19,7 +20,7 @@ pub record HasServed {D : Type 0} (tells : Bool) (rs : List Request) (d e : Desk
   pub gains : Gains tells d.worker e.worker more notes
   pub made : AreMade (began d.worker).view rs e.outcomes.items notes
   pub stops : StopsAtRefusal true e.outcomes.items
-  pub stays : IsHonest tells d.worker → LooksStay d.worker more
+  pub stays : IsHonest tells d.worker → LooksStay (OneLacked rs e.outcomes.items) d.worker more
   pub faults : AllByRecursion (TellsFault (notes_seen e.worker)) e.outcomes.items
   pub reclaim : e.fault ≡ d.fault
   pub counted : HasCounted tells d.tally e.tally d.worker e.worker
@@ -39,7 +40,7 @@ pub record HasServedNext {D : Type 0} (tells : Bool) (rs : List Request) (going 
   pub made : AreMade (began d.worker).view rs told notes
   pub stops : StopsAtRefusal going told
   pub next_is : next ≡ going_after going told
-  pub stays : IsHonest tells d.worker → LooksStay d.worker more
+  pub stays : IsHonest tells d.worker → LooksStay (OneLacked rs told) d.worker more
   pub faults : AllByRecursion (TellsFault (notes_seen e.worker)) told
   pub reclaim : e.fault ≡ d.fault
   pub counted : HasCounted tells d.tally e.tally d.worker e.worker

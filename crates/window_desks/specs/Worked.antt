@@ -6,6 +6,7 @@ use Rattle.wol_promise.specs.Outcomes.{AreOutcomes, answered_in}
 use Rattle.wol_promise.specs.Ruled.{Noted}
 use Rattle.manager.specs.declared.part.StepFault.{StepFault}
 use Rattle.window_desks.specs.Closed.{IsClosed}
+use Rattle.request_turns.specs.Causes.{OneLacked}
 use Rattle.request_turns.specs.Counts.{Counts, blocks_between, records_between}
 use Rattle.request_turns.specs.Entries.{AreMade, TellsFault}
 use Rattle.window_desks.specs.Helped.{AreHelped}
@@ -31,7 +32,8 @@ pub record HasWorked {D : Type 0} (tells : Bool) (rs : List Request) (os : List 
   pub answered : AreOutcomes (answered_in (answers_to (own_requests k rs) (outcomes_of k rs os)))
       (map (λ (n : Noted). n.entry.operation) notes)
   pub stops : StopsAtRefusal true (outcomes_of k rs os)
-  pub stays : IsHonest tells d.worker → LooksStay d.worker more
+  pub stays : IsHonest tells d.worker
+      → LooksStay (OneLacked (own_requests k rs) (outcomes_of k rs os)) d.worker more
   pub faults : AllByRecursion (TellsFault (notes_seen middle)) (outcomes_of k rs os)
   pub closed : IsClosed tells mode e.fault middle e.worker
   pub empty : e.outcomes.items ≡ []
