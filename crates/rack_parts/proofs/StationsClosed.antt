@@ -92,7 +92,7 @@ module _ {D : Type 0} (state : D → State) (tells : Bool) (config : Config) (sh
     pub station_closed : AreWhole entries (s.worker ∷ s.helper ∷ s.keeper ∷ []) → ClosesStation tells state s old new
     station_closed whole = record {
       closing = record { manager = m; entries = entries };
-      closed = record { stands = stands; whole = whole; home = (back.home_came_back state tells config shared bases b s.id owner_is old open_base can.locks parts can.accesses not_again m (notes_of entries) keeps rooms mp home_is spindle_is lanes_is new put); back = all_member (HasBack new s.id) m.lanes.items (back.lane_back state tells config shared bases b s.id owner_is old open_base can.locks parts can.accesses not_again m (notes_of entries) keeps rooms mp home_is spindle_is lanes_is new put) };
+      closed = record { stands = stands; whole = whole; home = (back.home_came_back state tells config shared bases b s.id owner_is old open_base can.locks parts can.accesses not_again m (notes_of entries) keeps rooms mp home_is spindle_is lanes_is new put); spindle = put.spindle ∙ ap Some spindle_is; back = all_member (HasBack new s.id) m.lanes.items (back.lane_back state tells config shared bases b s.id owner_is old open_base can.locks parts can.accesses not_again m (notes_of entries) keeps rooms mp home_is spindle_is lanes_is new put) };
       images = (back.images_kept state tells config shared bases b s.id owner_is old open_base can.locks parts can.accesses not_again m (notes_of entries) keeps rooms mp home_is spindle_is lanes_is new put);
       homes = (back.homes_kept state tells config shared bases b s.id owner_is old open_base can.locks parts can.accesses not_again m (notes_of entries) keeps rooms mp home_is spindle_is lanes_is new put);
       places = λ w k differs. back.other_place state tells config shared bases b s.id owner_is old open_base can.locks parts can.accesses not_again m (notes_of entries) keeps rooms mp home_is spindle_is lanes_is new put w k (λ same has. differs (same ∙ owner_is)) (λ same. absurd (differs same));
@@ -149,6 +149,7 @@ module _ {D : Type 0} (tells : Bool) (state : D → State) where
       stands = is.stands;
       whole = is.whole;
       home = one.homes t.id differs ∙ is.home;
+      spindle = (one.places t.id t.id differs).spindle ∙ is.spindle;
       back = λ n d within.
           let b = is.back n d within in
           let kept = one.places t.id (logger_of (get_or c.manager.lanes.items n d)) differs in

@@ -61,6 +61,7 @@ pub record IsClosing {D : Type 0} (tells : Bool) (state : D → State) (r : Rest
   pub stands : StandsCoded tells state c.manager (base_of_station s) c.entries
   pub whole : AreWhole c.entries (s.worker ∷ s.helper ∷ s.keeper ∷ [])
   pub home : home_here r s.id ≡ Some c.manager.home
+  pub spindle : spindle_pass r s.id s.id ≡ Some c.manager.spindle
   pub back : All (HasBack r s.id) c.manager.lanes.items
 
 -- at most a home came to an image that is out
