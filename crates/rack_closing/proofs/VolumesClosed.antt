@@ -9,11 +9,13 @@ use Rattle.rack_closing.proofs.Terms.{FreeSegment, held_in, logger_of, pool_of, 
 use Rattle.rack_closing.proofs.Terms.{Part, Station, shapes_of, AreLeft, shape_in, IsTold, image_here, segment_here, IsImageOut, away_with, pool_pass, spindle_pass, base_of_station, IsStation, KeepToViews}
 use Rattle.rack_closing.proofs.Terms.{IsClosing, GivesBack, IsComplete, HasFaultHere, IsClosedPool, entries_made, ImageRest, Rack, Rest, VolumePasses, IsTogether, HasBack, RecoversTo, IsClosedVolume}
 use Rattle.rack_closing.proofs.Terms.{HasFaultyPart, LiesInView, LeavesNoLog, part_named, place_in, volume_in, AreClosedVolumes, IsValid, Noted, Keeps}
+use Rattle.logger.specs.Lanes.{spindle_of}
 use Rattle.manager.specs.declared.manager.Manager.{Manager}
+use Rattle.rack_closing.specs.Closes.{MadeByManager}
 use Rattle.turn_lock.specs.Histories.{Entry, own}
 use Rattle.manager.specs.declared.base.LaneBase.{LaneBase}
 use Rattle.volume_images.proofs.SettledParts.{fault_found}
-use Rattle.rack_parts.proofs.Members.{a_value, none_in, of_recursion, element_at, first_in, later_in, here_within}
+use Rattle.rack_parts.proofs.Members.{a_value, all_member, none_in, of_recursion, element_at, first_in, later_in, here_within}
 use Rattle.rack_closing.proofs.StationParts.{IsEnding, is_base, is_station, id_of, image_end, shape_of_image, whole_end, closing_of, manager_of, entries_of_station, is_closing, home_there}
 use Rattle.rack_closing.proofs.StationParts.{in_view, lane_there, of_seen, says_owner}
 use Rattle.rack_closing.proofs.FinalImages.{IsCrash, station_with, left_now, left_out, left_origin, only_held, cut_left, whole_left, distinct_left, listed_left, on_loggers_left, volume_at}
@@ -276,6 +278,30 @@ not_away {D} views r keep stations v k never has = ⊎_elim
     never (subst (λ (xs : List ℕ). Contains xs k) (sym view ∙ ap views (sym id ∙ sym x.2)) x.3))
     (λ away. away has)
     (station_with r.stations.items v k)
+
+-- what a station's volume has of a spindle's entries its manager's pass had made
+pub made_by_manager : {D : Type 0} {state : D → State} {tells : Bool} {config : Config} {b : BayState} {r : Rack D} {first second : Rest D} (ending : IsEnding state tells config b r first second) (s : Station D) (has : Contains r.stations.items s) (k : ℕ) (entries : List Entry)
+    → (s.id < length (shapes_of config) → own s.id entries ≡ entries_made (spindle_pass second s.id k)) → MadeByManager s k entries
+made_by_manager {D = D} {config = config} {r = r} {first = first} {second = second} ending s has k entries made =
+    let closing = is_closing ending s has in
+    let lanes = (manager_of ending s has).lanes.items in
+    record {
+      manager = manager_of ending s has;
+      locks = closing.stands.keeps.locks;
+      at_home = λ same. its (manager_of ending s has).spindle (ap (spindle_pass first s.id) same ∙ closing.spindle);
+      at_lanes = all_member (λ (l : Lane D). logger_of l ≡ k → own s.id entries ≡ pass_mine (spindle_of l)) lanes
+          (λ l in_lanes at. its (spindle_of l) (ap (spindle_pass first s.id) (sym at) ∙ (All-contains (HasBack first s.id) lanes l closing.back in_lanes).spindle));
+    }
+  where
+    below : s.id < length (shapes_of config)
+    below =
+        let owner = (base_of_station s).volume.began.owner in
+        let image = a_value (image_here r.rest.images.items owner) (is_base ending s has).out in
+        let within = here_within r.rest.images.items owner image.0 image.1 in
+        omega (arith, within, ending.can.rest.parts.images.0, id_of ending s has)
+
+    its : (p : PassOf Spindle SpindleBase) → spindle_pass first s.id k ≡ Some p → own s.id entries ≡ pass_mine p
+    its p here = made below ∙ ap (λ (o : Option (PassOf Spindle SpindleBase)). entries_made o) (ending.kept.spindles s.id k ∙ here)
 
 -- the pass of a volume at a disk that isn't its own nor in its view made no entries
 pub none_made : {D : Type 0} (views : ℕ → List ℕ) (r : Rack D) → KeepToViews views r → All (λ s. IsStation s) r.stations.items → (last : Rest D) (v k : ℕ) → v ≢ k → (Contains (views v) k → ⊥)

@@ -32,7 +32,10 @@ use Rattle.seg_pool.specs.Operations.{uses_of}
 use Rattle.seg_pool.specs.declared.base.PoolBase.{PoolBase}
 use Rattle.seg_pool.specs.declared.pool.Pool.{Pool}
 use Rattle.log_segment.specs.declared.free.FreeSegment.{FreeSegment}
-use Rattle.manager.specs.Stands.{notes_of}
+use Rattle.logger.specs.Lanes.{logger_of, spindle_of}
+use Rattle.logger.specs.declared.lane.Lane.{Lane}
+use Rattle.manager.specs.Stands.{notes_of, HasLocks}
+use Rattle.manager.specs.declared.manager.Manager.{Manager}
 use Rattle.manager.specs.declared.part.Part.{Part}
 use Rattle.manager.specs.declared.part.Part.TheVariants.{Home, Segment}
 use Rattle.manager.specs.declared.station.Station.{Station}
@@ -49,9 +52,19 @@ use Rattle.rack_parts.specs.declared.rack.Rest.{Rest}
 
 -- ---- Spindles
 
+-- The manager of a station as its lock was closed, at the spindle of volume k: of these entries those
+-- of the station's volume are the ones that the manager's pass of that spindle had made, which is
+-- its own one or that of a lane.
+pub record MadeByManager {D : Type 0} (s : Station D) (k : ℕ) (entries : List Entry) : Type 0 where
+  pub manager : Manager D
+  pub locks : HasLocks manager (base_of_station s)
+  pub at_home : k ≡ s.id → own s.id entries ≡ pass_mine manager.spindle
+  pub at_lanes : All (λ (l : Lane D). logger_of l ≡ k → own s.id entries ≡ pass_mine (spindle_of l))
+      manager.lanes.items
+
 -- A spindle stands for all entries of its lock, among which are those of its keeper. The entries of
--- a pass that no manager had are the ones that it had made; those of a pass that a manager had are
--- some accesses.
+-- a pass are the ones that it had made: as it is in the rack where no manager had it, else as it was
+-- when its manager's lock was closed.
 pub record IsClosedSpindle {D : Type 0} (r : Rack D) (k : ℕ) (s : SpindleView) : Type 0 where
   pub entries : List Entry
   pub stands : (l : TurnLock Spindle SpindleBase) → slice_get r.shared.spindles.items k ≡ Some l
@@ -60,6 +73,7 @@ pub record IsClosedSpindle {D : Type 0} (r : Rack D) (k : ℕ) (s : SpindleView)
       → IsPartOf entries p
   pub made : (n : ℕ) (p : PassOf Spindle SpindleBase) → spindle_pass r.rest n k ≡ Some p
       → own n entries ≡ pass_mine p
+  pub managed : All (λ (t : Station D). MadeByManager t k entries) r.stations.items
   -- each entry of another pass is one of an access
   pub accesses : (p : PassOf Spindle SpindleBase) → slice_get r.keepers.items k ≡ Some p
       → AllByRecursion (IsAccessBut (pass_number p)) entries

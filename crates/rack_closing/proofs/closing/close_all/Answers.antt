@@ -9,11 +9,11 @@ use Rattle.spin_model.specs.Operations.{has_token}
 use Rattle.spin_model.specs.Spindles.{StandsFor}
 use Rattle.rack_parts.specs.Closing.{IsAccessBut, entries_made}
 use Rattle.rack_parts.proofs.Members.{element_at, all_member}
-use Rattle.rack_closing.specs.Closes.{LeavesVolumes, LeavesUnopened, ListsFaulty}
+use Rattle.rack_closing.specs.Closes.{LeavesVolumes, LeavesUnopened, ListsFaulty, MadeByManager}
 use Rattle.rack_closing.specs.Opens.{KeepsOthers}
 use Rattle.rack_closing.proofs.Closable.{stations_may, pools_may, spindles_may}
 use Rattle.rack_closing.proofs.StationParts.{IsEnding, ending_of, lists_ended, none_out, few, out_there, rests_end, whole_end}
-use Rattle.rack_closing.proofs.VolumesClosed.{none_made, spindle_stays, volumes_closed, told_end}
+use Rattle.rack_closing.proofs.VolumesClosed.{made_by_manager, none_made, spindle_stays, volumes_closed, told_end}
 use Rattle.rack_closing.proofs.LeftVolumes.{fault_through, listed_through, left_kept, left_parts, over, closed_recovers, station_opened, volume_recovers}
 use Rattle.rack_closing.proofs.FinalImages.{left_quiet}
 use Rattle.rack_closing.proofs.SoundClosed.{left_sound}
@@ -91,6 +91,10 @@ returns g c =
                 let kept = spindle_stays e n k q (slice_get_within rack.shared.spindles.items k l.0 l.1) here in
                 let keeper = (c.requires.rack.keepers.1 k l.0 p.0 l.1 p.1).number_is in
                 is.made n (λ same. absurd (omega (arith, kept.0, keeper, same))) ∙ ap (λ (o : Option (PassOf Spindle SpindleBase)). entries_made o) kept.1;
+            managed = all_member (λ t. MadeByManager t k is.entries) rack.stations.items
+                (λ t has. made_by_manager e t has k is.entries (λ below.
+                let keeper = (c.requires.rack.keepers.1 k l.0 p.0 l.1 p.1).number_is in
+                is.made t.id (λ same. absurd (omega (arith, below, keeper, same)))));
             keeper_part = λ q there. subst (λ x. IsPartOf is.entries x) (same_Some p.0 q (sym p.1 ∙ there)) is.keeper_part;
           };
       stations = volumes_closed e c.close_pools.ensures.uses old new (given (GivesBack state config c.close_pools.new.self.images.items 0) (λ o n back. back)) cause;
