@@ -9,7 +9,7 @@ ghost use Rattle.wol_config.specs.Configs.{IsValid};
 
 use crate::work::Work;
 use rack::{close_all, open_all};
-use spin_model::Spindle;
+use rack_parts::ClosedSpindle;
 use std::alloc::Global;
 use std::sync::Wait;
 use wol_bay::Bay;
@@ -20,7 +20,7 @@ use wol_disk::NoMemory;
 #[derive(Drop)]
 pub struct Closed<T> {
     pub answer: T,
-    pub spindles: Vec<Spindle>,
+    pub spindles: Vec<ClosedSpindle>,
 }
 
 /// Opens all volumes of the configuration, does the work with them, and closes them, whatever the work answered.

@@ -13,14 +13,13 @@ ghost use Rattle.wol_config.specs.Configs.{IsValid};
 ghost use Rattle.wol_disk.specs.Disk.{Rose};
 
 use logger::Shared;
-use rack_parts::{Rack, Rest, end_passes, give_back};
-use spin_model::Spindle;
+use rack_parts::{ClosedSpindle, Rack, Rest, end_passes, give_back};
 use wol_bay::Bay;
 use wol_config::Config;
 
 /// Closes a rack that `open_all` opened over this bay with this configuration. Each part goes back to its image, and each image
 /// that is out to the bay. The spindles come in order. It takes no memory.
-pub fn close_all<B: Bay>(rack: Rack<B::Part>, bay: &mut B, config: &Config) -> Vec<Spindle>
+pub fn close_all<B: Bay>(rack: Rack<B::Part>, bay: &mut B, config: &Config) -> Vec<ClosedSpindle>
     requires config { IsValid config.now }
     requires rack { IsClosable B.Part.state config.now (B.state bay.old) rack }
     ensures home { LeavesNoneOut config.now rack.rest.images.items (outs (B.state bay.old))

@@ -3,6 +3,7 @@ ghost use Rattle.rack_parts.specs.Closing.{pool_in, spindle_in, ArePoolsTaken, A
 ghost use Rattle.rack_parts.specs.declared.rack.VolumePasses.{VolumePasses};
 ghost use Rattle.std.specs.Prelude.{◌≡◌, ◌<◌, ◌≤◌, ◌++◌, ℕ, List, [], length, vec_capacity, Some, IsSome, All, slice_get, slice_index_or};
 
+use crate::ClosedSpindle;
 use crate::pools::empty_pool;
 use crate::rack::{PoolPass, Rest, VolumePasses};
 use log_segment::FreeSegment;
@@ -140,7 +141,7 @@ impl<D: Disk> Rest<D> {
         lock: TurnLock<Spindle>,
         keeper: Pass<Spindle>,
         room: Vec<Pass<Spindle>>,
-    ) -> Spindle
+    ) -> ClosedSpindle
         requires passes { HasSpindlePasses self.old id lock keeper }
         requires empty { room.items ≡ [] }
         requires room { length self.old.passes.items + 1 ≤ vec_capacity room }
@@ -153,7 +154,7 @@ impl<D: Disk> Rest<D> {
     {
         let mut room = gather_spindles(&mut self.passes, id, room);
         room.push_reserved(keeper);
-        lock.close(room)
+        ClosedSpindle::new(lock.close(room))
     }
 
     /// All spindles are closed. They stand in the room for them then, the last first.

@@ -1,5 +1,5 @@
 // The volumes of a bay, opened.
-use crate::VolumeFault;
+use crate::{ClosedSpindle, VolumeFault};
 use log_segment::FreeSegment;
 use logger::Shared;
 use manager::{Manager, Station};
@@ -64,5 +64,5 @@ pub struct Rooms<D: Disk> {
     pub spindles: Vec<Vec<Pass<Spindle>>>,
     /// Those of the stations, in order.
     pub managers: Vec<Vec<Pass<Manager<D>>>>,
-    pub closed: Vec<Spindle>,
+    pub closed: Vec<ClosedSpindle>,
 }

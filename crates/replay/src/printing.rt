@@ -13,9 +13,9 @@ ghost use Rattle.wol_promise.specs.Run.{joined_lines};
 use crate::counting::Counted;
 use crate::stop::Stop;
 use energy::{Amounts, Powers, calls};
+use rack_parts::ClosedSpindle;
 use report::{read_line_text, summary};
 use request_workers::{Outcome, Request};
-use spin_model::Spindle;
 use std::alloc::Global;
 use wol_config::Config;
 use wol_disk::{Failed, NoMemory};
@@ -98,7 +98,7 @@ pub(crate) fn print_reads<K: Sink>(
 fn amounts_of(
     alloc: Global,
     powers: &Powers,
-    spindles: &[Spindle],
+    spindles: &[ClosedSpindle],
     counted: &Counted,
 ) -> Result<Vec<Amounts>, NoMemory>
     requires journals { All (λ (s : SpindleView).
@@ -126,7 +126,7 @@ pub(crate) fn print_summary<K: Sink>(
     alloc: Global,
     config: &Config,
     counted: &Counted,
-    spindles: &[Spindle],
+    spindles: &[ClosedSpindle],
     out: &mut K,
 ) -> Result<(), Stop>
     requires valid { IsValid config.now }

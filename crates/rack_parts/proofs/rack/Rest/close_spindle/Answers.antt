@@ -1,5 +1,5 @@
-use Rattle.rack_parts.proofs.Basics.{length, get_or, ap, ◌∙◌, sym, with_items_is, option_and_then, slice_get-get_or}
-use Rattle.rack_parts.proofs.Terms.{spindle_in, VolumePasses}
+use Rattle.rack_parts.proofs.Basics.{length, get_or, ap, subst, ◌∙◌, sym, with_items_is, option_and_then, slice_get-get_or}
+use Rattle.rack_parts.proofs.Terms.{StandsClosed, spindle_in, VolumePasses}
 use Rattle.rack_parts.proofs.SpindlesClosed.{spindles_kept, spindle_stands, all_passes}
 use Rattle.rack_parts.proofs.Members.{is_there}
 use Rattle.rack_parts.proofs.rack.Rest.close_spindle.Goals as goal
@@ -18,8 +18,9 @@ close-requires-clause-passes g c =
 
 pub returns-clause-spindle : goal.returns-clause-spindle
 returns-clause-spindle g c =
-    spindle_stands c.args.self.now c.args.id c.args.lock c.args.keeper c.requires.passes c.gather_spindles-room.new.passes c.gather_spindles-room.result.items (rw c.deref_mut.ensures.value at c.gather_spindles-room.ensures.taken)
-    c.close.result c.close.ensures.0 c.close.ensures.1 (rw c.push_reserved.ensures.items at c.close.ensures.2)
+    subst (StandsClosed c.args.self.now c.args.id c.args.lock c.args.keeper) (sym c.new.ensures)
+    (spindle_stands c.args.self.now c.args.id c.args.lock c.args.keeper c.requires.passes c.gather_spindles-room.new.passes c.gather_spindles-room.result.items (rw c.deref_mut.ensures.value at c.gather_spindles-room.ensures.taken)
+    c.close.result c.close.ensures.0 c.close.ensures.1 (rw c.push_reserved.ensures.items at c.close.ensures.2))
 
 pub returns-clause-rows : goal.returns-clause-rows
 returns-clause-rows g c =
