@@ -1,16 +1,16 @@
 -- All volumes were opened, one was served, and all were closed: what is told of the bay.
-use Rattle.std.proofs.Common.{◌≡◌, ◌≢◌, ◌<◌, ◌++◌, ◌∷◌, ℕ, zero, suc, nat_eq, Bool, true, false, cond, List, [], length, map, Option, None, Some, option_map, Result, refl, sym, ap, ◌∙◌, subst, arith, append-nil}
+use Rattle.std.proofs.Common.{◌≡◌, ◌≢◌, ◌<◌, ◌∷◌, ℕ, zero, suc, Bool, true, false, List, [], length, map, Option, None, Some, Result, refl, sym, ap, ◌∙◌, subst, arith, append-nil}
 use Rattle.rack.proofs.FailedParts.{faulty_since}
-use Rattle.std.specs.Prelude.{All, Contains, slice_get, slice_index_or, slice_range, unwrap_or, IfSome, IsSome, IsTrue}
+use Rattle.std.specs.Prelude.{All, Contains, slice_get, slice_index_or, unwrap_or, IfSome, IsSome, IsTrue}
 use Rattle.std.proofs.lemmas.List.{length-map}
-use Rattle.std.proofs.lemmas.Option.{same_Some, slice_get-get_or, slice_get-map, slice_get_within}
-use Rattle.wol_disk.specs.Disk.{Block, State, reads}
-use Rattle.wol_bay.specs.Bay.{BayState, Image, Told, at_name}
+use Rattle.std.proofs.lemmas.Option.{same_Some, slice_get-get_or, slice_get_within}
+use Rattle.wol_disk.specs.Disk.{Block, State}
+use Rattle.wol_bay.specs.Bay.{BayState, Told}
 use Rattle.wol_config.specs.declared.config.Config.{Config}
 use Rattle.wol_config.specs.declared.config.VolumeConf.{VolumeConf}
 use Rattle.wol_model.specs.Blocks.{Write, after}
 use Rattle.wol_model.specs.History.{IsCut, worker, helper, keeper, writes, flight_of}
-use Rattle.wol_model.specs.Images.{Images, all_segments, image_of, recovered_from}
+use Rattle.wol_model.specs.Images.{Images, all_segments, recovered_from}
 use Rattle.wol_model.specs.Recovered.{extents_of}
 use Rattle.wol_model.proofs.Overlay.{after_none}
 use Rattle.wol_promise.specs.Manager.{Base}
@@ -24,7 +24,7 @@ use Rattle.manager.specs.declared.station.Station.{Station}
 use Rattle.manager.proofs.Lanes.{get_set, get_other}
 use Rattle.spin_model.specs.Spindles.{SpindleView}
 use Rattle.volume_images.specs.Left.{IsTold}
-use Rattle.volume_images.specs.Volumes.{AreLeft, image_read, images_read, shape_in, shapes_of}
+use Rattle.volume_images.specs.Volumes.{AreLeft, images_read, shape_in, shapes_of}
 use Rattle.rack.specs.Closes.{AreLeftOfParts, AreListedOf, HasFaultyPart, IsClosedVolume, RecoversTo, recovered_out, segments_out}
 use Rattle.rack.specs.Opens.{BeganWith, WereThere, HasFaulty}
 use Rattle.rack.specs.Owners.{IsBegun, images_taken}
@@ -35,6 +35,7 @@ use Rattle.rack_parts.specs.declared.rack.ImageRest.{ImageRest}
 use Rattle.rack_parts.specs.declared.rack.Rack.{Rack}
 use Rattle.rack_closing.proofs.LoggersNamed.{names_logger}
 use Rattle.rack_closing.proofs.Places.{some_at}
+use Rattle.rack_closing.proofs.ViewsLeft.{front_left}
 use Rattle.rack_parts.proofs.Members.{of_map}
 use Rattle.std.proofs.lemmas.List.Elements.{All-contains}
 use Rattle.open_rack.specs.Sessions.{LeavesRecords, OpensAndCloses}
@@ -56,7 +57,7 @@ use Rattle.nbd_serving.specs.Entries.{AddsEntry}
 use Rattle.nbd_serving.proofs.Entries.{adds, noted}
 use Rattle.nbd_serving.specs.Racks.{ServesStation}
 use Rattle.nbd_serving.specs.Runs.{LeavesOthers, LeavesServed, ServesOpen}
-use Rattle.nbd_serving.specs.Volumes.{AreKept, IsKept, IsOpen, LeavesFront, front_of}
+use Rattle.nbd_serving.specs.Volumes.{AreKept, IsKept, IsOpen}
 use Rattle.nbd_serving.specs.Wires.{Wire}
 use Rattle.nbd_serving.proofs.Recovered.{cut_pieces}
 use Rattle.wol_config.specs.Configs.{most_of}
@@ -71,14 +72,6 @@ third P h k more (suc (suc (suc n))) other = more (suc (suc (suc n))) other (λ 
 here_is : {X : Type 0} (o : Option X) → IsSome o → (x : X) × (o ≡ Some x)
 here_is None is = absurd (let no : false ≡ true = is in cc)
 here_is (Some x) is = (x, refl)
-
--- an image with whole blocks, as it was read
-read_at : (config : Config) (t : Told) (k : ℕ) (v : VolumeConf) (i : Image) → slice_get config.volumes.items k ≡ Some v → at_name v.name t.images ≡ Some i → i.rest ≡ [] → image_of (images_read config t) k ≡ Some (reads i.blocks)
-read_at config t k v i conf at whole =
-    ap (λ (o : Option (Option (List Block))). unwrap_or o None)
-    (slice_get-map (λ (w : VolumeConf). image_read (at_name w.name t.images)) config.volumes.items k ∙ ap (option_map (λ (w : VolumeConf). image_read (at_name w.name t.images))) conf)
-    ∙ ap image_read at
-    ∙ ap (λ (l : List ℕ). cond (nat_eq (length l) 0) (Some (reads i.blocks)) None) whole
 
 flight_some : (o : Option (List Write)) → IsSome o → o ≡ None → ⊥
 flight_some None is none = absurd (let no : false ≡ true = is in cc)
@@ -185,16 +178,6 @@ module _ {D : Type 0} (tells : Bool) (state : D → State) (config : Config) (di
             (λ used. never (logger_had entry mid is n k used.0 used.1));
       }
 
-  -- label and view of an image are left
-  front_at : (entry mid : Told) → Leaves entry mid → (k : ℕ) (v : VolumeConf) → slice_get config.volumes.items k ≡ Some v → k < length (shapes_of config) → LeavesFront config k entry mid
-  front_at entry mid is k v conf lt images left =
-      let was = is.were k v conf (outs k lt) in
-      let r = here_is (image_here before.rest.images.items k) (outs k lt) in
-      let shape : slice_get (shapes_of config) k ≡ Some (shape_in config v) = slice_get-map (shape_in config) config.volumes.items k ∙ ap (option_map (shape_in config)) conf in
-      let c = is.parts images left k (shape_in config v) r.0 shape (ap (λ (out : List (Option (ImageRest D))). image_here out k) same_images ∙ r.1) in
-      let first = is.began.left k v was.0 r.0 conf was.1 r.1 in
-      ap (option_map front_of) c.1 ∙ ap (λ (x : List Block). Some x) (first.label (slice_range c.0 0 2) c.2.label) ∙ sym (ap (option_map front_of) (read_at config entry k v was.0 conf was.1 was.2))
-
   module _ (u : Station D) (place : ℕ) (was : slice_get before.stations.items place ≡ Some u) where
     station : IsStation u
     station = all_at IsStation before.stations.items place u session.opened.rack.stations was
@@ -208,7 +191,7 @@ module _ {D : Type 0} (tells : Bool) (state : D → State) (config : Config) (di
 
     -- its volume was open
     open_at : (entry mid : Told) → Leaves entry mid → (v : VolumeConf) → slice_get config.volumes.items u.id ≡ Some v → u.id < length (shapes_of config) → IsOpen config u.id v (base_of_station u).volume.began entry mid
-    open_at entry mid is v conf lt = record { accepted_ = is.were u.id v conf (outs u.id lt); begun = begun entry is.began; front = front_at entry mid is u.id v conf lt }
+    open_at entry mid is v conf lt = record { accepted_ = is.were u.id v conf (outs u.id lt); begun = begun entry is.began; front = front_left state config before after_ (rest_again state config before after_ session.again) entry mid is.began is.were is.parts u.id v conf (outs u.id lt) }
 
     module _ (w : Station D) (there : slice_get after_.stations.items place ≡ Some w) (lock_is : w.lock ≡ u.lock) (id_is : w.id ≡ u.id) where
       abbrev ends : IsClosedVolume tells config after_.rest.images.items session.bay new w

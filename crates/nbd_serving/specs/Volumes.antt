@@ -1,29 +1,18 @@
 -- A volume of a bay whose volumes were all open: what it was opened of, and what is left of one to
 -- which nothing was done.
-use Rattle.std.specs.Prelude.{◌≡◌, ◌<◌, ℕ, Bool, List, length, Some, IsTrue, slice_get, slice_range}
-use Rattle.std.specs.Option.{option_map}
-use Rattle.wol_disk.specs.Disk.{Block, State}
+use Rattle.std.specs.Prelude.{◌≡◌, ◌<◌, ℕ, Bool, length, Some, IsTrue, slice_get}
+use Rattle.wol_disk.specs.Disk.{State}
 use Rattle.wol_bay.specs.Bay.{BayState, Told}
 use Rattle.wol_config.specs.declared.config.Config.{Config}
 use Rattle.wol_config.specs.declared.config.VolumeConf.{VolumeConf}
-use Rattle.wol_model.specs.Images.{Images, image_of, recovered_from}
+use Rattle.wol_model.specs.Images.{Images, recovered_from}
 use Rattle.wol_promise.specs.Manager.{Base}
 use Rattle.volume_images.specs.Left.{IsTold}
 use Rattle.volume_images.specs.Volumes.{AreLeft, images_read, shapes_of}
-use Rattle.rack.specs.Opens.{WasAccepted}
+use Rattle.rack.specs.Opens.{LeavesFront, WasAccepted}
 use Rattle.rack.specs.Owners.{IsBegun}
 use Rattle.open_rack.specs.NotOpened.{LeavesBay}
 use Rattle.open_rack.specs.Sessions.{LeavesRecords}
-
--- the blocks of label and view of an image
-abbrev pub front_of : List Block → List Block
-front_of image = slice_range image 0 2
-
--- whatever images a crash leaves, label and view of volume v are as they were read
-abbrev pub LeavesFront : Config → (v : ℕ) → (entry left : Told) → Type 0
-LeavesFront config v entry left = (images : Images) → AreLeft config left images
-    → option_map front_of (image_of images v)
-    ≡ option_map front_of (image_of (images_read config entry) v)
 
 -- Volume v was open: its image was accepted, and this base is what the images gave as they were
 -- read. Its label and view are left.

@@ -11,9 +11,9 @@ use Rattle.volume_images.specs.Left.{IsTold}
 use Rattle.report.specs.declared.fault.Fault.{Fault}
 use Rattle.report.specs.declared.fault.Fault.TheVariants.{Volume}
 use Rattle.troubles.specs.Troubles.{trouble_of}
-use Rattle.rack.specs.Closes.{CameBackFaulty, is_kept_home}
-use Rattle.rack.specs.Opens.{KeepsAllSound, LeavesAll, RefusesVolume, WereThere}
-use Rattle.rack.specs.Owners.{WasOpened}
+use Rattle.rack.specs.Closes.{CameBackFaulty}
+use Rattle.rack.specs.Opens.{KeepsAllSound, KeepsViews, LeavesAll, RefusesVolume, WereThere}
+use Rattle.rack.specs.Owners.{IsBegun, images_taken}
 use Rattle.rack.specs.Racks.{NamesVolumes}
 use Rattle.rack.specs.Rests.{IsImageOut, image_here}
 use Rattle.rack_parts.specs.declared.rack.ImageRest.{ImageRest}
@@ -69,3 +69,9 @@ pub record LeavesBay {D : Type 0} (tells : Bool) (state : D → State) (config :
     (old new : BayState) : Type 0 where
   pub left : IsTrue tells → IsTold (LeavesAll tells state config old new) old.told new.told
   pub sound : IsTrue tells → IsTold (KeepsAllSound config) old.told new.told
+
+-- .. and no label or view was changed
+pub record LeavesViews {D : Type 0} (tells : Bool) (state : D → State) (config : Config)
+    (old new : BayState) : Type 0 where
+  pub bay : LeavesBay tells state config old new
+  pub views : IsTrue tells → IsTold (KeepsViews config) old.told new.told

@@ -12,6 +12,7 @@ pub mod SameOut
 pub mod Names
 pub mod Places
 pub mod LoggersNamed
+pub mod ViewsLeft
 pub mod SameRecovered
 pub mod KeptImages
 pub mod SoundBefore

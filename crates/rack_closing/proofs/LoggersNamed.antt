@@ -7,7 +7,7 @@ use Rattle.rack_closing.specs.Opens.{WasAccepted}
 use Rattle.rack_closing.specs.PoolUses.{HadLogger}
 
 -- an image with whole blocks, as it reads
-image_is_read : (config : Config) (t : Told) (n : ℕ) (v : VolumeConf) (i : Image) → slice_get config.volumes.items n ≡ Some v → at_name v.name t.images ≡ Some i → i.rest ≡ [] → image_of (images_read config t) n ≡ Some (reads i.blocks)
+pub image_is_read : (config : Config) (t : Told) (n : ℕ) (v : VolumeConf) (i : Image) → slice_get config.volumes.items n ≡ Some v → at_name v.name t.images ≡ Some i → i.rest ≡ [] → image_of (images_read config t) n ≡ Some (reads i.blocks)
 image_is_read config t n v i conf at whole =
     ap (λ (o : Option (Option (List Block))). unwrap_or o None)
     (slice_get-map (λ (w : VolumeConf). image_read (at_name w.name t.images)) config.volumes.items n ∙ ap (option_map (λ (w : VolumeConf). image_read (at_name w.name t.images))) conf)

@@ -1,6 +1,6 @@
 -- What opening all volumes answers: why a volume is refused, what the others begin with, and what
 -- is left of the images.
-use Rattle.std.specs.Prelude.{⊤, ◌≡◌, ◌≢◌, ◌⊎◌, ◌<◌, ◌+◌, ◌++◌, ℕ, List, [], length, Contains, Bool, true, Option, None, Some, IfSome, slice_get, slice_range, All, IsTrue}
+use Rattle.std.specs.Prelude.{⊤, ◌≡◌, ◌≢◌, ◌⊎◌, ◌<◌, ◌+◌, ◌++◌, ℕ, List, [], length, Contains, Bool, true, Option, None, Some, option_map, IfSome, slice_get, slice_range, All, IsTrue}
 use Rattle.wol_disk.specs.Disk.{Block, State, Rose, IsImageOf, reads}
 use Rattle.wol_model.specs.Heads.{SegmentHead, Shape, Free, Owned}
 use Rattle.wol_model.specs.Log.{Record}
@@ -30,7 +30,7 @@ use Rattle.volume_images.specs.Refusals.{IsCallFault}
 use Rattle.wol_model.specs.Images.{Images, image_of, image_size}
 use Rattle.wol_promise.specs.Run.{KeepsSound}
 use Rattle.volume_images.specs.Left.{IsTold}
-use Rattle.volume_images.specs.Volumes.{shape_in, shapes_of, MayLeave, AreLeft}
+use Rattle.volume_images.specs.Volumes.{images_read, shape_in, shapes_of, MayLeave, AreLeft}
 use Rattle.rack_parts.specs.Rests.{image_here, segment_here, held_here, IsImageOut, IsSegmentHere}
 use Rattle.rack_parts.specs.Racks.{base_of_station}
 use Rattle.rack_closing.specs.Owners.{images_taken, BeganInPlace, IsBegun, IsOpeningOf, RecoversSame, WasOpened}
@@ -172,6 +172,36 @@ abbrev pub KeepsOthers : Config → Told → Told → Type 0
 KeepsOthers config old new = (name : Name)
     → ((k : ℕ) (v : VolumeConf) → slice_get config.volumes.items k ≡ Some v → name ≢ v.name)
     → at_name name new.images ≡ at_name name old.images
+
+-- ---- Labels and views
+
+-- the blocks of label and view of an image
+abbrev pub front_of : List Block → List Block
+front_of image = slice_range image 0 2
+
+-- whatever images a crash leaves, label and view of volume v are as they were read
+abbrev pub LeavesFront : Config → (v : ℕ) → (entry left : Told) → Type 0
+LeavesFront config v entry left = (images : Images) → AreLeft config left images
+    → option_map front_of (image_of images v)
+    ≡ option_map front_of (image_of (images_read config entry) v)
+
+-- so of each volume
+abbrev pub LeavesFronts : Config → (entry left : Told) → Type 0
+LeavesFronts config entry left =
+    (v : ℕ) → v < length config.volumes.items → LeavesFront config v entry left
+
+-- These blocks have the label and the view that the image at entry has as it reads; or a crash might
+-- have left them of it.
+abbrev pub KeepsFront : Option Image → List Block → Type 0
+KeepsFront entry blocks = MayLeave entry (Some blocks)
+    ⊎ ((image : Image) × (entry ≡ Some image) × (front_of blocks ≡ front_of (reads image.blocks)))
+
+-- no label and no view was changed: so it is with each image that a crash leaves, of that at entry
+abbrev pub KeepsViews : Config → (entry left : Told) → Type 0
+KeepsViews config entry left = (images : Images) → AreLeft config left images
+    → (k : ℕ) (v : VolumeConf) → slice_get config.volumes.items k ≡ Some v
+    → (blocks : List Block) → image_of images k ≡ Some blocks
+    → KeepsFront (at_name v.name entry.images) blocks
 
 -- ---- The whole
 

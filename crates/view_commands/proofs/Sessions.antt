@@ -20,9 +20,9 @@ use Rattle.report.specs.declared.fault.Fault.TheVariants.{Volume}
 use Rattle.troubles.specs.Troubles.{trouble_of, trouble_of_part}
 use Rattle.spin_model.specs.Spindles.{SpindleView}
 use Rattle.volume_images.specs.Left.{IsTold}
-use Rattle.volume_images.specs.Volumes.{AreLeft, MayLeave, images_read, shape_in, shapes_of}
+use Rattle.volume_images.specs.Volumes.{MayLeave, images_read, shape_in, shapes_of}
 use Rattle.rack.specs.Closes.{AreLeftOfParts, HasFaultyPart, IsClosedVolume, IsQuiet, LeavesOpen, part_named, recovered_out}
-use Rattle.rack.specs.Opens.{BeganWith, HasFaulty, WereThere}
+use Rattle.rack.specs.Opens.{BeganWith, HasFaulty, KeepsFront, KeepsViews, WereThere}
 use Rattle.rack.specs.Owners.{HadRefused, IsBegun, images_taken}
 use Rattle.rack.specs.Racks.{IsStation, base_of_station}
 use Rattle.rack.specs.Rests.{IsImageOut, image_here}
@@ -41,7 +41,7 @@ use Rattle.open_rack.proofs.FirstClosed.{first_refused, none_closed, opened_at, 
 use Rattle.view_commands.specs.Drains.{AllOpen, IsDrained, trouble_of_step}
 use Rattle.view_commands.specs.Runs.{FailsWith}
 use Rattle.view_commands.specs.Runs as runs
-use Rattle.view_commands.specs.Views.{KeepsArrays, KeepsFront, KeepsViews}
+use Rattle.view_commands.specs.Views.{KeepsArrays}
 use Rattle.view_commands.proofs.Emptied.{came}
 use Rattle.view_commands.proofs.Kept.{KeepsFronts}
 

@@ -16,11 +16,11 @@ use Rattle.volume_images.specs.Volumes.{images_read}
 use Rattle.rack.specs.Closes.{HasFaultyPart, part_named}
 use Rattle.rack.specs.Owners.{IsBegun}
 use Rattle.rack_parts.specs.declared.volume_fault.VolumeFault.{VolumeFault}
-use Rattle.open_rack.specs.NotOpened.{IsFirstClosed, LeavesBay}
+use Rattle.open_rack.specs.NotOpened.{IsFirstClosed, LeavesBay, LeavesViews}
 use Rattle.view_change.specs.declared.answers.Change.{Change}
 use Rattle.view_commands.specs.Orders.{AreNamed, IsOfWords, change_of, unknown_word}
 use Rattle.view_commands.specs.Printed.{PrintsNothing, PrintsView}
-use Rattle.view_commands.specs.Views.{ChangesViewOf, IsDamagedIn, KeepsArrays, KeepsViews, LeavesThere}
+use Rattle.view_commands.specs.Views.{ChangesViewOf, IsDamagedIn, KeepsArrays, LeavesThere}
 use Rattle.view_commands.specs.declared.order.Order.{Order}
 use Rattle.view_commands.specs.declared.order.Stop.{Stop}
 use Rattle.view_commands.specs.declared.order.Stop.TheVariants as stop
@@ -67,13 +67,6 @@ pub record ChangesOpen {T : Type 0} (tells : Bool) (config : Config) (volume : �
   pub there : IsTrue tells → IsTold (λ entry left. LeavesThere config left) old.told new.told
   pub fails : (f : Fault) → result ≡ Err (stop.Fault f) → FailsFor tells config volume old new f
   pub known : (r : ViewRefusal) → result ≡ Err (stop.Refused r) → IsOfWords r → ⊥
-
--- a volume couldn't be opened: no view was changed, and each image that is left recovers to what an
--- image at entry did
-pub record LeavesViews {D : Type 0} (tells : Bool) (state : D → State) (config : Config)
-    (old new : BayState) : Type 0 where
-  pub bay : LeavesBay tells state config old new
-  pub views : IsTrue tells → IsTold (KeepsViews config) old.told new.told
 
 -- The view of a volume was to be changed: there was no memory to open the volumes; or one of them
 -- couldn't be opened; or all were open.

@@ -1,13 +1,12 @@
 -- The views that volumes have in images, and what a crash may leave of them.
-use Rattle.std.specs.Prelude.{◌≡◌, ◌≢◌, ◌⊎◌, ◌<◌, ℕ, List, length, Option, Some, Contains, Result, Ok, Err, slice_get, slice_range}
-use Rattle.wol_disk.specs.Disk.{Block, reads}
-use Rattle.wol_bay.specs.Bay.{Image, Told, at_name}
+use Rattle.std.specs.Prelude.{◌≡◌, ◌≢◌, ◌⊎◌, ◌<◌, ℕ, List, length, Some, Contains, Result, Ok, Err}
+use Rattle.wol_disk.specs.Disk.{Block}
+use Rattle.wol_bay.specs.Bay.{Told}
 use Rattle.wol_config.specs.declared.config.Config.{Config}
-use Rattle.wol_config.specs.declared.config.VolumeConf.{VolumeConf}
 use Rattle.wol_model.specs.Images.{Images, image_of, recovered_from}
 use Rattle.rack.specs.Opens.{IsThere}
 use Rattle.logger_view.specs.Stored.{HasView, IsFirstFault}
-use Rattle.volume_images.specs.Volumes.{images_read, shapes_of, AreLeft, MayLeave}
+use Rattle.volume_images.specs.Volumes.{images_read, shapes_of, AreLeft}
 use Rattle.view_change.specs.Changes.{Allows, changed, id_of}
 use Rattle.view_change.specs.declared.answers.Change.{Change}
 use Rattle.view_change.specs.declared.answers.Change.TheVariants.{Add, Remove}
@@ -44,19 +43,6 @@ abbrev pub KeepsOtherViews : Config → (volume : ℕ) → (entry left : Told) �
 KeepsOtherViews config volume entry left =
     (other : ℕ) (ids : List ℕ) → other ≢ volume → HasViewIn (images_read config entry) other ids
     → LeavesView config other ids left
-
--- These blocks have the label and the view that the image at entry has as it reads; or a crash might
--- have left them of it.
-abbrev pub KeepsFront : Option Image → List Block → Type 0
-KeepsFront entry blocks = MayLeave entry (Some blocks) ⊎ ((image : Image) × (entry ≡ Some image)
-    × (slice_range blocks 0 2 ≡ slice_range (reads image.blocks) 0 2))
-
--- no view was changed: so it is with each image that a crash leaves, of that at entry
-abbrev pub KeepsViews : Config → (entry left : Told) → Type 0
-KeepsViews config entry left = (images : Images) → AreLeft config left images
-    → (k : ℕ) (v : VolumeConf) → slice_get config.volumes.items k ≡ Some v
-    → (blocks : List Block) → image_of images k ≡ Some blocks
-    → KeepsFront (at_name v.name entry.images) blocks
 
 -- the image of each volume is there with its length
 abbrev pub LeavesThere : Config → Told → Type 0
