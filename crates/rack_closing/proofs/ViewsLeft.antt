@@ -51,10 +51,11 @@ module _ {D : Type 0} (state : D → State) (config : Config) (r q : Rack D) (re
       inr (f.was, f.there, subst (λ (b : List Block). front_of b ≡ front_of (reads f.was.blocks)) same f.same))
 
 -- what holds of images at entry and of what is left, where opening and closing say so
-pub told_left : {D : Type 0} (state : D → State) (config : Config) (r q : Rack D) (P Had : Told → Told → Type 0) (o b n : Option Told)
-    → ((entry left : Told) → BeganWith state config entry r → WereThere config r.rest.images.items entry → AreLeftOfParts state config q left → Had entry left → P entry left)
-    → IfSome o (λ t. BeganWith state config t r) → IfSome o (λ t. WereThere config r.rest.images.items t) → IsTold HasFaulty o b → IsTold (λ x y. AreLeftOfParts state config q y) b n → IsTold Had o n → IsTold P o n
-told_left state config r q P Had None b n each began were sent parts had = had
-told_left state config r q P Had (Some o) None n each began were sent parts had = absurd sent
-told_left state config r q P Had (Some o) (Some b) None each began were sent parts had = absurd parts
-told_left state config r q P Had (Some o) (Some b) (Some n) each began were sent parts had = each o n began were parts had
+pub told_left : {D : Type 0} (state : D → State) (config : Config) (r q : Rack D) (P : Told → Told → Type 0) (o b n : Option Told)
+    → ((entry left : Told) → BeganWith state config entry r → WereThere config r.rest.images.items entry → AreLeftOfParts state config q left → P entry left)
+    → IfSome o (λ t. BeganWith state config t r) → IfSome o (λ t. WereThere config r.rest.images.items t) → IsTold HasFaulty o b → IsTold (λ x y. AreLeftOfParts state config q y) b n → IsTold P o n
+told_left state config r q P None None n each began were sent parts = parts
+told_left state config r q P None (Some b) n each began were sent parts = absurd (cc sent)
+told_left state config r q P (Some o) None n each began were sent parts = absurd sent
+told_left state config r q P (Some o) (Some b) None each began were sent parts = absurd parts
+told_left state config r q P (Some o) (Some b) (Some n) each began were sent parts = each o n began were parts

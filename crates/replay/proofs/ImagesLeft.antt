@@ -8,7 +8,7 @@ use Rattle.replay.proofs.Terms.{entries_of, last_look, KeepsSound, answered_coun
 use Rattle.replay.proofs.Terms.{cuts_are_plain, all_of, volume_requests, Config, notes_of, Station, AreLeft, images_read, shapes_of}
 use Rattle.replay.proofs.Terms.{AreListedOf, HasFaultyPart, IsClosedVolume, IsOnLogger, RecoversTo, recovered_out, segments_out}
 use Rattle.replay.proofs.Terms.{base_of_station, IsImageOut, ImageRest, AreHistories, BeginAsRead, History, is_broken, is_broken_at}
-use Rattle.replay.proofs.Terms.{LeavesImages, records_in, written_array, accepted_all, recovered_all, IsFlightAt, Noted}
+use Rattle.replay.proofs.Terms.{LeavesFronts, LeavesImages, records_in, written_array, accepted_all, recovered_all, IsFlightAt, Noted}
 use Rattle.replay.proofs.Terms.{Part, WasDown, part_named}
 use Rattle.manager.specs.Seen.{name_of}
 use Rattle.wol_model.specs.Extents.{AreDistinct, Extent, covers_of}
@@ -240,8 +240,8 @@ module _ {D : Type 0} (tells : Bool) (config : Config) (out : List (Option (Imag
     | inr beyond ↦ record { requests = []; follow = refl; are_writes = tt; unless = λ whole. refl; cuts = λ lt. absurd (omega (arith, lt, beyond)) }
   ]
 
-  pub images_left : KeepsSound (shapes_of config) (AreLeft config entry) (AreLeft config left_) → LeavesImages tells config answers hs entry left_
-  images_left sound = record {
+  pub images_left : KeepsSound (shapes_of config) (AreLeft config entry) (AreLeft config left_) → LeavesFronts config entry left_ → LeavesImages tells config answers hs entry left_
+  images_left sound fronts = record {
     faulty = faulty_here;
     whole = λ v lt intact images left. (let (h, here) = a_history v lt in
         whole_is v h here (none_or (flight_of (entries v h here)) (λ some. intact (broken_is v h here ∙ some))) images left);
@@ -257,5 +257,6 @@ module _ {D : Type 0} (tells : Bool) (config : Config) (out : List (Option (Imag
     distinct = distinct_here;
     listed = listed_here;
     on_loggers = on_loggers_here;
+    fronts = fronts;
     sound = sound;
   }

@@ -1,16 +1,19 @@
 -- What replaying a trace over a bay comes to, by what opening, serving and closing its rack say.
-use Rattle.replay.proofs.Basics.{◌≡◌, ◌<◌, ◌≤◌, ℕ, Bool, List, length, Option, None, Some, Result, Ok, Err, sym, ap, subst, ◌∙◌, arith, All}
+use Rattle.replay.proofs.Basics.{◌≡◌, ◌<◌, ◌≤◌, ℕ, Bool, List, length, Option, None, Some, Result, Ok, Err, refl, sym, ap, subst, ◌∙◌, arith, All}
 use Rattle.replay.proofs.Basics.{IfSome, IsTrue, MatchResult, slice_get, length-map}
 use Rattle.replay.proofs.Terms.{BayState, Told, Rose, State, Config, IsTold, shape_in, shapes_of, Part, Station, printed_names}
 use Rattle.replay.proofs.Terms.{summary_text, Memory, AreClosedVolumes, AreLeftOfParts, HasFaultAt, HasFaultIn, IsClosedSpindle, IsQuiet}
 use Rattle.replay.proofs.Terms.{LeavesVolumes, ListsFaulty, AreRefused, BeganWith, HasFaulty, KeepsAllSound, WereThere, HadRefused}
 use Rattle.replay.proofs.Terms.{AreUnused, IsRack, IsUnused, KeepToViews, IsImageOut, Rack, Rest, SpindleView, SpindlePass, AreStations}
-use Rattle.replay.proofs.Terms.{AreAllOpen, LeavesBay, PrintsText, all_amounts, Replayed, Replays, ran, first_closed, view_at, RunsIn}
+use Rattle.replay.proofs.Terms.{AreAllOpen, KeepsViews, LeavesFronts, LeavesViews, PrintsText, all_amounts, Replayed, Replays, ran, first_closed, view_at, RunsIn}
 use Rattle.replay.proofs.Terms.{closed, locks_of, no_memory, served, ServesSome, ServesWhole, Counted, Given, Options, Stop, none_closed}
 use Rattle.replay.proofs.Terms.{opened_out}
+use Rattle.rack.proofs.Asking.{told_then}
 use Rattle.rack.proofs.FailedParts.{gained_parts}
+use Rattle.rack_closing.proofs.NewFaults.{told_each, told_with}
+use Rattle.rack_closing.proofs.ViewsLeft.{front_left, told_left, views_left}
 use Rattle.replay.proofs.HistoriesLeft.{histories_of}
-use Rattle.replay.proofs.RacksServed.{at_place, each_station, station_count}
+use Rattle.replay.proofs.RacksServed.{a_member, at_place, each_station, station_count}
 use Rattle.replay.proofs.RunClosed.{leaves_bay, runs_closed}
 use Rattle.replay.proofs.RunFlown.{began_still, run_sound}
 use Rattle.replay.proofs.RunReplayed.{replays_none, replays_some, replays_whole}
@@ -86,14 +89,32 @@ module _ {D S : Type 0} (T : Type 0) (state : D → State) (tells : Bool) (left 
         still None began = tt
         still (Some t) began = began_still state config r q rest shared locks stations news t began
 
+    -- label and view of each volume are as they were read, over a rack with the same rest
+    fronts_kept : q.rest ≡ r.rest → IsTrue tells → IsTold (LeavesFronts config) entry.told left_.told
+    fronts_kept rest telling = told_left state config r q (LeavesFronts config) entry.told opened.told left_.told
+        (λ e n began were parts v lt. let (conf, at) = a_member config.volumes.items v lt in front_left state config r q rest e n began were parts v conf at (all_out v (omega (arith, lt, length-map config.volumes.items (shape_in config)))))
+        (o.began telling) (o.there telling) o.gained (c.parts telling)
+
     -- its volumes kept to the views that they were opened with
     kept_views : q.rest ≡ r.rest → locks_of q.stations.items ≡ locks_of r.stations.items → AreStations q.stations.items → KeepToViews (view_at (histories_of tells config q.rest.images.items opened left_ q.stations.items c.stations.0)) q
     kept_views rest locks news = keep_views state tells config opened left_ r q o.is rest locks stations news count (locks_count q.stations.items r.stations.items locks) c.stations.0
 
-  bay_left : q ≡ r → LeavesBay tells state config entry left_
-  bay_left same =
+  -- no label or view was changed, over the same rack
+  views_kept : q ≡ r → IsTrue tells → IsTold (KeepsViews config) entry.told left_.told
+  views_kept same telling =
       let closing = subst (λ (x : Rack D). HasClosedRack state tells config opened left_ x Q) same c in
-      leaves_bay tells state config entry opened left_ r o.is o.refused c.counts (gained_parts state config q.rest opened.told left_.told c.faulty) o.began o.there o.kept o.fresh closing.kept closing.parts closing.volumes closing.sound
+      let out = r.rest.images.items in
+      told_each (λ x y. (HadRefused config out x y → KeepsViews config x y) × HadRefused config out x y) (KeepsViews config) entry.told left_.told (λ x y both. both.0 both.1)
+      (told_with (λ x y. HadRefused config out x y → KeepsViews config x y) (HadRefused config out) entry.told left_.told
+      (told_left state config r r (λ x y. HadRefused config out x y → KeepsViews config x y) entry.told opened.told left_.told (λ e n began were parts. views_left state config r r refl e n began were parts) (o.began telling) (o.there telling) o.gained (closing.parts telling))
+      (told_then (HadRefused config out) (HadRefused config out) (HadRefused config out) entry.told opened.told left_.told (λ x y z is first then k v conf none may left. first k v conf none may (then k v conf none may left)) (o.kept telling) (closing.kept telling)))
+
+  bay_left : q ≡ r → LeavesViews tells state config entry left_
+  bay_left same =
+      let closing = subst (λ (x : Rack D). HasClosedRack state tells config opened left_ x Q) same c in record {
+        bay = leaves_bay tells state config entry opened left_ r o.is o.refused c.counts (gained_parts state config q.rest opened.told left_.told c.faulty) o.began o.there o.kept o.fresh closing.kept closing.parts closing.volumes closing.sound;
+        views = views_kept same;
+      }
 
   abbrev Ran : Result T Stop → (faults'' : ℕ) → (printed'' : Option (List ℕ)) → Type 0
   Ran done faults'' printed'' = Replays tells left config options start now entry left_ done faults faults'' printed printed''
@@ -108,7 +129,7 @@ module _ {D S : Type 0} (T : Type 0) (state : D → State) (tells : Bool) (left 
       subst (λ (x : Stop). Ran (Err x) faults' printed') same
       (replays_none T state tells left config options start now entry opened left_ r q o.is (count first) (some first) (all_out first) o.began o.gained Q c.told o.counts c.stations.0 c.stations.1
       (kept_views first rest (ap (λ (x : Rack D). locks_of x.stations.items) none.same) news) o.fresh (o.unfaulty (all_out first))
-      (sound_still first rest (ap (λ (x : Rack D). x.shared) none.same) (ap (λ (x : Rack D). locks_of x.stations.items) none.same) news) (all_open first) faults faults' printed printed' none news c.spindles c.count (c.count ∙ length-map config.volumes.items (shape_in config)) c.each o.fresh_keepers)
+      (sound_still first rest (ap (λ (x : Rack D). x.shared) none.same) (ap (λ (x : Rack D). locks_of x.stations.items) none.same) news) (fronts_kept first rest) (all_open first) faults faults' printed printed' none news c.spindles c.count (c.count ∙ length-map config.volumes.items (shape_in config)) c.each o.fresh_keepers)
   served_err result (served done first before moved from) e is open_ = at done from.served is
     where
       at : (x : Result Counted Stop) → MatchResult x (λ d. ServesWhole tells left config options start now before r.keepers.items from.after q.keepers.items d faults faults' printed printed')
@@ -119,7 +140,7 @@ module _ {D S : Type 0} (T : Type 0) (state : D → State) (tells : Bool) (left 
           subst (λ (x : Stop). Ran (Err x) faults' printed') same
           (replays_some T state tells left config options start now entry opened left_ r q o.is (count first) (some first) (all_out first) o.began o.gained Q c.told o.counts c.stations.0 c.stations.1
           (kept_views first (ap (λ (x : Rack D). x.rest) from.only) (from.locks ∙ moved.locks) from.can.each) o.fresh (o.unfaulty (all_out first))
-          (sound_still first (ap (λ (x : Rack D). x.rest) from.only) (ap (λ (x : Rack D). x.shared) from.only) (from.locks ∙ moved.locks) from.can.each) (all_open first) faults faults' printed printed' before moved done from y w c.spindles c.count (c.count ∙ length-map config.volumes.items (shape_in config)) c.each o.fresh_keepers)
+          (sound_still first (ap (λ (x : Rack D). x.rest) from.only) (ap (λ (x : Rack D). x.shared) from.only) (from.locks ∙ moved.locks) from.can.each) (fronts_kept first (ap (λ (x : Rack D). x.rest) from.only)) (all_open first) faults faults' printed printed' before moved done from y w c.spindles c.count (c.count ∙ length-map config.volumes.items (shape_in config)) c.each o.fresh_keepers)
 
   pub replayed_err : (result : Result Counted Stop) → RunsIn tells left config options start now r q faults faults' printed printed' result → (e : Stop) → result ≡ Err e → Comes (Err e) faults' printed'
   replayed_err result (closed f first none) e is =
@@ -145,7 +166,7 @@ module _ {D S : Type 0} (T : Type 0) (state : D → State) (tells : Bool) (left 
           let here = subst (λ (x : Counted). ServesWhole tells left config options start now before r.keepers.items from.after q.keepers.items x faults faults' printed printed') same w in
           replays_whole T state tells left config options start now entry opened left_ r q o.is (count first) (some first) (all_out first) o.began o.gained Q c.told o.counts c.stations.0 c.stations.1
           (kept_views first (ap (λ (x : Rack D). x.rest) from.only) (from.locks ∙ moved.locks) from.can.each) o.fresh (o.unfaulty (all_out first))
-          (sound_still first (ap (λ (x : Rack D). x.rest) from.only) (ap (λ (x : Rack D). x.shared) from.only) (from.locks ∙ moved.locks) from.can.each) (all_open first) faults faults' printed printed' before moved whole from counted here spindles sized each closed_ o.fresh_keepers done faults'' printed'' prints
+          (sound_still first (ap (λ (x : Rack D). x.rest) from.only) (ap (λ (x : Rack D). x.shared) from.only) (from.locks ∙ moved.locks) from.can.each) (fronts_kept first (ap (λ (x : Rack D). x.rest) from.only)) (all_open first) faults faults' printed printed' before moved whole from counted here spindles sized each closed_ o.fresh_keepers done faults'' printed'' prints
 
   pub replayed_ok : (result : Result Counted Stop) → RunsIn tells left config options start now r q faults faults' printed printed' result → (counted : Counted) → result ≡ Ok counted → (spindles : List SpindleView)
       → length spindles ≡ length (shapes_of config) → length spindles ≡ length config.volumes.items → ((k : ℕ) (s : SpindleView) → slice_get spindles k ≡ Some s → IsClosedSpindle q k s) → (done : Result T Stop) (faults'' : ℕ) (printed'' : Option (List ℕ))

@@ -4,7 +4,7 @@ use Rattle.replay.proofs.Basics.{All, IfSome, IsTrue, slice_get}
 use Rattle.replay.proofs.Terms.{Rose, State, BayState, Told, writes, entries_of, Config, VolumeConf, Entry, notes_of, Part, Station, Fault}
 use Rattle.replay.proofs.Terms.{IsTold, AreLeftOfParts, flight_in, HasFaultAt, HasFaultIn, IsQuiet, LeavesVolumes, ListsFaulty, has_station}
 use Rattle.replay.proofs.Terms.{is_kept_home, AreRefused, BeganWith, HasFaulty, KeepsAllSound, LeavesAll, RefusesVolume, WereThere}
-use Rattle.replay.proofs.Terms.{HadRefused, AreUnused, IsRack, IsImageOut, Rack, VolumeFault, LeavesBay, Replayed}
+use Rattle.replay.proofs.Terms.{HadRefused, AreUnused, IsRack, IsImageOut, Rack, VolumeFault, LeavesBay, LeavesViews, Replayed}
 use Rattle.replay.proofs.Terms.{first_closed, RunsNone, Given, Options}
 use Rattle.replay.specs.Replays.{closed}
 use Rattle.rack.proofs.Asking.{refuses_later, rose_on}
@@ -83,7 +83,7 @@ pub runs_closed : {D S T : Type 0} (tells : Bool) (state : D → State) (left : 
     → ((k : ℕ) (p : Part) → slice_get old.faults.items k ≡ Some (Some (fault.Refused (refusal.DiskFault p))) → IsImageOut old.rest.images.items k → HasFaultAt state old.rest p)
     → (HasFaultIn state new.rest → Rose opened.faults last.faults) → entry.faults ≤ opened.faults → opened.faults ≤ last.faults → IsTold HasFaulty entry.told opened.told → IsTold (ListsFaulty state config new.rest) opened.told last.told
     → (IsTrue tells → IfSome entry.told (λ t. BeganWith state config t old)) → (IsTrue tells → IfSome entry.told (λ t. WereThere config old.rest.images.items t)) → first_closed 0 old.faults.items ≡ Some f
-    → RunsNone tells left config options start now old new sink sink' printed printed' → LeavesBay tells state config entry last
+    → RunsNone tells left config options start now old new sink sink' printed printed' → LeavesViews tells state config entry last
     → Replayed {T = T} tells state left config options start now entry last sink sink' printed printed' (Err (stop.Fault f))
 runs_closed {D} {S} {T} tells state left config options start now entry opened last old new sink sink' printed printed' f is refused failed rises opening closing first_gained faulty began there first none leaves =
     let lists = subst (λ (r : Rack D). IsTold (ListsFaulty state config r.rest) opened.told last.told) none.same faulty in

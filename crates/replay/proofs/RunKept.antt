@@ -4,7 +4,7 @@ use Rattle.replay.proofs.Basics.{inl, inr, arith, All, IfSome, IsTrue, slice_get
 use Rattle.replay.proofs.Terms.{Begins, own, pass_mine, pass_seen, HasNoHelp, LeavesIdle, ManagerPass, BayState, Told, Rose, State}
 use Rattle.replay.proofs.Terms.{TraceLine, requests, Answered, AreFirst, answers_of, requests_in, AreAllAnswered, Config, IsTold, shape_in}
 use Rattle.replay.proofs.Terms.{shapes_of, target_of, targets_of, Station, Fault, Memory, Versions, IsClosedVolume, BeganWith}
-use Rattle.replay.proofs.Terms.{KeepsAllSound, HasFaulty, AreUnused, IsUnused, base_of_station, IsImageOut, Rack, Rest, answers_to}
+use Rattle.replay.proofs.Terms.{KeepsAllSound, LeavesFronts, HasFaulty, AreUnused, IsUnused, base_of_station, IsImageOut, Rack, Rest, answers_to}
 use Rattle.replay.proofs.Terms.{AreStations, IsMoved, Floor, Reclaim, fault_of_window, History, AreHistories, ArePlainMarks, BeginAsRead}
 use Rattle.replay.proofs.Terms.{LeavesReclaimed, is_broken, answers_in, is_broken_at, next_at, LeavesImages, locks_of, ServedFromStart}
 use Rattle.replay.proofs.Terms.{ServedWindow, AreWindowsOf, WentWell, most_of}
@@ -56,7 +56,7 @@ module _ {D : Type 0} (state : D → State) (tells : Bool) (config : Config) (en
     (began : IsTrue tells → IfSome entry.told (λ t. BeganWith state config t r)) (told_open : IsTold HasFaulty entry.told opened.told)
     (Q : Told → Told → Type 0) (told_left : IsTrue tells → IsTold Q opened.told left_.told)
     (closed : All (IsClosedVolume tells config q.rest.images.items opened left_) q.stations.items) (stations : AreStations q.stations.items) (fresh : AreUnused r.stations.items)
-    (unfaulty : IsTold (λ x y. y.faulty ≡ x.faulty) entry.told opened.told) (sound : IsTrue tells → IsTold (KeepsAllSound config) entry.told left_.told) where
+    (unfaulty : IsTold (λ x y. y.faulty ≡ x.faulty) entry.told opened.told) (sound : IsTrue tells → IsTold (KeepsAllSound config) entry.told left_.told) (fronts : IsTrue tells → IsTold (LeavesFronts config) entry.told left_.told) where
   out_still : (k : ℕ) → k < length (shapes_of config) → IsImageOut q.rest.images.items k
   out_still = subst (λ (x : Rest D). (k : ℕ) → k < length (shapes_of config) → IsImageOut x.images.items k) (sym rest) all_out
 
@@ -171,7 +171,7 @@ module _ {D : Type 0} (state : D → State) (tells : Bool) (config : Config) (en
       marks = run_marks state tells config entry opened left_ r q rest locks_same count all_out began told_open Q told_left closed stations (answers_in (earlier ++ last)) ran first others;
       images = λ told. run_images tells told config q.rest.images.items out_still opened left_ q.stations.items stations closed (answers_in (earlier ++ last))
           (run_histories state tells config entry opened left_ r q rest locks_same count all_out began told_open Q told_left closed stations (answers_in (earlier ++ last)) ran first others) flew entry Q unfaulty
-          (run_begun state tells config entry opened left_ r q rest locks_same count all_out began told_open Q told_left closed stations (answers_in (earlier ++ last)) ran first others told) (sound told) (told_left told);
+          (run_begun state tells config entry opened left_ r q rest locks_same count all_out began told_open Q told_left closed stations (answers_in (earlier ++ last)) ran first others told) (sound told) (fronts told) (told_left told);
       well = run_well tells mode config r.stations.items q.stations.items before middle after ps qs moved back locks sized numbers fresh run earlier last are well one served ends;
       unless = unless_here;
       spent = spent_here;
@@ -226,7 +226,7 @@ module _ {D : Type 0} (state : D → State) (tells : Bool) (config : Config) (en
       marks = run_marks state tells config entry opened left_ r q rest (ap locks_of same) (ap length same ∙ counted) all_out began told_open Q told_left closed stations [] none_ran (λ v. refl) (λ v beyond. refl);
       images = λ told. run_images tells told config q.rest.images.items out_still opened left_ q.stations.items stations closed []
           (run_histories state tells config entry opened left_ r q rest (ap locks_of same) (ap length same ∙ counted) all_out began told_open Q told_left closed stations [] none_ran (λ v. refl) (λ v beyond. refl)) none_flew entry Q unfaulty
-          (run_begun state tells config entry opened left_ r q rest (ap locks_of same) (ap length same ∙ counted) all_out began told_open Q told_left closed stations [] none_ran (λ v. refl) (λ v beyond. refl) told) (sound told) (told_left told);
+          (run_begun state tells config entry opened left_ r q rest (ap locks_of same) (ap length same ∙ counted) all_out began told_open Q told_left closed stations [] none_ran (λ v. refl) (λ v beyond. refl) told) (sound told) (fronts told) (told_left told);
       well = λ v. tt;
       unless = λ s is. absurd (cc is);
       spent = λ s is. absurd (cc is);

@@ -5,7 +5,7 @@ use Rattle.replay.proofs.Basics.{Contains, option_map_or, slice_get, slice_index
 use Rattle.replay.proofs.Terms.{appends_none, BayState, Told, State, Began, new_spindle, Target, TraceLine, started, timed, Config, IsTold}
 use Rattle.replay.proofs.Terms.{shape_in, shapes_of, target_of, targets_of, Shared, Station, status_of, printed_names, summary_text, Fault}
 use Rattle.replay.proofs.Terms.{Memory, Versions, Volume, Trouble, TraceFault, fault_of_trace, fault_of_window, IsClosedSpindle}
-use Rattle.replay.proofs.Terms.{IsClosedVolume, SharePools, BeganWith, HasFaulty, KeepsAllSound, ArePools, PassesEmpty, TakesFew, AreUnused}
+use Rattle.replay.proofs.Terms.{IsClosedVolume, SharePools, BeganWith, HasFaulty, KeepsAllSound, LeavesFronts, ArePools, PassesEmpty, TakesFew, AreUnused}
 use Rattle.replay.proofs.Terms.{IsClosable, IsRack, IsUnused, KeepToViews, base_of_station, IsImageOut, image_here, Rack, uses_of}
 use Rattle.replay.proofs.Terms.{SpindleView, FailToBegin, HaveBegun, SpindlePass, AreStations, IsMoved, Floor, Reclaim, memory, HasGiven}
 use Rattle.replay.proofs.Terms.{AreAllOpen, AreHistories, BeginAsRead, CountAnswered, History, answers_in, is_broken_at, next_at, view_at, CutsLines}
@@ -180,7 +180,7 @@ module _ {D S : Type 0} (T : Type 0) (state : D → State) (tells : Bool) (left 
     (Q : Told → Told → Type 0) (told_left : IsTrue tells → IsTold Q opened.told left_.told) (opening : entry.faults ≤ opened.faults)
     (closed : All (IsClosedVolume tells config q.rest.images.items opened left_) q.stations.items) (shared : SharePools tells config opened left_ q closed)
     (keep : KeepToViews (view_at (histories_of tells config q.rest.images.items opened left_ q.stations.items closed)) q) (fresh : AreUnused r.stations.items)
-    (unfaulty : IsTold (λ x y. y.faulty ≡ x.faulty) entry.told opened.told) (sound : IsTrue tells → IsTold (KeepsAllSound config) entry.told left_.told) (open_ : IsTrue tells → IfSome entry.told (λ t. AreAllOpen config t)) (faults faults' : ℕ) (printed printed' : Option (List ℕ)) where
+    (unfaulty : IsTold (λ x y. y.faulty ≡ x.faulty) entry.told opened.told) (sound : IsTrue tells → IsTold (KeepsAllSound config) entry.told left_.told) (fronts : IsTrue tells → IsTold (LeavesFronts config) entry.told left_.told) (open_ : IsTrue tells → IfSome entry.told (λ t. AreAllOpen config t)) (faults faults' : ℕ) (printed printed' : Option (List ℕ)) where
   abbrev views : ℕ → List ℕ
   views = view_at (histories_of tells config q.rest.images.items opened left_ q.stations.items closed)
 
@@ -232,9 +232,9 @@ module _ {D S : Type 0} (T : Type 0) (state : D → State) (tells : Bool) (left 
       → length spindles ≡ length config.volumes.items → ((k : ℕ) (s : SpindleView) → slice_get spindles k ≡ Some s → IsClosedSpindle q k s) → All (λ (p : SpindlePass). IsUnused p) r.keepers.items
       → Replays {T = T} tells left config options start now entry left_ (Err (stop.Fault Memory)) faults faults' printed printed'
   replays_none runs stations spindles count sized each unused =
-      let kept = kept_none state tells config entry opened left_ r q (ap (λ (x : Rack D). x.rest) runs.same) counted_stations all_out began told_open Q told_left closed stations fresh unfaulty sound (ap (λ (x : Rack D). x.stations.items) runs.same)
+      let kept = kept_none state tells config entry opened left_ r q (ap (λ (x : Rack D). x.rest) runs.same) counted_stations all_out began told_open Q told_left closed stations fresh unfaulty sound fronts (ap (λ (x : Rack D). x.stations.items) runs.same)
       (no_requests (most_of config) (targets_of config)) options.reclaim in
-      let is_none = none_is state tells config entry opened left_ r q (ap (λ (x : Rack D). x.rest) runs.same) counted_stations all_out began told_open Q told_left closed stations fresh unfaulty sound (ap (λ (x : Rack D). x.stations.items) runs.same) (no_requests (most_of config) (targets_of config)) options.reclaim in
+      let is_none = none_is state tells config entry opened left_ r q (ap (λ (x : Rack D). x.rest) runs.same) counted_stations all_out began told_open Q told_left closed stations fresh unfaulty sound fronts (ap (λ (x : Rack D). x.stations.items) runs.same) (no_requests (most_of config) (targets_of config)) options.reclaim in
       record {
         of = all_went left config start now [] [] (subst (λ (g : Given S). HasGiven left (targets_of config) start g []) (sym runs.unread) (none_given left (targets_of config) start)) [] (no_windows config) (λ some. absurd (some refl)) tt;
         one = omega arith;
@@ -470,9 +470,9 @@ module _ {D S : Type 0} (T : Type 0) (state : D → State) (tells : Bool) (left 
         let one = one_last T tells left config options start now entry opened left_ w.run w.more w.earlier w.middle w.between from.after q.keepers.items faults faults' w.then printed' e w.last w.ends in
         let there = ends_there T tells left config options start now entry opened left_ w.run w.more w.earlier w.middle w.between from.after q.keepers.items faults faults' w.then printed' e w.last w.ends in
         let on = ends_so tells options.reclaim (not (is_none_served (w.earlier ++ w.last))) w.middle w.between from.after q.keepers.items (there_now there) w.further in
-        let kept = kept_served state tells config entry opened left_ r q rest_same counted_stations all_out began told_open Q told_left closed from.can.each fresh unfaulty sound options.reclaim before w.middle from.after r.keepers.items w.between moved from.moved_back from.locks numbers
+        let kept = kept_served state tells config entry opened left_ r q rest_same counted_stations all_out began told_open Q told_left closed from.can.each fresh unfaulty sound fronts options.reclaim before w.middle from.after r.keepers.items w.between moved from.moved_back from.locks numbers
         w.run w.earlier w.last w.windows_ w.well one w.from_start on in
-        let is_kept = kept_is state tells config entry opened left_ r q rest_same counted_stations all_out began told_open Q told_left closed from.can.each fresh unfaulty sound options.reclaim before w.middle from.after r.keepers.items w.between moved from.moved_back from.locks numbers
+        let is_kept = kept_is state tells config entry opened left_ r q rest_same counted_stations all_out began told_open Q told_left closed from.can.each fresh unfaulty sound fronts options.reclaim before w.middle from.after r.keepers.items w.between moved from.moved_back from.locks numbers
         w.run w.earlier w.last w.windows_ w.well one w.from_start on in
         let awake = told_by (w.earlier ++ w.last) w.middle w.between w.from_start on in
         let worked = subst (λ (hs : List History). AreWorked options.reclaim (w.earlier ++ w.last) awake hs) (sym is_kept)
@@ -525,9 +525,9 @@ module _ {D S : Type 0} (T : Type 0) (state : D → State) (tells : Bool) (left 
         let all_windows : w.served ++ [] ≡ w.served = append-nil w.served in
         let are = subst (λ (ss : List ServedWindow). AreWindowsOf config w.lines ss) (sym all_windows) w.are in
         let from_start = subst (λ (ss : List ServedWindow). ServedFromStart tells options.reclaim ss before r.keepers.items from.after q.keepers.items) (sym all_windows) w.from_start in
-        let kept = kept_served state tells config entry opened left_ r q rest_same counted_stations all_out began told_open Q told_left closed from.can.each fresh unfaulty sound options.reclaim before from.after from.after r.keepers.items q.keepers.items moved from.moved_back from.locks numbers
+        let kept = kept_served state tells config entry opened left_ r q rest_same counted_stations all_out began told_open Q told_left closed from.can.each fresh unfaulty sound fronts options.reclaim before from.after from.after r.keepers.items q.keepers.items moved from.moved_back from.locks numbers
         w.lines w.served [] are w.well (omega arith) from_start (inl refl) in
-        let is_kept = kept_is state tells config entry opened left_ r q rest_same counted_stations all_out began told_open Q told_left closed from.can.each fresh unfaulty sound options.reclaim before from.after from.after r.keepers.items q.keepers.items moved from.moved_back from.locks numbers
+        let is_kept = kept_is state tells config entry opened left_ r q rest_same counted_stations all_out began told_open Q told_left closed from.can.each fresh unfaulty sound fronts options.reclaim before from.after from.after r.keepers.items q.keepers.items moved from.moved_back from.locks numbers
         w.lines w.served [] are w.well (omega arith) from_start (inl refl) in
         let owned = owned_by tells config options.reclaim entry opened left_ w.lines w.served [] kept _ is_kept in
         let awake = told_by (w.served ++ []) from.after q.keepers.items from_start (inl refl) in

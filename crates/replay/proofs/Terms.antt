@@ -40,7 +40,7 @@ pub use Rattle.rack_parts.specs.declared.rack.Rack.{Rack}
 pub use Rattle.rack_parts.specs.declared.rack.Rest.{Rest}
 pub use Rattle.rack_parts.specs.declared.volume_fault.VolumeFault.{VolumeFault}
 pub use Rattle.rack.specs.Closes.{CameBackFaulty, HasFaultyPart, IsClosedVolume, RecoversTo, IsClosedSpindle, SharePools, HasFaultIn, AreClosedVolumes, AreLeftOfParts, HasFaultAt, IsQuiet, LeavesVolumes, ListsFaulty, AreListedOf, IsOnLogger, recovered_out, segments_out, flight_in, has_station, is_kept_home, part_named}
-pub use Rattle.rack.specs.Opens.{KeepsAllSound, BeganWith, HadSegmentBefore, IsGone, IsLeftHere, WereThere, HasFaulty, AreRefused, LeavesAll, RefusesVolume}
+pub use Rattle.rack.specs.Opens.{KeepsAllSound, KeepsViews, LeavesFronts, BeganWith, HadSegmentBefore, IsGone, IsLeftHere, WereThere, HasFaulty, AreRefused, LeavesAll, RefusesVolume}
 pub use Rattle.rack.specs.Owners.{BeganInPlace, HadRefused, IsBegun, images_taken}
 pub use Rattle.rack.specs.PoolUses.{ArePools, PassesEmpty, TakesFew}
 pub use Rattle.wol_model.specs.Index.{AreRising}
@@ -61,7 +61,7 @@ pub use Rattle.replay.specs.Givens.{Refuses, HasGiven, HasGivenAll, RefusesTrace
 pub use Rattle.replay.specs.Headlined.{AreAllOpen, ArePrinted, HasNotBegun, KeepsHeadline, MeetsHeadline}
 pub use Rattle.replay.specs.Histories.{answers_in, History, is_broken_at, next_after, next_at, AreHistories, BeginAsRead, CountAnswered, view_at, is_broken, IsHistory, ArePlainMarks, LeavesReclaimed, line_of_read}
 pub use Rattle.replay.specs.Leaves.{LeavesImages, records_in, written_array}
-pub use Rattle.replay.specs.NotOpened.{LeavesBay, AsksNone}
+pub use Rattle.replay.specs.NotOpened.{LeavesBay, LeavesViews, AsksNone}
 pub use Rattle.replay.specs.Placed.{CountsPlaced, CountsReclaimed}
 pub use Rattle.replay.specs.Prints.{CutsLines, PrintsText, all_amounts, HandsOn, line_of_outcome, lines_of_outcomes}
 pub use Rattle.replay.specs.Replays.{Replays, status_in, Replayed, ran}

@@ -17,6 +17,7 @@ use Rattle.run_laws.specs.Answers.{answered_count, answers_of, requests_in}
 use Rattle.run_laws.specs.Headline.{IsOneAction}
 use Rattle.wol_config.specs.declared.config.Config.{Config}
 use Rattle.rack.specs.Closes.{AreListedOf, HasFaultyPart, IsOnLogger, part_named}
+use Rattle.rack.specs.Opens.{LeavesFronts}
 use Rattle.request_turns.specs.Entries.{IsFlightAt}
 use Rattle.volume_images.specs.Volumes.{AreLeft, images_read, shapes_of}
 use Rattle.replay.specs.Histories.{History, is_broken, is_broken_at}
@@ -69,5 +70,7 @@ pub record LeavesImages (tells : Bool) (config : Config) (answers : List Answere
       → (IsTrue (is_broken h) → ⊥) → (images : Images) → AreLeft config new images
       → (e : Listed) → Contains (last_look h.base.look h.notes).listed e
       → IsOnLogger (shapes_of config) images v h.base.view e
+  -- whatever images a crash leaves, label and view of a volume are as they were read
+  pub fronts : LeavesFronts config entry new
   -- sound images stay sound
   pub sound : KeepsSound (shapes_of config) (AreLeft config entry) (AreLeft config new)

@@ -20,7 +20,7 @@ use Rattle.replay.specs.Ended.{EndsFor}
 use Rattle.replay.specs.Headlined.{AreAllOpen}
 use Rattle.replay.specs.Histories.{History, AreHistories, ArePlainMarks, BeginAsRead, CountAnswered, LeavesReclaimed, answers_in, is_broken_at, next_at, view_at}
 use Rattle.replay.specs.Leaves.{LeavesImages}
-use Rattle.replay.specs.NotOpened.{AsksNone, IsFirstClosed, LeavesBay}
+use Rattle.replay.specs.NotOpened.{AsksNone, IsFirstClosed, LeavesBay, LeavesViews}
 use Rattle.replay.specs.Placed.{CountsPlaced, CountsReclaimed}
 use Rattle.replay.specs.Sessions.{RunsLines}
 use Rattle.replay.specs.Summed.{HaveAccounts, HaveShortAccounts, IsSummaryOf, PrintsRun, lines_asked}
@@ -117,7 +117,7 @@ pub data Replayed {D S T : Type 0} (tells : Bool) (state : D → State) (left : 
       → Replayed tells state left config options start now old new sink sink' printed printed'
       (Err (stop.Fault Memory))
   closed : (k : ℕ) (f : VolumeFault) → AsksNone start now sink sink' printed printed'
-      → IsFirstClosed tells state config old new k f → LeavesBay tells state config old new
+      → IsFirstClosed tells state config old new k f → LeavesViews tells state config old new
       → Replayed tells state left config options start now old new sink sink' printed printed'
       (Err (stop.Fault (Volume k (trouble_of f))))
   ran : (result : Result T Stop) → Replays tells left config options start now old new result sink
