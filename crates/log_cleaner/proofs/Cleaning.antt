@@ -1,6 +1,6 @@
 -- Chunk after chunk becomes tidy.
-use Rattle.std.proofs.Common.{◌≡◌, ◌⊎◌, inl, inr, ⊎_elim, ◌<◌, ◌≤◌, ◌+◌, ◌*◌, ◌^◌, ℕ, zero, suc, Bool, true, false, ◌&&◌, List, [], ◌∷◌, ◌++◌, map, length, take, get_or, Some, Result, Ok, Err, refl, sym, ap, subst, ◌∙◌, arith, leb, ltb, length-append, append_assoc}
-use Rattle.std.specs.Prelude.{Contains}
+use Rattle.std.proofs.Common.{◌≡◌, ◌⊎◌, inl, inr, ⊎_elim, ◌<◌, ◌≤◌, ◌+◌, ◌*◌, ◌^◌, ℕ, zero, suc, Bool, true, false, ◌&&◌, ◌||◌, List, [], ◌∷◌, ◌++◌, map, length, take, get_or, Some, Result, Ok, Err, refl, sym, ap, subst, ◌∙◌, arith, leb, ltb, length-append, append_assoc}
+use Rattle.std.specs.Prelude.{⊤, ◌↔◌, Contains}
 use Rattle.std.specs.List.{AllByRecursion, range_with_len}
 use Rattle.std.proofs.lemmas.Bool.{cases_lt, leb-true, ltb-true, le-leb, lt-ltb}
 use Rattle.std.proofs.lemmas.List.{append-nil, map-append}
@@ -8,7 +8,7 @@ use Rattle.std.proofs.lemmas.List.Sums.{sum_by-append}
 use Rattle.wol_disk.specs.Disk.{State}
 use Rattle.spin_model.specs.Spun.{state_of}
 use Rattle.wol_model.specs.Blocks.{Write}
-use Rattle.wol_model.specs.Index.{Listed, Indexed, AreRising, listed_in, cover_of, block_numbers}
+use Rattle.wol_model.specs.Index.{Listed, Indexed, AreRising, listed_in, cover_of, block_numbers, goes, is_covered}
 use Rattle.wol_model.proofs.Counts.{marked_within}
 use Rattle.wol_model.specs.Placing.{Log}
 use Rattle.wol_promise.specs.Policy.{Look, listing, placed}
@@ -23,10 +23,10 @@ use Rattle.redirect_map.specs.Index.{IsEntry, IsIndex}
 use Rattle.manager.specs.Stands.{IsInVolume, IsReady}
 use Rattle.manager.specs.declared.manager.Manager.{Manager}
 use Rattle.manager.proofs.RunSources.{same_version}
-use Rattle.log_cleaner.specs.Chunks.{AreNext, AreTidyBelow, IsAhead, IsChunk, IsNext, IsTidy, IsUppermost, KeepsJust, KeepsNone, NoneHomed, end_of, is_within}
+use Rattle.log_cleaner.specs.Chunks.{AreNext, AreTidyBelow, AreUntidyBehind, BecomesTidy, HasLive, IsAhead, IsChunk, IsNext, IsTidy, IsTidyBehind, IsUppermost, KeepsJust, KeepsNone, NoneHomed, end_of, is_copied, is_within}
 use Rattle.log_cleaner.specs.Cleans.{CanClean, HasCleaned, IsChunkOf, IsLeftUntidy, IsOfUntidy, TellsCleaned, copied_blocks, covered_in}
 use Rattle.log_cleaner.specs.Copies.{AreCopies}
-use Rattle.log_cleaner.specs.Steps.{AreCopiesAt, AreCoveredIn, HasBroken, HasCopied, HasRewritten, IsCopyAt, IsRefused, KeepsTidy, Rewrites, Settles, TidiesAll, ended, is_broken, rewritten, written_of}
+use Rattle.log_cleaner.specs.Steps.{AreCopiesAt, AreCoveredIn, HasBroken, HasCopied, HasRewritten, IsCopyAt, IsRefused, KeepsTidy, NoneGoes, Rewrites, Settles, TidiesAll, ended, is_broken, rewritten, written_of}
 use Rattle.log_cleaner.specs.Underway.{AreChunks, CleansBy, EndsBy, HasCleanedSome}
 use Rattle.log_cleaner.specs.declared.answer.Cleaned.{Cleaned}
 use Rattle.log_cleaner.specs.declared.answer.CleanFault.{CleanFault}
@@ -35,7 +35,9 @@ use Rattle.log_cleaner.proofs.Chunking.{IsCutAt, chunk_at, cut_behind, cut_next,
 use Rattle.log_cleaner.proofs.Copying.{leaves_copies}
 use Rattle.log_cleaner.proofs.Stepping.{broken_then, copied_none, copied_then, empty_since}
 use Rattle.log_cleaner.proofs.Together.{copied_count, listing_below}
-use Rattle.log_cleaner.proofs.Tidying.{clash, covers, listing_newest, listing_tidy, listing_unhomed, listing_upper, member_unmap, upper_of_tidy, within_first}
+use Rattle.log_cleaner.proofs.Lists.{each_is_member}
+use Rattle.log_cleaner.proofs.Lives.{IsTop, listing_live, listing_lived, live_of, one_live, same_listed, top_of}
+use Rattle.log_cleaner.proofs.Tidying.{both_ways, clash, covers, goes_of_newer, listing_newest, listing_tidy, listing_unhomed, listing_upper, member_unmap, not_so, tidy_of_upper, upper_of_tidy, within_first}
 
 -- ---- Within
 
@@ -106,13 +108,22 @@ pub rising_push : (vs : List ℕ) (v : ℕ) → AreRising vs → AllByRecursion 
 rising_push [] v rising less = (tt, tt)
 rising_push (u ∷ vs) v rising less = (all_push (λ (w : ℕ). u < w) vs v rising.0 less.0, rising_push vs v rising.1 less.1)
 
+-- one more, of a chunk that wasn't tidy behind them
+untidy_push : (es : List Listed) (before ws : List Write) (v : Write) → AreUntidyBehind es before ws → ((before ++ ws ≡ [] → ⊥) → IsTidyBehind es (before ++ ws) v.first (length v.blocks) → ⊥) → AreUntidyBehind es before (ws ++ v ∷ [])
+untidy_push es before [] v are last = (subst (λ (l : List Write). (l ≡ [] → ⊥) → IsTidyBehind es l v.first (length v.blocks) → ⊥) (append-nil before) last, tt)
+untidy_push es before (w ∷ ws) v are last = (
+  are.0,
+  untidy_push es (before ++ w ∷ []) ws v are.1 (subst (λ (l : List Write). (l ≡ [] → ⊥) → IsTidyBehind es l v.first (length v.blocks) → ⊥) (sym (append_assoc before (w ∷ []) ws)) last),
+)
+
 -- a copy more, behind the others, of a chunk that wasn't tidy
-pub chunks_more : (covered : ℕ → Bool) (es : List Listed) (most next first count : ℕ) (copies more : List Write) → AreChunks covered es most next copies → IsChunk covered most first count → (IsTidy es first count → ⊥) → AllByRecursion (λ (w : Write). w.first < first) copies
+pub chunks_more : (covered : ℕ → Bool) (es : List Listed) (most next first count : ℕ) (copies more : List Write) → AreChunks covered es most next copies → IsChunk covered most first count → (IsTidy es first count → ⊥) → ((copies ≡ [] → ⊥) → IsTidyBehind es copies first count → ⊥) → AllByRecursion (λ (w : Write). w.first < first) copies
     → length more ≤ 1 → AllByRecursion (IsCopyAt first count (next + length copies)) more → AreChunks covered es most next (copies ++ more)
-chunks_more covered es most next first count copies [] are chunk untidy behind one all = subst (AreChunks covered es most next) (sym (append-nil copies)) are
-chunks_more covered es most next first count copies (w ∷ []) are chunk untidy behind one all = record {
+chunks_more covered es most next first count copies [] are chunk untidy still behind one all = subst (AreChunks covered es most next) (sym (append-nil copies)) are
+chunks_more covered es most next first count copies (w ∷ []) are chunk untidy still behind one all = record {
   chunks = all_push (IsChunkOf covered most) copies w are.chunks (subst (λ (f : ℕ). IsChunk covered most f (length w.blocks)) (sym all.0.first_is) (subst (IsChunk covered most first) (sym all.0.count_is) chunk));
   untidy = all_push (IsOfUntidy es) copies w are.untidy (λ t. untidy (subst (λ (f : ℕ). IsTidy es f count) all.0.first_is (subst (IsTidy es w.first) all.0.count_is t)));
+  still_untidy = untidy_push es [] copies w are.still_untidy (λ some t. still some (subst (λ (f : ℕ). IsTidyBehind es copies f count) all.0.first_is (subst (IsTidyBehind es copies w.first) all.0.count_is t)));
   in_order = subst AreRising (sym (map-append (λ (v : Write). v.first) copies (w ∷ [])))
       (rising_push (map (λ (v : Write). v.first) copies) w.first are.in_order (subst (λ (f : ℕ). AllByRecursion (λ (u : ℕ). u < f) (map (λ (v : Write). v.first) copies)) (sym all.0.first_is)
       (all_mapped (λ (u : ℕ). u < first) (λ (v : Write). v.first) copies behind)));
@@ -122,10 +133,10 @@ chunks_more covered es most next first count copies (w ∷ []) are chunk untidy 
   where
     long : length (copies ++ w ∷ []) ≡ suc (length copies)
     long = let l = length-append copies (w ∷ []) in omega (arith, l)
-chunks_more covered es most next first count copies (w ∷ v ∷ more) are chunk untidy behind one all = absurd (omega (arith, one))
+chunks_more covered es most next first count copies (w ∷ v ∷ more) are chunk untidy still behind one all = absurd (omega (arith, one))
 
 pub chunks_none : (covered : ℕ → Bool) (es : List Listed) (most next : ℕ) → AreChunks covered es most next []
-chunks_none covered es most next = record { chunks = tt; untidy = tt; in_order = tt; numbered = refl }
+chunks_none covered es most next = record { chunks = tt; untidy = tt; still_untidy = tt; in_order = tt; numbered = refl }
 
 some_last : {X : Type 0} (xs : List X) (x : X) → xs ++ x ∷ [] ≡ [] → ⊥
 some_last [] x is = absurd (let no : x ∷ [] ≡ [] = is in cc)
@@ -152,6 +163,10 @@ pub record Between {D : Type 0} (tells : Bool) (state : D → State) (most : ℕ
   -- the copies lie before, and what was tidy behind is still
   pub behind : AllByRecursion (λ (w : Write). w.first < from) copies
   pub stays : (f c : ℕ) → 1 ≤ c → from ≤ f → IsTidy (listed_in old.index.entries) f c → IsTidy (listed_in now.index.entries) f c
+  -- and what was live there is
+  pub live : (v x : ℕ) → from ≤ x → HasLive (listed_in old.index.entries) v x ↔ HasLive (listed_in now.index.entries) v x
+  -- nothing may go once all was given up
+  pub quiet : settled ≡ true → (copies ≡ [] → ⊥) → NoneGoes (listed_in now.index.entries)
 
 pub between_none : {D : Type 0} (tells : Bool) (state : D → State) (most : ℕ) (m : Manager D) → CanClean m → Between tells state most m m 0 0 true []
 between_none tells state most m can = record {
@@ -165,6 +180,8 @@ between_none tells state most m can = record {
   cut = λ is. Rattle.log_cleaner.proofs.Chunking.cut_at_none (covered_in m) most;
   behind = tt;
   stays = λ f c some le t. t;
+  live = λ v x le. (λ h. h, λ h. h);
+  quiet = λ yes_ some. absurd (some refl);
 }
 
 -- ---- Giving up what may go
@@ -187,10 +204,12 @@ module _ {D : Type 0} (tells : Bool) (state : D → State) (most : ℕ) (old now
     cut = b.cut;
     behind = b.behind;
     stays = λ f c least le t. subst (λ (es : List Indexed). IsTidy (listed_in es) f c) (sym entries) (b.stays f c least le t);
+    live = λ v x le. subst (λ (es : List Indexed). HasLive (listed_in old.index.entries) v x ↔ HasLive (listed_in es) v x) (sym entries) (b.live v x le);
+    quiet = λ yes_ some. subst (λ (es : List Indexed). NoneGoes (listed_in es)) (sym entries) (b.quiet yes_ some);
   }
 
   module _ (b : Between tells state most old now copied from false copies) where
-    pub between_settled : (all : Bool) → HasCopied tells state now new [] × KeepsTidy now new × (all ≡ true → TidiesAll now new) → Between tells state most old new copied from all copies
+    pub between_settled : (all : Bool) → HasCopied tells state now new [] × KeepsTidy now new × (all ≡ true → TidiesAll now new × NoneGoes (listed_in new.index.entries)) → Between tells state most old new copied from all copies
     between_settled all s = record {
       done = record {
         chunks = b.done.chunks;
@@ -201,11 +220,13 @@ module _ {D : Type 0} (tells : Bool) (state : D → State) (most : ℕ) (old now
       few = b.few;
       within = b.within;
       upper = λ x lt is. let o = b.upper x lt is in (o.0, o.1, o.2, o.3, o.4, (o.5.0, s.1.upper o.5.0 o.0 o.1 o.2.some o.5.1));
-      tidy = λ yes_ x lt is. let o = b.upper x lt is in (o.0, o.1, o.2, o.3, o.4, s.2 yes_ o.0 o.1 o.2.some o.5.0 o.5.1);
+      tidy = λ yes_ x lt is. let o = b.upper x lt is in (o.0, o.1, o.2, o.3, o.4, (s.2 yes_).0 o.0 o.1 o.2.some o.5.0 o.5.1);
       some = λ no_ none. b.some refl none;
       cut = b.cut;
       behind = b.behind;
       stays = λ f c least le t. s.1.tidy f c least (b.stays f c least le t);
+      live = λ v x le. let o = b.live v x le in let k = s.1.live v x in (λ h. k.0 (o.0 h), λ h. o.1 (k.1 h));
+      quiet = λ yes_ some. (s.2 yes_).1;
     }
 
     -- a call of a disk failed
@@ -225,6 +246,7 @@ record Upto (covered : ℕ → Bool) (olds : List Listed) (most next from : ℕ)
   cut : covered from ≡ true → IsCutAt covered most from
   behind : AllByRecursion (λ (w : Write). w.first < from) copies
   stays : (f c : ℕ) → 1 ≤ c → from ≤ f → IsTidy olds f c → IsTidy es f c
+  live : (v x : ℕ) → from ≤ x → HasLive olds v x ↔ HasLive es v x
 
 module _ (covered : ℕ → Bool) (most from : ℕ) (i : Item) (n : IsAhead covered most from i) where
   next_here : covered i.lbn ≡ true
@@ -243,11 +265,44 @@ module _ (covered : ℕ → Bool) (most from : ℕ) (i : Item) (n : IsAhead cove
       at (inr g) (inl l) = absurd (clash (covered x) is (n.bare x g l))
       at (inr g) (inr h) = (i.lbn, i.count, chunk, h, lt, now_)
 
+-- no copy before a chunk has a block of it, or one behind
+none_copied : (covered : ℕ → Bool) (most from first count : ℕ) → from ≤ first → IsChunk covered most first count → (copies : List Write) → AllByRecursion (IsChunkOf covered most) copies → AllByRecursion (λ (w : Write). w.first < from) copies
+    → (x : ℕ) → first ≤ x → is_copied copies x ≡ false
+none_copied covered most from first count le chunk [] all behind x more = refl
+none_copied covered most from first count le chunk (w ∷ ws) all behind x more =
+    let out : is_within w.first (length w.blocks) x ≡ false = not_so (is_within w.first (length w.blocks) x) (λ at.
+    let v = inside_of w.first (length w.blocks) x at in let high = v.1 in let lt = behind.0 in let some = chunk.some in
+    let same = (same_chunk covered most w.first (length w.blocks) first count first all.0 chunk (omega (arith, lt, le)) (omega (arith, high, more)) (omega arith) (omega (arith, some))).0 in omega (arith, same, lt, le)) in
+    λ i. out i || none_copied covered most from first count le chunk ws all.1 behind.1 x more i
+
+-- so one that is tidy behind them has the live blocks of one record
+becomes_behind : (es : List Listed) (copies : List Write) (first count : ℕ) → ((x : ℕ) → first ≤ x → is_copied copies x ≡ false) → IsTidyBehind es copies first count → BecomesTidy es first count
+becomes_behind es copies first count none t = (t.0, λ x le. (λ h. (t.1 x).0 (h, none x le), λ is. ((t.1 x).1 is).0))
+
+-- no one of these becomes tidy; of the first one it is known where there are copies
+abbrev pub AreStill : List Listed → (copies : List Write) → List Item → Type 0
+AreStill es copies [] = ⊤
+AreStill es copies (i ∷ items) = ((copies ≡ [] → ⊥) → BecomesTidy es i.lbn i.count → ⊥) × AllByRecursion (λ (j : Item). BecomesTidy es j.lbn j.count → ⊥) items
+
+still_rest : (es : List Listed) (copies : List Write) (items : List Item) → AllByRecursion (λ (j : Item). BecomesTidy es j.lbn j.count → ⊥) items → AreStill es copies items
+still_rest es copies [] all = tt
+still_rest es copies (i ∷ items) all = (λ some. all.0, all.1)
+
+still_front : (es : List Listed) (copies : List Write) (k : ℕ) (items : List Item) → AreStill es copies items → AreStill es copies (take k items)
+still_front es copies zero items are = tt
+still_front es copies (suc k) [] are = tt
+still_front es copies (suc k) (i ∷ items) are = (are.0, fewer k items are.1)
+  where
+    fewer : (k : ℕ) (items : List Item) → AllByRecursion (λ (j : Item). BecomesTidy es j.lbn j.count → ⊥) items → AllByRecursion (λ (j : Item). BecomesTidy es j.lbn j.count → ⊥) (take k items)
+    fewer zero items all = tt
+    fewer (suc k) [] all = tt
+    fewer (suc k) (j ∷ items) all = (all.0, fewer k items all.1)
+
 -- a chunk more
 upto_more : (covered : ℕ → Bool) (olds : List Listed) (most next from : ℕ) (l : Look) (lane : ℕ) (copies : List Write) → Upto covered olds most next from l.listed copies → NoneHomed l.listed → AllByRecursion (λ (e : Listed). e.version < l.next) l.listed
-    → (i : Item) → IsNext covered olds most from i → i.lbn + i.count ≤ 2 ^ 32 → (w : Write) → IsCopyAt i.lbn i.count (next + length copies) w → Upto covered olds most next (i.lbn + i.count) (listing l lane w) (copies ++ w ∷ [])
-upto_more covered olds most next from l lane copies u unhomed below i n size w is = record {
-  chunks = chunks_more covered olds most next i.lbn i.count copies (w ∷ []) u.chunks chunk n.untidy behind_later (omega arith) (is, tt);
+    → (i : Item) → IsNext covered olds most from i → ((copies ≡ [] → ⊥) → BecomesTidy olds i.lbn i.count → ⊥) → i.lbn + i.count ≤ 2 ^ 32 → (w : Write) → IsCopyAt i.lbn i.count (next + length copies) w → Upto covered olds most next (i.lbn + i.count) (listing l lane w) (copies ++ w ∷ [])
+upto_more covered olds most next from l lane copies u unhomed below i n still size w is = record {
+  chunks = chunks_more covered olds most next i.lbn i.count copies (w ∷ []) u.chunks chunk n.untidy (λ some t. still some (becomes_behind olds copies i.lbn i.count (none_copied covered most from i.lbn i.count n.ahead.low chunk copies u.chunks.chunks u.behind) t)) behind_later (omega arith) (is, tt);
   few = let f = u.few in let e = blocks_more copies w in let c = is.count_is in let low = n.ahead.low in omega (arith, f, e, c, low);
   within = size;
   upper = one_more covered most from i n.ahead (λ first c. (version : ℕ) × IsUppermost (listing l lane w) version first c) chunk
@@ -258,8 +313,12 @@ upto_more covered olds most next from l lane copies u unhomed below i n size w i
       (all_map (λ (v : Write). v.first < from) (λ (v : Write). v.first < i.lbn + i.count) (λ v lt. let low = n.ahead.low in omega (arith, lt, low)) copies u.behind) (let f = is.first_is in let s = n.ahead.some in omega (arith, f, s));
   stays = λ f c least le x. others_tidy l lane i.lbn i.count (next + length copies) w unhomed is f c (λ y inside. Rattle.log_cleaner.proofs.Tidying.not_so (is_within i.lbn i.count y) (λ at.
       let v = inside_of f c y inside in let k = inside_of i.lbn i.count y at in let a = v.0 in let h = k.1 in omega (arith, a, h, le))) (u.stays f c least (let low = n.ahead.low in omega (arith, le, low)) x);
+  live = λ v x le. let o = u.live v x (let low = n.ahead.low in omega (arith, le, low)) in (λ h. listing_live l lane w unhomed v x (outside x le) (o.0 h), λ h. o.1 (listing_lived l lane w unhomed v x (outside x le) h));
 }
   where
+    outside : (x : ℕ) → i.lbn + i.count ≤ x → is_within w.first (length w.blocks) x ≡ false
+    outside x le = not_so (is_within w.first (length w.blocks) x) (λ at. let v = inside_of w.first (length w.blocks) x at in let high = v.1 in let f = is.first_is in let c = is.count_is in omega (arith, high, f, c, le))
+
     chunk : IsChunk covered most i.lbn i.count
     chunk = next_chunk covered most from i n.ahead u.cut
 
@@ -273,15 +332,15 @@ upto_more covered olds most next from l lane copies u unhomed below i n size w i
 
 -- chunks more
 upto_all : (covered : ℕ → Bool) (olds : List Listed) (most next lane : ℕ) (items : List Item) (ws : List Write) (from : ℕ) (l : Look) (copies : List Write) → Upto covered olds most next from l.listed copies → NoneHomed l.listed
-    → AllByRecursion (λ (e : Listed). e.version < l.next) l.listed → AreNext covered olds most from items → AllByRecursion (λ (i : Item). i.lbn + i.count ≤ 2 ^ 32) items → AreCopiesAt (next + length copies) items ws
+    → AllByRecursion (λ (e : Listed). e.version < l.next) l.listed → AreNext covered olds most from items → AreStill olds copies items → AllByRecursion (λ (i : Item). i.lbn + i.count ≤ 2 ^ 32) items → AreCopiesAt (next + length copies) items ws
     → Upto covered olds most next (end_of from items) (placed_all (Log lane) l ws).listed (copies ++ ws)
-upto_all covered olds most next lane [] [] from l copies u unhomed below are sizes at = subst (Upto covered olds most next from l.listed) (sym (append-nil copies)) u
-upto_all covered olds most next lane [] (w ∷ ws) from l copies u unhomed below are sizes at = absurd at
-upto_all covered olds most next lane (i ∷ items) [] from l copies u unhomed below are sizes at = absurd at
-upto_all covered olds most next lane (i ∷ items) (w ∷ ws) from l copies u unhomed below are sizes at =
+upto_all covered olds most next lane [] [] from l copies u unhomed below are still sizes at = subst (Upto covered olds most next from l.listed) (sym (append-nil copies)) u
+upto_all covered olds most next lane [] (w ∷ ws) from l copies u unhomed below are still sizes at = absurd at
+upto_all covered olds most next lane (i ∷ items) [] from l copies u unhomed below are still sizes at = absurd at
+upto_all covered olds most next lane (i ∷ items) (w ∷ ws) from l copies u unhomed below are still sizes at =
     subst (Upto covered olds most next (end_of (i.lbn + i.count) items) (placed_all (Log lane) (placed (Log lane) l w) ws).listed) (append_assoc copies (w ∷ []) ws)
-    (upto_all covered olds most next lane items ws (i.lbn + i.count) (placed (Log lane) l w) (copies ++ w ∷ []) (upto_more covered olds most next from l lane copies u unhomed below i are.0 sizes.0 w at.0)
-    (listing_unhomed l lane w unhomed) (listing_below lane l w unhomed below) are.1 sizes.1
+    (upto_all covered olds most next lane items ws (i.lbn + i.count) (placed (Log lane) l w) (copies ++ w ∷ []) (upto_more covered olds most next from l lane copies u unhomed below i are.0 still.0 sizes.0 w at.0)
+    (listing_unhomed l lane w unhomed) (listing_below lane l w unhomed below) are.1 (still_rest olds (copies ++ w ∷ []) items still.1) sizes.1
     (subst (λ (v : ℕ). AreCopiesAt v items ws) (let e = length-append copies (w ∷ []) in let f : next + length copies + 1 ≡ next + length (copies ++ w ∷ []) = omega (arith, e) in f) at.1))
 
 -- the first ones of them end with the last one
@@ -319,6 +378,18 @@ next_since covered before es olds most from same stays at le (i ∷ items) are =
       },
       next_since covered before es olds most from same stays (i.lbn + i.count) (let low = n.ahead.low in omega (arith, le, low)) items are.1,
     )
+
+-- what becomes tidy of the records at the beginning does so still
+becomes_since : (es olds : List Listed) (from : ℕ) → ((v x : ℕ) → from ≤ x → HasLive olds v x ↔ HasLive es v x) → (first count : ℕ) → from ≤ first → BecomesTidy olds first count → BecomesTidy es first count
+becomes_since es olds from live first count le t = (t.0, λ x more. let k = live t.0 x (omega (arith, le, more)) in (λ h. (t.1 x more).0 (k.1 h), λ is. k.0 ((t.1 x more).1 is)))
+
+still_since : (covered : ℕ → Bool) (es olds : List Listed) (most from : ℕ) → ((v x : ℕ) → from ≤ x → HasLive olds v x ↔ HasLive es v x) → (at : ℕ) → from ≤ at → (items : List Item) → AreNext covered es most at items
+    → AllByRecursion (λ (j : Item). BecomesTidy es j.lbn j.count → ⊥) items → AllByRecursion (λ (j : Item). BecomesTidy olds j.lbn j.count → ⊥) items
+still_since covered es olds most from live at le [] are all = tt
+still_since covered es olds most from live at le (i ∷ items) are all = let low = are.0.ahead.low in (
+  λ t. all.0 (becomes_since es olds from live i.lbn i.count (omega (arith, le, low)) t),
+  still_since covered es olds most from live (i.lbn + i.count) (omega (arith, le, low)) items are.1 all.1,
+)
 
 -- ---- Chunks that a manager covers
 
@@ -367,6 +438,8 @@ module _ {D : Type 0} (tells : Bool) (state : D → State) (most : ℕ) (old now
     cut = λ is. cut_behind (covered_in old) most i.lbn i.count chunk is;
     behind = all_map (λ (w : Write). w.first < from) (λ (w : Write). w.first < i.lbn + i.count) (λ w lt. omega (arith, lt, met.low)) copies b.behind;
     stays = λ f c least le. b.stays f c least (omega (arith, le, met.low));
+    live = λ v x le. b.live v x (omega (arith, le, met.low));
+    quiet = b.quiet;
   }
     where
       ahead : IsAhead (covered_in old) most from i
@@ -378,6 +451,86 @@ module _ {D : Type 0} (tells : Bool) (state : D → State) (most : ℕ) (old now
       one_more_old : (P : ℕ → ℕ → Type 0) → ((x : ℕ) → x < from → covered_in old x ≡ true → (first : ℕ) × (c : ℕ) × IsChunk (covered_in old) most first c × (first ≤ x) × (x < first + c) × P first c) → P i.lbn i.count
           → (x : ℕ) → x < i.lbn + i.count → covered_in old x ≡ true → (first : ℕ) × (c : ℕ) × IsChunk (covered_in old) most first c × (first ≤ x) × (x < first + c) × P first c
       one_more_old P before now_ = one_more (covered_in old) most from i ahead P chunk before now_
+
+  -- where nothing may go a chunk that becomes tidy is
+  module _ (index : IsIndex now.index.entries) (none : NoneGoes (listed_in now.index.entries)) (t : BecomesTidy (listed_in now.index.entries) i.lbn i.count) where
+    abbrev es : List Listed
+    es = listed_in now.index.entries
+
+    its : HasLive es t.0 i.lbn
+    its = (t.1 i.lbn (omega arith)).1 (within_first i.lbn i.count met.some)
+
+    abbrev e : Listed
+    e = its.0
+
+    e_top : IsTop es e i.lbn
+    e_top = top_of es e i.lbn its.3
+
+    -- what a record keeps is live
+    live_kept : (d : Listed) → Contains es d → (x : ℕ) → covers d x ≡ true → HasLive es d.version x
+    live_kept d has x is = (
+      d,
+      has,
+      refl,
+      live_of es d x (record {
+        keeps = is;
+        top = λ f there keeps less. clash (goes es d x) (goes_of_newer es d f x is there keeps less) (all_member (λ (y : Listed). (z : ℕ) → goes es y z ≡ false) es d none has x);
+      }),
+    )
+
+    -- it keeps no block before the chunk
+    none_before : (x : ℕ) → x < i.lbn → covers e x ≡ true → ⊥
+    none_before x lt is = ⊎_elim before bare (cases_lt x from)
+      where
+        here : covered_in now x ≡ true
+        here = Rattle.wol_promise.proofs.Covers.any_member (λ (d : Listed). covers d x) es e its.1 is
+
+        bare : from ≤ x → ⊥
+        bare ge = clash (covered_in now x) here (met.bare x ge lt)
+
+        before : x < from → ⊥
+        before less =
+            let o = b.upper x less (sym (same_cover x) ∙ here) in let u = o.5.1 in let r = u.one.record_ in
+            let inside = of_inside o.0 o.1 x o.3 o.4 in
+            let upper : HasLive es r.version x = (
+              r,
+              u.one.listed,
+              refl,
+              live_of es r x (record {
+                keeps = u.one.keeps x ∙ inside;
+                top = λ f there keeps newer. clash (covers f x) keeps (all_member (λ (d : Listed). o.5.0 < d.version → KeepsNone d o.0 o.1) es f u.above there (let k = u.one.version_is in omega (arith, newer, k)) x inside);
+              }),
+            ) in
+            let same : e ≡ r = same_listed now.index.entries index e r its.1 u.one.listed (one_live es e.version r.version x (live_kept e its.1 x is) upper) in
+            let at = inside_of o.0 o.1 i.lbn (sym (u.one.keeps i.lbn) ∙ (λ j. covers (sym same j) i.lbn) ∙ e_top.keeps) in
+            let chunk = next_chunk (covered_in old) most from i (ahead_since (covered_in now) (covered_in old) most from i same_cover met) b.cut in
+            let first = (same_chunk (covered_in old) most o.0 o.1 i.lbn i.count i.lbn o.2 chunk at.0 at.1 (omega arith) (omega (arith, met.some))).0 in
+            let le = o.3 in omega (arith, first, le, lt)
+
+    just : (x : ℕ) → covers e x ≡ is_within i.lbn i.count x
+    just x = both_ways (covers e x) (is_within i.lbn i.count x)
+        (λ is. ⊎_elim
+        (λ lt. absurd (none_before x lt is))
+        (λ ge. (t.1 x ge).0 (subst (λ (v : ℕ). HasLive es v x) its.2 (live_kept e its.1 x is)))
+        (cases_lt x i.lbn))
+        (λ inside. let h = (t.1 x (inside_of i.lbn i.count x inside).0).1 inside in
+        (λ j. covers (same_listed now.index.entries index e h.0 its.1 h.1 (its.2 ∙ sym h.2) j) x) ∙ (top_of es h.0 x h.3).keeps)
+
+    tidy_now : IsTidy es i.lbn i.count
+    tidy_now = tidy_of_upper es t.0 i.lbn i.count none (record {
+      one = record { record_ = e; listed = its.1; version_is = its.2; keeps = just };
+      above = each_is_member (λ (d : Listed). t.0 < d.version → KeepsNone d i.lbn i.count) es (λ d has less x inside. not_so (covers d x) (λ is.
+          let h = (t.1 x (inside_of i.lbn i.count x inside).0).1 inside in let k = h.2 in (top_of es h.0 x h.3).top d has is (omega (arith, less, k))));
+    })
+
+  -- a chunk that isn't tidy doesn't become so, once there are copies
+  pub first_still : IsIndex now.index.entries → (settled ≡ false → BecomesTidy (listed_in now.index.entries) i.lbn i.count → IsTidy (listed_in now.index.entries) i.lbn i.count) → (IsTidy (listed_in now.index.entries) i.lbn i.count → ⊥)
+      → (copies ≡ [] → ⊥) → BecomesTidy (listed_in now.index.entries) i.lbn i.count → ⊥
+  first_still index so untidy some t = at settled refl
+    where
+      at : (s : Bool) → settled ≡ s → ⊥
+      at false is = untidy (so is t)
+      at true is = untidy (tidy_now index (b.quiet is some) t)
 
   module _ (untidy : IsTidy (listed_in now.index.entries) i.lbn i.count → ⊥) (rest : List Item) (more : AreNext (covered_in now) (listed_in now.index.entries) most (i.lbn + i.count) rest) (new : Manager D) where
     abbrev pub items : List Item
@@ -391,22 +544,30 @@ module _ {D : Type 0} (tells : Bool) (state : D → State) (most : ℕ) (old now
     were_next = next_since (covered_in now) (covered_in old) (listed_in now.index.entries) (listed_in old.index.entries) most from same_cover b.stays from (omega arith) items are_next
 
     now_upto : Upto (covered_in old) (listed_in old.index.entries) most old.next from (listed_in now.index.entries) copies
-    now_upto = record { chunks = b.done.chunks; few = (let c = b.count in let f = b.few in omega (arith, c, f)); within = b.within; upper = b.upper; cut = b.cut; behind = b.behind; stays = b.stays }
+    now_upto = record { chunks = b.done.chunks; few = (let c = b.count in let f = b.few in omega (arith, c, f)); within = b.within; upper = b.upper; cut = b.cut; behind = b.behind; stays = b.stays; live = b.live }
 
     now_below : AllByRecursion (λ (e : Listed). e.version < now.next) (listed_in now.index.entries)
     now_below = all_mapped (λ (e : Listed). e.version < now.next) (λ (e : Indexed). e.listed) now.index.entries ready.below
+
+    -- none of them becomes tidy of the records at the beginning, if none does of those that are there
+    were_still : AreStill (listed_in now.index.entries) copies items → AreStill (listed_in old.index.entries) copies items
+    were_still are = (
+      λ some t. are.0 some (becomes_since (listed_in now.index.entries) (listed_in old.index.entries) from b.live i.lbn i.count met.low t),
+      still_since (covered_in now) (listed_in now.index.entries) (listed_in old.index.entries) most from b.live (i.lbn + i.count) (omega (arith, met.low)) rest more are.1,
+    )
 
     next_is : now.next ≡ old.next + length copies
     next_is = b.done.copied.next
 
     -- after copies of some first ones
-    upto_then : (k lane : ℕ) (l : Look) → l.listed ≡ listed_in now.index.entries → l.next ≡ now.next → (ws : List Write) → AreCopiesAt now.next (take k items) ws
+    upto_then : (still : AreStill (listed_in now.index.entries) copies items) (k lane : ℕ) (l : Look) → l.listed ≡ listed_in now.index.entries → l.next ≡ now.next → (ws : List Write) → AreCopiesAt now.next (take k items) ws
         → Upto (covered_in old) (listed_in old.index.entries) most old.next (end_of from (take k items)) (placed_all (Log lane) l ws).listed (copies ++ ws)
-    upto_then k lane l listed next ws at = upto_all (covered_in old) (listed_in old.index.entries) most old.next lane (take k items) ws from l copies
+    upto_then still k lane l listed next ws at = upto_all (covered_in old) (listed_in old.index.entries) most old.next lane (take k items) ws from l copies
         (subst (λ (es : List Listed). Upto (covered_in old) (listed_in old.index.entries) most old.next from es copies) (sym listed) now_upto)
         (subst NoneHomed (sym listed) b.done.copied.goes_on.can.unhomed)
         (subst (λ (n : ℕ). AllByRecursion (λ (e : Listed). e.version < n) l.listed) (sym next) (subst (AllByRecursion (λ (e : Listed). e.version < now.next)) (sym listed) now_below))
         (next_front (covered_in old) (listed_in old.index.entries) most k from items were_next)
+        (still_front (listed_in old.index.entries) copies k items (were_still still))
         (next_sizes state now ready (listed_in now.index.entries) most from (take k items) (next_front (covered_in now) (listed_in now.index.entries) most k from items are_next))
         (subst (λ (n : ℕ). AreCopiesAt n (take k items) ws) next_is at)
 
@@ -426,8 +587,8 @@ module _ {D : Type 0} (tells : Bool) (state : D → State) (most : ℕ) (old now
         behind_later : AllByRecursion (λ (w : Write). w.first < i.lbn) copies
         behind_later = all_map (λ (w : Write). w.first < from) (λ (w : Write). w.first < i.lbn) (λ w lt. omega (arith, lt, met.low)) copies b.behind
 
-    pub between_copied : (k : ℕ) → 1 ≤ k → (t : HasRewritten tells state (take k items) now new) → Between tells state most old new (copied + count_of (take k items)) (end_of from (take k items)) false (copies ++ t.writes)
-    between_copied k one t = record {
+    pub between_copied : AreStill (listed_in now.index.entries) copies items → (k : ℕ) → 1 ≤ k → (t : HasRewritten tells state (take k items) now new) → Between tells state most old new (copied + count_of (take k items)) (end_of from (take k items)) false (copies ++ t.writes)
+    between_copied still k one t = record {
       done = record {
         chunks = u.chunks;
         copied = copied_then tells state old now new copies t.writes can b.done.copied t.copied;
@@ -442,10 +603,12 @@ module _ {D : Type 0} (tells : Bool) (state : D → State) (most : ℕ) (old now
       cut = u.cut;
       behind = u.behind;
       stays = λ f c least le x. subst (λ (es : List Listed). IsTidy es f c) (sym t.listed_is) (u.stays f c least le x);
+      live = λ v x le. subst (λ (es : List Listed). HasLive (listed_in old.index.entries) v x ↔ HasLive es v x) (sym t.listed_is) (u.live v x le);
+      quiet = λ wrong. absurd (let no_ : false ≡ true = wrong in cc);
     }
       where
         u : Upto (covered_in old) (listed_in old.index.entries) most old.next (end_of from (take k items)) (placed_all (Log t.lane) t.look t.writes).listed (copies ++ t.writes)
-        u = upto_then k t.lane t.look t.listed_was t.next_was t.writes t.are
+        u = upto_then still k t.lane t.look t.listed_was t.next_was t.writes t.are
 
         same_count : copied + count_of (take k items) ≡ copied_blocks (copies ++ t.writes)
         same_count = let a = sum_by-append (λ (v : Write). length v.blocks) copies t.writes in let c = copied_count now.next (take k items) t.writes t.are in let d = b.count in omega (arith, a, c, d)
@@ -464,20 +627,20 @@ module _ {D : Type 0} (tells : Bool) (state : D → State) (most : ℕ) (old now
     )
 
     -- none was written, and all was given up before, or a call of a disk failed
-    pub ends_by : (answer : Result ℕ CleanFault) → written_of answer ≡ 0 → (is_broken answer ≡ false → settled ≡ true) → (f : Rewrites tells state items now new answer)
+    pub ends_by : AreStill (listed_in now.index.entries) copies items → (answer : Result ℕ CleanFault) → written_of answer ≡ 0 → (is_broken answer ≡ false → settled ≡ true) → (f : Rewrites tells state items now new answer)
         → CleansBy tells state most old new (copies ++ rewritten tells state items now new answer f) (ended copied answer)
-    ends_by (Ok zero) none so f = subst (λ (ws : List Write). CleansBy tells state most old new ws (Ok (copied, true))) (sym (append-nil copies)) (ends_full (so refl) f)
-    ends_by (Ok (suc n)) none so f = absurd (let wrong : suc n ≡ 0 = none in omega (arith, wrong))
-    ends_by (Err (DiskFault p)) none so f = (
-      (upto_then f.tried 0 (look_of_manager now) refl refl f.copies f.are).chunks,
+    ends_by still (Ok zero) none so f = subst (λ (ws : List Write). CleansBy tells state most old new ws (Ok (copied, true))) (sym (append-nil copies)) (ends_full (so refl) f)
+    ends_by still (Ok (suc n)) none so f = absurd (let wrong : suc n ≡ 0 = none in omega (arith, wrong))
+    ends_by still (Err (DiskFault p)) none so f = (
+      (upto_then still f.tried 0 (look_of_manager now) refl refl f.copies f.are).chunks,
       broken_then tells state old now new p copies f.copies can b.done.copied f.broken,
     )
-    ends_by (Err VersionsSpent) none so f = subst (λ (ws : List Write). EndsBy tells state most old new ws VersionsSpent) (sym (append-nil copies)) (
+    ends_by still (Err VersionsSpent) none so f = subst (λ (ws : List Write). EndsBy tells state most old new ws VersionsSpent) (sym (append-nil copies)) (
       record { chunks = b.done.chunks; copied = subst (HasCopied tells state old new) (append-nil copies) (copied_then tells state old now new copies [] can b.done.copied f.0); untouched = λ none. f.2 ∙ b.done.untouched none },
       f.1,
       left_untidy (so refl) f.2,
     )
-    ends_by (Err NoMemory) none so f = let left = left_untidy (so refl) f.1 in subst (λ (ws : List Write). EndsBy tells state most old new ws NoMemory) (sym (append-nil copies)) (
+    ends_by still (Err NoMemory) none so f = let left = left_untidy (so refl) f.1 in subst (λ (ws : List Write). EndsBy tells state most old new ws NoMemory) (sym (append-nil copies)) (
       record { chunks = b.done.chunks; copied = subst (HasCopied tells state old new) (append-nil copies) (copied_then tells state old now new copies [] can b.done.copied f.0); untouched = λ none. f.1 ∙ b.done.untouched none },
       (i.lbn, left.before, left.behind),
     )
@@ -533,7 +696,7 @@ module _ {D : Type 0} (tells : Bool) (state : D → State) (most : ℕ) (old new
   whole : (result : Result Cleaned CleanFault) → AreChunks (covered_in old) (listed_in old.index.entries) most old.next copies → AreCopies tells state old new copies → TellsCleaned tells state most old new copies result
       → (has : HasCleaned tells state most old new result) × (copies ≡ has.copies)
   whole result made copied told = (
-    record { copies = copies; chunks = made.chunks; untidy = made.untidy; in_order = made.in_order; numbered = made.numbered; copied = copied; tells_ = told },
+    record { copies = copies; chunks = made.chunks; untidy = made.untidy; still_untidy = made.still_untidy; in_order = made.in_order; numbered = made.numbered; copied = copied; tells_ = told },
     refl,
   )
 

@@ -1,6 +1,6 @@
 -- A segment goes with all its records, none of which has a live block: what that makes of the listed records, and of a cleaning.
 use Rattle.std.proofs.Common.{◌≡◌, ◌⊎◌, inl, inr, ⊎_elim, ◌<◌, ◌≤◌, ◌+◌, ◌-◌, ℕ, Bool, true, false, not, ◌&&◌, List, [], ◌∷◌, length, Option, None, Some, Ok, Err, refl, sym, ap, subst, ◌∙◌, arith, eqb, ltb}
-use Rattle.std.specs.Prelude.{Contains, IfSome, IsTrue, IsSome, filter, slice_index_or}
+use Rattle.std.specs.Prelude.{◌↔◌, Contains, IfSome, IsTrue, IsSome, filter, slice_index_or}
 use Rattle.std.specs.List.{AllByRecursion}
 use Rattle.std.specs.Option.{ForSome}
 use Rattle.std.proofs.Math.ListN.{length-set}
@@ -30,13 +30,14 @@ use Rattle.manager.proofs.Entries.{Found, among, entry_of_version, some_of, not_
 use Rattle.manager.proofs.Retiring.{covered_where}
 use Rattle.manager.proofs.RunSources.{same_version}
 use Rattle.reclaimer.specs.Steps.{StopsWithin}
-use Rattle.log_cleaner.specs.Chunks.{IsTidy, IsUppermost, KeepsNone, NoneHomed}
+use Rattle.log_cleaner.specs.Chunks.{HasLive, IsTidy, IsUppermost, KeepsNone, NoneHomed}
 use Rattle.manager.specs.Causes.{NoneRose}
 use Rattle.log_cleaner.specs.Cleans.{CanClean}
 use Rattle.log_cleaner.specs.Steps.{GivesSome, HasCopied, HasNoneLiveIn, KeepsTidy}
 use Rattle.log_cleaner.proofs.Copying.{copies_plain}
 use Rattle.log_cleaner.proofs.Lists.{each_is_member}
-use Rattle.log_cleaner.proofs.Stepping.{calm_none, calm_once, goes_none, lane_fewer, lane_pools, rose_of, set_awake}
+use Rattle.log_cleaner.proofs.Lives.{IsTop, live_of, top_of}
+use Rattle.log_cleaner.proofs.Stepping.{calm_none, calm_once, goes_none, lane_fewer, lane_holds, lane_pools, rose_of, set_awake}
 use Rattle.log_cleaner.proofs.Telling.{not_found}
 use Rattle.log_cleaner.proofs.Tidying.{both_true, range_has, not_so, both_ways, clash, covers, member_unmap, upper_of_tidy, within_first, any_map}
 
@@ -139,6 +140,34 @@ module _ (es : List Indexed) (lane index : ℕ) (none : NoneLiveIn lane index es
       clash (not (has_newer (listed_covers (listed_in left)) d.version b)) parts.1 (ap not still)) in
       λ i. parts.0 i && not (none_newer i)
 
+  was_there : (d : Listed) → Contains (listed_in left) d → Contains (listed_in es) d
+  was_there d has =
+      let m = member_unmap (λ (e : Indexed). e.listed) left d has in
+      subst (Contains (listed_in es)) m.2 (member_map (λ (e : Indexed). e.listed) es m.0 (member_unfilter (lies_elsewhere lane index) es m.0 m.1))
+
+  -- it is the same record's
+  pub left_lived : (v b : ℕ) → HasLive (listed_in (filter (lies_elsewhere lane index) es)) v b → HasLive (listed_in es) v b
+  left_lived v b x = (x.0, was_there x.0 x.1, x.2, left_live x.0 b x.3)
+
+  -- and what was live is
+  pub left_lives : (v b : ℕ) → HasLive (listed_in es) v b → HasLive (listed_in (filter (lies_elsewhere lane index) es)) v b
+  left_lives v b x = at (lies_elsewhere lane index its.0) refl
+    where
+      its : (e : Indexed) × Contains es e × (e.listed ≡ x.0)
+      its = member_unmap (λ (e : Indexed). e.listed) es x.0 x.1
+
+      t : IsTop (listed_in es) x.0 b
+      t = top_of (listed_in es) x.0 b x.3
+
+      at : (p : Bool) → lies_elsewhere lane index its.0 ≡ p → HasLive (listed_in left) v b
+      at true passes = (
+        x.0,
+        subst (Contains (listed_in left)) its.2 (member_map (λ (e : Indexed). e.listed) left its.0 (member_filter (lies_elsewhere lane index) es its.0 its.1 passes)),
+        x.2,
+        live_of (listed_in left) x.0 b (record { keeps = t.keeps; top = λ d has there less. t.top d (was_there d has) there less }),
+      )
+      at false here = absurd (clash (is_live (listed_in es) its.0.listed b) ((λ i. is_live (listed_in es) (its.2 i) b) ∙ x.3) (all_member (HasNoneLiveIn lane index es) es its.0 none its.1 here b))
+
 -- ---- The cleaning
 
 module _ {D : Type 0} (tells : Bool) (state : D → State) (old new : Manager D) (can : CanClean old) (lane index : ℕ) (none : NoneLiveIn lane index old.index.entries) where
@@ -158,7 +187,7 @@ module _ {D : Type 0} (tells : Bool) (state : D → State) (old new : Manager D)
         lanes = let c = dropped.lanes in ap length c.set ∙ length-set old.lanes.items lane c.after;
         pools = lane_pools old.lanes.items new.lanes.items lane index (true ≡ true) (inl refl) dropped.lanes;
       };
-      calm = calm_once state old new calm;
+      calm = calm_once state old new calm (lane_holds old.lanes.items new.lanes.items lane index (true ≡ true) (inl refl) dropped.lanes);
       keeps = λ b notes look k. subst (Keeps tells state new b) (sym (append-nil notes)) (keeps b notes tt k);
       copied = copies_plain tells state old new can.up (λ told. (None, lane_fewer old.lanes.items new.lanes.items lane index (true ≡ true) (inl refl) dropped.lanes, λ b notes k. stops told b notes tt k));
       next = let e = ap (λ (m : Manager D). m.next) dropped.rest in omega (arith, e);
@@ -166,6 +195,7 @@ module _ {D : Type 0} (tells : Bool) (state : D → State) (old new : Manager D)
     record {
       tidy = λ first count some t. subst (λ (es : List Indexed). IsTidy (listed_in es) first count) (sym dropped.ok) (left_tidy old.index.entries lane index none first count some t);
       upper = λ u first count some x. subst (λ (es : List Indexed). IsUppermost (listed_in es) u first count) (sym dropped.ok) (left_upper old.index.entries lane index none u first count some x);
+      live = λ v b. subst (λ (es : List Indexed). HasLive (listed_in old.index.entries) v b ↔ HasLive (listed_in es) v b) (sym dropped.ok) (left_lives old.index.entries lane index none v b, left_lived old.index.entries lane index none v b);
     },
   )
 

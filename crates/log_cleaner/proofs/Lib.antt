@@ -2,6 +2,7 @@ pub mod Lists
 pub mod Chunking
 pub mod Noting
 pub mod Tidying
+pub mod Lives
 pub mod Claiming
 pub mod Copying
 pub mod Stepping
@@ -11,5 +12,6 @@ pub mod Rewriting
 pub mod Cleaning
 pub mod Finding
 pub mod Telling
+pub mod Becoming
 pub mod Dropping
 pub mod Marking

@@ -1,6 +1,6 @@
 -- Blocks that are read and written again.
 use Rattle.std.proofs.Common.{◌≡◌, ◌⊎◌, inl, inr, ⊎_elim, ◌<◌, ◌≤◌, ◌+◌, ◌^◌, ℕ, zero, suc, Bool, true, false, cond, ◌||◌, ◌&&◌, not, List, [], ◌∷◌, ◌++◌, map, length, take, Option, None, Some, Result, Ok, Err, refl, sym, ap, subst, ◌∙◌, arith}
-use Rattle.std.specs.Prelude.{IsTrue, IsSome, OnOk, slice_get, slice_index_or, position, unwrap_or}
+use Rattle.std.specs.Prelude.{Contains, IsTrue, IsSome, OnOk, slice_get, slice_index_or, position, unwrap_or}
 use Rattle.std.specs.List.{prefix_len}
 use Rattle.wol_model.proofs.Counts.{not_true}
 use Rattle.std.specs.List.{AllByRecursion, AllZip, list_any, range_with_len, zip}
@@ -32,7 +32,7 @@ use Rattle.wol_model.specs.Placing as placing
 use Rattle.wol_model.specs.Recovered.{recovered}
 use Rattle.wol_promise.specs.Policy.{Look, woken, rooms_but}
 use Rattle.wol_promise.specs.Ruled.{Noted, entries_of}
-use Rattle.wol_promise.proofs.Lists.{all_map}
+use Rattle.wol_promise.proofs.Lists.{all_map, member_map}
 use Rattle.manager.specs.Answers.{was_read, IsPlaceOf}
 use Rattle.manager.specs.Groups.{AreItemsOf, HasRun, log_writes, placed_all, ruled_run, run_writes, run_written}
 use Rattle.manager.proofs.GroupRecords.{first_long}
@@ -44,8 +44,8 @@ use Rattle.log_cleaner.proofs.Cleaning.{of_inside}
 use Rattle.log_cleaner.proofs.Lists.{some_in}
 use Rattle.manager.specs.Seen.{look_of_manager}
 use Rattle.manager.specs.Stands.{Keeps, IsReady, IsSameManager, Leaves, passed_in}
-use Rattle.manager.specs.Stops.{Stops}
-use Rattle.manager.specs.Writing.{HasAnswered, HaveAnswered, NeedsHome, TellsFault, IsAsBefore, IsUntouched, ruled_place, takes_at}
+use Rattle.manager.specs.Stops.{Stops, TellsClaim}
+use Rattle.manager.specs.Writing.{HasAnswered, HaveAnswered, is_in_log, NeedsHome, TellsFault, IsAsBefore, IsUntouched, ruled_place, takes_at}
 use Rattle.manager.specs.declared.base.ManagerBase.{ManagerBase}
 use Rattle.manager.specs.declared.manager.Manager.{Manager}
 use Rattle.manager.specs.declared.part.Part.{Part}
@@ -62,8 +62,8 @@ use Rattle.manager.proofs.Calm as calm_calls
 use Rattle.manager.proofs.Placing.{rooms_are}
 use Rattle.manager.proofs.ReadThrough.{zip_at, zip_length}
 use Rattle.log_cleaner.specs.Chunks.{IsCopyOf, NoneHomed, is_within}
-use Rattle.log_cleaner.specs.Copies.{AreCopies, Claims, one_more, array_of}
-use Rattle.log_cleaner.proofs.Claiming.{claims_of, fewer_read}
+use Rattle.log_cleaner.specs.Copies.{AreCopies, Claims, one_more, array_of, indexes_of}
+use Rattle.log_cleaner.proofs.Claiming.{HoldsOn, claims_of, fewer_read, holds_no_more, holds_read, holds_same}
 use Rattle.log_cleaner.specs.Cleans.{CanClean, FindsAllEmpty, GoesOn, NoneHasRoom, covered_in}
 use Rattle.log_cleaner.specs.Steps.{AreCopiesAt, AreCoveredIn, AreRead, Fails, HasBroken, HasCopied, HasRewritten, IsRefused, Rewrites}
 use Rattle.log_cleaner.specs.Steps as steps
@@ -130,7 +130,7 @@ module _ {D : Type 0} (tells : Bool) (state : D → State) (old new : Manager D)
       → (IsTrue tells → (b : ManagerBase) (notes : List Noted) → Keeps tells state old b notes → Stops state old new None b notes []) → HasCopied tells state old new []
   read_copied first count reply up look range needs none leaves stops = record {
     goes_on = read_goes_on up first count look range needs;
-    calm = calm_once state old new none;
+    calm = calm_once state old new none (holds_read state old.lanes.items new.lanes.items read.lanes);
     keeps = keeps_plain tells state old new (Read first reply) [] refl refl leaves;
     copied = copies_plain tells state old new can.up (λ told. (None, fewer_read state old.lanes.items new.lanes.items read.lanes, stops told));
     next = let e = read.next in omega (arith, e);
@@ -239,6 +239,41 @@ module _ {D : Type 0} (tells : Bool) (state : D → State) (old new : Manager D)
       let r = get_inside new.rooms.items k (omega (arith, lt, long)) in
       gained (takes_at ruled answer k) r.0 o n (all.each k r.0 o n r.1 is_o is_n)
 
+  -- a lane that didn't take the write holds what it held
+  held_untaken : (answer : Result Place WriteRefusal) → HaveAnswered (length blocks) (takes_at ruled answer) new.rooms.items old.lanes.items new.lanes.items
+      → (k : ℕ) (o n : Lane D) → slice_get old.lanes.items k ≡ Some o → slice_get new.lanes.items k ≡ Some n → takes_at ruled answer k ≡ false → held_in n ≡ held_in o
+  held_untaken answer all k o n is_o is_n none =
+      let lt = slice_get_within old.lanes.items k o is_o in let long = all.noted in
+      let r = get_inside new.rooms.items k (omega (arith, lt, long)) in
+      held_by r.0 (subst (λ (t : Bool). HasAnswered (length blocks) t r.0 o n) none (all.each k r.0 o n r.1 is_o is_n))
+    where
+      held_by : (r : Room) → HasAnswered (length blocks) false r o n → held_in n ≡ held_in o
+      held_by No h = h.held
+      held_by Unknown h = ap (λ (l : Lane D). held_in l) h
+      held_by Yes h = absurd h
+
+  -- and one that did holds what it held too
+  write_holds : (lane : ℕ) (answer : Place) → ruled ≡ InLog lane → (done : Type 0) (claimed : Option (Spun D)) → TellsClaim tells state done old.lanes.items new.lanes.items claimed
+      → HaveAnswered (length blocks) (takes_at ruled (Ok answer)) new.rooms.items old.lanes.items new.lanes.items → HoldsOn old.lanes.items new.lanes.items
+  write_holds lane answer is done None none all k o n is_o is_n h has kept = holds_no_more old.lanes.items new.lanes.items none k o n is_o is_n h has kept
+  write_holds lane answer is done (Some part) c all k o n is_o is_n h has kept = at (Rattle.std.proofs.lemmas.Bool.cases_eq k c.place) (Rattle.std.proofs.lemmas.Bool.cases_eq lane k)
+    where
+      taken_at : (j : ℕ) → (lane ≡ j → ⊥) → takes_at ruled (Ok answer) j ≡ false
+      taken_at j other = ap (is_in_log j) is ∙ Rattle.std.proofs.lemmas.Bool.ne_eqb lane j other
+
+      long_held : held_in c.after ≡ held_in c.before → ⊥
+      long_held same = let e = ap length (sym c.held ∙ same) in let l = Rattle.std.proofs.Common.length-append (held_in c.before) (c.segment ∷ []) in omega (arith, e, l)
+
+      at : (k ≡ c.place) ⊎ (k ≡ c.place → ⊥) → (lane ≡ k) ⊎ (lane ≡ k → ⊥) → Contains (indexes_of n) h.index
+      at (inl same) taken =
+          let was : o ≡ c.before = same_Some o c.before (sym is_o ∙ ap (slice_get old.lanes.items) same ∙ c.was_lane) in
+          let now : n ≡ c.after = same_Some n c.after (sym is_n ∙ ap (slice_get new.lanes.items) same ∙ c.is_lane) in
+          let still : Contains (held_in n) h = subst (λ (l : Lane D). Contains (held_in l) h) (sym now) (subst (λ (hs : List (HeldSegment D)). Contains hs h) (sym c.held)
+          (Rattle.std.proofs.lemmas.List.Elements.Contains-append_left (held_in c.before) (c.segment ∷ []) h (subst (λ (l : Lane D). Contains (held_in l) h) was has))) in
+          member_map (λ (g : HeldSegment D). g.index) (held_in n) h still
+      at (inr other) (inr free) = holds_same o n (held_untaken (Ok answer) all k o n is_o is_n (taken_at k free)) h has
+      at (inr other) (inl took) = absurd (long_held (held_untaken (Ok answer) all c.place c.before c.after c.was_lane c.is_lane (taken_at c.place (λ same. other (sym took ∙ same)))))
+
   -- where the rule ended without a place, each lane was turned away
   all_shut : ruled ≡ Nowhere → HaveAnswered (length blocks) (takes_at ruled (Err refused.Full)) new.rooms.items old.lanes.items new.lanes.items → (k : ℕ) (r : Room) → slice_get new.rooms.items k ≡ Some r → may_hold r ≡ false
   all_shut nowhere all k r is = closed_at old.ups.items (map may_hold new.rooms.items) can.awake (Rattle.std.proofs.lemmas.List.length-map new.rooms.items may_hold ∙ sym flags)
@@ -303,9 +338,9 @@ module _ {D : Type 0} (tells : Bool) (state : D → State) (old new : Manager D)
 
   -- nothing was written, and at most pools were asked
   unwritten : (answer : Result Place WriteRefusal) → IsSameManager old new → new.down ≡ old.down → new.home_up ≡ old.home_up → needs_of new.spindle ≡ needs_of old.spindle → new.ups.items ≡ old.ups.items → new.next ≡ old.next → new.index.entries ≡ old.index.entries
-      → HaveAnswered (length blocks) (takes_at ruled answer) new.rooms.items old.lanes.items new.lanes.items → NoneRose state old new → Leaves tells state old new Kept (passed_in new.rooms.items) worker
+      → HaveAnswered (length blocks) (takes_at ruled answer) new.rooms.items old.lanes.items new.lanes.items → NoneRose state old new → ((k : ℕ) → takes_at ruled answer k ≡ false) → Leaves tells state old new Kept (passed_in new.rooms.items) worker
       → (IsTrue tells → (claimed : Option (Spun D)) × Claims tells state old.lanes.items new.lanes.items claimed × ((b : ManagerBase) (notes : List Noted) → Keeps tells state old b notes → Stops state old new claimed b notes [])) → HasCopied tells state old new []
-  unwritten answer same down home needs ups next entries all none leaves stops = record {
+  unwritten answer same down home needs ups next entries all none untaken leaves stops = record {
     goes_on = record {
       same = same;
       can = record {
@@ -319,7 +354,7 @@ module _ {D : Type 0} (tells : Bool) (state : D → State) (old new : Manager D)
       lanes = all.same;
       pools = write_pools answer all;
     };
-    calm = calm_once state old new none;
+    calm = calm_once state old new none (λ k o n is_o is_n h has kept. holds_same o n (held_untaken answer all k o n is_o is_n (untaken k)) h has);
     keeps = keeps_plain tells state old new Kept (passed_in new.rooms.items) refl refl leaves;
     copied = copies_plain tells state old new can.up stops;
     next = omega (arith, next);
@@ -420,14 +455,16 @@ module _ {D : Type 0} (tells : Bool) (state : D → State) (old mid new : Manage
   logged_ends logger t =
       let lane = t.placed.0 in let is = t.placed.2 in
       let look = t.run.look ∙ ap (λ (p : placing.Place). placed_all p (look_of_manager mid) ws) is in
-      let next = ap (λ (l : Look). l.next) look ∙ all_next lane ws (look_of_manager mid) in (
+      let next = ap (λ (l : Look). l.next) look ∙ all_next lane ws (look_of_manager mid) in
+      let goes = write_goes_on tells state mid new read.goes_on.can ready i.lbn first some_first covered_first lane (place_.Log logger) ws is t.waking look (are_covered lane) t.same
+      (t.fault ∙ read.goes_on.can.up) (answered_first (Ok (place_.Log logger)) t.answered) in (
         record {
           writes = ws;
           are = are_copies;
           copied = record {
-            goes_on = goes_then old mid new read.goes_on (write_goes_on tells state mid new read.goes_on.can ready i.lbn first some_first covered_first lane (place_.Log logger) ws is t.waking look (are_covered lane) t.same
-                (t.fault ∙ read.goes_on.can.up) (answered_first (Ok (place_.Log logger)) t.answered));
-            calm = calm_then state old mid new read.calm (calm_once state mid new t.calm);
+            goes_on = goes_then old mid new read.goes_on goes;
+            calm = calm_then state old mid new read.goes_on goes read.calm (calm_once state mid new t.calm
+                (write_holds tells state mid new read.goes_on.can ready i.lbn first some_first covered_first lane (place_.Log logger) is _ t.run.claimed t.run.claims (answered_first (Ok (place_.Log logger)) t.answered)));
             keeps = Rattle.log_cleaner.proofs.Copying.keeps_then tells state old mid new [] ws can.up read.keeps (keeps_wrote tells state mid new ws (passed_in new.rooms.items)
                 (let l = copies_long old.next (take tried items) ws are_copies in let k = length-take-le tried items t.run.are.within in let one = t.run.are.some refl in omega (arith, l, k, one)) read.goes_on.can.up t.run.stands);
             copied = copies_after_read tells state old mid new ws read are_logged are_same (stops_of (Ok (place_.Log logger)) t);
@@ -444,9 +481,9 @@ module _ {D : Type 0} (tells : Bool) (state : D → State) (old mid new : Manage
 
   -- nothing was written
   none_copied : (e : WriteRefusal) → run_writes mid.next (take tried items) from (Err e) ≡ [] → run_written [] (Err e) ≡ Kept → WriteTold tells state mid new items from tried (Err e) → new.down ≡ mid.down → new.home_up ≡ mid.home_up → needs_of new.spindle ≡ needs_of mid.spindle → new.ups.items ≡ mid.ups.items
-      → new.next ≡ mid.next → new.index.entries ≡ mid.index.entries → NoneRose state mid new → HasCopied tells state old new []
-  none_copied e none kept t down home needs ups next same calm = copied_then tells state old mid new [] [] can read
-      (unwritten tells state mid new read.goes_on.can ready i.lbn first some_first covered_first (Err e) t.same down home needs ups next same (answered_first (Err e) t.answered) calm
+      → new.next ≡ mid.next → new.index.entries ≡ mid.index.entries → NoneRose state mid new → ((k : ℕ) → takes_at (ruled_place mid new i.lbn first) (Err e) k ≡ false) → HasCopied tells state old new []
+  none_copied e none kept t down home needs ups next same calm untaken = copied_then tells state old mid new [] [] can read
+      (unwritten tells state mid new read.goes_on.can ready i.lbn first some_first covered_first (Err e) t.same down home needs ups next same (answered_first (Err e) t.answered) calm untaken
       (subst (λ (o : Operation). Leaves tells state mid new o (passed_in new.rooms.items) worker) (ap (λ (vs : List Write). run_written vs (Err e)) none ∙ kept) t.run.stands)
       (λ told. let s = stops_of (Err e) t told in (s.0, s.1, λ b notes k. subst (Stops state mid new s.0 b notes) none (s.2 b notes k))))
 
@@ -471,7 +508,7 @@ module _ {D : Type 0} (tells : Bool) (state : D → State) (old mid new : Manage
   full_ends : WriteTold tells state mid new items from tried (Err refused.Full) → IsRefused tells state i.count old new
   full_ends t =
       let rest_ = t.unchanged.rest in record {
-        copied = none_copied refused.Full refl refl t t.fault (ap (λ (m : Manager D). m.home_up) rest_) (ap (λ (m : Manager D). needs_of m.spindle) rest_) (ap (λ (m : Manager D). m.ups.items) rest_) (ap (λ (m : Manager D). m.next) rest_) t.unchanged.index (shut_calm t);
+        copied = none_copied refused.Full refl refl t t.fault (ap (λ (m : Manager D). m.home_up) rest_) (ap (λ (m : Manager D). needs_of m.spindle) rest_) (ap (λ (m : Manager D). m.ups.items) rest_) (ap (λ (m : Manager D). m.next) rest_) t.unchanged.index (shut_calm t) (λ k. refl);
         entries = t.unchanged.index ∙ entries;
         next = below (ready.next.1) same_next (λ is. let wrong = t.unspent is in cc);
         empty = empty_since old mid new read.goes_on (all_empty tells state mid new read.goes_on.can ready i.lbn first some_first covered_first t.placed (answered_first (Err refused.Full) t.answered));
@@ -484,12 +521,12 @@ module _ {D : Type 0} (tells : Bool) (state : D → State) (old mid new : Manage
   spent_ends : WriteTold tells state mid new items from tried (Err refused.VersionsSpent) → HasCopied tells state old new [] × (new.next ≡ 2 ^ 63) × (new.index.entries ≡ old.index.entries)
   spent_ends t =
       let rest_ = t.unchanged.rest in let n = ap (λ (m : Manager D). m.next) rest_ in
-      (none_copied refused.VersionsSpent refl refl t t.fault (ap (λ (m : Manager D). m.home_up) rest_) (ap (λ (m : Manager D). needs_of m.spindle) rest_) (ap (λ (m : Manager D). m.ups.items) rest_) n t.unchanged.index (untouched_calm t.unchanged), n ∙ t.versions refl, t.unchanged.index ∙ entries)
+      (none_copied refused.VersionsSpent refl refl t t.fault (ap (λ (m : Manager D). m.home_up) rest_) (ap (λ (m : Manager D). needs_of m.spindle) rest_) (ap (λ (m : Manager D). m.ups.items) rest_) n t.unchanged.index (untouched_calm t.unchanged) (λ k. refl), n ∙ t.versions refl, t.unchanged.index ∙ entries)
 
   memory_ends : WriteTold tells state mid new items from tried (Err refused.NoMemory) → HasCopied tells state old new [] × (new.index.entries ≡ old.index.entries)
   memory_ends t =
       let rest_ = t.unchanged.rest in
-      (none_copied refused.NoMemory refl refl t t.fault (ap (λ (m : Manager D). m.home_up) rest_) (ap (λ (m : Manager D). needs_of m.spindle) rest_) (ap (λ (m : Manager D). m.ups.items) rest_) (ap (λ (m : Manager D). m.next) rest_) t.unchanged.index (untouched_calm t.unchanged), t.unchanged.index ∙ entries)
+      (none_copied refused.NoMemory refl refl t t.fault (ap (λ (m : Manager D). m.home_up) rest_) (ap (λ (m : Manager D). needs_of m.spindle) rest_) (ap (λ (m : Manager D). m.ups.items) rest_) (ap (λ (m : Manager D). m.next) rest_) t.unchanged.index (untouched_calm t.unchanged) (λ k. refl), t.unchanged.index ∙ entries)
 
   failed_ends : (logger index : ℕ) → WriteTold tells state mid new items from tried (Err (refused.DiskFault (part.Segment logger index))) → (f : Fails tells state items old new (part.Segment logger index)) × (f.copies ≡ ws)
   failed_ends logger index t = (

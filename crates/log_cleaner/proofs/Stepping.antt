@@ -1,21 +1,25 @@
 -- Steps of a cleaning, one after another.
-use Rattle.std.proofs.Common.{◌≡◌, ◌⊎◌, inl, inr, ⊎_elim, ◌<◌, ◌≤◌, ℕ, zero, suc, Bool, true, false, List, [], ◌∷◌, ◌++◌, length, Option, None, Some, Result, Ok, Err, refl, sym, ap, subst, ◌∙◌, arith, append_assoc, length-append}
+use Rattle.std.proofs.Common.{◌≡◌, ◌≢◌, ◌⊎◌, inl, inr, ⊎_elim, ◌<◌, ◌≤◌, ℕ, zero, suc, Bool, true, false, not, eqb, List, [], ◌∷◌, ◌++◌, length, Option, None, Some, Result, Ok, Err, refl, sym, ap, subst, ◌∙◌, arith, append_assoc, length-append}
 use Rattle.std.specs.Prelude.{◌↔◌, Contains, IfSome, IsTrue, slice_get, slice_set, slice_index_or}
 use Rattle.std.specs.List.{AllByRecursion}
 use Rattle.std.specs.Option.{ForSome}
 use Rattle.std.proofs.Math.ListN.{length-set}
 use Rattle.std.proofs.lemmas.Option.{same_Some, slice_get_within}
-use Rattle.std.proofs.lemmas.List.{append-nil}
+use Rattle.std.proofs.lemmas.Bool.{ne_eqb}
+use Rattle.std.proofs.lemmas.List.{append-nil, append_cancel_left}
 use Rattle.wol_disk.specs.Disk.{State}
 use Rattle.turn_lock.specs.Histories.{Entry, Begins}
 use Rattle.turn_lock.specs.Passes.{pass_mine, pass_number}
 use Rattle.seg_pool.specs.Holders.{Gave}
 use Rattle.seg_pool.specs.Operations.{operation_of}
-use Rattle.logger.specs.Lanes.{pool_of}
+use Rattle.logger.specs.Lanes.{held_in, pool_of}
+use Rattle.logger.specs.declared.lane.HeldSegment.{HeldSegment}
 use Rattle.logger.specs.declared.lane.Lane.{Lane}
+use Rattle.log_segment.specs.Segment.{disk_of}
 use Rattle.wol_model.specs.Blocks.{Write}
 use Rattle.wol_model.specs.Index.{Listed, Indexed, listed_in, is_covered, goes, has_going}
-use Rattle.wol_promise.proofs.Lists.{all_mapped, all_map}
+use Rattle.wol_promise.proofs.Lists.{all_back, all_front, all_mapped, all_map, member_map}
+use Rattle.wol_promise.proofs.Wholes.{member_filter}
 use Rattle.block_cells.specs.declared.record.Rec.{Rec}
 use Rattle.redirect_map.specs.Index.{Contents, IsAnswer, entry_at}
 use Rattle.garbage_list.proofs.Nexts.{answered}
@@ -36,13 +40,14 @@ use Rattle.reclaimer.specs.Steps.{HasGivenUp, StopsWithin}
 use Rattle.reclaimer.specs.declared.answers.Gone.{Gone}
 use Rattle.reclaimer.specs.declared.answers.Gone.TheVariants as gone
 use Rattle.reclaimer.proofs.Idle.{idle}
-use Rattle.log_cleaner.specs.Chunks.{IsTidy, IsUppermost, NoneHomed}
-use Rattle.log_cleaner.specs.Cleans.{AllAwake, CanClean, FindsAllEmpty, GoesOn, StaysCalm, begun, called}
+use Rattle.log_cleaner.specs.Chunks.{HasLive, IsTidy, IsUppermost, NoneHomed}
+use Rattle.log_cleaner.specs.Cleans.{AllAwake, CanClean, FindsAllEmpty, GoesOn, HasKept, HoldsCalm, StaysCalm}
 use Rattle.log_cleaner.specs.Steps.{GivesAll, GivesSome, HasBroken, HasCopied, KeepsTidy, Settles, TidiesUp, step_fault}
 use Rattle.log_cleaner.specs.Copies.{HoldFewer, indexes_of}
-use Rattle.log_cleaner.proofs.Claiming.{members}
+use Rattle.log_cleaner.proofs.Claiming.{HoldsOn, holds_indexes, holds_same, members}
 use Rattle.log_cleaner.proofs.Copying.{copies_none, copies_plain, copies_then, keeps_none, keeps_then, leaves_then}
-use Rattle.log_cleaner.proofs.Tidying.{given_covered, given_tidy, given_unhomed, given_upper, none_goes, tidy_of_upper}
+use Rattle.log_cleaner.proofs.Lives.{given_live, given_lived}
+use Rattle.log_cleaner.proofs.Tidying.{given_covered, given_tidy, given_unhomed, given_upper, member_unmap, none_goes, tidy_of_upper}
 
 -- ---- Entries of a pass
 
@@ -93,14 +98,33 @@ empty_since old mid new first empty k o n is_o is_n =
 -- ---- Calls in which none of a disk failed
 
 pub calm_none : {D : Type 0} (state : D → State) (m : Manager D) → StaysCalm state m m
-calm_none state m = begun
+calm_none {D} state m = record {
+  home = refl;
+  held = λ k o n is_o is_n h has kept. let same = same_Some o n (sym is_o ∙ is_n) in
+      record { its = h; held = subst (λ (l : Lane D). Contains (held_in l) h) same has; index = refl; calm = refl };
+}
 
-pub calm_once : {D : Type 0} (state : D → State) (old new : Manager D) → NoneRose state old new → StaysCalm state old new
-calm_once state old new none = called old new begun none
+pub calm_once : {D : Type 0} (state : D → State) (old new : Manager D) → NoneRose state old new → HoldsOn old.lanes.items new.lanes.items → StaysCalm state old new
+calm_once {D} state old new none holds = record {
+  home = none.home;
+  held = λ k o n is_o is_n h has kept.
+      let m = member_unmap (λ (g : HeldSegment D). g.index) (held_in n) h.index (holds k o n is_o is_n h has kept) in
+      record { its = m.0; held = m.1; index = m.2; calm = none.held k o n is_o is_n h m.0 has m.1 m.2 };
+}
 
-pub calm_then : {D : Type 0} (state : D → State) (old mid new : Manager D) → StaysCalm state old mid → StaysCalm state mid new → StaysCalm state old new
-calm_then state old mid new first begun = first
-calm_then state old mid new first (called last end second none) = called last end (calm_then state old mid last first second) none
+pub calm_then : {D : Type 0} (state : D → State) (old mid new : Manager D) → GoesOn old mid → GoesOn mid new → StaysCalm state old mid → StaysCalm state mid new → StaysCalm state old new
+calm_then {D} state old mid new on then_ first second = record {
+  home = second.home ∙ first.home;
+  held = λ k o n is_o is_n h has kept.
+      let lt = slice_get_within old.lanes.items k o is_o in let long = on.lanes in
+      let l = get_inside mid.lanes.items k (omega (arith, lt, long)) in
+      let a = on.pools k o l.0 is_o l.1 in let b = then_.pools k l.0 n l.1 is_n in
+      let parts : kept.0 ≡ a.0 ++ b.0 = append_cancel_left (pass_mine (pool_of o)) kept.0 (a.0 ++ b.0) (sym kept.1 ∙ sym b.1 ∙ ap (λ (l : List Entry). l ++ b.0) (sym a.1) ∙ append_assoc (pass_mine (pool_of o)) a.0 b.0) in
+      let none = subst (AllByRecursion (λ (e : Entry). e.1 ≢ operation_of (Gave h.index))) parts kept.2 in
+      let g = first.held k o l.0 is_o l.1 h has (a.0, sym a.1, all_front (λ (e : Entry). e.1 ≢ operation_of (Gave h.index)) a.0 b.0 none) in
+      let f = second.held k l.0 n l.1 is_n g.its g.held (b.0, sym b.1, subst (λ (i : ℕ). AllByRecursion (λ (e : Entry). e.1 ≢ operation_of (Gave i)) b.0) (sym g.index) (all_back (λ (e : Entry). e.1 ≢ operation_of (Gave h.index)) a.0 b.0 none)) in
+      record { its = f.its; held = f.held; index = f.index ∙ g.index; calm = f.calm ∙ g.calm };
+}
 
 module _ {D : Type 0} (tells : Bool) (state : D → State) where
   pub copied_none : (m : Manager D) → CanClean m → HasCopied tells state m m []
@@ -109,7 +133,7 @@ module _ {D : Type 0} (tells : Bool) (state : D → State) where
   pub copied_then : (old mid new : Manager D) (cs ds : List Write) → CanClean old → HasCopied tells state old mid cs → HasCopied tells state mid new ds → HasCopied tells state old new (cs ++ ds)
   copied_then old mid new cs ds can first second = record {
     goes_on = goes_then old mid new first.goes_on second.goes_on;
-    calm = calm_then state old mid new first.calm second.calm;
+    calm = calm_then state old mid new first.goes_on second.goes_on first.calm second.calm;
     keeps = keeps_then tells state old mid new cs ds can.up first.keeps second.keeps;
     copied = copies_then tells state old mid new cs ds first.keeps first.copied second.copied;
     next = let a = first.next in let b = second.next in let l = length-append cs ds in omega (arith, a, b, l);
@@ -118,7 +142,7 @@ module _ {D : Type 0} (tells : Bool) (state : D → State) where
   pub broken_then : (old mid new : Manager D) (p : Part) (cs fs : List Write) → CanClean old → HasCopied tells state old mid cs → HasBroken tells state mid new p fs → HasBroken tells state old new p (cs ++ fs)
   broken_then old mid new p cs fs can first second = record {
     down = second.down;
-    rose = (second.rose.0, goes_then old mid second.rose.0 first.goes_on second.rose.1, calm_then state old mid second.rose.0 first.calm second.rose.2, second.rose.3);
+    rose = (second.rose.0, goes_then old mid second.rose.0 first.goes_on second.rose.1, calm_then state old mid second.rose.0 first.goes_on second.rose.1 first.calm second.rose.2, second.rose.3);
     leaves = leaves_then tells state old mid new cs fs can.up second.copied.logged first.keeps second.leaves;
     copied = copies_then tells state old mid new cs fs first.keeps first.copied second.copied;
   }
@@ -182,6 +206,32 @@ module _ {D : Type 0} (old new : List (Lane D)) (lane index : ℕ) (given : Type
               let now : n ≡ o = same_Some n o (sym is_n ∙ ap (λ (l : List (Lane D)). slice_get l k) c.set ∙ get_other old lane k c.after other ∙ is_o) in
               subst (λ (l : Lane D). AllByRecursion (λ (i : ℕ). Contains (indexes_of o) i) (indexes_of l)) (sym now) (members (indexes_of o))
 
+  -- and but for the one that was given back each is held still
+  pub lane_holds : HoldsOn old new
+  lane_holds k o n is_o is_n h has kept = at (Rattle.std.proofs.lemmas.Bool.cases_eq k lane)
+    where
+      trimmed : (l m : Lane D) → IsTrimmedLane index given l m → (h : HeldSegment D) → Contains (held_in l) h → HasKept h.index l m → Contains (indexes_of m) h.index
+      trimmed l m t h has kept = ⊎_elim
+          (λ is.
+          let gave = t.gave is in
+          let e : Entry = (pass_number (pool_of l), operation_of (Gave index)) in
+          let more : kept.0 ≡ e ∷ [] = append_cancel_left (pass_mine (pool_of l)) kept.0 (e ∷ []) (sym kept.1 ∙ gave.0) in
+          let none = subst (AllByRecursion (λ (x : Entry). x.1 ≢ operation_of (Gave h.index))) more kept.2 in
+          let other : h.index ≡ index → ⊥ = λ same. none.0 (ap (λ (i : ℕ). operation_of (Gave i)) (sym same)) in
+          subst (λ (xs : List ℕ). Contains xs h.index) (sym gave.1) (member_filter (λ (i : ℕ). not (eqb i index)) (indexes_of l) h.index (member_map (λ (g : HeldSegment D). g.index) (held_in l) h has) (ap not (ne_eqb h.index index other))))
+          (λ not_. holds_indexes l m (t.kept not_).1 h has)
+          decided
+
+      at : (k ≡ lane) ⊎ (k ≡ lane → ⊥) → Contains (indexes_of n) h.index
+      at (inl same) =
+          let was : o ≡ c.before = same_Some o c.before (sym is_o ∙ ap (slice_get old) same ∙ c.there) in
+          let now : n ≡ c.after = same_Some n c.after (sym is_n ∙ (λ i. slice_get (c.set i) (same i)) ∙ get_set old lane c.before c.after c.there) in
+          subst (λ (l : Lane D). Contains (held_in l) h → HasKept h.index l n → Contains (indexes_of n) h.index) (sym was)
+          (subst (λ (m : Lane D). Contains (held_in c.before) h → HasKept h.index c.before m → Contains (indexes_of m) h.index) (sym now) (trimmed c.before c.after c.change h)) has kept
+      at (inr other) =
+          let now : n ≡ o = same_Some n o (sym is_n ∙ ap (λ (l : List (Lane D)). slice_get l k) c.set ∙ get_other old lane k c.after other ∙ is_o) in
+          holds_same o n (ap (λ (l : Lane D). held_in l) now) h has
+
 module _ {D : Type 0} (old new : Manager D) (version : ℕ) (e : Indexed) {T : Type 0} (res : Result T StepFault) (can : CanClean old) (dropped : HasDropped version e old new res) where
   is_none : (n : ℕ) → (n ≡ 0) ⊎ (n ≡ 0 → ⊥)
   is_none zero = inl refl
@@ -193,6 +243,9 @@ module _ {D : Type 0} (old new : Manager D) (version : ℕ) (e : Indexed) {T : T
   -- each segment that is held was held before
   pub drop_fewer : HoldFewer old.lanes.items new.lanes.items
   drop_fewer = lane_fewer old.lanes.items new.lanes.items e.listed.lane e.index (entries_at e.listed.lane e.index new.index.entries ≡ 0) (is_none (entries_at e.listed.lane e.index new.index.entries)) dropped.lanes
+
+  pub drop_holds : HoldsOn old.lanes.items new.lanes.items
+  drop_holds = lane_holds old.lanes.items new.lanes.items e.listed.lane e.index (entries_at e.listed.lane e.index new.index.entries ≡ 0) (is_none (entries_at e.listed.lane e.index new.index.entries)) dropped.lanes
 
   pub drop_goes_on : new.down ≡ None → new.index.entries ≡ given_of version old.index.entries → GoesOn old new
   drop_goes_on up entries = record {
@@ -212,12 +265,13 @@ module _ {D : Type 0} (old new : Manager D) (version : ℕ) (e : Indexed) {T : T
 -- ---- What stays tidy
 
 pub tidy_none : {D : Type 0} (m : Manager D) → KeepsTidy m m
-tidy_none m = record { tidy = λ f c some t. t; upper = λ v f c some x. x }
+tidy_none m = record { tidy = λ f c some t. t; upper = λ v f c some x. x; live = λ v b. (λ h. h, λ h. h) }
 
 pub tidy_then : {D : Type 0} (old mid new : Manager D) → KeepsTidy old mid → KeepsTidy mid new → KeepsTidy old new
 tidy_then old mid new first second = record {
   tidy = λ f c some t. second.tidy f c some (first.tidy f c some t);
   upper = λ v f c some x. second.upper v f c some (first.upper v f c some x);
+  live = λ v b. (λ h. (second.live v b).0 ((first.live v b).0 h), λ h. (first.live v b).1 ((second.live v b).1 h));
 }
 
 module _ {D : Type 0} (tells : Bool) (state : D → State) (old new : Manager D) (can : CanClean old) where
@@ -226,7 +280,7 @@ module _ {D : Type 0} (tells : Bool) (state : D → State) (old new : Manager D)
   gave_one version e res dropped up entries none keeps stops = (
     record {
       goes_on = drop_goes_on old new version e res can dropped up entries;
-      calm = calm_once state old new none;
+      calm = calm_once state old new none (drop_holds old new version e res can dropped);
       keeps = λ b notes look k. subst (Keeps tells state new b) (sym (append-nil notes)) (keeps b notes tt k);
       copied = copies_plain tells state old new can.up (λ told. (None, drop_fewer old new version e res can dropped, λ b notes k. stops told b notes tt k));
       next = let e = ap (λ (m : Manager D). m.next) dropped.rest in omega (arith, e);
@@ -234,6 +288,7 @@ module _ {D : Type 0} (tells : Bool) (state : D → State) (old new : Manager D)
     record {
       tidy = λ first count some t. subst (λ (es : List Indexed). IsTidy (listed_in es) first count) (sym entries) (given_tidy old.index.entries version can.unhomed first count some t);
       upper = λ u first count some x. subst (λ (es : List Indexed). IsUppermost (listed_in es) u first count) (sym entries) (given_upper old.index.entries version can.unhomed u first count some x);
+      live = λ v b. subst (λ (es : List Indexed). HasLive (listed_in old.index.entries) v b ↔ HasLive (listed_in es) v b) (sym entries) (given_live old.index.entries version can.unhomed v b, given_lived old.index.entries version can.unhomed v b);
     },
   )
 
@@ -290,7 +345,7 @@ module _ {D : Type 0} (tells : Bool) (state : D → State) (old mid new : Manage
   gave_all_then all done given = (
     copied_then tells state old mid new [] [] can copied given.0,
     tidy_then old mid new keeps given.1,
-    λ is first count some version x. given.2 first count some version (keeps.upper version first count some x),
+    λ is. (λ first count some version x. given.2 first count some version (keeps.upper version first count some x), given.3),
   )
 
   -- or one failed

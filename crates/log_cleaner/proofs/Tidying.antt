@@ -104,10 +104,10 @@ module _ (es : List Indexed) (version : ℕ) (unhomed : NoneHomed (listed_in es)
   given = given_of version es
 
   -- what becomes of an entry, if it stays
-  abbrev then_ : Indexed → Indexed
+  abbrev pub then_ : Indexed → Indexed
   then_ e = cond (has_version version e) (with_kept es e) e
 
-  not_homed : (e : Indexed) → Contains es e → (b : ℕ) → is_homed e.listed b ≡ false
+  pub not_homed : (e : Indexed) → Contains es e → (b : ℕ) → is_homed e.listed b ≡ false
   not_homed e has = all_member (λ (d : Listed). (b : ℕ) → is_homed d b ≡ false) L e.listed unhomed (member_map (λ (d : Indexed). d.listed) es e has)
 
   covers_kept : (e : Indexed) (b : ℕ) → covers (with_kept es e).listed b ≡ (covers e.listed b && not (goes L e.listed b))
@@ -116,7 +116,7 @@ module _ (es : List Indexed) (version : ℕ) (unhomed : NoneHomed (listed_in es)
   homed_kept : (e : Indexed) (b : ℕ) → is_homed (with_kept es e).listed b ≡ (is_homed e.listed b && not (goes L e.listed b))
   homed_kept e b = remarked_is e.listed.first e.listed.homed (λ b m. m && not (goes L e.listed b)) b refl
 
-  then_version : (e : Indexed) → (then_ e).listed.version ≡ e.listed.version
+  pub then_version : (e : Indexed) → (then_ e).listed.version ≡ e.listed.version
   then_version e = at (has_version version e)
     where
       at : (t : Bool) → (cond t (with_kept es e) e).listed.version ≡ e.listed.version
@@ -124,7 +124,7 @@ module _ (es : List Indexed) (version : ℕ) (unhomed : NoneHomed (listed_in es)
       at false = refl
 
   -- it keeps no other blocks than before
-  then_fewer : (e : Indexed) (b : ℕ) → covers (then_ e).listed b ≡ true → covers e.listed b ≡ true
+  pub then_fewer : (e : Indexed) (b : ℕ) → covers (then_ e).listed b ≡ true → covers e.listed b ≡ true
   then_fewer e b = at (has_version version e)
     where
       at : (t : Bool) → covers (cond t (with_kept es e) e).listed b ≡ true → covers e.listed b ≡ true
@@ -132,7 +132,7 @@ module _ (es : List Indexed) (version : ℕ) (unhomed : NoneHomed (listed_in es)
       at false is = is
 
   -- and the same where it doesn't go
-  then_same : (e : Indexed) (b : ℕ) → (has_version version e ≡ true → covers e.listed b ≡ true → goes L e.listed b ≡ false) → covers (then_ e).listed b ≡ covers e.listed b
+  pub then_same : (e : Indexed) (b : ℕ) → (has_version version e ≡ true → covers e.listed b ≡ true → goes L e.listed b ≡ false) → covers (then_ e).listed b ≡ covers e.listed b
   then_same e b stays = at (has_version version e) refl
     where
       kept : (c g : Bool) → (c ≡ true → g ≡ false) → (c && not g) ≡ c
@@ -151,14 +151,14 @@ module _ (es : List Indexed) (version : ℕ) (unhomed : NoneHomed (listed_in es)
       at false = not_homed e has b
 
   -- it stays where it keeps a block
-  then_there : (e : Indexed) (b : ℕ) → Contains es e → covers (then_ e).listed b ≡ true → Contains given (then_ e)
+  pub then_there : (e : Indexed) (b : ℕ) → Contains es e → covers (then_ e).listed b ≡ true → Contains given (then_ e)
   then_there e b has keeps = member_filter (λ (d : Indexed). keeps_a_block d.listed) (changed version (with_kept es) es) (then_ e) (member_map then_ es e has) (keeps_there (then_ e).listed b keeps)
 
   -- each entry that is left comes of one
-  abbrev From : Indexed → Type 0
+  abbrev pub From : Indexed → Type 0
   From d = (e : Indexed) × Contains es e × (d ≡ then_ e)
 
-  given_from : AllByRecursion From given
+  pub given_from : AllByRecursion From given
   given_from = all_filter From (λ (d : Indexed). keeps_a_block d.listed) (changed version (with_kept es) es) (all_mapped From then_ es (each_is_member (λ (e : Indexed). From (then_ e)) es (λ e has. (e, has, refl))))
 
   pub given_unhomed : NoneHomed (listed_in given)
@@ -276,7 +276,7 @@ none_goes es e none b = not_so (goes es e b) (λ is.
 
 -- ---- A write of a chunk
 
-marked_full : (first n b : ℕ) → marked first (replicate n true) b ≡ is_within first n b
+pub marked_full : (first n b : ℕ) → marked first (replicate n true) b ≡ is_within first n b
 marked_full first n b = at (leb first b) refl
   where
     long : (m : ℕ) → length (replicate m true) ≡ m

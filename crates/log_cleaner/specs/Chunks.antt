@@ -1,10 +1,10 @@
 -- Chunks of blocks that records cover, and records that keep one each.
-use Rattle.std.specs.Prelude.{⊤, ◌≡◌, ◌≢◌, ◌<◌, ◌≤◌, ◌+◌, ◌*◌, ◌&&◌, nat_le, nat_lt, ◌∷◌, [], ℕ, Bool, true, false, List, length, Contains, slice_range}
-use Rattle.std.specs.List.{AllByRecursion}
+use Rattle.std.specs.Prelude.{⊤, ◌≡◌, ◌≢◌, ◌↔◌, ◌<◌, ◌≤◌, ◌+◌, ◌*◌, ◌&&◌, nat_le, nat_lt, ◌∷◌, ◌++◌, [], ℕ, Bool, true, false, List, length, Contains, slice_range}
+use Rattle.std.specs.List.{AllByRecursion, list_any}
 use Rattle.wol_disk.specs.Disk.{Block}
 use Rattle.log_segment.specs.declared.item.Item.{Item}
 use Rattle.wol_model.specs.Blocks.{Write}
-use Rattle.wol_model.specs.Index.{Listed, cover_of, is_homed}
+use Rattle.wol_model.specs.Index.{Listed, cover_of, is_homed, is_live}
 
 -- ---- Chunks
 
@@ -68,6 +68,38 @@ abbrev pub AreTidyBelow : (covered : ℕ → Bool) → (most from : ℕ) → Lis
 AreTidyBelow covered most from es = (b : ℕ) → b < from → covered b ≡ true
     → (first : ℕ) × (count : ℕ) × IsChunk covered most first count × (first ≤ b)
     × (b < first + count) × IsTidy es first count
+
+-- ---- Live blocks, and what is tidy once all was given up that may go
+
+-- the record of this version has this block as a live one
+abbrev pub HasLive : List Listed → (version b : ℕ) → Type 0
+HasLive es version b =
+    (e : Listed) × Contains es e × (e.version ≡ version) × (is_live es e b ≡ true)
+
+-- From its first block on, the live blocks of one record are just those of the chunk: once the
+-- chunks before it were written again and all was given up that may go, it is tidy.
+abbrev pub BecomesTidy : List Listed → (first count : ℕ) → Type 0
+BecomesTidy es first count = (version : ℕ)
+    × ((b : ℕ) → first ≤ b → HasLive es version b ↔ (is_within first count b ≡ true))
+
+-- a block of one of these writes
+abbrev pub is_copied : List Write → ℕ → Bool
+is_copied copies b = list_any (λ w. is_within w.first (length w.blocks) b) copies
+
+-- The chunk is tidy behind these copies once all was given up that may go: the live blocks of one
+-- record that aren't among the copies are just those of the chunk.
+abbrev pub IsTidyBehind : List Listed → (copies : List Write) → (first count : ℕ) → Type 0
+IsTidyBehind es copies first count = (version : ℕ)
+    × ((b : ℕ) → (HasLive es version b × (is_copied copies b ≡ false))
+    ↔ (is_within first count b ≡ true))
+
+-- Each of these writes is of a chunk that wasn't tidy so behind the copies before it, where there
+-- were some.
+abbrev pub AreUntidyBehind : List Listed → (before : List Write) → List Write → Type 0
+AreUntidyBehind es before [] = ⊤
+AreUntidyBehind es before (w ∷ ws) =
+    ((before ≡ [] → ⊥) → IsTidyBehind es before w.first (length w.blocks) → ⊥)
+    × AreUntidyBehind es (before ++ w ∷ []) ws
 
 -- ---- Chunks one behind the other
 

@@ -1,22 +1,25 @@
 -- What cleaning does to a manager, by its answer.
-use Rattle.std.specs.Prelude.{◌≡◌, ◌<◌, ◌+◌, ◌^◌, ◌∷◌, ◌++◌, ℕ, Bool, true, false, List, [], map, length, sum_by, None, Some, Result, Ok, Err, slice_get}
+use Rattle.std.specs.Prelude.{◌≡◌, ◌≢◌, ◌<◌, ◌+◌, ◌^◌, ◌∷◌, ◌++◌, ℕ, Bool, true, false, List, [], map, length, sum_by, Contains, None, Some, Result, Ok, Err, slice_get}
 use Rattle.std.specs.List.{AllByRecursion, range_with_len}
 use Rattle.wol_disk.specs.Disk.{State}
 use Rattle.turn_lock.specs.Histories.{Entry, Begins}
 use Rattle.turn_lock.specs.Passes.{pass_mine, pass_number}
-use Rattle.seg_pool.specs.Holders.{Took}
+use Rattle.seg_pool.specs.Holders.{Gave, Took}
 use Rattle.seg_pool.specs.Operations.{operation_of}
 use Rattle.logger.specs.Lanes.{HasNoRoom, held_in, pool_of}
+use Rattle.logger.specs.declared.lane.HeldSegment.{HeldSegment}
 use Rattle.logger.specs.declared.lane.Lane.{Lane}
+use Rattle.log_segment.specs.Segment.{disk_of}
+use Rattle.spin_model.specs.Spun.{state_of}
 use Rattle.wol_model.specs.Blocks.{Write}
 use Rattle.wol_model.specs.History.{Broke}
 use Rattle.wol_model.specs.Index.{Listed, AreRising, listed_in, is_covered}
-use Rattle.manager.specs.Causes.{NoneRose, PartRoseOrClaimed}
+use Rattle.manager.specs.Causes.{PartRoseOrClaimed}
 use Rattle.manager.specs.Reading.{needs_of}
 use Rattle.manager.specs.Stands.{IsSameManager}
 use Rattle.manager.specs.declared.manager.Manager.{Manager}
 use Rattle.manager.specs.declared.part.Part.{Part}
-use Rattle.log_cleaner.specs.Chunks.{AreTidyBelow, IsChunk, IsClean, IsTidy, NoneHomed}
+use Rattle.log_cleaner.specs.Chunks.{AreTidyBelow, AreUntidyBehind, IsChunk, IsClean, IsTidy, NoneHomed}
 use Rattle.log_cleaner.specs.Copies.{AreCopies, LeavesEntry, wrote}
 use Rattle.log_cleaner.specs.declared.answer.Cleaned.{Cleaned}
 use Rattle.log_cleaner.specs.declared.answer.CleanFault.{CleanFault}
@@ -90,13 +93,29 @@ NoneHasRoom {D} count m = AllByRecursion (λ (l : Lane D). HasNoRoom count (held
 abbrev pub copied_blocks : List Write → ℕ
 copied_blocks copies = sum_by (λ (w : Write). length w.blocks) copies
 
--- Calls one after another, in none of which a call of a disk failed.
-pub data StaysCalm {D : Type 0} (state : D → State) (old : Manager D) : Manager D → Type 0 where
-  begun : StaysCalm state old old
-  called : (mid new : Manager D) → StaysCalm state old mid → NoneRose state mid new
-      → StaysCalm state old new
+-- the lane's pass gave no segment of this index back to its pool since
+abbrev pub HasKept : {D : Type 0} → (index : ℕ) → (old new : Lane D) → Type 0
+HasKept index old new = (more : List Entry)
+    × (pass_mine (pool_of new) ≡ pass_mine (pool_of old) ++ more)
+    × AllByRecursion (λ (e : Entry). e.1 ≢ operation_of (Gave index)) more
 
--- A part's count rose in a call of the cleaning, and no call of a disk failed in those before it.
+-- the lane holds this segment still, with the count of faults that it had
+pub record HoldsCalm {D : Type 0} (state : D → State) (segment : HeldSegment D) (l : Lane D) :
+    Type 0 where
+  pub its : HeldSegment D
+  pub held : Contains (held_in l) its
+  pub index : its.index ≡ segment.index
+  pub calm : (disk_of state its.segment).faults ≡ (disk_of state segment.segment).faults
+
+-- No call failed of home, nor of a segment that was held and wasn't given back since: each has the
+-- count that it had.
+pub record StaysCalm {D : Type 0} (state : D → State) (old new : Manager D) : Type 0 where
+  pub home : (state_of state new.home).faults ≡ (state_of state old.home).faults
+  pub held : (k : ℕ) (o n : Lane D) → slice_get old.lanes.items k ≡ Some o
+      → slice_get new.lanes.items k ≡ Some n → (segment : HeldSegment D)
+      → Contains (held_in o) segment → HasKept segment.index o n → HoldsCalm state segment n
+
+-- A part's count rose in a call of the cleaning, and no call failed before it.
 abbrev pub RoseSince : {D : Type 0} → (D → State) → (old new : Manager D) → Part → Type 0
 RoseSince {D} state old new p = (mid : Manager D) × GoesOn old mid × StaysCalm state old mid
     × PartRoseOrClaimed state mid new p
@@ -130,13 +149,14 @@ TellsCleaned tells state most old new copies (Err NoMemory) =
     × TidiesBefore (covered_in old) most (listed_in new.index.entries) copies
     × StaysCalm state old new
 
--- What was copied are chunks that weren't tidy, in order, under the next versions; after a fault of
--- a disk they may be in flight.
+-- What was copied are chunks that weren't tidy, neither at the beginning nor behind the copies before
+-- them, in order, under the next versions; after a fault of a disk they may be in flight.
 pub record HasCleaned {D : Type 0} (tells : Bool) (state : D → State) (most : ℕ)
     (old new : Manager D) (result : Result Cleaned CleanFault) : Type 0 where
   pub copies : List Write
   pub chunks : AllByRecursion (IsChunkOf (covered_in old) most) copies
   pub untidy : AllByRecursion (IsOfUntidy (listed_in old.index.entries)) copies
+  pub still_untidy : AreUntidyBehind (listed_in old.index.entries) [] copies
   pub in_order : AreRising (map (λ w. w.first) copies)
   pub numbered : map (λ w. w.version) copies
       ≡ map (λ v. Some v) (range_with_len old.next (length copies))

@@ -1,10 +1,10 @@
 -- What steps of a cleaning come to.
-use Rattle.std.specs.Prelude.{⊤, ◌≡◌, ◌<◌, ◌≤◌, ◌+◌, ◌^◌, ◌∷◌, ◌++◌, ℕ, zero, suc, Bool, true, false, List, [], length, take, drop, slice_range, IsTrue, Some, Result, Ok, Err}
+use Rattle.std.specs.Prelude.{⊤, ◌≡◌, ◌<◌, ◌≤◌, ◌+◌, ◌^◌, ◌∷◌, ◌++◌, ◌↔◌, ℕ, zero, suc, Bool, true, false, List, [], length, take, drop, slice_range, IsTrue, Some, Result, Ok, Err}
 use Rattle.std.specs.List.{AllByRecursion}
 use Rattle.wol_disk.specs.Disk.{State, Block}
 use Rattle.wol_model.specs.Blocks.{Write}
 use Rattle.wol_model.specs.History.{Broke}
-use Rattle.wol_model.specs.Index.{Indexed, is_live, listed_in}
+use Rattle.wol_model.specs.Index.{Indexed, Listed, goes, is_live, listed_in}
 use Rattle.spin_model.specs.Spun.{state_of}
 use Rattle.wol_model.specs.Placing.{Log}
 use Rattle.wol_promise.specs.Policy.{Look}
@@ -25,7 +25,7 @@ use Rattle.manager.specs.declared.part.WriteRefusal.{WriteRefusal}
 use Rattle.manager.specs.declared.part.WriteRefusal.TheVariants as refused
 use Rattle.manager.specs.declared.part.StepFault.{StepFault}
 use Rattle.manager.specs.declared.part.StepFault.TheVariants as step
-use Rattle.log_cleaner.specs.Chunks.{IsTidy, IsUppermost, is_within}
+use Rattle.log_cleaner.specs.Chunks.{HasLive, IsTidy, IsUppermost, is_within}
 use Rattle.log_cleaner.specs.Copies.{AreCopies, KeepsCopies, LeavesEntry, array_of}
 use Rattle.log_cleaner.specs.Cleans.{FindsAllEmpty, GoesOn, NoneHasRoom, RoseSince, StaysCalm, covered_in}
 use Rattle.log_cleaner.specs.declared.answer.CleanFault.{CleanFault}
@@ -80,13 +80,16 @@ AreCopiesAt version (i ∷ items) [] = ⊥
 AreCopiesAt version (i ∷ items) (w ∷ ws) =
     IsCopyAt i.lbn i.count version w × AreCopiesAt (version + 1) items ws
 
--- chunks that are tidy stay so, and so do records that are the uppermost to keep just some blocks
+-- chunks that are tidy stay so, and so do records that are the uppermost to keep just some blocks;
+-- each record has the live blocks that it had
 pub record KeepsTidy {D : Type 0} (old new : Manager D) : Type 0 where
   pub tidy : (first count : ℕ) → 1 ≤ count → IsTidy (listed_in old.index.entries) first count
       → IsTidy (listed_in new.index.entries) first count
   pub upper : (version first count : ℕ) → 1 ≤ count
       → IsUppermost (listed_in old.index.entries) version first count
       → IsUppermost (listed_in new.index.entries) version first count
+  pub live : (version b : ℕ) → HasLive (listed_in old.index.entries) version b
+      ↔ HasLive (listed_in new.index.entries) version b
 
 -- where the entry lies in this segment of this lane, it has no live block
 abbrev pub HasNoneLiveIn : (lane index : ℕ) → List Indexed → Indexed → Type 0
@@ -110,11 +113,16 @@ TidiesUp first count old new = (version : ℕ)
 abbrev pub TidiesAll : {D : Type 0} → (old new : Manager D) → Type 0
 TidiesAll old new = (first count : ℕ) → 1 ≤ count → TidiesUp first count old new
 
+-- nothing may go
+abbrev pub NoneGoes : List Listed → Type 0
+NoneGoes es = AllByRecursion (λ e. (b : ℕ) → goes es e b ≡ false) es
+
 -- giving up all that may go
 abbrev pub GivesAll : {D : Type 0} → (tells : Bool) → (D → State) → (old new : Manager D)
     → Result (Unit {0}) StepFault → Type 0
 GivesAll tells state old new (Ok done) =
     HasCopied tells state old new [] × KeepsTidy old new × TidiesAll old new
+    × NoneGoes (listed_in new.index.entries)
 GivesAll tells state old new (Err (step.DiskFault p)) = HasBroken tells state old new p []
 GivesAll tells state old new (Err (step.Down p)) = ⊥
 
@@ -122,7 +130,8 @@ GivesAll tells state old new (Err (step.Down p)) = ⊥
 abbrev pub Settles : {D : Type 0} → (tells : Bool) → (D → State) → (all : Bool)
     → (old new : Manager D) → Result (Unit {0}) CleanFault → Type 0
 Settles tells state all old new (Ok done) =
-    HasCopied tells state old new [] × KeepsTidy old new × (all ≡ true → TidiesAll old new)
+    HasCopied tells state old new [] × KeepsTidy old new
+    × (all ≡ true → TidiesAll old new × NoneGoes (listed_in new.index.entries))
 Settles tells state all old new (Err (DiskFault p)) = HasBroken tells state old new p []
 Settles tells state all old new (Err VersionsSpent) = ⊥
 Settles tells state all old new (Err NoMemory) = ⊥

@@ -5,18 +5,19 @@ use Rattle.wol_disk.specs.Disk.{State}
 use Rattle.wol_model.specs.Blocks.{Write}
 use Rattle.wol_model.specs.Index.{Listed, AreRising, listed_in}
 use Rattle.manager.specs.declared.manager.Manager.{Manager}
-use Rattle.log_cleaner.specs.Chunks.{IsClean}
+use Rattle.log_cleaner.specs.Chunks.{AreUntidyBehind, IsClean}
 use Rattle.log_cleaner.specs.Cleans.{FindsAllEmpty, NoneHasRoom, TidiesBefore, IsChunkOf, IsLeftUntidy, IsOfUntidy, copied_blocks, covered_in}
 use Rattle.log_cleaner.specs.Steps.{HasBroken, HasCopied}
 use Rattle.log_cleaner.specs.declared.answer.CleanFault.{CleanFault}
 use Rattle.log_cleaner.specs.declared.answer.CleanFault.TheVariants.{DiskFault, VersionsSpent, NoMemory}
 
--- the copies are chunks that weren't tidy among these records, in order, under versions in order
--- from this one on
+-- the copies are chunks that weren't tidy among these records, nor behind the copies before them, in
+-- order, under versions in order from this one on
 pub record AreChunks (covered : ℕ → Bool) (es : List Listed) (most next : ℕ) (copies : List Write) :
     Type 0 where
   pub chunks : AllByRecursion (IsChunkOf covered most) copies
   pub untidy : AllByRecursion (IsOfUntidy es) copies
+  pub still_untidy : AreUntidyBehind es [] copies
   pub in_order : AreRising (map (λ w. w.first) copies)
   pub numbered : map (λ w. w.version) copies
       ≡ map (λ v. Some v) (range_with_len next (length copies))

@@ -1,11 +1,13 @@
 // The chunks of a volume's covered blocks, one after another.
 ghost use Rattle.block_cells.specs.Masks.{in_mask};
-ghost use Rattle.log_cleaner.specs.Chunks.{IsAhead, IsNext, AreNext, IsTidy, is_within};
+ghost use Rattle.log_cleaner.specs.Chunks.{IsAhead, IsNext, AreNext, BecomesTidy, IsTidy, is_within};
 ghost use Rattle.log_segment.specs.declared.item.Item.{Item};
 ghost use Rattle.redirect_map.specs.Index.{IsIndex};
+ghost use Rattle.std.specs.List.{AllByRecursion};
 ghost use Rattle.std.specs.Prelude.{◌≡◌, ◌↔◌, ◌≤◌, ◌<◌, ◌+◌, ◌^◌, ◌∷◌, ℕ, List, true, false, IfSome, IfNone, take};
 ghost use Rattle.wol_model.specs.Index.{listed_in, is_covered};
 
+use block_cells::moved;
 use log_segment::Item;
 use redirect_map::{Index, Rec};
 
@@ -179,10 +181,11 @@ pub(crate) fn is_tidy(index: &Index, lbn: u64, count: u32) -> bool
 }
 
 // Whether the chunk is tidy once the chunks before it were written again and all was given up that may go: from its first
-// block on, the newest record of that block has just the chunk's as live blocks. Cleaning asks for it to know when to give up,
-// and then sees whether the chunk is tidy: so no proof rests on it.
+// block on, the newest record of that block has just the chunk's as live blocks.
 fn becomes_tidy(index: &Index, chunk: Item) -> bool
     requires count { (1 ≤ chunk.count) × (chunk.count ≤ 128) }
+    ensures { (result ≡ true)
+        ↔ BecomesTidy (listed_in index.now.entries) chunk.lbn chunk.count }
 {
     let Some(newest) = index.newest(chunk.lbn) else {
         return false;
@@ -190,8 +193,8 @@ fn becomes_tidy(index: &Index, chunk: Item) -> bool
     let Some(record) = index.find(newest.version) else {
         return false;
     };
-    let before = chunk.lbn.saturating_sub(record.lbn);
-    before < 128 && index.live(record.version) >> before == u128::MAX >> (128 - chunk.count)
+    let live = moved(index.live(record.version), record.lbn, chunk.lbn);
+    live == u128::MAX >> (128 - chunk.count)
 }
 
 /// Whether what may go is given up before cleaning goes on, where that isn't done: once no chunk is next, and where the next one
@@ -200,6 +203,10 @@ pub(crate) fn settles_first(index: &Index, next: Option<Item>, settled: bool) ->
     requires within { IfSome next (λ i. (i.lbn < 2 ^ 32) × (1 ≤ i.count) × (i.count ≤ 128)) }
     ensures unsettled { result ≡ true → settled ≡ false }
     ensures last { result ≡ false → next ≡ None → settled ≡ true }
+    // else the next one is tidy, or not even then
+    ensures next { result ≡ false → settled ≡ false → IfSome next
+        (λ i. BecomesTidy (listed_in index.now.entries) i.lbn i.count
+        → IsTidy (listed_in index.now.entries) i.lbn i.count) }
 {
     if settled {
         return false;
@@ -216,6 +223,8 @@ fn untidy_chunk(index: &Index, from: u64, most: u32) -> Option<Item>
     requires most { (1 ≤ most) × (most ≤ 128) }
     ensures next { IfSome result (IsNext (is_covered (listed_in index.now.entries))
         (listed_in index.now.entries) most from) }
+    ensures still { IfSome result
+        (λ i. BecomesTidy (listed_in index.now.entries) i.lbn i.count → ⊥) }
     ensures within { IfSome result (λ i. i.lbn + i.count ≤ 2 ^ 32) }
 {
     let chunk = next_chunk(index, from, most)?;
@@ -244,7 +253,8 @@ pub(crate) fn gather(index: &Index, first: Item, most: u32, width: usize) -> Gat
     ensures count { (1 ≤ result.count) × (result.count ≤ 8) }
     ensures next { (rest : List Item) × (take result.count result.chunks ≡ first ∷ rest)
         × AreNext (is_covered (listed_in index.now.entries)) (listed_in index.now.entries) most
-        (first.lbn + first.count) rest }
+        (first.lbn + first.count) rest
+        × AllByRecursion (λ i. BecomesTidy (listed_in index.now.entries) i.lbn i.count → ⊥) rest }
 {
     let mut gathered = Gathered {
         chunks: [first; TOGETHER],

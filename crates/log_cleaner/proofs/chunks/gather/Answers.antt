@@ -3,7 +3,8 @@ use Rattle.std.proofs.lemmas.List.{take_more_set}
 use Rattle.std.proofs.Math.ListN.{length-set}
 use Rattle.wol_model.specs.Index.{Listed, is_covered, listed_in}
 use Rattle.log_segment.specs.declared.item.Item.{Item}
-use Rattle.log_cleaner.specs.Chunks.{IsNext}
+use Rattle.log_cleaner.specs.Chunks.{BecomesTidy, IsNext}
+use Rattle.wol_promise.proofs.Lists.{all_push}
 use Rattle.log_cleaner.proofs.Chunking.{end_push, next_push}
 use Rattle.log_cleaner.proofs.chunks.gather.Goals as goal
 
@@ -14,7 +15,7 @@ loop-place-init c = record {
   high = omega arith;
   long = refl;
   within = let f = c.from.ensures in omega (arith, f, c.requires.within);
-  next = ([], refl, tt, ap (λ (k : ℕ). c.args.first.lbn + k) c.from.ensures);
+  next = ([], refl, tt, tt, ap (λ (k : ℕ). c.args.first.lbn + k) c.from.ensures);
 }
 
 pub loop-place-preserved : goal.loop-place-preserved
@@ -30,7 +31,8 @@ loop-place-preserved c =
       next = (
         rest ++ chunk ∷ [],
         take_more_set c.loop-place.gathered.chunks place chunk (omega (arith, lt, i.long)) ∙ ap (λ (xs : List Item). xs ++ chunk ∷ []) i.next.1,
-        next_push (is_covered es) es c.args.most start rest chunk i.next.2 (subst (λ (from : ℕ). IsNext (is_covered es) es c.args.most from chunk) i.next.3 c.in-Some.ensures.next),
+        next_push (is_covered es) es c.args.most start rest chunk i.next.2 (subst (λ (from : ℕ). IsNext (is_covered es) es c.args.most from chunk) i.next.4 c.in-Some.ensures.next),
+        all_push (λ (j : Item). BecomesTidy es j.lbn j.count → ⊥) rest chunk i.next.3 c.in-Some.ensures.still,
         ap (λ (k : ℕ). chunk.lbn + k) added ∙ sym (end_push start rest chunk),
       );
     }

@@ -13,12 +13,12 @@ use Rattle.log_segment.specs.Records.{count_of}
 use Rattle.log_segment.specs.declared.item.Item.{Item}
 use Rattle.manager.specs.Groups.{AreItemsOf}
 use Rattle.manager.specs.declared.manager.Manager.{Manager}
-use Rattle.log_cleaner.specs.Chunks.{AreNext, IsAhead, IsTidy, end_of}
+use Rattle.log_cleaner.specs.Chunks.{AreNext, BecomesTidy, IsAhead, IsTidy, end_of}
 use Rattle.log_cleaner.specs.Steps.{AreCoveredIn, RewritesBehind, is_broken, written_of}
 use Rattle.log_cleaner.specs.Underway.{CleansBy}
 use Rattle.log_cleaner.specs.Cleans.{covered_in}
 use Rattle.log_cleaner.proofs.Chunking.{end_past, next_small}
-use Rattle.log_cleaner.proofs.Cleaning.{Between, are_next, between_copied, between_none, between_same, between_settled, between_tidy, end_at, end_within, ends_by, ends_clean, ends_unsettled, next_covered_in, next_few, next_front, next_items, refused_same, written_copied}
+use Rattle.log_cleaner.proofs.Cleaning.{AreStill, Between, are_next, between_copied, between_none, between_same, between_settled, between_tidy, end_at, end_within, ends_by, ends_clean, ends_unsettled, first_still, next_covered_in, next_few, next_front, next_items, refused_same, written_copied}
 use Rattle.log_cleaner.proofs.Tidying.{clash}
 use Rattle.log_cleaner.proofs.cleaner.clean_all.Given as given
 use Rattle.log_cleaner.proofs.cleaner.clean_all.Goals.{After-from-in-chunks, After-gather-gathered, After-rewrite-answer, After-settle-then-written-eq0}
@@ -45,6 +45,22 @@ more : (g : given.Over) (c : After-gather-gathered g) → AreNext (covered_in c.
 more g c =
     let end = c.in-Some.chunk.lbn + c.in-Some.chunk.count in
     subst (λ (x : Contents). AreNext (is_covered (listed_in x.entries)) (listed_in x.entries) c.args.most end c.gather-gathered.ensures.next.0) c.index-in-chunks-3.ensures c.gather-gathered.ensures.next.2
+
+-- none of them becomes tidy, and the first one doesn't behind copies
+next_in : (x y : Contents) → x ≡ y → (next : Option Item) (i : Item) → next ≡ Some i → IfSome next (λ i. BecomesTidy (listed_in x.entries) i.lbn i.count → IsTidy (listed_in x.entries) i.lbn i.count)
+    → BecomesTidy (listed_in y.entries) i.lbn i.count → IsTidy (listed_in y.entries) i.lbn i.count
+next_in x y same next i is so =
+    subst (λ (z : Contents). BecomesTidy (listed_in z.entries) i.lbn i.count → IsTidy (listed_in z.entries) i.lbn i.count) same
+    (subst (λ (o : Option Item). IfSome o (λ i. BecomesTidy (listed_in x.entries) i.lbn i.count → IsTidy (listed_in x.entries) i.lbn i.count)) is so)
+
+still_untidy : (g : given.Over) (c : After-gather-gathered g) → AreStill (listed_in c.chunks.m.index.entries) c.chunks.done.value.items (c.in-Some.chunk ∷ c.gather-gathered.ensures.next.0)
+still_untidy g c = (
+  first_still g.D.Disk.tells g.D.Disk.state c.args.most c.args.m.now c.chunks.m c.chunks.copied c.chunks.from c.chunks.settled c.requires.can c.chunks.done.value.items c.chunks.invariant.between c.chunks.invariant.ready c.in-Some.chunk (met g c)
+      (subst (λ (x : Contents). IsIndex x.entries) c.index.ensures c.next_chunk-next.ensures.index)
+      (λ no. next_in c.index-in-chunks.result.now c.chunks.m.index c.index-in-chunks.ensures c.next_chunk-next.result c.in-Some.chunk c.in-Some.is (c.settles_first.ensures.next c.if-settles_first.false no))
+      (untidy g c),
+  subst (λ (x : Contents). AllByRecursion (λ (i : Item). BecomesTidy (listed_in x.entries) i.lbn i.count → ⊥) c.gather-gathered.ensures.next.0) c.index-in-chunks-3.ensures c.gather-gathered.ensures.next.3,
+)
 
 same : (g : given.Over) (c : After-gather-gathered g) → take c.gather-gathered.result.count c.gather-gathered.result.chunks ≡ c.in-Some.chunk ∷ c.gather-gathered.ensures.next.0
 same g c = c.gather-gathered.ensures.next.1
@@ -89,8 +105,9 @@ record GoesOnBehind {D : Type 0} (tells : Bool) (state : D → State) (most : �
   pub ends_at : end_of from (take written chunks) ≡ end
 
 behind : (g : given.Over) (c : After-from-in-chunks g) → AreNext (covered_in c.chunks.m) (listed_in c.chunks.m.index.entries) c.args.most c.chunks.from (c.in-Some.chunk ∷ c.gather-gathered.ensures.next.0)
+    → AreStill (listed_in c.chunks.m.index.entries) c.chunks.done.value.items (c.in-Some.chunk ∷ c.gather-gathered.ensures.next.0)
     → GoesOnBehind g.D.Disk.tells g.D.Disk.state c.args.most c.args.m.now c.rewrite-answer.new.m (c.chunks.copied + c.blocks_of-copied.result) c.chunks.from (c.in-Some.chunk ∷ c.gather-gathered.ensures.next.0) c.written_of-written.result (last_end g c) c.rewrite-answer.new.done.value.items
-behind g c next =
+behind g c next still_ =
     let tells = g.D.Disk.tells in let state = g.D.Disk.state in let most = c.args.most in let old = c.args.m.now in let now = c.chunks.m in
     let mid = c.rewrite-answer.new.m in let done = c.chunks.done.value.items in let answer = c.rewrite-answer.result in
     let chunks = c.in-Some.chunk ∷ c.gather-gathered.ensures.next.0 in
@@ -99,7 +116,7 @@ behind g c next =
     let written = c.written_of-written.result in
     let was = written_copied tells state chunks now mid answer written (sym c.written_of-written.ensures) (omega (arith, c.if-written-eq0.false)) told.0 in
     let then = told.1 ∙ ap (λ (ws : List Write). done ++ ws) was.2 in
-    let step = between_copied g.D.Disk.tells g.D.Disk.state c.args.most c.args.m.now c.chunks.m c.chunks.copied c.chunks.from c.chunks.settled c.requires.can c.chunks.done.value.items c.chunks.invariant.between c.chunks.invariant.ready c.in-Some.chunk next.0.ahead next.0.untidy c.gather-gathered.ensures.next.0 next.1 mid written (omega (arith, c.if-written-eq0.false)) was.0 in
+    let step = between_copied g.D.Disk.tells g.D.Disk.state c.args.most c.args.m.now c.chunks.m c.chunks.copied c.chunks.from c.chunks.settled c.requires.can c.chunks.done.value.items c.chunks.invariant.between c.chunks.invariant.ready c.in-Some.chunk next.0.ahead next.0.untidy c.gather-gathered.ensures.next.0 next.1 mid still_ written (omega (arith, c.if-written-eq0.false)) was.0 in
     let blocks : c.blocks_of-copied.result ≡ count_of (take written chunks) = c.blocks_of-copied.ensures ∙ ap (λ (js : List Item). count_of (take written js)) same in
     let one : written ≡ suc (written - 1) = omega (arith, c.if-written-eq0.false) in
     let last : Item = get_or (take c.gather-gathered.result.count c.gather-gathered.result.chunks) (written - 1) none in
@@ -190,7 +207,7 @@ returns-then-settled-clause-cleaned g c =
       | then-settled-via-else-settled+then-is_broken w ↦ absurd (clash (is_broken answer) (sym w.is_broken.ensures ∙ w.if-is_broken.true) whole)
     ] in
     let ahead = next g (goal.at.returns-then-settled-clause-cleaned g c).After-gather-gathered (met g (goal.at.returns-then-settled-clause-cleaned g c).After-gather-gathered) in
-    let x = ends_by g.D.Disk.tells g.D.Disk.state c.args.most c.args.m.now c.chunks.m c.chunks.copied c.chunks.from c.chunks.settled c.requires.can c.chunks.done.value.items c.chunks.invariant.between c.chunks.invariant.ready c.in-Some.chunk ahead.0.ahead ahead.0.untidy c.gather-gathered.ensures.next.0 ahead.1 c.rewrite-answer.new.m answer (sym c.written_of-written.ensures ∙ c.if-written-eq0.true) so said.0 in
+    let x = ends_by g.D.Disk.tells g.D.Disk.state c.args.most c.args.m.now c.chunks.m c.chunks.copied c.chunks.from c.chunks.settled c.requires.can c.chunks.done.value.items c.chunks.invariant.between c.chunks.invariant.ready c.in-Some.chunk ahead.0.ahead ahead.0.untidy c.gather-gathered.ensures.next.0 ahead.1 c.rewrite-answer.new.m (still_untidy g (goal.at.returns-then-settled-clause-cleaned g c).After-gather-gathered) answer (sym c.written_of-written.ensures ∙ c.if-written-eq0.true) so said.0 in
     rw c.ended.ensures (subst (λ (ws : List Write). CleansBy g.D.Disk.tells g.D.Disk.state c.args.most c.args.m.now c.rewrite-answer.new.m ws (Rattle.log_cleaner.specs.Steps.ended c.chunks.copied answer)) (sym said.1) x)
 
 pub returns-in_err-settle-2-clause-cleaned : goal.returns-in_err-settle-2-clause-cleaned
@@ -228,7 +245,7 @@ chunks-preserved g c =
       ready = e.ready;
       at = e.at;
       width = c.next_width-width.ensures;
-      between = (behind g (goal.at.chunks-preserved g c).After-from-in-chunks (next g (goal.at.chunks-preserved g c).After-gather-gathered (met g (goal.at.chunks-preserved g c).After-gather-gathered))).between;
+      between = (behind g (goal.at.chunks-preserved g c).After-from-in-chunks (next g (goal.at.chunks-preserved g c).After-gather-gathered (met g (goal.at.chunks-preserved g c).After-gather-gathered)) (still_untidy g (goal.at.chunks-preserved g c).After-gather-gathered)).between;
     }
 
 pub blocks_of-copied-requires-clause-small : goal.blocks_of-copied-requires-clause-small
@@ -248,13 +265,13 @@ overflow_add-copied g c =
     let f = i.between.few in let w = i.between.within in omega (arith, few, l, k, t, fewer, e, f, w)
 
 pub overflow_add-from-in-chunks : goal.overflow_add-from-in-chunks
-overflow_add-from-in-chunks g c = let w = (behind g (goal.at.overflow_add-from-in-chunks g c).After-from-in-chunks (next g (goal.at.overflow_add-from-in-chunks g c).After-gather-gathered (met g (goal.at.overflow_add-from-in-chunks g c).After-gather-gathered))).between.within in omega (arith, w)
+overflow_add-from-in-chunks g c = let w = (behind g (goal.at.overflow_add-from-in-chunks g c).After-from-in-chunks (next g (goal.at.overflow_add-from-in-chunks g c).After-gather-gathered (met g (goal.at.overflow_add-from-in-chunks g c).After-gather-gathered)) (still_untidy g (goal.at.overflow_add-from-in-chunks g c).After-gather-gathered)).between.within in omega (arith, w)
 
 pub chunks-smaller : goal.chunks-smaller
 chunks-smaller g c =
     let now = c.chunks.m in let written = c.written_of-written.result in
     let ahead = next g (goal.at.chunks-smaller g c).After-gather-gathered (met g (goal.at.chunks-smaller g c).After-gather-gathered) in
-    let on = behind g (goal.at.chunks-smaller g c).After-from-in-chunks ahead in
+    let on = behind g (goal.at.chunks-smaller g c).After-from-in-chunks ahead (still_untidy g (goal.at.chunks-smaller g c).After-gather-gathered) in
     let w = on.between.within in let ends_at = on.ends_at in
     let front = next_front (covered_in now) (listed_in now.index.entries) c.args.most written c.chunks.from (c.in-Some.chunk ∷ c.gather-gathered.ensures.next.0) ahead in
     let some = length-take-le written (c.in-Some.chunk ∷ c.gather-gathered.ensures.next.0) on.few in

@@ -3,8 +3,9 @@ use Rattle.std.proofs.lemmas.Result.{err_from_is_err_and}
 use Rattle.reclaimer.specs.Steps.{HasGivenUp}
 use Rattle.reclaimer.specs.declared.answers.Gone.{Gone}
 use Rattle.manager.specs.declared.manager.Manager.{Manager}
-use Rattle.log_cleaner.specs.Steps.{HasCopied, KeepsTidy, TidiesAll}
-use Rattle.log_cleaner.proofs.Stepping.{copied_none, copied_then, gave_failing, gave_more, gave_then, gives_all_failing, lowers_of, tidies_up, tidy_none, tidy_then}
+use Rattle.wol_model.specs.Index.{listed_in}
+use Rattle.log_cleaner.specs.Steps.{HasCopied, KeepsTidy, NoneGoes, TidiesAll}
+use Rattle.log_cleaner.proofs.Stepping.{copied_none, copied_then, gave_failing, gave_more, gave_then, gives_all_failing, lanes_within, lowers_of, none_left, tidies_up, tidy_none, tidy_then}
 use Rattle.log_cleaner.proofs.giving.give_up_each.Goals as goal
 
 pub steps-init : goal.steps-init
@@ -22,8 +23,13 @@ pub returns-in-Nothing-clause-given : goal.returns-in-Nothing-clause-given
 returns-in-Nothing-clause-given g c =
     let e = c.in_ok-invalidate_one.ensures in let i = c.steps.invariant in
     let same : c.invalidate_one.new.m ≡ c.steps.m = subst (λ (x : Gone). HasGivenUp (Ok x) c.steps.m c.invalidate_one.new.m) c.in-Nothing.is e.gone in
-    subst (λ (m : Manager _). HasCopied g.D.Disk.tells g.D.Disk.state c.args.m.now m [] × KeepsTidy c.args.m.now m × TidiesAll c.args.m.now m) (sym same)
-    (i.copied, i.tidy, λ first count some. tidies_up g.D.Disk.state c.args.m.now c.steps.m first count some i.ready i.copied.goes_on.can (e.nothing.0 (ap Ok c.in-Nothing.is)).1 i.tidy)
+    let none = (e.nothing.0 (ap Ok c.in-Nothing.is)).1 in
+    subst (λ (m : Manager _). HasCopied g.D.Disk.tells g.D.Disk.state c.args.m.now m [] × KeepsTidy c.args.m.now m × TidiesAll c.args.m.now m × NoneGoes (listed_in m.index.entries)) (sym same) (
+      i.copied,
+      i.tidy,
+      λ first count some. tidies_up g.D.Disk.state c.args.m.now c.steps.m first count some i.ready i.copied.goes_on.can none i.tidy,
+      none_left c.steps.m i.copied.goes_on.can.awake (lanes_within g.D.Disk.state c.steps.m i.ready i.copied.goes_on.can.up) none,
+    )
 
 pub steps-preserved : goal.steps-preserved
 steps-preserved g c =
