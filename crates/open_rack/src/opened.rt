@@ -1,6 +1,6 @@
 // All volumes of a bay are opened, and closed behind a work.
 ghost use Rattle.open_rack.specs.Sessions.{OpensAndCloses};
-ghost use Rattle.rack.specs.Opens.{KeepsAllSound, KeepsOthers, LeavesAll};
+ghost use Rattle.rack.specs.Opens.{KeepsAllSound, KeepsOthers, KeepsViews, LeavesAll};
 ghost use Rattle.std.specs.Prelude.{◌≡◌, ◌≤◌, IfOk, OnErr, IsTrue};
 ghost use Rattle.volume_images.specs.Left.{IsTold};
 ghost use Rattle.volume_images.specs.Volumes.{NoneOut};
@@ -25,7 +25,8 @@ pub struct Closed<T> {
 
 /// Opens all volumes of the configuration, does the work with them, and closes them, whatever the work answered.
 ///
-/// `NoMemory`: the volumes weren't opened, and the work wasn't begun. At each exit every image is back in the bay.
+/// `NoMemory`: the volumes weren't opened, and the work wasn't begun; no label or view was changed. At each exit every image is
+/// back in the bay.
 pub fn with_open<R: Wait, B: Bay, S, K, W: Work<R, B::Part, S, K>>(
     rt: &R,
     alloc: Global,
@@ -56,6 +57,8 @@ pub fn with_open<R: Wait, B: Bay, S, K, W: Work<R, B::Part, S, K>>(
         → IsTold (LeavesAll B.Part.tells B.Part.state config.now (B.state bay.old)
         (B.state bay.new))
         (B.state bay.old).told (B.state bay.new).told) }
+    ensures views { OnErr result (IsTrue B.Part.tells
+        → IsTold (KeepsViews config.now) (B.state bay.old).told (B.state bay.new).told) }
     ensures unread { OnErr result (given.new ≡ given.old) }
     ensures unwritten { OnErr result (out.new ≡ out.old) }
 {

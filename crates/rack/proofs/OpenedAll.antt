@@ -17,11 +17,13 @@ use Rattle.std.specs.Prelude.{vec_capacity}
 use Rattle.wol_model.specs.History.{writes}
 use Rattle.wol_promise.specs.Ruled.{entries_of}
 use Rattle.rack_parts.proofs.Members.{none_in, a_value, element_at, here_within, segment_in_image}
+use Rattle.rack_closing.specs.Opens.{BeganWith, KeepsViews}
 use Rattle.rack_closing.specs.PoolUses.{HadSegments, holder_of}
 use Rattle.rack_closing.proofs.Places.{some_at}
 use Rattle.rack_closing.proofs.Names.{names_differ}
 use Rattle.rack_closing.proofs.CutParts.{reads_range}
 use Rattle.rack_closing.proofs.NewFaults.{told_each, told_with}
+use Rattle.rack_closing.proofs.ViewsLeft.{views_left}
 use Rattle.rack_closing.proofs.Cases.{by_option, none_or, some_or}
 use Rattle.rack.specs.Opening.{IsOut}
 use Rattle.rack.specs.declared.all.Taken.{Taken}
@@ -879,3 +881,11 @@ module _ {D : Type 0} (tells : Bool) (state : D → State) (config : Config) (va
           → ((old : Told) → b.told ≡ Some old → IsTold (λ mid new. HadRefused config r.rest.images.items old mid → KeepsAllSound config old new) b1.told b2.told)
           → IsTold (KeepsAllSound config) b.told b2.told
       closed_sound still closing = closed_told still closing (λ old new kept sound. sound)
+
+      -- no label or view was changed
+      pub closed_views : IsTrue tells → IsTold (HadRefused config r.rest.images.items) b1.told b2.told → IsTold (λ x y. AreLeftOfParts state config r y) b1.told b2.told
+          → ((old : Told) → b.told ≡ Some old → BeganWith state config old r) → IsTold (KeepsViews config) b.told b2.told
+      closed_views telling still parts began = closed_told {P = λ old new. BeganWith state config old r × WereThere config r.rest.images.items old × AreLeftOfParts state config r new} still
+          (λ old is. told_each (λ x y. AreLeftOfParts state config r y) (λ x y. HadRefused config r.rest.images.items old x → BeganWith state config old r × WereThere config r.rest.images.items old × AreLeftOfParts state config r y) b1.told b2.told
+          (λ x y left had. (began old is, opened_there telling old is, left)) parts)
+          (λ old new kept all. views_left state config r r refl old new all.0 all.1 all.2 kept)

@@ -17,11 +17,12 @@ use Rattle.rack_closing.proofs.LeftImage.{IsLeftNow, left_image, volume_at}
 use Rattle.rack_closing.proofs.NewFaults.{told_each}
 use Rattle.rack_closing.proofs.SameRecovered.{SegmentsKeep, keeping}
 use Rattle.rack_closing.proofs.SoundBefore.{sound_before}
-use Rattle.rack_closing.proofs.Cases.{none_or, some_or}
+use Rattle.rack_closing.proofs.Cases.{by_option, none_or, some_or}
+use Rattle.rack_closing.specs.Opens.{KeepsViews}
 use Rattle.rack.specs.declared.images.Images.{Images as Asked}
 use Rattle.rack.proofs.Asking.{refuses_later, told_then}
 use Rattle.rack.proofs.ImagesSent.{names_alike, none_named}
-use Rattle.rack.proofs.StillThere.{WasThere, conf_there, kept_home, there_may}
+use Rattle.rack.proofs.StillThere.{WasThere, conf_there, kept_home, may_at, there_may}
 use Rattle.rack.specs.Opening.{IsOut, BringsAllBack}
 
 -- What was taken out for a rack, from which it is set up.
@@ -68,6 +69,9 @@ module _ {D : Type 0} (tells : Bool) (state : D → State) (config : Config) (b 
   sound_less : (old new : Told) → LeavesNoMore old new → KeepsAllSound config old new
   sound_less old new less all images left = all images (left_less config old new less images left)
 
+  views_less : (old new : Told) → LeavesNoMore old new → KeepsViews config old new
+  views_less old new less images left k v at blocks here = inl (less v.name (Some blocks) (subst (MayLeave (at_name v.name new.images)) here (may_at config new images k v at left)))
+
   told_less : {P : Told → Told → Type 0} → ((old new : Told) → LeavesNoMore old new → P old new) → IsTold LeavesNoMore b.told b'.told → IsTold P b.told b'.told
   told_less {P} each = told_each LeavesNoMore P b.told b'.told each
 
@@ -77,8 +81,11 @@ module _ {D : Type 0} (tells : Bool) (state : D → State) (config : Config) (b 
   pub sound_back : IsTold LeavesNoMore b.told b'.told → IsTold (KeepsAllSound config) b.told b'.told
   sound_back = told_less sound_less
 
+  pub views_back : IsTold LeavesNoMore b.told b'.told → IsTold (KeepsViews config) b.told b'.told
+  views_back = told_less views_less
+
   pub brought_back : outs b' ≡ outs b → (IsTrue tells → IsTold LeavesNoMore b.told b'.told) → BringsAllBack tells state config b b'
-  brought_back home less = record { home = home; left = λ telling. left_back (less telling); sound = λ telling. sound_back (less telling) }
+  brought_back home less = record { home = home; left = λ telling. left_back (less telling); sound = λ telling. sound_back (less telling); views = λ telling. views_back (less telling) }
 
 -- nothing was done
 pub nothing_done : (o : Option Told) → IsTold LeavesNoMore o o
@@ -343,6 +350,19 @@ module _ {D : Type 0} (tells : Bool) (state : D → State) (config : Config) (b 
               let name : (slice_index_or config.volumes.items k conf).name ≡ conf.name = ap (λ (w : VolumeConf). w.name) (get_or_from_slice_get config.volumes.items k conf conf at) in
               refused_kept k conf at is_not (image_of images k) (subst (λ (m : _). MayLeave (at_name m t2.images) (image_of images k)) name one)
 
+          -- label and view are those that an image had as it read, or it is left as it might have been
+          back_front : (k : ℕ) (conf : VolumeConf) → slice_get config.volumes.items k ≡ Some conf → (blocks : List Block) → image_of images k ≡ Some blocks
+              → MayLeave (at_name conf.name t.images) (Some blocks) ⊎ ((image : Image) × (at_name conf.name t.images ≡ Some image) × (slice_range blocks 0 2 ≡ slice_range (reads image.blocks) 0 2))
+          back_front k conf at blocks here = by_option (image_here out k)
+              (λ none. inl (subst (MayLeave (at_name conf.name t.images)) here (still k conf at (ap not (sym (same_here k) ∙ ap is_some none)))))
+              (λ n e.
+              let ba = is_back k conf n at e in
+              let whole = again k (shape_in config conf) n (shape_is k conf at) e in
+              let now = left_image state tell_all sound config t2 images left k (shape_in config conf) n (shape_is k conf at) whole.rest given.more (λ v of. given.back k v n (omega arith) of e) in
+              let label = ba.entry.cut.label (slice_range now.0 0 2) (subst (λ (p : Spun D). IsImageOf (state_of state p).values (slice_range now.0 0 2)) ba.restored.same.label now.2.label) in
+              let same : now.0 ≡ blocks = same_Some now.0 blocks (sym now.1 ∙ here) in
+              inr (ba.entry.image, ba.entry.there, subst (λ (c : List Block). slice_range c 0 2 ≡ slice_range (reads ba.entry.image.blocks) 0 2) same label))
+
           -- each image that was there is there
           back_there : (v : ℕ) → WasThere config t v → IsThere (shapes_of config) images v
           back_there v all = go (not_taken v) refl
@@ -400,3 +420,6 @@ module _ {D : Type 0} (tells : Bool) (state : D → State) (config : Config) (b 
 
         pub sound_again : IsTrue tells → IsTold (KeepsAllSound config) b.told b2.told
         sound_again telling = back_told (λ t t1 t2 is stayed given all images left. back_sound telling (tell_all telling) sound t t1 t2 is stayed given images left all)
+
+        pub views_again : IsTrue tells → IsTold (KeepsViews config) b.told b2.told
+        views_again telling = back_told (λ t t1 t2 is stayed given images left k conf at blocks here. back_front telling (tell_all telling) sound t t1 t2 is stayed given images left k conf at blocks here)

@@ -33,7 +33,7 @@ use Rattle.rack_parts.specs.Locks.{AreSpindlesOf}
 use Rattle.rack_parts.specs.Parts.{holder_by, IsIssuedPool, Supplies, IsOwnedPlace, segment_in}
 use Rattle.rack_parts.specs.Racks.{IsClosable, NamesVolumes, AreUnused, KeepToViews}
 use Rattle.rack_parts.specs.Closing.{IsComplete}
-use Rattle.rack_closing.specs.Opens.{HadBefore, IsAsRead, BeganWith, HasFaulty, KeepsOthers, KeepsAllSound, LeavesAll, RefusesVolume}
+use Rattle.rack_closing.specs.Opens.{HadBefore, IsAsRead, BeganWith, HasFaulty, KeepsOthers, KeepsAllSound, KeepsViews, LeavesAll, RefusesVolume}
 use Rattle.rack.specs.declared.all.Taken.{Taken}
 use Rattle.rack_parts.specs.declared.heads_said.Said.{Said}
 use Rattle.rack.specs.declared.images.Images.{Images}
@@ -228,12 +228,13 @@ pub record IsTaken {D : Type 0} (tells : Bool) (state : D → State) (config : C
       → IsIssuedPool (length config.volumes.items) k s (said_at before.said.items k) i
 
 -- There was no memory: each image is in the bay again, and recovers to what one at entry did, also
--- after a stop within.
+-- after a stop within; no label or view was changed.
 pub record BringsAllBack {D : Type 0} (tells : Bool) (state : D → State) (config : Config)
     (b b' : BayState) : Type 0 where
   pub home : outs b' ≡ outs b
   pub left : IsTrue tells → IsTold (LeavesAll tells state config b b') b.told b'.told
   pub sound : IsTrue tells → IsTold (KeepsAllSound config) b.told b'.told
+  pub views : IsTrue tells → IsTold (KeepsViews config) b.told b'.told
 
 -- ---- The rack while its volumes are opened, of which the first n were tried
 

@@ -3,7 +3,7 @@ ghost use Rattle.manager.specs.declared.part.Part.{Part};
 ghost use Rattle.manager_recovery.specs.declared.refusal.OpenRefusal.TheVariants.{DiskFault};
 ghost use Rattle.rack.specs.Opening.{IsTaken, BringsAllBack};
 ghost use Rattle.rack_closing.specs.Closes.{HasFaultAt, HasFaultIn};
-ghost use Rattle.rack_closing.specs.Opens.{AreViewsAsRead, BeganWith, WereThere, AreRefused, LeavesAll, HasFaulty, KeepsOthers, KeepsAllSound};
+ghost use Rattle.rack_closing.specs.Opens.{AreViewsAsRead, BeganWith, WereThere, AreRefused, LeavesAll, HasFaulty, KeepsOthers, KeepsAllSound, KeepsViews};
 ghost use Rattle.rack_closing.specs.Owners.{HadRefused};
 ghost use Rattle.rack_parts.specs.Racks.{IsRack, IsUnused, AreUnused, KeepToViews};
 ghost use Rattle.rack_parts.specs.Rests.{IsImageOut, out_names};
@@ -136,6 +136,9 @@ pub fn open_all<R: Wait, B: Bay>(
         (B.state bay.new)) (B.state bay.old).told (B.state bay.new).told) }
     ensures sound { OnErr result (IsTrue B.Part.tells
         → IsTold (KeepsAllSound config.now) (B.state bay.old).told (B.state bay.new).told) }
+    // and no label or view was changed
+    ensures views { OnErr result (IsTrue B.Part.tells
+        → IsTold (KeepsViews config.now) (B.state bay.old).told (B.state bay.new).told) }
     ensures others { IsTold (KeepsOthers config.now) (B.state bay.old).told (B.state bay.new).told }
     ensures counts { (B.state bay.old).faults ≤ (B.state bay.new).faults }
 {

@@ -4,8 +4,8 @@ use Rattle.rack_parts.proofs.LocksIssued.{on_err}
 use Rattle.rack_closing.proofs.SoundVolumes.{opens_all}
 use Rattle.rack.proofs.FailedParts.{gained_parts, part_failed}
 use Rattle.rack.proofs.ImagesSent.{others_same, others_then}
-use Rattle.rack.proofs.TakenBack.{left_back, nothing_done}
-use Rattle.rack.proofs.OpenedAll.{opened_out, opened_home, opened_others, opened_faulty, opened_unfaulty, opened_kept, opened_failed, opened_there, opened_views, closed_left, closed_sound, quiet_stations, fresh_passes, count_spindles, count_pools, told_at, begun_first, refused_first, taken_opening, many}
+use Rattle.rack.proofs.TakenBack.{left_back, nothing_done, views_back}
+use Rattle.rack.proofs.OpenedAll.{opened_out, opened_home, opened_others, opened_faulty, opened_unfaulty, opened_kept, opened_failed, opened_there, opened_views, closed_left, closed_sound, closed_views, quiet_stations, fresh_passes, count_spindles, count_pools, told_at, begun_first, refused_first, taken_opening, many}
 use Rattle.rack.proofs.all.open_all.Goals as goal
 
 pub filled-rack-requires-clause-spindles : goal.filled-rack-requires-clause-spindles
@@ -89,6 +89,10 @@ pub returns-in_err-lists-clause-left : goal.returns-in_err-lists-clause-left
 returns-in_err-lists-clause-left g c =
     on_err c.from_residual.result _ (λ telling. left_back g.B.Part.Disk.tells g.B.Part.Disk.state c.args.config.now (g.B.Bay.state c.args.bay.now) (g.B.Bay.state c.args.bay.now) (nothing_done (g.B.Bay.state c.args.bay.now).told))
 
+pub returns-in_err-lists-clause-views : goal.returns-in_err-lists-clause-views
+returns-in_err-lists-clause-views g c =
+    on_err c.from_residual.result _ (λ telling. views_back g.B.Part.Disk.tells g.B.Part.Disk.state c.args.config.now (g.B.Bay.state c.args.bay.now) (g.B.Bay.state c.args.bay.now) (nothing_done (g.B.Bay.state c.args.bay.now).told))
+
 pub returns-clause-left : goal.returns-clause-left
 returns-clause-left g c = λ telling.
     closed_left g.B.Part.Disk.tells g.B.Part.Disk.state c.args.config.now c.requires.config (g.B.Bay.state c.args.bay.now) (g.B.Bay.state c.take_out.new.bay) c.in-Ok.taken c.in-Ok.ensures.taken c.filled-rack.result c.filled-rack.ensures.images c.open_volumes.new.rack c.open_volumes.ensures.same_out (g.B.Bay.state c.close_all-spindles.new.bay) c.close_all-spindles.ensures.counts (gained_parts g.B.Part.Disk.state c.args.config.now c.open_volumes.new.rack.rest (g.B.Bay.state c.take_out.new.bay).told (g.B.Bay.state c.close_all-spindles.new.bay).told c.close_all-spindles.ensures.faulty) telling (c.close_all-spindles.ensures.kept telling) (c.close_all-spindles.ensures.parts telling)
@@ -98,6 +102,11 @@ pub returns-clause-sound : goal.returns-clause-sound
 returns-clause-sound g c = λ telling.
     closed_sound g.B.Part.Disk.tells g.B.Part.Disk.state c.args.config.now c.requires.config (g.B.Bay.state c.args.bay.now) (g.B.Bay.state c.take_out.new.bay) c.in-Ok.taken c.in-Ok.ensures.taken c.filled-rack.result c.filled-rack.ensures.images c.open_volumes.new.rack c.open_volumes.ensures.same_out (g.B.Bay.state c.close_all-spindles.new.bay) c.close_all-spindles.ensures.counts (gained_parts g.B.Part.Disk.state c.args.config.now c.open_volumes.new.rack.rest (g.B.Bay.state c.take_out.new.bay).told (g.B.Bay.state c.close_all-spindles.new.bay).told c.close_all-spindles.ensures.faulty) (c.close_all-spindles.ensures.kept telling)
     (λ old is. c.close_all-spindles.ensures.sound old telling (c.open_volumes.ensures.began telling old (subst (λ (l : List (Option Said)). HasBegun g.B.Part.Disk.state c.args.config.now old l 0 c.filled-rack.result) (sym c.as_slice.ensures.value) (begun_first g.B.Part.Disk.tells g.B.Part.Disk.state c.args.config.now c.requires.config (g.B.Bay.state c.args.bay.now) (g.B.Bay.state c.take_out.new.bay) c.in-Ok.taken c.in-Ok.ensures.taken c.filled-rack.result c.filled-rack.ensures.rest c.filled-rack.ensures.images c.filled-rack.ensures.faults telling old is))) (opened_there g.B.Part.Disk.tells g.B.Part.Disk.state c.args.config.now c.requires.config (g.B.Bay.state c.args.bay.now) (g.B.Bay.state c.take_out.new.bay) c.in-Ok.taken c.in-Ok.ensures.taken c.filled-rack.result c.filled-rack.ensures.images c.open_volumes.new.rack c.open_volumes.ensures.same_out telling old is))
+
+pub returns-clause-views : goal.returns-clause-views
+returns-clause-views g c = λ telling.
+    closed_views g.B.Part.Disk.tells g.B.Part.Disk.state c.args.config.now c.requires.config (g.B.Bay.state c.args.bay.now) (g.B.Bay.state c.take_out.new.bay) c.in-Ok.taken c.in-Ok.ensures.taken c.filled-rack.result c.filled-rack.ensures.images c.open_volumes.new.rack c.open_volumes.ensures.same_out (g.B.Bay.state c.close_all-spindles.new.bay) c.close_all-spindles.ensures.counts (gained_parts g.B.Part.Disk.state c.args.config.now c.open_volumes.new.rack.rest (g.B.Bay.state c.take_out.new.bay).told (g.B.Bay.state c.close_all-spindles.new.bay).told c.close_all-spindles.ensures.faulty) telling (c.close_all-spindles.ensures.kept telling) (c.close_all-spindles.ensures.parts telling)
+    (λ old is. c.open_volumes.ensures.began telling old (subst (λ (l : List (Option Said)). HasBegun g.B.Part.Disk.state c.args.config.now old l 0 c.filled-rack.result) (sym c.as_slice.ensures.value) (begun_first g.B.Part.Disk.tells g.B.Part.Disk.state c.args.config.now c.requires.config (g.B.Bay.state c.args.bay.now) (g.B.Bay.state c.take_out.new.bay) c.in-Ok.taken c.in-Ok.ensures.taken c.filled-rack.result c.filled-rack.ensures.rest c.filled-rack.ensures.images c.filled-rack.ensures.faults telling old is)))
 
 pub returns-in-Ok-open_volumes-clause-complete : goal.returns-in-Ok-open_volumes-clause-complete
 returns-in-Ok-open_volumes-clause-complete g c =

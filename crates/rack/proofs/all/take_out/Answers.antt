@@ -3,7 +3,7 @@ use Rattle.rack.proofs.Terms.{Spindle, SpindleBase, IsHome, VolumeConf, IsWholeL
 use Rattle.std.specs.Prelude.{vec_len}
 use Rattle.rack_parts.proofs.LocksIssued.{on_err}
 use Rattle.rack.proofs.ImagesSent.{names_out, others_same, others_then, back_others, sent_others}
-use Rattle.rack.proofs.TakenBack.{brought_back, nothing_done, left_again, sound_again, may_issue, again, whole_again, same_here, home_again}
+use Rattle.rack.proofs.TakenBack.{brought_back, nothing_done, left_again, sound_again, views_again, may_issue, again, whole_again, same_here, home_again}
 use Rattle.rack.proofs.all.take_out.Goals as goal
 
 pub issue_pools-requires-clause-each : goal.issue_pools-requires-clause-each
@@ -72,6 +72,7 @@ returns-in-Err-issue_pools-clause-back g c = record {
   home = home_again g.B.Part.Disk.tells g.B.Part.Disk.state c.args.config.now (g.B.Bay.state c.args.bay.now) (g.B.Bay.state c.open_images.new.bay) c.in-Ok.images c.in-Ok.ensures.asked c.issue_pools.new.images c.as_mut_slice.result.now c.as_slice.result.now c.issue_pools.ensures.images c.as_mut_slice.ensures.value c.as_slice.ensures.value c.in-Err-issue_pools.ensures.restores c.requires.home c.in-Ok.ensures.out (g.B.Bay.state c.give_back.new.bay) c.give_back.ensures.home;
   left = left_again g.B.Part.Disk.tells g.B.Part.Disk.state c.args.config.now (g.B.Bay.state c.args.bay.now) (g.B.Bay.state c.open_images.new.bay) c.in-Ok.images c.in-Ok.ensures.asked c.issue_pools.new.images c.as_mut_slice.result.now c.as_slice.result.now c.issue_pools.ensures.images c.as_mut_slice.ensures.value c.as_slice.ensures.value c.in-Err-issue_pools.ensures.restores c.requires.config (g.B.Bay.state c.give_back.new.bay) c.in-Ok.ensures.out c.give_back.ensures.back c.give_back.ensures.counts (λ telling d. g.met.B.Part.Disk.told telling d) g.met.B.Part.Disk.sound;
   sound = sound_again g.B.Part.Disk.tells g.B.Part.Disk.state c.args.config.now (g.B.Bay.state c.args.bay.now) (g.B.Bay.state c.open_images.new.bay) c.in-Ok.images c.in-Ok.ensures.asked c.issue_pools.new.images c.as_mut_slice.result.now c.as_slice.result.now c.issue_pools.ensures.images c.as_mut_slice.ensures.value c.as_slice.ensures.value c.in-Err-issue_pools.ensures.restores c.requires.config (g.B.Bay.state c.give_back.new.bay) c.in-Ok.ensures.out c.give_back.ensures.back c.give_back.ensures.counts (λ telling d. g.met.B.Part.Disk.told telling d) g.met.B.Part.Disk.sound;
+  views = views_again g.B.Part.Disk.tells g.B.Part.Disk.state c.args.config.now (g.B.Bay.state c.args.bay.now) (g.B.Bay.state c.open_images.new.bay) c.in-Ok.images c.in-Ok.ensures.asked c.issue_pools.new.images c.as_mut_slice.result.now c.as_slice.result.now c.issue_pools.ensures.images c.as_mut_slice.ensures.value c.as_slice.ensures.value c.in-Err-issue_pools.ensures.restores c.requires.config (g.B.Bay.state c.give_back.new.bay) c.in-Ok.ensures.out c.give_back.ensures.back c.give_back.ensures.counts (λ telling d. g.met.B.Part.Disk.told telling d) g.met.B.Part.Disk.sound;
 }
 
 pub returns-in_err-spindles-clause-others : goal.returns-in_err-spindles-clause-others
