@@ -1,16 +1,17 @@
 -- The part of label and view while its view is changed.
-use Rattle.std.proofs.Common.{◌≡◌, inl, inr, ℕ, List, Option, None, Some, Ok, Err, option_map, refl, sym, ap, subst, ◌∙◌}
+use Rattle.std.proofs.Common.{◌≡◌, inl, inr, ℕ, List, [], ◌∷◌, Option, None, Some, Ok, Err, option_map, refl, sym, ap, subst, ◌∙◌}
 use Rattle.std.specs.Prelude.{IsErrOf}
 use Rattle.log_layout.specs.declared.label.Label.{Label}
 use Rattle.logger_view.specs.declared.loading.ViewFault.{ViewFault}
 use Rattle.logger_view.specs.declared.loading.ViewFault.TheVariants as load
-use Rattle.wol_disk.specs.Disk.{Block, Values, State, IsImageOf, LeavesOnly, only, reads, settled}
+use Rattle.wol_disk.specs.Disk.{AddsSomeOf, Block, Values, State, IsImageOf, LeavesOnly, only, reads, settled}
+use Rattle.wol_model.specs.Heads.{view_block}
 use Rattle.wol_disk.proofs.Calls.{settled_from}
 use Rattle.wol_disk.proofs.Images.{image_reads, reads_only}
 use Rattle.wol_disk.proofs.Moments.{then_leaves, widened}
 use Rattle.logger_view.specs.Stored.{IsFirstFault, IsWithOrWithout, with_view}
 use Rattle.logger_view.proofs.Callers.{same_or_changed}
-use Rattle.view_change.specs.Changes.{Allows, Answers, IsAsked, IsLoaded, MayShow, RefusesView, ShowsChange, changed, refusal_of_load}
+use Rattle.view_change.specs.Changes.{Allows, Answers, FailsInStore, IsAsked, IsLoaded, MayShow, RefusesView, ShowsChange, changed, refusal_of_load}
 use Rattle.view_change.specs.declared.answers.Change.{Change}
 use Rattle.view_change.specs.declared.answers.Change.TheVariants.{Add, Remove}
 use Rattle.view_change.specs.declared.answers.ChangeRefusal.{ChangeRefusal}
@@ -49,6 +50,16 @@ pub now_stored : (d m n : Option (List (Values Block))) (new : List ℕ) → m �
 now_stored None m n new synced is = is ∙ ap (option_map (λ vs. only (with_view new (reads vs)))) synced
 now_stored (Some vs) m n new synced is =
     is ∙ ap (option_map (λ vs. only (with_view new (reads vs)))) synced ∙ ap (λ (l : List Block). Some (only (with_view new l))) (reads_only (reads vs))
+
+-- or not, where the store failed
+pub fails_in_store : (d : State) (loaded_values : Option (List (Values Block))) (n : State) (own : ℕ) (change : Change) (ids new : List ℕ) → loaded_values ≡ option_map settled d.values → ((vs : List (Values Block)) → d.values ≡ Some vs → IsLoaded own (reads vs) ids) → Allows ids change → new ≡ changed change ids
+    → AddsSomeOf 1 (view_block new ∷ []) loaded_values n.values → FailsInStore own change d n
+fails_in_store d loaded_values n own change ids new synced loaded allows is_new left = record {
+  ids = ids;
+  loaded = loaded;
+  allowed = allows;
+  left = subst (λ (l : List ℕ). AddsSomeOf 1 (view_block l ∷ []) (option_map settled d.values) n.values) is_new (subst (λ (o : Option (List (Values Block))). AddsSomeOf 1 (view_block new ∷ []) o n.values) synced left);
+}
 
 -- each image of what was stored shows the new view
 pub stored_shows : (own volumes : ℕ) (change : Change) (d n : State) (new : List ℕ) → n.values ≡ option_map (λ vs. only (with_view new (reads vs))) d.values

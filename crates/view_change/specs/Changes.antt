@@ -1,8 +1,8 @@
 -- A change of a view: what becomes of its ids, when it is refused, and what the part of label and
 -- view shows meanwhile.
-use Rattle.std.specs.Prelude.{◌≡◌, ◌≢◌, ◌⊎◌, ◌<◌, ◌≤◌, ◌==◌, ◌++◌, ℕ, not, List, [], ◌∷◌, length, filter, Some, Contains, Result, Ok, Err}
-use Rattle.wol_disk.specs.Disk.{Block, Values, State, IsImageOf, reads}
-use Rattle.wol_model.specs.Heads.{Shape}
+use Rattle.std.specs.Prelude.{◌≡◌, ◌≢◌, ◌⊎◌, ◌<◌, ◌≤◌, ◌==◌, ◌++◌, ℕ, not, List, [], ◌∷◌, length, filter, Some, option_map, Contains, Result, Ok, Err}
+use Rattle.wol_disk.specs.Disk.{AddsSomeOf, Block, Values, State, IsImageOf, reads, settled}
+use Rattle.wol_model.specs.Heads.{Shape, view_block}
 use Rattle.logger_view.specs.Stored.{HasLabel, HasView, IsFirstFault, with_view}
 use Rattle.logger_view.specs.declared.loading.ViewFault.{ViewFault}
 use Rattle.logger_view.specs.declared.loading.ViewFault.TheVariants as load
@@ -88,3 +88,19 @@ pub record ShowsChange (own : ℕ) (change : Change) (d : State) (c : List Block
 -- an image of the disk, or that
 abbrev pub MayShow : (own : ℕ) → Change → State → List Block → Type 0
 MayShow own change d c = IsImageOf d.values c ⊎ ShowsChange own change d c
+
+-- ---- What is left
+
+-- nothing was written, but that a sync may have been done
+abbrev pub IsUnwritten : (old new : State) → Type 0
+IsUnwritten old new =
+    (new.values ≡ old.values) ⊎ (new.values ≡ option_map settled old.values)
+
+-- The store of the view with the change failed, behind a load: the view that was read can be changed
+-- so, and block 1 may have the new view besides.
+pub record FailsInStore (own : ℕ) (change : Change) (old new : State) : Type 0 where
+  pub ids : List ℕ
+  pub loaded : (vs : List (Values Block)) → old.values ≡ Some vs → IsLoaded own (reads vs) ids
+  pub allowed : Allows ids change
+  pub left : AddsSomeOf 1 (view_block (changed change ids) ∷ []) (option_map settled old.values)
+      new.values

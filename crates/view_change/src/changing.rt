@@ -2,9 +2,9 @@
 ghost use Rattle.logger_view.specs.Stored.{with_view};
 ghost use Rattle.spin_model.specs.Spun.{volume_of, state_of, token_volume};
 ghost use Rattle.std.specs.Prelude.{◌≡◌, ◌≢◌, ◌↔◌, ◌⊎◌, ◌<◌, ◌≤◌, ℕ, List, Some, option_map, IfOk, IfErr, IsErrOf, IsSome};
-ghost use Rattle.view_change.specs.Changes.{Allows, Answers, MayShow, RefusesView, changed, id_of};
+ghost use Rattle.view_change.specs.Changes.{Allows, Answers, FailsInStore, IsUnwritten, MayShow, RefusesView, changed, id_of};
 ghost use Rattle.view_change.specs.declared.answers.Change.TheVariants as asked;
-ghost use Rattle.wol_disk.specs.Disk.{Block, Values, only, settled, reads, LeavesOnly, Rose, IsImageOf};
+ghost use Rattle.wol_disk.specs.Disk.{Block, Values, only, reads, LeavesOnly, Rose, IsImageOf};
 ghost use Rattle.wol_model.specs.Heads.{IsViewList};
 
 use crate::{Change, ChangeRefusal};
@@ -114,9 +114,11 @@ pub fn change<D: Disk>(
 
     // and where it is refused for what was asked or for what was read, nothing was written
     ensures unwritten { IfErr result (λ e. e ≢ ChangeRefusal.Failed
-        → ((state_of D.state label.new).values ≡ (state_of D.state label.old).values)
-        ⊎ ((state_of D.state label.new).values
-        ≡ option_map settled (state_of D.state label.old).values)) }
+        → IsUnwritten (state_of D.state label.old) (state_of D.state label.new)) }
+    // nor where the load failed; a store is begun only behind one that didn't
+    ensures failed { IsErrOf result ChangeRefusal.Failed
+        → IsUnwritten (state_of D.state label.old) (state_of D.state label.new)
+        ⊎ FailsInStore own change.now (state_of D.state label.old) (state_of D.state label.new) }
     ensures told { IsSome (state_of D.state label.old).values
         → IsSome (state_of D.state label.new).values }
     ensures size { (state_of D.state label.new).size ≡ (state_of D.state label.old).size }

@@ -1,9 +1,9 @@
-use Rattle.std.proofs.Common.{◌≢◌, ◌<◌, rules}
+use Rattle.std.proofs.Common.{◌≢◌, ◌<◌, inl, inr, rules}
 use Rattle.std.proofs.lemmas.Result.{err_from_is_err_and}
 use Rattle.wol_disk.specs.Disk.{LeavesOnly, reads}
 use Rattle.spin_model.specs.Spun.{state_of}
 use Rattle.view_change.specs.Changes.{MayShow, id_of}
-use Rattle.view_change.proofs.LabelPart.{load_refused, refused, while_stored, now_stored}
+use Rattle.view_change.proofs.LabelPart.{fails_in_store, load_refused, refused, while_stored, now_stored}
 use Rattle.view_change.proofs.changing.change.Given as given
 use Rattle.view_change.proofs.changing.change.Goals.{After-store_view}
 use Rattle.view_change.proofs.changing.change.Goals as goal
@@ -46,3 +46,14 @@ returns-in-Ok-clause-any_moment g c = storing g (goal.at.returns-in-Ok-clause-an
 
 pub returns-in-Ok-clause-stored : goal.returns-in-Ok-clause-stored
 returns-in-Ok-clause-stored g c = now_stored _ _ _ c.in_ok-new.new c.in_ok-view.ensures.settled c.in-Ok.ensures.settles
+
+pub returns-in_err-view-clause-failed : goal.returns-in_err-view-clause-failed
+returns-in_err-view-clause-failed g c is = inl c.in_err-view.ensures.values
+
+pub returns-in_err-new-clause-failed : goal.returns-in_err-new-clause-failed
+returns-in_err-new-clause-failed g c is = inl (inr c.in_ok-view.ensures.settled)
+
+pub returns-in-Err-clause-failed : goal.returns-in-Err-clause-failed
+returns-in-Err-clause-failed g c is =
+    let v = c.in_ok-view.ensures in let n = c.in_ok-new.ensures.ok in
+    inr (fails_in_store _ _ _ c.args.own c.args.change.now c.in_ok-view.view c.in_ok-new.new v.settled (λ vs at. record { labelled = (_, _, v.label vs at); view = v.view vs at; others = v.others }) n.0 n.1 c.in-Err.ensures.err)
