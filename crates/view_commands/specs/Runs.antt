@@ -16,7 +16,7 @@ use Rattle.volume_images.specs.Volumes.{images_read}
 use Rattle.rack.specs.Closes.{HasFaultyPart, part_named}
 use Rattle.rack.specs.Owners.{IsBegun}
 use Rattle.rack_parts.specs.declared.volume_fault.VolumeFault.{VolumeFault}
-use Rattle.open_rack.specs.NotOpened.{IsFirstClosed, LeavesBay, LeavesViews}
+use Rattle.open_rack.specs.NotOpened.{IsFirstClosed, LeavesViews}
 use Rattle.view_change.specs.declared.answers.Change.{Change}
 use Rattle.view_commands.specs.Orders.{AreNamed, IsOfWords, change_of, unknown_word}
 use Rattle.view_commands.specs.Printed.{PrintsNothing, PrintsView}
@@ -68,11 +68,11 @@ pub record ChangesOpen {T : Type 0} (tells : Bool) (config : Config) (volume : �
   pub fails : (f : Fault) → result ≡ Err (stop.Fault f) → FailsFor tells config volume old new f
   pub known : (r : ViewRefusal) → result ≡ Err (stop.Refused r) → IsOfWords r → ⊥
 
--- The view of a volume was to be changed: there was no memory to open the volumes; or one of them
--- couldn't be opened; or all were open.
+-- The view of a volume was to be changed: there was no memory to open the volumes, or one of them
+-- couldn't be opened, and no view was changed; or all were open.
 pub data ChangesVolume {D : Type 0} (tells : Bool) (state : D → State) (config : Config)
     (volume : ℕ) (change : Change) (old new : BayState) : Result (List ℕ) Stop → Type 0 where
-  never_opened : LeavesBay tells state config old new
+  never_opened : LeavesViews tells state config old new
       → ChangesVolume tells state config volume change old new (Err (stop.Fault Memory))
   one_closed : (k : ℕ) (f : VolumeFault) → IsFirstClosed tells state config old new k f
       → LeavesViews tells state config old new
@@ -84,7 +84,7 @@ pub data ChangesVolume {D : Type 0} (tells : Bool) (state : D → State) (config
       → ChangesVolume tells state config volume change old new result
 
 -- The same by names, with what is printed: a word names no volume; or there was no memory to open
--- the volumes; or one of them couldn't be opened; or all were open.
+-- the volumes, or one of them couldn't be opened, and no view was changed; or all were open.
 pub data ChangesView {D : Type 0} (tells : Bool) (state : D → State) (config : Config)
     (order : Order) (old new : BayState) (faults faults' : ℕ) (printed printed' : Option (List ℕ)) :
     Result (Unit {0}) Stop → Type 0 where
@@ -93,7 +93,7 @@ pub data ChangesView {D : Type 0} (tells : Bool) (state : D → State) (config :
       → ChangesView tells state config order old new faults faults' printed printed'
       (Err (stop.Refused r))
   no_memory : (volume logger : ℕ) → AreNamed config order volume logger
-      → PrintsNothing faults faults' printed printed' → LeavesBay tells state config old new
+      → PrintsNothing faults faults' printed printed' → LeavesViews tells state config old new
       → ChangesView tells state config order old new faults faults' printed printed'
       (Err (stop.Fault Memory))
   closed : (volume logger k : ℕ) (f : VolumeFault) → AreNamed config order volume logger

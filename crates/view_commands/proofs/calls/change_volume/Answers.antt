@@ -17,7 +17,7 @@ was_done g c = cc
 pub returns-in_err-answer-clause-content : goal.returns-in_err-answer-clause-content
 returns-in_err-answer-clause-content g c =
     let p = err_from_is_err_and c.from_residual.result c.from_residual.ensures.1 in
-    rw (p.1, p.2) (runs.never_opened (record { left = c.in_err-answer.ensures.left; sound = c.in_err-answer.ensures.sound }))
+    rw (p.1, p.2) (runs.never_opened (record { bay = record { left = c.in_err-answer.ensures.left; sound = c.in_err-answer.ensures.sound }; views = c.in_err-answer.ensures.views }))
 
 pub change_image-requires-clause-home : goal.change_image-requires-clause-home
 change_image-requires-clause-home g c = λ v conf.
