@@ -33,6 +33,7 @@ use Rattle.cleaning.specs.Racks as racks
 use Rattle.cleaning.specs.Runs.{CleansBay, Completes, KeepsArrays, MayComplete}
 use Rattle.cleaning.specs.Runs as runs
 use Rattle.cleaning.proofs.Closed.{first_refused, none_first}
+use Rattle.cleaning.proofs.Uncleaned.{cleans_nothing}
 use Rattle.cleaning.proofs.Volumes.{all_out, all_out_after}
 use Rattle.cleaning.proofs.Whole.{ends_for, kept_by, later_told, run_completes}
 
@@ -114,7 +115,7 @@ module _ {D : Type 0} (tells : Bool) (state : D → State) (config : Config) (di
     pub cleans_by : (answer : Result (Unit {0}) Stop) → CleansRack tells state config session.before session.after sink sink' printed printed' answer → CleansBay tells state config old new sink sink' printed printed' answer
     cleans_by answer (racks.closed f is same calm kept) =
         let (k, g, told, first) = first_refused tells state config did old new spindles session f is in
-        subst (λ (x : Fault). CleansBay tells state config old new sink sink' printed printed' (Err (stop.Fault x))) (sym told) (runs.closed k g calm kept first)
+        subst (λ (x : Fault). CleansBay tells state config old new sink sink' printed printed' (Err (stop.Fault x))) (sym told) (runs.closed k g calm (cleans_nothing tells state config did old new spindles session same printed printed' kept) first)
     cleans_by answer (racks.ran r open_ worked all) =
         runs.ran r (ends_for tells state config did old new spindles session open_ sink sink' printed printed' r all) (kept_by tells state config did old new spindles session open_ sink sink' printed printed' r all)
 

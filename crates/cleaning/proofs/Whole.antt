@@ -79,7 +79,7 @@ lacks_versions tells state most old new b stands opening has =
 -- ---- What is told in two steps
 
 -- what is told of the last
-told_of : (P Q : Told → Type 0) → ((y : Told) → P y → Q y) → (o n : Option Told) → IsTold (λ x y. P y) o n → IsTold (λ x y. Q y) o n
+pub told_of : (P Q : Told → Type 0) → ((y : Told) → P y → Q y) → (o n : Option Told) → IsTold (λ x y. P y) o n → IsTold (λ x y. Q y) o n
 told_of P Q f None n is = is
 told_of P Q f (Some o) None is = is
 told_of P Q f (Some o) (Some n) is = f n is

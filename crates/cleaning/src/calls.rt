@@ -3,9 +3,9 @@ ghost use Rattle.cleaning.specs.Lines.{fault_of};
 ghost use Rattle.cleaning.specs.Racks.{CanCleanAll, CleansAll, IsWorked};
 ghost use Rattle.cleaning.specs.Runs.{CleansBay, Completes, MayComplete};
 ghost use Rattle.open_rack.specs.NotOpened.{LeavesBay};
-ghost use Rattle.rack.specs.Opens.{KeepsOthers};
+ghost use Rattle.rack.specs.Opens.{KeepsOthers, KeepsViews};
 ghost use Rattle.replay.specs.declared.stop.Stop.TheVariants.{Fault as fault};
-ghost use Rattle.std.specs.Prelude.{◌≡◌, ◌≤◌};
+ghost use Rattle.std.specs.Prelude.{◌≡◌, ◌≤◌, IsTrue};
 ghost use Rattle.volume_images.specs.Left.{IsTold};
 ghost use Rattle.volume_images.specs.Volumes.{NoneOut};
 ghost use Rattle.wol_bay.specs.Bay.{outs};
@@ -123,6 +123,9 @@ pub fn clean_volumes<R: Wait, K: Sink, B: Bay>(
     // call of a disk failed
     ensures leaves { LeavesBay B.Part.tells B.Part.state config.now
         (B.state bay.old) (B.state bay.new) }
+    // no label or view is changed
+    ensures views { IsTrue B.Part.tells
+        → IsTold (KeepsViews config.now) (B.state bay.old).told (B.state bay.new).told }
     // images of names that aren't configured are as they were
     ensures others { IsTold (KeepsOthers config.now)
         (B.state bay.old).told (B.state bay.new).told }

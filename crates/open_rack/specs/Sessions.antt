@@ -1,6 +1,6 @@
 -- All volumes of a bay are opened, something is done with them, and they are closed. `old` is the
 -- bay before, `bay` the bay while they are open, `new` the bay behind.
-use Rattle.std.specs.Prelude.{◌≡◌, ◌<◌, ◌≤◌, ◌++◌, ℕ, Bool, List, length, None, Some, All, IfSome, IsTrue, slice_get}
+use Rattle.std.specs.Prelude.{◌≡◌, ◌<◌, ◌≤◌, ◌++◌, ℕ, Bool, List, length, Option, None, Some, All, IfSome, IsTrue, slice_get}
 use Rattle.wol_disk.specs.Disk.{State, Rose}
 use Rattle.wol_model.specs.Images.{AreSound, Images, all_segments}
 use Rattle.wol_model.specs.Index.{Listed}
@@ -13,15 +13,23 @@ use Rattle.manager.specs.declared.part.Part.{Part}
 use Rattle.manager_recovery.specs.declared.refusal.OpenRefusal.TheVariants.{DiskFault}
 use Rattle.volume_images.specs.Left.{IsTold}
 use Rattle.volume_images.specs.Volumes.{AreLeft, images_read, shapes_of}
-use Rattle.rack.specs.Closes.{AreLeftOfParts, AreListedOf, CameBackFaulty, IsClosedSpindle, IsClosedVolume, IsQuiet, LeavesOpen, LeavesUnopened, ListsFaulty, SharePools}
+use Rattle.rack.specs.Closes.{AreLeftOfParts, AreListedOf, CameBackFaulty, IsClosedSpindle, IsClosedVolume, IsQuiet, LeavesOpen, LeavesUnopened, ListsFaulty, SharePools, segments_out}
 use Rattle.rack.specs.Opens.{AreRefused, BeganWith, LeavesAll, RefusesVolume, WereThere}
 use Rattle.rack.specs.Owners.{HadRefused}
 use Rattle.rack.specs.Racks.{AreUnused, IsRack, IsUnused, KeepToViews}
 use Rattle.rack.specs.Rests.{IsImageOut, image_here}
+use Rattle.rack_parts.specs.declared.rack.ImageRest.{ImageRest}
 use Rattle.rack_parts.specs.declared.rack.Rack.{Rack}
 use Rattle.rack_parts.specs.declared.volume_fault.VolumeFault.{VolumeFault}
 use Rattle.rack_parts.specs.declared.volume_fault.VolumeFault.TheVariants.{Refused}
 use Rattle.open_rack.specs.Again.{IsRackAgain}
+
+-- whatever images a crash leaves, the records of volume v that keep a block in those of the images
+-- that are out with these are the listed ones
+abbrev pub LeavesRecordsIn : {D : Type 0} → Config → List (Option (ImageRest D)) → (v : ℕ)
+    → (listed : List Listed) → Told → Type 0
+LeavesRecordsIn config out v listed left = (images : Images) → AreLeft config left images
+    → AreListedOf listed (extents_of v (segments_out config out images))
 
 -- whatever images a crash leaves, the records of volume v that keep a block in them are these
 abbrev pub LeavesRecords : Config → (v : ℕ) → List Listed → Told → Type 0

@@ -3,6 +3,7 @@ use Rattle.std.proofs.lemmas.Result.{err_from_is_err_and}
 use Rattle.wol_io.proofs.Appending.{keeps_same}
 use Rattle.cleaning.specs.Runs.{unopened}
 use Rattle.cleaning.proofs.Leaving.{cleans_by, completes_by, left_by}
+use Rattle.cleaning.proofs.Uncleaned.{views_kept}
 use Rattle.cleaning.proofs.calls.clean_volumes.Goals as goal
 
 pub returns-in_err-closed-clause-leaves : goal.returns-in_err-closed-clause-leaves
@@ -20,6 +21,9 @@ returns-in_err-closed-clause-complete g c =
 
 pub returns-clause-leaves : goal.returns-clause-leaves
 returns-clause-leaves g c = let session = c.in_ok-closed.ensures.did in record { left = left_by _ _ _ _ _ _ _ session _ _ _ _ _ session.done.1; sound = c.with_open.ensures.sound }
+
+pub returns-clause-views : goal.returns-clause-views
+returns-clause-views g c = views_kept _ _ _ _ _ _ _ c.in_ok-closed.ensures.did
 
 pub returns-clause-cleans : goal.returns-clause-cleans
 returns-clause-cleans g c = let session = c.in_ok-closed.ensures.did in cleans_by _ _ _ _ _ _ _ session _ _ _ _ _ session.done.1
