@@ -7,6 +7,7 @@ use Rattle.turn_lock.specs.Histories.{Entry, own, Begins}
 use Rattle.turn_lock.specs.LockIds.{LockId}
 use Rattle.turn_lock.specs.Passes.{pass_lock, pass_number, pass_seen, pass_mine, IsSamePass}
 use Rattle.wol_model.specs.History.{Operation, Kept, IsHelp}
+use Rattle.wol_model.specs.Index.{listed_in}
 use Rattle.wol_promise.specs.Policy.{Look}
 use Rattle.wol_promise.specs.Ruled.{Noted}
 use Rattle.wol_config.specs.declared.config.Config.{Config}
@@ -48,18 +49,19 @@ has_added tells p i q n same begins mine owns left = record {
 -- from entering, looking and leaving
 pub has_looked : {D : Type 0} (tells : Bool) (state : D → State) (config : Config) (asked : Asked) (number : ℕ) (old new : Manager D) (p i q : ManagerPass D) (answer : Result (Unit {0}) DumpFault) (before after : List ℕ)
     → IsSamePass p i → Begins (pass_seen p) (pass_seen i) → pass_mine i ≡ pass_mine p → own (pass_number i) (pass_seen i) ≡ pass_mine i
-    → Stands tells state old (pass_lock i).base (notes_seen i)
+    → Stands tells state old (pass_lock i).base (notes_seen i) → new.index ≡ old.index
     → (IsTrue tells → OnOk answer (AppendsAsked config asked number old (pass_lock i).base (notes_seen i) before after))
     → HasLeft tells (note_told (pass_number i) (was_told answer) (look_of_manager new)) i q
     → ((d : Part) → new.down ≡ Some d → WasDown d (notes_seen q)) → ((d : Part) → answer ≡ Err (DiskFault d) → new.down ≡ Some d) → ((d : Part) → answer ≡ Err (Down d) → new.down ≡ Some d)
     → LooksAt tells state config asked number p q answer before after
-has_looked {D} tells state config asked number old new p i q answer before after same begins mine owns stands content left broken failed down = record {
+has_looked {D} tells state config asked number old new p i q answer before after same begins mine owns stands index content left broken failed down = record {
   before = pass_seen i;
   note = note_told (pass_number i) (was_told answer) (look_of_manager new);
   added = has_added tells p i q (note_told (pass_number i) (was_told answer) (look_of_manager new)) same begins mine owns left;
   operation = refl;
   manager = old;
   stands = subst (λ (l : LockId ManagerBase). Stands tells state old l.base (notes_seen i)) same.0 stands;
+  listed = ap (λ (x : _). listed_in x.entries) index;
   content = subst (λ (l : LockId ManagerBase). IsTrue tells → OnOk answer (AppendsAsked config asked number old l.base (notes_seen i) before after)) same.0 content;
   broken = breaks answer (notes_seen q) (λ d is. broken d (failed d is)) (λ d is. broken d (down d is));
 }

@@ -14,10 +14,13 @@ use Rattle.wol_config.specs.declared.config.VolumeConf.{VolumeConf}
 use Rattle.wol_config.specs.Documents.{names_of}
 use Rattle.wol_model.specs.Images.{recovered_from}
 use Rattle.wol_model.proofs.Overlay.{after_none}
-use Rattle.wol_model.specs.Index.{Indexed}
+use Rattle.wol_model.specs.History.{Operation, flight_from, flight_of}
+use Rattle.wol_model.specs.Index.{Indexed, Listed}
+use Rattle.wol_model.specs.Recovered.{extents_of}
 use Rattle.wol_promise.proofs.Lists.{all_member}
 use Rattle.wol_promise.specs.Policy.{Look, PartName}
-use Rattle.wol_promise.specs.Ruled.{Noted, last_look}
+use Rattle.wol_promise.specs.Manager.{Base}
+use Rattle.wol_promise.specs.Ruled.{Noted, entries_of, last_look}
 use Rattle.manager.specs.Seen.{name_of}
 use Rattle.manager.specs.Stands.{AreStill, Stands, notes_of}
 use Rattle.manager.specs.declared.part.Part.{Part}
@@ -40,20 +43,23 @@ use Rattle.request_turns.proofs.Gaining.{down_breaks}
 use Rattle.request_turns.proofs.Noting.{notes_at}
 use Rattle.volume_images.specs.Left.{IsTold}
 use Rattle.volume_images.specs.Volumes.{shape_in, shapes_of}
-use Rattle.rack.specs.Closes.{HasFaultyPart, IsClosedVolume, part_named}
+use Rattle.rack.specs.Closes.{AreListedOf, HasFaultyPart, IsClosedVolume, RecoversTo, part_named, segments_out}
 use Rattle.rack.proofs.FailedParts.{faulty_since}
-use Rattle.rack.specs.Opens.{BeganWith}
+use Rattle.rack.specs.Opens.{BeganWith, HasFaulty}
 use Rattle.rack.specs.Owners.{BeganInPlace, IsBegun, StandAsRead, images_taken}
 use Rattle.rack.specs.Rests.{IsImageOut}
 use Rattle.rack.specs.Racks.{IsOpenBase, IsStation, IsUnused, NamesVolumes, base_of_station}
+use Rattle.rack_parts.specs.declared.rack.ImageRest.{ImageRest}
 use Rattle.rack_parts.specs.declared.rack.Rack.{Rack}
+use Rattle.rack_parts.specs.declared.rack.Rest.{Rest}
 use Rattle.rack_parts.specs.declared.volume_fault.VolumeFault.{VolumeFault}
 use Rattle.open_rack.specs.Sessions.{OpensAndCloses}
+use Rattle.open_rack.proofs.RacksAgain.{rest_again}
 use Rattle.open_rack.proofs.Since.{rose_before}
 use Rattle.spin_model.specs.Spindles.{SpindleView}
 use Rattle.inspection.specs.Looks.{AppendsAsked, BreaksIn}
 use Rattle.inspection.specs.Lines.{Telling, TellsFailed, IsTelling, LooksAtVolume, trouble_line}
-use Rattle.inspection.specs.Runs.{AreLinesOf, IsInOrder, IsToldOf}
+use Rattle.inspection.specs.Runs.{AreLinesOf, IsInOrder, IsToldOf, LeavesRecordsOut}
 use Rattle.inspection.specs.declared.asked.Asked.{Asked}
 use Rattle.inspection.specs.declared.asked.Asked.TheVariants.{Check, Dump}
 use Rattle.inspection.proofs.Opened.{rose_of}
@@ -196,12 +202,34 @@ module _ {D : Type 0} (tells : Bool) (state : D → State) (config : Config) (as
       ∙ ap (λ (n : ℕ). check_text (name_at (names_of config.volumes.items) k) (recovered_from (shapes_of config) (images_taken config before.rest.images.items t) k) n (held_segments m)) (listed_is t m b is_begun stands)
   lines_of Dump t k m b text is is_begun stands lines = lines
 
-  in_order : (k : ℕ) (text : List ℕ) (look : LooksAtVolume tells state config asked before after k (Ok tt) text) (t : Told) → IsTrue tells → BeganWith state config t before
-      → IsInOrder tells state config asked before.rest.images.items t k text
-  in_order k text look t told is =
+  -- the manager that was looked at stood for no entries
+  stood : (k : ℕ) (text : List ℕ) (look : LooksAtVolume tells state config asked before after k (Ok tt) text) → Stands tells state look.looks.manager (base_of_station look.station) []
+  stood k text look = subst (λ (b : ManagerBase). Stands tells state look.looks.manager b []) (based k (Ok tt) text look)
+      (subst (λ (es : List Entry). Stands tells state look.looks.manager (pass_lock look.station.worker).base (notes_of es)) (nothing k (Ok tt) text look) look.looks.stands)
+
+  -- a crash leaves the records with which the volume was opened
+  records_left : (k : ℕ) (text : List ℕ) (look : LooksAtVolume tells state config asked before after k (Ok tt) text) (y : Told)
+      → RecoversTo config after.rest.images.items (record look.station { worker = look.pass }) (ends k (Ok tt) text look).entries y
+      → LeavesRecordsOut config before.rest.images.items k (base_of_station look.station).volume.began.look.listed y
+  records_left k text look y recovers images left =
+      let n = look.looks.note in
+      let began : Base = (base_of_station look.station).volume.began in
+      let entries : List Entry = (ends k (Ok tt) text look).entries in
+      let are : notes_of entries ≡ n ∷ [] = ap notes_of (only k (Ok tt) text look) ∙ notes_at [] n.entry.pass n refl in
+      let calm : flight_of (entries_of (notes_of entries)) ≡ None = ap (λ (ns : List Noted). flight_of (entries_of ns)) are ∙ ap (λ (o : Operation). flight_from o None) look.looks.operation in
+      let same : (last_look began.look (notes_of entries)).listed ≡ began.look.listed
+      = ap (λ (ns : List Noted). (last_look began.look ns).listed) are ∙ look.looks.listed ∙ sym (ap (λ (l : Look). l.listed) (stood k text look).look) in
+      let out_is : after.rest.images.items ≡ before.rest.images.items = ap (λ (r : Rest D). r.images.items) (rest_again state config before after session.again) in
+      subst (λ (v : ℕ). AreListedOf began.look.listed (extents_of v (segments_out config before.rest.images.items images))) look.is_station.id
+      (subst (λ (out : List (Option (ImageRest D))). AreListedOf began.look.listed (extents_of look.station.id (segments_out config out images))) out_is
+      (subst (λ (es : List Listed). AreListedOf es (extents_of look.station.id (segments_out config after.rest.images.items images))) same (recovers.listed images left calm)))
+
+  in_order : (k : ℕ) (text : List ℕ) (look : LooksAtVolume tells state config asked before after k (Ok tt) text) (t y : Told) → IsTrue tells → BeganWith state config t before
+      → RecoversTo config after.rest.images.items (record look.station { worker = look.pass }) (ends k (Ok tt) text look).entries y
+      → IsInOrder tells state config asked before.rest.images.items t y k text
+  in_order k text look t y told is recovers =
       let begun = all_at (λ (s : Station D). IsBegun config (images_taken config before.rest.images.items t) (base_of_station s).volume.began) before.stations.items look.place look.station is.stations look.is_station.there in
-      let stands : Stands tells state look.looks.manager (base_of_station look.station) [] = subst (λ (b : ManagerBase). Stands tells state look.looks.manager b []) (based k (Ok tt) text look)
-      (subst (λ (es : List Entry). Stands tells state look.looks.manager (pass_lock look.station.worker).base (notes_of es)) (nothing k (Ok tt) text look) look.looks.stands) in record {
+      let stands = stood k text look in record {
         base = base_of_station look.station;
         manager = look.looks.manager;
         owner = owner k (Ok tt) text look;
@@ -213,12 +241,16 @@ module _ {D : Type 0} (tells : Bool) (state : D → State) (config : Config) (as
         lines_ = lines_of asked t k look.looks.manager (base_of_station look.station) text (owner k (Ok tt) text look) begun stands
             (subst (λ (b : ManagerBase). AppendsAsked config asked k look.looks.manager b [] [] text) (based k (Ok tt) text look)
             (subst (λ (es : List Entry). AppendsAsked config asked k look.looks.manager (pass_lock look.station.worker).base (notes_of es) [] text) (nothing k (Ok tt) text look) (look.looks.content told)));
+        records = records_left k text look y recovers;
       }
 
-  if_told : (o : Option Told) (k : ℕ) (text : List ℕ) (look : LooksAtVolume tells state config asked before after k (Ok tt) text) → IsTrue tells → IfSome o (λ t. BeganWith state config t before)
-      → IfSome o (λ t. IsInOrder tells state config asked before.rest.images.items t k text)
-  if_told None k text look told is = tt
-  if_told (Some t) k text look told is = in_order k text look t told is
+  if_told : (o b n : Option Told) (k : ℕ) (text : List ℕ) (look : LooksAtVolume tells state config asked before after k (Ok tt) text) → IsTrue tells → IfSome o (λ t. BeganWith state config t before) → IsTold HasFaulty o b
+      → IsTold (λ x y. RecoversTo config after.rest.images.items (record look.station { worker = look.pass }) (ends k (Ok tt) text look).entries y) b n → IsTold (λ t y. IsInOrder tells state config asked before.rest.images.items t y k text) o n
+  if_told None None n k text look told is had recovers = recovers
+  if_told None (Some b) n k text look told is had recovers = absurd (cc had)
+  if_told (Some t) None n k text look told is had recovers = absurd had
+  if_told (Some t) (Some b) None k text look told is had recovers = absurd recovers
+  if_told (Some t) (Some b) (Some y) k text look told is had recovers = in_order k text look t y told is recovers
 
   was_down : (k : ℕ) (answer : Result (Unit {0}) DumpFault) (part : _) → (answer ≡ Err (dump.DiskFault part)) ⊎ (answer ≡ Err (dump.Down part)) → (notes : List Noted) → BreaksIn answer notes → WasDown part notes
   was_down k answer part (inl is) notes b = subst (λ (a : Result (Unit {0}) DumpFault). BreaksIn a notes) is b
@@ -243,7 +275,7 @@ module _ {D : Type 0} (tells : Bool) (state : D → State) (config : Config) (as
         text = fault.text;
       })
   told_of k t within (inr (inl order)) = inr (inl (record {
-    lines_ = λ told. if_told old.told k t.text order.looked told (session.opened.began told);
+    lines_ = λ told. if_told old.told session.bay.told new.told k t.text order.looked told (session.opened.began told) session.opened.faulty ((ends k (Ok tt) t.text order.looked).recovers told);
     trouble = order.trouble;
   }))
   told_of k t within (inr (inr is)) = inr (inr (record {

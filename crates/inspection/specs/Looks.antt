@@ -3,6 +3,7 @@ use Rattle.std.specs.Prelude.{◌≡◌, ◌<◌, ◌++◌, ◌∷◌, ℕ, Bool
 use Rattle.std.specs.List.{AllByRecursion}
 use Rattle.wol_disk.specs.Disk.{State}
 use Rattle.wol_model.specs.History.{Operation}
+use Rattle.wol_model.specs.Index.{listed_in}
 use Rattle.wol_promise.specs.Policy.{Look}
 use Rattle.wol_promise.specs.Ruled.{Noted}
 use Rattle.wol_config.specs.Documents.{names_of}
@@ -83,6 +84,8 @@ pub record LooksAt {D : Type 0} (tells : Bool) (state : D → State) (config : C
   pub operation : note.entry.operation ≡ was_told answer
   pub manager : Manager D
   pub stands : Stands tells state manager (pass_lock p).base (notes_of before)
+  -- the turn left its records as they were listed
+  pub listed : note.look.listed ≡ listed_in manager.index.entries
   pub content : IsTrue tells → OnOk answer
       (AppendsAsked config asked number manager (pass_lock p).base (notes_of before) old new)
   pub broken : BreaksIn answer (notes_of (pass_seen q))

@@ -2,7 +2,9 @@
 use Rattle.std.specs.Prelude.{◌≡◌, ◌≢◌, ◌⊎◌, ◌≤◌, ℕ, Bool, List, [], length, Option, None, Some, Result, Ok, Err, IfSome, slice_get, IsTrue}
 use Rattle.std.specs.List.{AllByRecursion}
 use Rattle.wol_disk.specs.Disk.{State, Rose}
-use Rattle.wol_model.specs.Images.{recovered_from}
+use Rattle.wol_model.specs.Images.{AreSound, Images, recovered_from}
+use Rattle.wol_model.specs.Index.{Listed}
+use Rattle.wol_model.specs.Recovered.{extents_of}
 use Rattle.wol_bay.specs.Bay.{Told, BayState}
 use Rattle.wol_promise.specs.Manager.{Base}
 use Rattle.wol_promise.specs.Policy.{PartName}
@@ -21,8 +23,8 @@ use Rattle.report.specs.Troubles.{trouble_status}
 use Rattle.report.specs.declared.trouble.Trouble.{Trouble}
 use Rattle.troubles.specs.Troubles.{trouble_of, trouble_of_part}
 use Rattle.volume_images.specs.Left.{IsTold}
-use Rattle.volume_images.specs.Volumes.{shapes_of}
-use Rattle.rack.specs.Closes.{CameBackFaulty, HasFaultyPart, part_named}
+use Rattle.volume_images.specs.Volumes.{AreLeft, images_read, shapes_of}
+use Rattle.rack.specs.Closes.{AreListedOf, CameBackFaulty, HasFaultyPart, part_named, segments_out}
 use Rattle.rack.specs.Opens.{RefusesVolume, WereThere}
 use Rattle.rack.specs.Owners.{images_taken, IsBegun, StandAsRead}
 use Rattle.rack.specs.Racks.{NamesVolumes}
@@ -48,12 +50,20 @@ AreLinesOf config Check out t number b m text =
     (held_segments m)
 AreLinesOf config Dump out t number b m text = IsDump config number m [] text
 
+-- whatever images a crash leaves, the records of volume v that keep a block in those that are out
+-- are these
+abbrev pub LeavesRecordsOut : {D : Type 0} → Config → (out : List (Option (ImageRest D))) → (v : ℕ)
+    → List Listed → Told → Type 0
+LeavesRecordsOut config out v records left = (images : Images) → AreLeft config left images
+    → AreListedOf records (extents_of v (segments_out config out images))
+
 -- A volume in order: a manager that stands for what the images as they read recover to, where an
 -- image that was refused gives no segments, and its lines. Each of its records stands where those
--- images have it: in the segment and at the block that `dump` names.
+-- images have it: in the segment and at the block that `dump` names. The records with which it was
+-- opened are left.
 pub record IsInOrder {D : Type 0} (tells : Bool) (state : D → State) (config : Config)
-    (asked : Asked) (out : List (Option (ImageRest D))) (t : Told) (number : ℕ) (text : List ℕ) :
-    Type 0 where
+    (asked : Asked) (out : List (Option (ImageRest D))) (t left : Told) (number : ℕ)
+    (text : List ℕ) : Type 0 where
   pub base : ManagerBase
   pub manager : Manager D
   pub owner : base.volume.began.owner ≡ number
@@ -63,6 +73,7 @@ pub record IsInOrder {D : Type 0} (tells : Bool) (state : D → State) (config :
   pub places : StandAsRead config (images_taken config out t) number base.volume.began.view
       manager.index.entries
   pub lines_ : AreLinesOf config asked out t number base.volume.began manager text
+  pub records : LeavesRecordsOut config out number base.volume.began.look.listed left
 
 -- a volume that wasn't opened, with the line of its fault, which is the first cause
 pub record TellsRefusal {D : Type 0} (tells : Bool) (state : D → State) (config : Config)
@@ -100,10 +111,11 @@ pub record TellsPart {D : Type 0} (tells : Bool) (config : Config)
 
 -- a volume in order, with its lines where the bay told its images
 pub record TellsLines {D : Type 0} (tells : Bool) (state : D → State) (config : Config)
-    (asked : Asked) (out : List (Option (ImageRest D))) (old : BayState) (number : ℕ)
+    (asked : Asked) (out : List (Option (ImageRest D))) (old new : BayState) (number : ℕ)
     (t : Telling) : Type 0 where
   pub lines_ : IsTrue tells
-      → IfSome old.told (λ images. IsInOrder tells state config asked out images number t.text)
+      → IsTold (λ entry left. IsInOrder tells state config asked out entry left number t.text)
+      old.told new.told
   pub trouble : t.trouble ≡ None
 
 -- what is told of a volume
@@ -111,7 +123,7 @@ abbrev pub IsToldOf : {D : Type 0} → (tells : Bool) → (D → State) → Conf
     → (out : List (Option (ImageRest D))) → (old new : BayState) → (number : ℕ) → Telling → Type 0
 IsToldOf tells state config asked out old new number t =
     TellsRefusal tells state config out old new number t
-    ⊎ TellsLines tells state config asked out old number t
+    ⊎ TellsLines tells state config asked out old new number t
     ⊎ TellsPart tells config out old new number t
 
 -- Looking at all volumes: what was told of the first of them, or of all, and how it was printed.

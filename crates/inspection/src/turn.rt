@@ -48,6 +48,7 @@ fn append_asked<D: Disk, R: Wait>(
         → Keeps D.tells D.state manager.old b notes
         → OnOk result
         (AppendsAsked config.now asked volume manager.old b notes out.old.items out.new.items) }
+    ensures index { manager.new.index ≡ manager.old.index }
     ensures err { OnErr result (out.new.items ≡ out.old.items) }
     ensures down { (p : Part) → result ≡ Err (DumpFault.Down p) → manager.new.down ≡ Some p }
     ensures failed { (p : Part) → result ≡ Err (DumpFault.DiskFault p) → manager.new.down ≡ Some p }

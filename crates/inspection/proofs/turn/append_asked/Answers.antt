@@ -5,6 +5,12 @@ use Rattle.manager.specs.declared.manager.Manager.{Manager}
 use Rattle.inspection.proofs.Looking.{dump_kept}
 use Rattle.inspection.proofs.turn.append_asked.Goals as goal
 
+pub returns-in-Check-clause-index : goal.returns-in-Check-clause-index
+returns-in-Check-clause-index g c = c.check_line.ensures.read.index
+
+pub returns-in-Dump-clause-index : goal.returns-in-Dump-clause-index
+returns-in-Dump-clause-index g c = ap (λ (m : Manager _). m.index) c.dump_lines.ensures.unchanged
+
 pub returns-in-Check-clause-down : goal.returns-in-Check-clause-down
 returns-in-Check-clause-down g c p is =
     let r = c.check_line.ensures in let was = (r.down p).0 is in ap (λ (m : Manager _). m.down) (r.unchanged (ap is_some was)) ∙ was

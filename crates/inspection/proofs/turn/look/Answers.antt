@@ -24,7 +24,7 @@ leave_told-requires-clause-value g c =
 pub returns-clause-looks : goal.returns-clause-looks
 returns-clause-looks g c =
     let e = c.enter-turn.ensures in let r = c.append_asked-answer.ensures in let l = c.leave_told.ensures in
-    has_looked _ _ _ _ _ c.enter-turn.result.value c.append_asked-answer.new.manager c.args.pass.now c.enter-turn.new.pass _ _ _ _ e.same e.seen e.mine e.own e.value (λ t. r.content t _ _ e.value.keeps) l.left l.broken r.failed r.down
+    has_looked _ _ _ _ _ c.enter-turn.result.value c.append_asked-answer.new.manager c.args.pass.now c.enter-turn.new.pass _ _ _ _ e.same e.seen e.mine e.own e.value r.index (λ t. r.content t _ _ e.value.keeps) l.left l.broken r.failed r.down
 
 pub returns-clause-known : goal.returns-clause-known
 returns-clause-known g c p is =
