@@ -20,7 +20,7 @@ use Rattle.rack.specs.Racks.{IsRack}
 use Rattle.rack.specs.Rests.{IsImageOut}
 use Rattle.rack_parts.specs.declared.rack.Rack.{Rack}
 use Rattle.rack.proofs.StillThere.{kept_home, there_left}
-use Rattle.open_rack.specs.Sessions.{OpensAndCloses}
+use Rattle.open_rack.specs.Sessions.{KeepsArrays, OpensAndCloses}
 use Rattle.spin_model.specs.Spindles.{SpindleView}
 use Rattle.open_rack.specs.NotOpened.{first_closed}
 use Rattle.replay.specs.declared.stop.Stop.{Stop}
@@ -30,7 +30,7 @@ use Rattle.replay.proofs.RacksServed.{a_member, station_count}
 use Rattle.replay.proofs.RunClosed.{quiet_all}
 use Rattle.cleaning.specs.Racks.{CanCleanAll, CleansRack}
 use Rattle.cleaning.specs.Racks as racks
-use Rattle.cleaning.specs.Runs.{CleansBay, Completes, KeepsArrays, MayComplete}
+use Rattle.cleaning.specs.Runs.{CleansBay, Completes, MayComplete}
 use Rattle.cleaning.specs.Runs as runs
 use Rattle.cleaning.proofs.Closed.{first_refused, none_first}
 use Rattle.cleaning.proofs.Uncleaned.{cleans_nothing}

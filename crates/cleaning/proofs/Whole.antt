@@ -27,7 +27,7 @@ use Rattle.rack.proofs.FailedParts.{faulty_since}
 use Rattle.rack.specs.Opens.{BeganWith, HasFaulty}
 use Rattle.rack.specs.Owners.{IsBegun}
 use Rattle.rack_parts.specs.declared.rack.Rack.{Rack}
-use Rattle.open_rack.specs.Sessions.{LeavesRecords, OpensAndCloses}
+use Rattle.open_rack.specs.Sessions.{KeepsArrays, LeavesRecords, OpensAndCloses}
 use Rattle.spin_model.specs.Spindles.{SpindleView}
 use Rattle.open_rack.specs.NotOpened.{first_closed}
 use Rattle.replay.specs.declared.stop.Stop.{Stop}
@@ -41,7 +41,7 @@ use Rattle.log_cleaner.specs.declared.answer.CleanFault.TheVariants.{DiskFault, 
 use Rattle.log_cleaner.proofs.Cleaning.{rising_push}
 use Rattle.cleaning.specs.Racks.{CleansAll, CleansFirst, CleansRack, CleansStation, all_ok}
 use Rattle.cleaning.specs.Racks as racks
-use Rattle.cleaning.specs.Runs.{AreCleaned, CleansBay, CleansVolume, Completes, EndsFor, KeepsArrays, LacksVersions, LeavesFrom, LeavesVolume, MayComplete}
+use Rattle.cleaning.specs.Runs.{AreCleaned, CleansBay, CleansVolume, Completes, EndsFor, LacksVersions, LeavesFrom, LeavesVolume, MayComplete}
 use Rattle.cleaning.specs.Runs as runs
 use Rattle.cleaning.specs.Turns.{operation_of}
 use Rattle.cleaning.proofs.Going.{ok_at, ok_length}

@@ -6,7 +6,9 @@ use Rattle.wol_disk.specs.Disk.{Rose, State}
 use Rattle.wol_io.specs.Streams.{AppendsFront}
 use Rattle.wol_bay.specs.Bay.{BayState, Told}
 use Rattle.wol_model.specs.History.{worker}
-use Rattle.wol_model.specs.Index.{AreRising, is_covered, listed_in}
+use Rattle.wol_model.specs.Images.{Images}
+use Rattle.wol_model.specs.Index.{AreRising, Listed, is_covered, listed_in}
+use Rattle.wol_model.specs.Recovered.{extents_of}
 use Rattle.wol_promise.specs.Manager.{Base}
 use Rattle.wol_promise.specs.Ruled.{Noted}
 use Rattle.wol_config.specs.declared.config.Config.{Config}
@@ -19,14 +21,14 @@ use Rattle.manager.specs.declared.part.Part.{Part}
 use Rattle.report.specs.declared.fault.Fault.TheVariants.{Memory, Volume}
 use Rattle.troubles.specs.Troubles.{trouble_of}
 use Rattle.volume_images.specs.Left.{IsTold}
-use Rattle.volume_images.specs.Volumes.{images_read}
-use Rattle.rack.specs.Closes.{HasFaultyPart}
+use Rattle.volume_images.specs.Volumes.{AreLeft, images_read}
+use Rattle.rack.specs.Closes.{AreListedOf, HasFaultyPart, segments_out}
 use Rattle.rack.specs.Opens.{RefusesVolume}
 use Rattle.rack.specs.Owners.{IsBegun, images_taken}
 use Rattle.rack_parts.specs.declared.rack.ImageRest.{ImageRest}
 use Rattle.rack_parts.specs.declared.volume_fault.VolumeFault.{VolumeFault}
 use Rattle.open_rack.specs.NotOpened.{IsFirstClosed}
-use Rattle.open_rack.specs.Sessions.{KeepsArrays, LeavesRecords, LeavesRecordsIn}
+use Rattle.open_rack.specs.Sessions.{KeepsArrays, LeavesRecords}
 use Rattle.inspection.specs.Runs as look
 use Rattle.replay.specs.declared.stop.Stop.{Stop}
 use Rattle.replay.specs.declared.stop.Stop.TheVariants as stop
@@ -107,14 +109,6 @@ pub record CleansVolume {D : Type 0} (tells : Bool) (state : D → State) (confi
       → IsTold (HasFaultyPart tells config number base.volume.began.view (name_of p)) old.told
       new.told
   pub spent : answer ≡ Err VersionsSpent → LacksVersions (most_of config) base.volume.began
-
--- Whatever images a crash leaves, each volume recovers to the array that the images before
--- recovered to as they read.
-abbrev pub KeepsArrays : Config → (entry exit : Told) → Type 0
-KeepsArrays config entry exit =
-    (images : Images) → AreLeft config exit images → (v : ℕ) → v < length (shapes_of config)
-    → recovered_from (shapes_of config) images v
-    ≡ recovered_from (shapes_of config) (images_read config entry) v
 
 module _ {D : Type 0} (tells : Bool) (state : D → State) (config : Config) (old new : BayState)
     (sink sink' : ℕ) (printed printed' : Option (List ℕ)) where

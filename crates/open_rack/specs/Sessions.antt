@@ -2,7 +2,7 @@
 -- bay before, `bay` the bay while they are open, `new` the bay behind.
 use Rattle.std.specs.Prelude.{◌≡◌, ◌<◌, ◌≤◌, ◌++◌, ℕ, Bool, List, length, Option, None, Some, All, IfSome, IsTrue, slice_get}
 use Rattle.wol_disk.specs.Disk.{State, Rose}
-use Rattle.wol_model.specs.Images.{AreSound, Images, all_segments}
+use Rattle.wol_model.specs.Images.{AreSound, Images, all_segments, recovered_from}
 use Rattle.wol_model.specs.Index.{Listed}
 use Rattle.wol_model.specs.Recovered.{extents_of}
 use Rattle.wol_bay.specs.Bay.{BayState, Name, Told}
@@ -36,6 +36,14 @@ abbrev pub LeavesRecords : Config → (v : ℕ) → List Listed → Told → Typ
 LeavesRecords config v records left =
     (images : Images) → AreLeft config left images
     → AreListedOf records (extents_of v (all_segments (shapes_of config) images))
+
+-- whatever images a crash leaves, each volume recovers to the array that the images at entry recover
+-- to as they read
+abbrev pub KeepsArrays : Config → (entry left : Told) → Type 0
+KeepsArrays config entry left =
+    (images : Images) → AreLeft config left images → (v : ℕ) → v < length (shapes_of config)
+    → recovered_from (shapes_of config) images v
+    ≡ recovered_from (shapes_of config) (images_read config entry) v
 
 -- what a rack is that was opened, and what it began with
 pub record IsOpened {D : Type 0} (tells : Bool) (state : D → State) (config : Config)

@@ -16,7 +16,7 @@ use Rattle.volume_images.specs.Volumes.{shapes_of}
 use Rattle.rack.specs.Closes.{LeavesNoLog}
 use Rattle.rack.specs.Opens.{HasFaulty, KeepsAllSound, KeepsOthers, LeavesAll}
 use Rattle.rack_parts.specs.declared.rack.Rack.{Rack}
-use Rattle.open_rack.specs.Sessions.{OpensAndCloses}
+use Rattle.open_rack.specs.Sessions.{KeepsArrays, OpensAndCloses}
 use Rattle.inspection.specs.Racks.{IsSameRack}
 use Rattle.inspection.specs.Runs.{MayComplete}
 use Rattle.inspection.proofs.Unhelped.{there_is}
@@ -28,7 +28,7 @@ use Rattle.view_commands.specs.Drains as drains
 use Rattle.view_commands.specs.Images.{ChangesImage, ChangesInBay}
 use Rattle.view_commands.specs.Orders.{IsOfWords}
 use Rattle.view_commands.specs.Runs.{ChangesVolume, Completes}
-use Rattle.view_commands.specs.Views.{KeepsArrays, LeavesThere}
+use Rattle.view_commands.specs.Views.{LeavesThere}
 use Rattle.view_commands.specs.declared.order.Stop.{Stop}
 use Rattle.view_commands.specs.declared.order.Stop.TheVariants as stop
 use Rattle.view_commands.specs.declared.order.ViewRefusal.{ViewRefusal}

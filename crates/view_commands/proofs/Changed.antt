@@ -29,8 +29,9 @@ use Rattle.view_change.specs.Changes.{Allows, changed, id_of}
 use Rattle.view_change.specs.declared.answers.Change.{Change}
 use Rattle.view_change.specs.declared.answers.Change.TheVariants.{Add, Remove}
 use Rattle.view_change.proofs.Ids.{view_with, view_without}
+use Rattle.open_rack.specs.Sessions.{KeepsArrays}
 use Rattle.view_commands.specs.Images.{AnswersFront, ChangesImage, LeavesBy, LeavesNewView, front_of}
-use Rattle.view_commands.specs.Views.{BecomesBy, ChangesViewOf, HasViewIn, KeepsArrays, KeepsOtherViews, LeavesThere, MayChange, MayNotChange}
+use Rattle.view_commands.specs.Views.{BecomesBy, ChangesViewOf, HasViewIn, KeepsOtherViews, LeavesThere, MayChange, MayNotChange}
 use Rattle.view_commands.specs.declared.order.Stop.{Stop}
 use Rattle.view_commands.specs.declared.order.Stop.TheVariants as stop
 use Rattle.view_commands.specs.declared.order.ViewRefusal.{ViewRefusal}

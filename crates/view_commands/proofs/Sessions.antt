@@ -29,7 +29,7 @@ use Rattle.rack.specs.Rests.{IsImageOut, image_here}
 use Rattle.rack_parts.specs.declared.rack.ImageRest.{ImageRest}
 use Rattle.rack_parts.specs.declared.rack.Rack.{Rack}
 use Rattle.rack_parts.specs.declared.volume_fault.VolumeFault.{VolumeFault}
-use Rattle.open_rack.specs.Sessions.{OpensAndCloses}
+use Rattle.open_rack.specs.Sessions.{KeepsArrays, OpensAndCloses}
 use Rattle.open_rack.proofs.Since.{rose_before, unmapped}
 use Rattle.inspection.specs.Racks.{IsSameRack, numbers_of}
 use Rattle.inspection.proofs.Quiet.{all_quiet}
@@ -41,7 +41,6 @@ use Rattle.open_rack.proofs.FirstClosed.{first_refused, none_closed, opened_at, 
 use Rattle.view_commands.specs.Drains.{AllOpen, IsDrained, trouble_of_step}
 use Rattle.view_commands.specs.Runs.{FailsWith}
 use Rattle.view_commands.specs.Runs as runs
-use Rattle.view_commands.specs.Views.{KeepsArrays}
 use Rattle.view_commands.proofs.Emptied.{came}
 use Rattle.view_commands.proofs.Kept.{KeepsFronts}
 

@@ -23,7 +23,7 @@ use Rattle.rack.specs.Opens.{KeepsAllSound, LeavesAll, WasAccepted}
 use Rattle.rack.specs.Owners.{recovered_but}
 use Rattle.rack_parts.specs.declared.rack.Rack.{Rack}
 use Rattle.rack_closing.proofs.SoundBefore.{some_image}
-use Rattle.open_rack.specs.Sessions.{OpensAndCloses}
+use Rattle.open_rack.specs.Sessions.{KeepsArrays, OpensAndCloses}
 use Rattle.open_rack.proofs.FirstClosed.{first_is}
 use Rattle.open_rack.proofs.Since.{rose_before}
 use Rattle.inspection.specs.Racks.{IsSameRack}
@@ -39,7 +39,7 @@ use Rattle.view_commands.specs.Images.{ChangesImage, ChangesInBay, FailsOnImage,
 use Rattle.view_commands.specs.Orders.{IsOfWords}
 use Rattle.view_commands.specs.Runs.{ChangesOpen, ChangesVolume, Completes, FailsFor, FailsWith}
 use Rattle.view_commands.specs.Runs as runs
-use Rattle.view_commands.specs.Views.{ChangesViewOf, HasViewIn, IsDamagedIn, KeepsArrays, LeavesThere}
+use Rattle.view_commands.specs.Views.{ChangesViewOf, HasViewIn, IsDamagedIn, LeavesThere}
 use Rattle.view_commands.specs.declared.order.Stop.{Stop}
 use Rattle.view_commands.specs.declared.order.Stop.TheVariants as stop
 use Rattle.view_commands.specs.declared.order.ViewRefusal.{ViewRefusal}

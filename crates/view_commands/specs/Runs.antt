@@ -17,10 +17,11 @@ use Rattle.rack.specs.Closes.{HasFaultyPart, part_named}
 use Rattle.rack.specs.Owners.{IsBegun}
 use Rattle.rack_parts.specs.declared.volume_fault.VolumeFault.{VolumeFault}
 use Rattle.open_rack.specs.NotOpened.{IsFirstClosed, LeavesViews}
+use Rattle.open_rack.specs.Sessions.{KeepsArrays}
 use Rattle.view_change.specs.declared.answers.Change.{Change}
 use Rattle.view_commands.specs.Orders.{AreNamed, IsOfWords, change_of, unknown_word}
 use Rattle.view_commands.specs.Printed.{PrintsNothing, PrintsView}
-use Rattle.view_commands.specs.Views.{ChangesViewOf, IsDamagedIn, KeepsArrays, LeavesThere}
+use Rattle.view_commands.specs.Views.{ChangesViewOf, IsDamagedIn, LeavesThere}
 use Rattle.view_commands.specs.declared.order.Order.{Order}
 use Rattle.view_commands.specs.declared.order.Stop.{Stop}
 use Rattle.view_commands.specs.declared.order.Stop.TheVariants as stop

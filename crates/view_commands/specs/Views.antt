@@ -3,7 +3,7 @@ use Rattle.std.specs.Prelude.{◌≡◌, ◌≢◌, ◌⊎◌, ◌<◌, ℕ, Lis
 use Rattle.wol_disk.specs.Disk.{Block}
 use Rattle.wol_bay.specs.Bay.{Told}
 use Rattle.wol_config.specs.declared.config.Config.{Config}
-use Rattle.wol_model.specs.Images.{Images, image_of, recovered_from}
+use Rattle.wol_model.specs.Images.{Images, image_of}
 use Rattle.rack.specs.Opens.{IsThere}
 use Rattle.logger_view.specs.Stored.{HasView, IsFirstFault}
 use Rattle.volume_images.specs.Volumes.{images_read, shapes_of, AreLeft}
@@ -48,13 +48,6 @@ KeepsOtherViews config volume entry left =
 abbrev pub LeavesThere : Config → Told → Type 0
 LeavesThere config left = (images : Images) → AreLeft config left images → (v : ℕ)
     → v < length (shapes_of config) → IsThere (shapes_of config) images v
-
--- each volume recovers to what the images at entry recover to as they read
-abbrev pub KeepsArrays : Config → (entry left : Told) → Type 0
-KeepsArrays config entry left = (images : Images) → AreLeft config left images
-    → (v : ℕ) → v < length (shapes_of config)
-    → recovered_from (shapes_of config) images v
-    ≡ recovered_from (shapes_of config) (images_read config entry) v
 
 -- ---- Answers
 
