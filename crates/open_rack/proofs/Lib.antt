@@ -2,3 +2,4 @@ pub mod RacksAgain
 pub mod Since
 pub mod FirstClosed
 pub mod AllOut
+pub mod ViewsKept
