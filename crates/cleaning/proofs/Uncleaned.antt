@@ -1,4 +1,4 @@
--- No label or view is changed. Where one volume wasn't open nothing was done with the rack: what is told of the bay.
+-- One volume wasn't open, and nothing was done with the rack: what is told of the bay.
 use Rattle.std.proofs.Common.{◌≡◌, ◌⊎◌, inl, inr, ◌<◌, ℕ, Bool, List, [], length, map, Option, None, Some, refl, sym, ap, subst, ◌∙◌, arith}
 use Rattle.std.specs.Prelude.{Contains, IfSome, IsTrue, slice_get, slice_index_or}
 use Rattle.std.proofs.lemmas.List.{length-map}
@@ -19,27 +19,19 @@ use Rattle.manager.specs.declared.station.Station.{Station}
 use Rattle.volume_images.specs.Left.{IsTold}
 use Rattle.volume_images.specs.Volumes.{shape_in, shapes_of}
 use Rattle.rack.specs.Closes.{AreLeftOfParts, AreListedOf, IsClosedVolume, RecoversTo, segments_out}
-use Rattle.rack.specs.Opens.{BeganWith, HasFaulty, KeepsViews, RefusesVolume}
-use Rattle.rack.specs.Owners.{HadRefused, IsBegun, images_taken}
+use Rattle.rack.specs.Opens.{BeganWith, HasFaulty, RefusesVolume}
+use Rattle.rack.specs.Owners.{IsBegun, images_taken}
 use Rattle.rack.specs.Racks.{IsStation, IsUnused, base_of_station}
 use Rattle.rack_parts.specs.declared.rack.ImageRest.{ImageRest}
 use Rattle.rack_parts.specs.declared.rack.Rack.{Rack}
 use Rattle.rack_parts.specs.declared.volume_fault.VolumeFault.{VolumeFault}
-use Rattle.open_rack.specs.Sessions.{LeavesRecordsIn, OpensAndCloses}
+use Rattle.open_rack.specs.Sessions.{OpensAndCloses}
 use Rattle.open_rack.proofs.Since.{all_at, unmapped}
 use Rattle.spin_model.specs.Spindles.{SpindleView}
 use Rattle.replay.proofs.MarksLeft.{told_through}
 use Rattle.cleaning.specs.Runs.{CleansNothing, LeavesOpened}
 use Rattle.cleaning.proofs.Histories.{no_entries}
 use Rattle.cleaning.proofs.Whole.{later_told, told_of}
-
--- whatever was done with the rack
-pub views_kept : {D : Type 0} (tells : Bool) (state : D → State) (config : Config) (did : Rack D → Rack D → Type 0) (old new : BayState) (spindles : List SpindleView) → OpensAndCloses tells state config did old new spindles
-    → IsTrue tells → IsTold (KeepsViews config) old.told new.told
-views_kept tells state config did old new spindles session telling =
-    told_left state config session.before session.after (KeepsViews config) (HadRefused config session.before.rest.images.items) old.told session.bay.told new.told
-    (λ entry left began were parts had. views_left state config session.before session.after (rest_again state config session.before session.after session.again) entry left began were parts had)
-    (session.opened.began telling) (session.opened.there telling) session.opened.faulty (session.closed.parts telling) (session.kept telling)
 
 module _ {D : Type 0} (tells : Bool) (state : D → State) (config : Config) (did : Rack D → Rack D → Type 0) (old new : BayState) (spindles : List SpindleView) (session : OpensAndCloses tells state config did old new spindles)
     (unchanged : session.after ≡ session.before) where

@@ -1,9 +1,9 @@
 -- All volumes were opened, and closed behind a drain: what is told of the bay.
-use Rattle.std.proofs.Common.{◌≡◌, inl, inr, ◌<◌, ℕ, Bool, true, false, List, length, Option, None, Some, option_map, Err, refl, sym, ap, ◌∙◌, subst, arith}
+use Rattle.std.proofs.Common.{◌≡◌, ◌<◌, ℕ, Bool, true, false, List, length, Option, None, Some, option_map, Err, refl, sym, ap, ◌∙◌, subst, arith}
 use Rattle.std.specs.Prelude.{slice_get, slice_range, slice_index_or, All, Contains, IfSome, IsSome, IsTrue}
 use Rattle.std.proofs.lemmas.List.{length-map}
-use Rattle.std.proofs.lemmas.Option.{get_or_from_slice_get, same_Some, slice_get-get_or, slice_get-map, slice_get_within}
-use Rattle.wol_disk.specs.Disk.{Block, Rose, State, reads}
+use Rattle.std.proofs.lemmas.Option.{slice_get-get_or, slice_get-map, slice_get_within}
+use Rattle.wol_disk.specs.Disk.{Rose, State, reads}
 use Rattle.wol_bay.specs.Bay.{BayState, Told, at_name}
 use Rattle.wol_promise.specs.Policy.{PartName}
 use Rattle.wol_config.specs.declared.config.Config.{Config}
@@ -20,10 +20,10 @@ use Rattle.report.specs.declared.fault.Fault.TheVariants.{Volume}
 use Rattle.troubles.specs.Troubles.{trouble_of, trouble_of_part}
 use Rattle.spin_model.specs.Spindles.{SpindleView}
 use Rattle.volume_images.specs.Left.{IsTold}
-use Rattle.volume_images.specs.Volumes.{MayLeave, images_read, shape_in, shapes_of}
+use Rattle.volume_images.specs.Volumes.{images_read, shape_in, shapes_of}
 use Rattle.rack.specs.Closes.{AreLeftOfParts, HasFaultyPart, IsClosedVolume, IsQuiet, LeavesOpen, part_named, recovered_out}
-use Rattle.rack.specs.Opens.{BeganWith, HasFaulty, KeepsFront, KeepsViews, WereThere}
-use Rattle.rack.specs.Owners.{HadRefused, IsBegun, images_taken}
+use Rattle.rack.specs.Opens.{BeganWith, HasFaulty, WereThere}
+use Rattle.rack.specs.Owners.{IsBegun, images_taken}
 use Rattle.rack.specs.Racks.{IsStation, base_of_station}
 use Rattle.rack.specs.Rests.{IsImageOut, image_here}
 use Rattle.rack_parts.specs.declared.rack.ImageRest.{ImageRest}
@@ -82,41 +82,6 @@ module _ {D : Type 0} (tells : Bool) (state : D → State) (config : Config) (di
 
   pub closed_first : (told : Fault) → first_closed 0 before.faults.items ≡ Some told → (k : ℕ) × (f : VolumeFault) × (told ≡ Volume k (trouble_of f)) × IsFirstClosed tells state config old new k f
   closed_first told is = first_refused state config session.bay before session.opened.rack tells old new session.refused session.failed session.part session.opened.began session.opened.there told is
-
-  -- ---- One wasn't, and nothing was done
-
-  module _ (unchanged : after ≡ before) where
-    still_out : after.rest.images.items ≡ before.rest.images.items
-    still_out = ap (λ (r : Rack D). r.rest.images.items) unchanged
-
-    -- an image that was handed out has its label and view, and another one is left as it might have been
-    views_at : (entry left : Told) → BeganWith state config entry before → WereThere config before.rest.images.items entry → AreLeftOfParts state config after left → HadRefused config before.rest.images.items entry left → KeepsViews config entry left
-    views_at entry left began there parts kept images are k v conf blocks here = at (image_here before.rest.images.items k) refl
-      where
-        may : MayLeave (at_name v.name left.images) (Some blocks)
-        may = subst (MayLeave (at_name v.name left.images)) here
-            (let P : VolumeConf → Type 0 = λ w. MayLeave (at_name w.name left.images) (image_of images k) in
-            subst P (get_or_from_slice_get config.volumes.items k v v conf) (are.each k v (slice_get_within config.volumes.items k v conf)))
-
-        at : (o : Option (ImageRest D)) → image_here before.rest.images.items k ≡ o → KeepsFront (at_name v.name entry.images) blocks
-        at None out = inl (kept k v conf out (Some blocks) may)
-        at (Some r) out =
-            let was = there k v conf (subst IsSome (sym out) refl) in
-            let shape : slice_get (shapes_of config) k ≡ Some (shape_in config v) = slice_get-map (shape_in config) config.volumes.items k ∙ ap (option_map (shape_in config)) conf in
-            let c = parts images are k (shape_in config v) r shape (ap (λ (images : List (Option (ImageRest D))). image_here images k) still_out ∙ out) in
-            let first = began.left k v was.0 r conf was.1 out in
-            let same_blocks : c.0 ≡ blocks = same_Some c.0 blocks (sym c.1 ∙ here) in
-            inr (was.0, was.1, subst (λ (b : List Block). slice_range b 0 2 ≡ slice_range (reads was.0.blocks) 0 2) same_blocks (first.label (slice_range c.0 0 2) c.2.label))
-
-    pub views_closed : IsTrue tells → IsTold (KeepsViews config) old.told new.told
-    views_closed telling = go old.told session.bay.told new.told (session.opened.began telling) (session.opened.there telling) session.opened.faulty (session.closed.parts telling) (session.kept telling)
-      where
-        go : (o b n : Option Told) → IfSome o (λ t. BeganWith state config t before) → IfSome o (λ t. WereThere config before.rest.images.items t)
-            → IsTold HasFaulty o b → IsTold (λ x y. AreLeftOfParts state config after y) b n → IsTold (HadRefused config before.rest.images.items) o n → IsTold (KeepsViews config) o n
-        go None b n began there had parts kept = kept
-        go (Some o) None n began there had parts kept = absurd had
-        go (Some o) (Some b) None began there had parts kept = absurd parts
-        go (Some o) (Some b) (Some n) began there had parts kept = views_at o n began there parts kept
 
   -- ---- All volumes were open
 
