@@ -19,7 +19,7 @@ use Rattle.volume_images.specs.Volumes.{AreLeft, images_read, shapes_of}
 use Rattle.rack.specs.Closes.{HasFaultyPart}
 use Rattle.rack.specs.PoolUses.{ArePools, PassesEmpty}
 use Rattle.rack_parts.specs.declared.volume_fault.VolumeFault.{VolumeFault}
-use Rattle.open_rack.specs.NotOpened.{IsFirstClosed, LeavesBay}
+use Rattle.open_rack.specs.NotOpened.{IsFirstClosed, LeavesBay, LeavesViews}
 use Rattle.nbd_handshake.specs.declared.ending.Shaken.TheVariants.{Agreed, Unagreed as NotAgreed}
 use Rattle.nbd_handshake.specs.declared.ending.Unagreed.{Unagreed}
 use Rattle.nbd_session.specs.Sessions.{CountsFaults, IsSession}
@@ -102,7 +102,7 @@ pub data ServesNamed {D : Type 0} (tells : Bool) (state : D → State) (config :
       → ServesNamed tells state config begins name old new wire wire' (Err (stop.Fault Memory))
   closed : (volume k : ℕ) (f : VolumeFault)
       → number_named (names_of config.volumes.items) name ≡ Some volume
-      → IsFirstClosed tells state config old new k f → LeavesBay tells state config old new
+      → IsFirstClosed tells state config old new k f → LeavesViews tells state config old new
       → wire' ≡ wire
       → ServesNamed tells state config begins name old new wire wire'
       (Err (stop.Fault (Volume k (trouble_of f))))
