@@ -53,13 +53,13 @@ use Rattle.rack_parts.specs.declared.rack.ImageRest.{ImageRest}
 use Rattle.rack_parts.specs.declared.rack.Rack.{Rack}
 use Rattle.rack_parts.specs.declared.rack.Rest.{Rest}
 use Rattle.rack_parts.specs.declared.volume_fault.VolumeFault.{VolumeFault}
-use Rattle.open_rack.specs.Sessions.{OpensAndCloses}
+use Rattle.open_rack.specs.Sessions.{LeavesRecordsIn, OpensAndCloses}
 use Rattle.open_rack.proofs.RacksAgain.{rest_again}
 use Rattle.open_rack.proofs.Since.{rose_before}
 use Rattle.spin_model.specs.Spindles.{SpindleView}
 use Rattle.inspection.specs.Looks.{AppendsAsked, BreaksIn}
 use Rattle.inspection.specs.Lines.{Telling, TellsFailed, IsTelling, LooksAtVolume, trouble_line}
-use Rattle.inspection.specs.Runs.{AreLinesOf, IsInOrder, IsToldOf, LeavesRecordsOut}
+use Rattle.inspection.specs.Runs.{AreLinesOf, IsInOrder, IsToldOf}
 use Rattle.inspection.specs.declared.asked.Asked.{Asked}
 use Rattle.inspection.specs.declared.asked.Asked.TheVariants.{Check, Dump}
 use Rattle.inspection.proofs.Opened.{rose_of}
@@ -210,7 +210,7 @@ module _ {D : Type 0} (tells : Bool) (state : D → State) (config : Config) (as
   -- a crash leaves the records with which the volume was opened
   records_left : (k : ℕ) (text : List ℕ) (look : LooksAtVolume tells state config asked before after k (Ok tt) text) (y : Told)
       → RecoversTo config after.rest.images.items (record look.station { worker = look.pass }) (ends k (Ok tt) text look).entries y
-      → LeavesRecordsOut config before.rest.images.items k (base_of_station look.station).volume.began.look.listed y
+      → LeavesRecordsIn config before.rest.images.items k (base_of_station look.station).volume.began.look.listed y
   records_left k text look y recovers images left =
       let n = look.looks.note in
       let began : Base = (base_of_station look.station).volume.began in

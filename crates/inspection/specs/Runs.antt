@@ -2,9 +2,7 @@
 use Rattle.std.specs.Prelude.{◌≡◌, ◌≢◌, ◌⊎◌, ◌≤◌, ℕ, Bool, List, [], length, Option, None, Some, Result, Ok, Err, IfSome, slice_get, IsTrue}
 use Rattle.std.specs.List.{AllByRecursion}
 use Rattle.wol_disk.specs.Disk.{State, Rose}
-use Rattle.wol_model.specs.Images.{AreSound, Images, recovered_from}
-use Rattle.wol_model.specs.Index.{Listed}
-use Rattle.wol_model.specs.Recovered.{extents_of}
+use Rattle.wol_model.specs.Images.{AreSound, recovered_from}
 use Rattle.wol_bay.specs.Bay.{Told, BayState}
 use Rattle.wol_promise.specs.Manager.{Base}
 use Rattle.wol_promise.specs.Policy.{PartName}
@@ -23,8 +21,8 @@ use Rattle.report.specs.Troubles.{trouble_status}
 use Rattle.report.specs.declared.trouble.Trouble.{Trouble}
 use Rattle.troubles.specs.Troubles.{trouble_of, trouble_of_part}
 use Rattle.volume_images.specs.Left.{IsTold}
-use Rattle.volume_images.specs.Volumes.{AreLeft, images_read, shapes_of}
-use Rattle.rack.specs.Closes.{AreListedOf, CameBackFaulty, HasFaultyPart, part_named, segments_out}
+use Rattle.volume_images.specs.Volumes.{images_read, shapes_of}
+use Rattle.rack.specs.Closes.{CameBackFaulty, HasFaultyPart, part_named}
 use Rattle.rack.specs.Opens.{KeepsViews, RefusesVolume, WereThere}
 use Rattle.rack.specs.Owners.{images_taken, IsBegun, StandAsRead}
 use Rattle.rack.specs.Racks.{NamesVolumes}
@@ -33,6 +31,7 @@ pub use Rattle.open_rack.specs.Sessions.{MayComplete}
 use Rattle.rack_parts.specs.declared.rack.ImageRest.{ImageRest}
 use Rattle.rack_parts.specs.declared.volume_fault.VolumeFault.{VolumeFault}
 use Rattle.rack_parts.specs.declared.volume_fault.VolumeFault.TheVariants.{Refused}
+use Rattle.open_rack.specs.Sessions.{LeavesRecordsIn}
 use Rattle.inspection.specs.Lines.{Telling, PrintsBy, trouble_line}
 use Rattle.inspection.specs.declared.asked.Asked.{Asked}
 use Rattle.inspection.specs.declared.asked.Asked.TheVariants.{Check, Dump}
@@ -50,13 +49,6 @@ AreLinesOf config Check out t number b m text =
     (held_segments m)
 AreLinesOf config Dump out t number b m text = IsDump config number m [] text
 
--- whatever images a crash leaves, the records of volume v that keep a block in those that are out
--- are these
-abbrev pub LeavesRecordsOut : {D : Type 0} → Config → (out : List (Option (ImageRest D))) → (v : ℕ)
-    → List Listed → Told → Type 0
-LeavesRecordsOut config out v records left = (images : Images) → AreLeft config left images
-    → AreListedOf records (extents_of v (segments_out config out images))
-
 -- A volume in order: a manager that stands for what the images as they read recover to, where an
 -- image that was refused gives no segments, and its lines. Each of its records stands where those
 -- images have it: in the segment and at the block that `dump` names. The records with which it was
@@ -73,7 +65,7 @@ pub record IsInOrder {D : Type 0} (tells : Bool) (state : D → State) (config :
   pub places : StandAsRead config (images_taken config out t) number base.volume.began.view
       manager.index.entries
   pub lines_ : AreLinesOf config asked out t number base.volume.began manager text
-  pub records : LeavesRecordsOut config out number base.volume.began.look.listed left
+  pub records : LeavesRecordsIn config out number base.volume.began.look.listed left
 
 -- a volume that wasn't opened, with the line of its fault, which is the first cause
 pub record TellsRefusal {D : Type 0} (tells : Bool) (state : D → State) (config : Config)
