@@ -11,7 +11,6 @@ use Rattle.spin_model.specs.Spindles.{SpindleView}
 use Rattle.volume_images.specs.Volumes.{shape_in}
 use Rattle.rack_parts.specs.declared.rack.Rack.{Rack}
 use Rattle.open_rack.specs.Sessions.{OpensAndCloses}
-use Rattle.open_rack.proofs.ViewsKept.{views_kept}
 use Rattle.inspection.specs.Lines.{PrintsVolumes}
 use Rattle.inspection.specs.Runs.{Inspects}
 use Rattle.inspection.specs.declared.asked.Asked.{Asked}
@@ -27,7 +26,6 @@ nothing_told tells state config asked old new result faults printed is = record 
   count = λ some. absurd (some refl);
   there = λ some. absurd (some refl);
   missing = λ some. absurd (some refl);
-  views = λ some. absurd (some refl);
   told = [];
   few = omega arith;
   each = λ k t no. absurd (let e : None ≡ Some t = no in cc);
@@ -44,7 +42,6 @@ inspected tells state config asked did old new spindles session result faults fa
   count = λ some. session.opened.rack.rest.parts.images.0 ∙ length-map config.volumes.items (shape_in config);
   there = λ some. session.opened.there;
   missing = λ some. session.missing;
-  views = λ some. views_kept tells state config did old new spindles session;
   told = prints.told;
   few = prints.are.few;
   each = λ k t at. told_of tells state config asked did old new spindles session k t

@@ -23,7 +23,7 @@ use Rattle.troubles.specs.Troubles.{trouble_of, trouble_of_part}
 use Rattle.volume_images.specs.Left.{IsTold}
 use Rattle.volume_images.specs.Volumes.{images_read, shapes_of}
 use Rattle.rack.specs.Closes.{CameBackFaulty, HasFaultyPart, part_named}
-use Rattle.rack.specs.Opens.{KeepsViews, RefusesVolume, WereThere}
+use Rattle.rack.specs.Opens.{RefusesVolume, WereThere}
 use Rattle.rack.specs.Owners.{images_taken, IsBegun, StandAsRead}
 use Rattle.rack.specs.Racks.{NamesVolumes}
 use Rattle.rack.specs.Rests.{IsImageOut, image_here}
@@ -131,8 +131,6 @@ pub record Inspects {D : Type 0} (tells : Bool) (state : D → State) (config : 
   pub missing : told ≢ [] → (k : ℕ) (v : VolumeConf) → slice_get config.volumes.items k ≡ Some v
       → image_here out k ≡ None
       → (f : VolumeFault) × RefusesVolume tells state config out old new k v f
-  -- .. and no label or view was changed
-  pub views : told ≢ [] → IsTrue tells → IsTold (KeepsViews config) old.told new.told
   pub few : length told ≤ length config.volumes.items
   pub each : (k : ℕ) (t : Telling) → slice_get told k ≡ Some t
       → IsToldOf tells state config asked out old new k t

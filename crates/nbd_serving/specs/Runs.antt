@@ -19,7 +19,7 @@ use Rattle.volume_images.specs.Volumes.{AreLeft, images_read, shapes_of}
 use Rattle.rack.specs.Closes.{HasFaultyPart}
 use Rattle.rack.specs.PoolUses.{ArePools, PassesEmpty}
 use Rattle.rack_parts.specs.declared.volume_fault.VolumeFault.{VolumeFault}
-use Rattle.open_rack.specs.NotOpened.{IsFirstClosed, LeavesBay, LeavesViews}
+use Rattle.open_rack.specs.NotOpened.{IsFirstClosed, LeavesViews}
 use Rattle.nbd_handshake.specs.declared.ending.Shaken.TheVariants.{Agreed, Unagreed as NotAgreed}
 use Rattle.nbd_handshake.specs.declared.ending.Unagreed.{Unagreed}
 use Rattle.nbd_session.specs.Sessions.{CountsFaults, IsSession}
@@ -89,16 +89,16 @@ pub record ServesOpen (tells : Bool) (config : Config) (volume : ℕ) (old new :
 
 -- ---- The command
 
--- A volume was to be served: no volume has the name; or there was no memory to open the volumes; or
--- one of them couldn't be opened; or all were open, and no session began, and all are kept, or the
--- volume was served.
+-- A volume was to be served: no volume has the name; or there was no memory to open the volumes, or
+-- one of them couldn't be opened, and no view was changed; or all were open, and no session began,
+-- and all are kept, or the volume was served.
 pub data ServesNamed {D : Type 0} (tells : Bool) (state : D → State) (config : Config)
     (begins : Beginning) (name : List ℕ) (old new : BayState) (wire wire' : Wire) :
     Result Ended Stop → Type 0 where
   unknown : number_named (names_of config.volumes.items) name ≡ None → new ≡ old → wire' ≡ wire
       → ServesNamed tells state config begins name old new wire wire' (Err stop.Unknown)
   no_memory : (volume : ℕ) → number_named (names_of config.volumes.items) name ≡ Some volume
-      → LeavesBay tells state config old new → wire' ≡ wire
+      → LeavesViews tells state config old new → wire' ≡ wire
       → ServesNamed tells state config begins name old new wire wire' (Err (stop.Fault Memory))
   closed : (volume k : ℕ) (f : VolumeFault)
       → number_named (names_of config.volumes.items) name ≡ Some volume

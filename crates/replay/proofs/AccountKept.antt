@@ -71,6 +71,6 @@ module _ {S T : Type 0} (tells : Bool) (left : S → Option (List ℕ)) (config 
 
 pub keeps_account : {D S T : Type 0} (tells : Bool) (state : D → State) (left : S → Option (List ℕ)) (config : Config) (options : Options) (start now : Given S) (old new : BayState) (sink sink' : ℕ) (taken taken' : Option (List ℕ)) (result : Result T Stop)
     → Replayed tells state left config options start now old new sink sink' taken taken' result → KeepsAccount tells state left config options.reclaim start now old new (status_in result) taken taken'
-keeps_account tells state left config options start now old new sink sink' taken taken' _ (replays.no_memory asks bay) = inl (no_memory_yet tells state config start now old new sink sink' taken taken' asks bay)
+keeps_account tells state left config options start now old new sink sink' taken taken' _ (replays.no_memory asks leaves) = inl (no_memory_yet tells state config start now old new sink sink' taken taken' asks leaves.bay)
 keeps_account tells state left config options start now old new sink sink' taken taken' _ (replays.closed k f asks first leaves) = inl (closed_yet tells state config start now old new sink sink' taken taken' k f asks leaves.bay)
 keeps_account tells state left config options start now old new sink sink' taken taken' result (replays.ran _ r) = inr (λ telling. account_kept tells left config options start now old new result sink sink' taken taken' r telling)

@@ -20,7 +20,7 @@ use Rattle.replay.specs.Ended.{EndsFor}
 use Rattle.replay.specs.Headlined.{AreAllOpen}
 use Rattle.replay.specs.Histories.{History, AreHistories, ArePlainMarks, BeginAsRead, CountAnswered, LeavesReclaimed, answers_in, is_broken_at, next_at, view_at}
 use Rattle.replay.specs.Leaves.{LeavesImages}
-use Rattle.replay.specs.NotOpened.{AsksNone, IsFirstClosed, LeavesBay, LeavesViews}
+use Rattle.replay.specs.NotOpened.{AsksNone, IsFirstClosed, LeavesViews}
 use Rattle.replay.specs.Placed.{CountsPlaced, CountsReclaimed}
 use Rattle.replay.specs.Sessions.{RunsLines}
 use Rattle.replay.specs.Summed.{HaveAccounts, HaveShortAccounts, IsSummaryOf, PrintsRun, lines_asked}
@@ -108,12 +108,13 @@ pub record Replays {S T : Type 0} (tells : Bool) (left : S → Option (List ℕ)
   pub prints : PrintsRun result (lines_asked config options.each (answers_in (earlier ++ last)))
       summary sink sink' printed printed'
 
--- A run over a bay: there was no memory to open its volumes; or one of them couldn't be opened; or
--- all were open.
+-- A run over a bay: there was no memory to open its volumes, or one of them couldn't be opened, and
+-- no view was changed; or all were open.
 pub data Replayed {D S T : Type 0} (tells : Bool) (state : D → State) (left : S → Option (List ℕ))
     (config : Config) (options : Options) (start now : Given S) (old new : BayState)
     (sink sink' : ℕ) (printed printed' : Option (List ℕ)) : Result T Stop → Type 0 where
-  no_memory : AsksNone start now sink sink' printed printed' → LeavesBay tells state config old new
+  no_memory : AsksNone start now sink sink' printed printed'
+      → LeavesViews tells state config old new
       → Replayed tells state left config options start now old new sink sink' printed printed'
       (Err (stop.Fault Memory))
   closed : (k : ℕ) (f : VolumeFault) → AsksNone start now sink sink' printed printed'

@@ -10,7 +10,7 @@ use Rattle.wol_config.specs.declared.config.Config.{Config}
 use Rattle.report.specs.Faults.{status_of}
 use Rattle.report.specs.declared.fault.Fault.{Fault}
 use Rattle.report.specs.declared.trouble.Trouble.{Trouble}
-use Rattle.replay.specs.NotOpened.{LeavesBay}
+use Rattle.replay.specs.NotOpened.{LeavesViews}
 use Rattle.inspection.specs.Lines.{Telling, first_trouble, text_of}
 use Rattle.inspection.specs.Runs.{Inspects}
 use Rattle.inspection.specs.declared.asked.Asked.{Asked}
@@ -42,7 +42,7 @@ module _ {D : Type 0} (tells : Bool) (state : D → State) (asked : Asked) (left
     ends = ends;
   }
 
-  module _ (config : Config) (has : HasConfig left config) (leaves : LeavesBay tells state config old new) (others : IsTold (KeepsOthers config) old.told new.told) where
+  module _ (config : Config) (has : HasConfig left config) (leaves : LeavesViews tells state config old new) (others : IsTold (KeepsOthers config) old.told new.told) where
     module _ (told : List Telling) (are : AreTold tells state asked config old new told) where
       abbrev looked : HasLooked tells state asked left old new
       looked = record { config = config; has = has; told = told; are = are }
@@ -80,7 +80,7 @@ module _ {D : Type 0} (tells : Bool) (state : D → State) (asked : Asked) (left
       }
 
     are_told : (result : Result (Option Trouble) Stop) (sink sink' : ℕ) (mid : Option (List ℕ)) → (i : Inspects tells state config asked old new result sink sink' printed mid) → AreTold tells state asked config old new i.told
-    are_told result sink sink' mid i = record { out = i.out; count = i.count; missing = i.missing; there = i.there; few = i.few; each = i.each; leaves = leaves; views = i.views; others = others }
+    are_told result sink sink' mid i = record { out = i.out; count = i.count; missing = i.missing; there = i.there; few = i.few; each = i.each; leaves = leaves; others = others }
 
     -- all volumes were told
     pub look_whole : (first : Option Trouble) (sink sink' : ℕ) → Inspects tells state config asked old new (Ok first) sink sink' printed now → status ≡ status_of_first first

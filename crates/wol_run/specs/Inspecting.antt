@@ -10,11 +10,11 @@ use Rattle.inspection.specs.Runs.{IsToldOf}
 use Rattle.inspection.specs.declared.asked.Asked.{Asked}
 use Rattle.wol_config.specs.declared.config.VolumeConf.{VolumeConf}
 use Rattle.volume_images.specs.Left.{IsTold}
-use Rattle.rack.specs.Opens.{KeepsOthers, KeepsViews, RefusesVolume, WereThere}
+use Rattle.rack.specs.Opens.{KeepsOthers, RefusesVolume, WereThere}
 use Rattle.rack.specs.Rests.{image_here}
 use Rattle.rack_parts.specs.declared.rack.ImageRest.{ImageRest}
 use Rattle.rack_parts.specs.declared.volume_fault.VolumeFault.{VolumeFault}
-use Rattle.replay.specs.NotOpened.{LeavesBay}
+use Rattle.replay.specs.NotOpened.{LeavesViews}
 use Rattle.wol_run.specs.Formatting.{IsUntouched}
 use Rattle.wol_run.specs.Settings.{HasConfig}
 use Rattle.wol_run.specs.Tops.{EndsWith}
@@ -25,8 +25,8 @@ status_of_first None = 0
 status_of_first (Some trouble) = trouble_status trouble
 
 -- These volumes, the first ones in order, were told so. Where any was told, an image that is out
--- was there and may be opened, one that isn't was refused, and no label or view was changed. Each
--- image that is left recovers to what an image at entry did, and sound images stay sound.
+-- was there and may be opened, and one that isn't was refused. Each image that is left recovers to
+-- what an image at entry did, no label or view was changed, and sound images stay sound.
 pub record AreTold {D : Type 0} (tells : Bool) (state : D → State) (asked : Asked) (config : Config)
     (old new : BayState) (told : List Telling) : Type 0 where
   pub out : List (Option (ImageRest D))
@@ -39,8 +39,7 @@ pub record AreTold {D : Type 0} (tells : Bool) (state : D → State) (asked : As
   pub few : length told ≤ length config.volumes.items
   pub each : (k : ℕ) (t : Telling) → slice_get told k ≡ Some t
       → IsToldOf tells state config asked out old new k t
-  pub leaves : LeavesBay tells state config old new
-  pub views : told ≢ [] → IsTrue tells → IsTold (KeepsViews config) old.told new.told
+  pub leaves : LeavesViews tells state config old new
   -- images of names that aren't configured are as they were
   pub others : IsTold (KeepsOthers config) old.told new.told
 

@@ -2,6 +2,7 @@ use Rattle.std.proofs.Common.{inr, refl}
 use Rattle.std.proofs.lemmas.Result.{err_from_is_err_and}
 use Rattle.open_rack.specs.Sessions.{IsClosed, IsOpened, OpensAndCloses}
 use Rattle.open_rack.proofs.RacksAgain.{closable_again, rest_again}
+use Rattle.open_rack.proofs.ViewsKept.{views_kept}
 use Rattle.open_rack.proofs.Since.{home_again, none_out_still, opens_and_closes, sound_since}
 use Rattle.rack.proofs.FailedParts.{gained_parts}
 use Rattle.rack.proofs.ImagesSent.{others_then}
@@ -79,6 +80,10 @@ returns-clause-later g c = (session g (goal.at.returns-clause-later g c).After-c
 -- a look writes nothing
 pub returns-clause-left : goal.returns-clause-left
 returns-clause-left g c = let s = session g (goal.at.returns-clause-left g c).After-close_all in λ telling. s.left telling (all_quiet _ _ s.done.same.each s.opened.fresh)
+
+-- whatever it did
+pub returns-clause-views : goal.returns-clause-views
+returns-clause-views g c = let s = session g (goal.at.returns-clause-views g c).After-close_all in views_kept _ _ _ _ _ _ _ s
 
 pub returns-clause-complete : goal.returns-clause-complete
 returns-clause-complete g c = let s = session g (goal.at.returns-clause-complete g c).After-close_all in look_completes _ _ _ _ _ _ _ _ s _ _ _ _ _ s.done

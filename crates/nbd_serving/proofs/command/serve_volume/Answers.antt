@@ -21,7 +21,7 @@ pub returns-in_err-answer-clause-content : goal.returns-in_err-answer-clause-con
 returns-in_err-answer-clause-content g c =
     let p = err_from_is_err_and c.from_residual.result c.from_residual.ensures.1 in
     let found : c.number_named.result ≡ number_named (names_of c.args.config.now.volumes.items) c.args.name.now = rw (c.deref.ensures.value, c.as_bytes.ensures.value) at c.number_named.ensures.found in
-    rw (p.1, p.2) (runs.no_memory c.in-Some.volume (sym found ∙ c.in-Some.is) (record { left = c.in_err-answer.ensures.left; sound = c.in_err-answer.ensures.sound })
+    rw (p.1, p.2) (runs.no_memory c.in-Some.volume (sym found ∙ c.in-Some.is) (record { bay = record { left = c.in_err-answer.ensures.left; sound = c.in_err-answer.ensures.sound }; views = c.in_err-answer.ensures.views })
     (λ i. record {
       left = g.S.Source.left (c.in_err-answer.ensures.unread i);
       source_faults = g.S.Source.faults (c.in_err-answer.ensures.unread i);

@@ -101,7 +101,7 @@ print_summary-requires-clause-journals g c =
     c.in_ok-counted.counted c.in_ok-counted.was c.close_all-spindles.result.items c.close_all-spindles.ensures.count c.close_all-spindles.ensures.spindles)
 
 pub returns-in_default-clause-replays : goal.returns-in_default-clause-replays
-returns-in_default-clause-replays g c = replays.no_memory (record { unread = refl; calm = refl; kept = keeps_same (g.K.Sink.taken c.args.out.now) }) (record { left = c.in_default.ensures.left; sound = c.in_default.ensures.sound })
+returns-in_default-clause-replays g c = replays.no_memory (record { unread = refl; calm = refl; kept = keeps_same (g.K.Sink.taken c.args.out.now) }) (record { bay = record { left = c.in_default.ensures.left; sound = c.in_default.ensures.sound }; views = c.in_default.ensures.views })
 
 pub returns-in_err-counted-clause-replays : goal.returns-in_err-counted-clause-replays
 returns-in_err-counted-clause-replays g c =

@@ -7,13 +7,13 @@ pub returns-in-Err-clause-content : goal.returns-in-Err-clause-content
 returns-in-Err-clause-content g c = look_untouched _ _ _ _ _ _ _ _ _ _ _ c.in-Err.fault c.in-Err.ensures.err refl c.tell_fault.ensures.content
 
 pub returns-in-Ok-inspect-clause-content : goal.returns-in-Ok-inspect-clause-content
-returns-in-Ok-inspect-clause-content g c = look_whole _ _ _ _ _ _ _ _ _ _ _ c.in-Ok.config c.in-Ok.ensures.ok (record { left = c.in-Ok-inspect.ensures.left; sound = c.in-Ok-inspect.ensures.sound }) c.in-Ok-inspect.ensures.others c.in-Ok-inspect.first _ _ c.in-Ok-inspect.ensures.content c.status_of_first.ensures
+returns-in-Ok-inspect-clause-content g c = look_whole _ _ _ _ _ _ _ _ _ _ _ c.in-Ok.config c.in-Ok.ensures.ok (record { bay = record { left = c.in-Ok-inspect.ensures.left; sound = c.in-Ok-inspect.ensures.sound }; views = c.in-Ok-inspect.ensures.views }) c.in-Ok-inspect.ensures.others c.in-Ok-inspect.first _ _ c.in-Ok-inspect.ensures.content c.status_of_first.ensures
 
 pub returns-in-Err-Sink-clause-content : goal.returns-in-Err-Sink-clause-content
-returns-in-Err-Sink-clause-content g c = look_failed _ _ _ _ _ _ _ _ _ _ _ c.in-Ok.config c.in-Ok.ensures.ok (record { left = c.in-Err-Sink.ensures.left; sound = c.in-Err-Sink.ensures.sound }) c.in-Err-Sink.ensures.others _ _ (rw c.in-Err-Sink.field-0-is at c.in-Err-Sink.ensures.content) refl
+returns-in-Err-Sink-clause-content g c = look_failed _ _ _ _ _ _ _ _ _ _ _ c.in-Ok.config c.in-Ok.ensures.ok (record { bay = record { left = c.in-Err-Sink.ensures.left; sound = c.in-Err-Sink.ensures.sound }; views = c.in-Err-Sink.ensures.views }) c.in-Err-Sink.ensures.others _ _ (rw c.in-Err-Sink.field-0-is at c.in-Err-Sink.ensures.content) refl
 
 pub returns-clause-content : goal.returns-clause-content
-returns-clause-content g c = look_cut _ _ _ _ _ _ _ _ _ _ _ c.in-Ok.config c.in-Ok.ensures.ok (record { left = c.in-Err-Memory.ensures.left; sound = c.in-Err-Memory.ensures.sound }) c.in-Err-Memory.ensures.others _ _ _ (rw c.in-Err-Memory.field-0-is at c.in-Err-Memory.ensures.content) c.end_with.ensures.content
+returns-clause-content g c = look_cut _ _ _ _ _ _ _ _ _ _ _ c.in-Ok.config c.in-Ok.ensures.ok (record { bay = record { left = c.in-Err-Memory.ensures.left; sound = c.in-Err-Memory.ensures.sound }; views = c.in-Err-Memory.ensures.views }) c.in-Err-Memory.ensures.others _ _ _ (rw c.in-Err-Memory.field-0-is at c.in-Err-Memory.ensures.content) c.end_with.ensures.content
 
 pub returns-in-Err-clause-complete : goal.returns-in-Err-clause-complete
 returns-in-Err-clause-complete g c free =
