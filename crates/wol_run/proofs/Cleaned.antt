@@ -9,7 +9,7 @@ use Rattle.log_cleaner.specs.declared.answer.CleanFault.TheVariants.{DiskFault, 
 use Rattle.volume_images.specs.Left.{IsTold}
 use Rattle.rack.specs.Opens.{KeepsOthers}
 use Rattle.replay.specs.Completes as ByRun
-use Rattle.replay.specs.NotOpened.{LeavesBay}
+use Rattle.replay.specs.NotOpened.{LeavesViews}
 use Rattle.replay.specs.declared.stop.Stop.{Stop}
 use Rattle.replay.specs.declared.stop.Stop.TheVariants as stop
 use Rattle.cleaning.specs.Lines.{fault_of}
@@ -58,7 +58,7 @@ as_run r (inr memory) = inr memory
 
 -- a cleaning over a configuration that was had, and its end
 pub is_cleaning : {D : Type 0} (tells : Bool) (state : D → State) (config : Config) (old new : BayState) (sink sink' after : ℕ) (printed then printed' : Option (List ℕ)) (status : ℕ) (result : Result (Unit {0}) Stop)
-    → LeavesBay tells state config old new → IsTold (KeepsOthers config) old.told new.told → CleansBay tells state config old new sink sink' printed then result → sink' ≤ after → EndsReplay config result status then printed' → (bytes : Option (List ℕ)) → HasConfig bytes config
+    → LeavesViews tells state config old new → IsTold (KeepsOthers config) old.told new.told → CleansBay tells state config old new sink sink' printed then result → sink' ≤ after → EndsReplay config result status then printed' → (bytes : Option (List ℕ)) → HasConfig bytes config
     → IsCleaning tells state bytes old new sink after status printed printed'
 is_cleaning tells state config old new sink sink' after printed then printed' status result leaves others cleans later ends bytes has = record {
   over = record { config = config; has = has; result = result; sink_then = sink'; later = later; printed_then = then; ends = ends };

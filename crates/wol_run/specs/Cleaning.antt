@@ -4,7 +4,7 @@ use Rattle.wol_disk.specs.Disk.{State}
 use Rattle.wol_bay.specs.Bay.{BayState}
 use Rattle.volume_images.specs.Left.{IsTold}
 use Rattle.rack.specs.Opens.{KeepsOthers}
-use Rattle.replay.specs.NotOpened.{LeavesBay}
+use Rattle.replay.specs.NotOpened.{LeavesViews}
 use Rattle.cleaning.specs.Runs.{CleansBay}
 use Rattle.wol_run.specs.Formatting.{IsNotBegun}
 use Rattle.wol_run.specs.Replaying.{IsRunOver}
@@ -14,8 +14,9 @@ pub record IsCleaning {D : Type 0} (tells : Bool) (state : D → State) (left : 
     (old new : BayState) (sink sink' status : ℕ) (printed printed' : Option (List ℕ)) :
     Type 0 where
   pub over : IsRunOver left sink' status printed'
-  -- each image that is left recovers to what an image at entry did, and sound images stay sound
-  pub leaves : LeavesBay tells state over.config old new
+  -- each image that is left recovers to what an image at entry did, no label or view was changed,
+  -- and sound images stay sound
+  pub leaves : LeavesViews tells state over.config old new
   -- images of names that aren't configured are as they were
   pub others : IsTold (KeepsOthers over.config) old.told new.told
   pub cleans : CleansBay tells state over.config old new sink over.sink_then printed
