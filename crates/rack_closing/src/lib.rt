@@ -5,7 +5,8 @@
 //! `specs/Opens` says what opening promises, `Owners` and `PoolUses` what the images said at entry of a volume and of
 //! the pools, `Closes` what closing promises, and `Laws` the laws. Of `proofs/`: `SameRecovered`, `KeptImages` and
 //! `SoundBefore` say of any two choices of images when they recover to the same and when the one is sound as the
-//! other; `LeftVolumes` and `SoundClosed` come to them from the parts that went back.
+//! other; `LeftVolumes` and `SoundClosed` come to them from the parts that went back. `ViewsLeft` says of labels and
+//! views that they stay.
 #![tactic(auto)]
 
 mod closing;

@@ -107,7 +107,7 @@ module _ {D S : Type 0} (T : Type 0) (state : D → State) (tells : Bool) (left 
       told_each (λ x y. (HadRefused config out x y → KeepsViews config x y) × HadRefused config out x y) (KeepsViews config) entry.told left_.told (λ x y both. both.0 both.1)
       (told_with (λ x y. HadRefused config out x y → KeepsViews config x y) (HadRefused config out) entry.told left_.told
       (told_left state config r r (λ x y. HadRefused config out x y → KeepsViews config x y) entry.told opened.told left_.told (λ e n began were parts. views_left state config r r refl e n began were parts) (o.began telling) (o.there telling) o.gained (closing.parts telling))
-      (told_then (HadRefused config out) (HadRefused config out) (HadRefused config out) entry.told opened.told left_.told (λ x y z is first then k v conf none may left. first k v conf none may (then k v conf none may left)) (o.kept telling) (closing.kept telling)))
+      (told_then (HadRefused config out) (HadRefused config out) (HadRefused config out) entry.told opened.told left_.told (λ x y z is first then k v conf none c may. first k v conf none c (then k v conf none c may)) (o.kept telling) (closing.kept telling)))
 
   bay_left : q ≡ r → LeavesViews tells state config entry left_
   bay_left same =
