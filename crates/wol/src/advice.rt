@@ -17,7 +17,7 @@ usage: wol COMMAND, in the folder that has wol.toml and the images (NAME.vol)
   wol nbd NAME                        the same without NBD's handshake
   wol gen SEED LINES                  print a generated trace
   wol soak SEED LINES [OPTION..]      replay a generated trace without printing it
-  wol solo HOST DISK BLOCKS < TRACE   run one disk's lines on a new image, without wol.toml
+  wol solo HOST DISK BLOCKS < TRACE   run one disk's lines on a new solo.vol, without wol.toml
   wol view-add NAME LOGGER            let LOGGER log for NAME
   wol view-remove NAME LOGGER         drain NAME; LOGGER logs for it no more
 OPTION: --each | --workers N (1 to 64) | --reclaim off|between|beside
@@ -36,7 +36,7 @@ pub fn advice(status: u8) -> Option<&'static str>
             "wol: wol.toml is not a valid configuration; no image was touched. Mend the key or name in the last line.\n"
         }
         3 => {
-            "wol: a line of the trace was refused; all lines before it were run. Mend that line; a replay goes on from there.\n"
+            "wol: a line of the trace was refused; all lines before it were run. Mend it; only replay goes on from there.\n"
         }
         4 => {
             "wol: a call on the folder or an image failed. Look for a second wol, linked images, rights, space and ulimit -f.\n"
@@ -53,9 +53,9 @@ pub fn advice(status: u8) -> Option<&'static str>
         8 => {
             "wol: wol.toml or the trace can't be read; lines before were run. Look for the file, its kind and its rights.\n"
         }
-        9 => "wol: out of memory. Give it more and start again; the images can be opened.\n",
+        9 => "wol: out of memory. Give it more and start again; after format, format again.\n",
         10 =>
-            "wol: the trace has more than 4294967296 lines; those were run. Split it and replay the rest.\n",
+            "wol: the trace has more than 4294967296 lines; those were run. Split it; only replay goes on with the rest.\n",
         11 =>
             "wol: a volume has no version left for a record. wol format begins anew, and erases every volume.\n",
         12 =>
@@ -63,7 +63,7 @@ pub fn advice(status: u8) -> Option<&'static str>
         14 =>
             "wol: the client sent no NBD requests or handshake, or went away within one. What was answered is there.\n",
         15 =>
-            "wol: nothing was changed. Look for the names of volumes in wol.toml, and for the loggers in the volume's view.\n",
+            "wol: no content and no view was changed. Look for the names in wol.toml, and the loggers in the volume's view.\n",
         _ => return None,
     })
 }
