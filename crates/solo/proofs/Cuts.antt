@@ -16,10 +16,6 @@ use Rattle.solo.proofs.Marks.{payloads_append}
 cut_none : (a : List Block) (ws flight : List Write) → IsCut a ws flight (after a ws)
 cut_none a ws flight = whole 0 (omega arith) (ap (after a) (sym (append-nil ws)))
 
-cut_more : (a : List Block) (ws flight : List Write) (image : List Block) → IsCut a ws [] image → IsCut a ws flight image
-cut_more a ws flight image (whole k le is) = let none : k ≡ 0 = omega arith in whole 0 (omega arith) (rw none at is)
-cut_more a ws flight image (torn w is home blend) = absurd (cc is)
-
 cut_later : (a : List Block) (earlier ws flight : List Write) (image : List Block) → IsCut (after a earlier) ws flight image → IsCut a (earlier ++ ws) flight image
 cut_later a earlier ws flight image (whole k le is) =
     whole k le (is ∙ sym (after_more a earlier (ws ++ take k flight)) ∙ ap (after a) (sym (append_assoc earlier ws (take k flight))))
@@ -31,12 +27,6 @@ pub cuts_after : (array : Option (List Block)) (rs answered flight : List Reques
 cuts_after None rs answered flight values left = tt
 cuts_after (Some a) rs answered flight values left = λ image is.
     rw (payloads_append rs answered) (cut_later a (payloads 0 rs) (payloads 0 answered) (payloads 0 flight) image (left image is))
-
--- before others
-pub cuts_before : (array : Option (List Block)) (answered rest more : List Request) (values : Option (List (Values Block))) → LeavesCutOf array answered (take 1 rest) values → LeavesCutOf array answered (take 1 (rest ++ more)) values
-cuts_before None answered rest more values left = tt
-cuts_before (Some a) answered [] more values left = λ image is. cut_more a (payloads 0 answered) (payloads 0 (take 1 more)) image (left image is)
-cuts_before (Some a) answered (r ∷ rest) more values left = left
 
 -- a disk on which all is synced
 pub settled_cuts : (values : Option (List (Values Block))) (flight : List Request) → IsSettled values → LeavesCutOf (content_of values) [] flight values

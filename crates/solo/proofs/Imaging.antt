@@ -9,32 +9,27 @@ use Rattle.wol_bay.specs.Bay.{Told, came_back, each_place, sent_out, stored, wit
 use Rattle.wol_bay.specs.Parts.{AreBlank, IsBlank, blocks_of, faulty_from, faulty_places, joined, sizes_of}
 use Rattle.wol_bay.specs.declared.fault.BayFault.{BayFault}
 use Rattle.wol_bay.specs.declared.fault.BayFault.TheVariants as bay
-use Rattle.wol_io.proofs.Appending.{appends_both, appends_kept, front_last, keeps_same}
+use Rattle.wol_io.proofs.Appending.{keeps_same}
 use Rattle.wol_model.specs.Trace.{Target}
 use Rattle.solo.specs.declared.fault.Fault.{Fault}
 use Rattle.solo.specs.declared.fault.Fault.TheVariants as fault
 use Rattle.solo.specs.declared.tally.Tally.{Tally}
 use Rattle.solo.specs.Faults.{fault_of_bay}
 use Rattle.solo.specs.Images.{BeginsBlank, IsOnePart, LeavesImages, PartCameBackFaulty, RunsInBay, RunsOnFirst, Stores, LeavesBy}
-use Rattle.solo.specs.Requests.{asked_of}
 use Rattle.solo.specs.Runs.{Ends, EndsBy, Runs, RunsWhole, StopsBy}
 use Rattle.solo.specs.Served.{IsSettled, LeavesCutOf, content_of}
 use Rattle.solo.specs.Summed.{SumsUp}
 use Rattle.solo.specs.Texts.{summary_text}
-use Rattle.solo.proofs.Answering.{answered_none}
-use Rattle.solo.proofs.Running.{has_none, has_some, none_asked}
+use Rattle.solo.proofs.Running.{none_run}
 
 -- ---- The last line
 
 -- all was run, and then the last line was written
 pub summed : {T : Type 0} (target : Target) (trace left : Option (List ℕ)) (array : Option (List Block)) (tally : Tally) (result : Result T Fault) (old mid new : Option (List ℕ)) (values : Option (List (Values Block)))
     → RunsWhole target trace array tally old mid values → SumsUp result mid new (summary_text tally) → Ends target trace left array result old new values
-summed target trace left array tally (Ok x) old mid new values (lines, has, few, counted, ((marks, are, took), cuts)) sums =
-    (lines, has, few, marks, are, appends_both old mid new _ _ took (rw counted at sums), cuts)
-summed target trace left array tally (Err fault.Sink) old mid new values (lines, has, few, counted, ((marks, are, took), cuts)) sums =
-    inr (lines, has, few, marks, are, front_last old mid new _ _ took (rw counted at sums), cuts)
-summed target trace left array tally (Err fault.NoMemory) old mid new values (lines, has, few, counted, ((marks, are, took), cuts)) sums =
-    (lines, [], has, (asked_of target lines, [], (sym (append-nil (asked_of target lines)), cuts), (marks, are, appends_kept old mid new _ took sums)))
+summed target trace left array tally (Ok x) old mid new values whole sums = (tally, mid, whole, sums)
+summed target trace left array tally (Err fault.Sink) old mid new values whole sums = inr (tally, mid, whole, sums)
+summed target trace left array tally (Err fault.NoMemory) old mid new values whole sums = inr (tally, mid, whole, sums)
 summed target trace left array tally (Err fault.Bay) old mid new values whole sums = absurd sums
 summed target trace left array tally (Err fault.Disk) old mid new values whole sums = absurd sums
 summed target trace left array tally (Err (fault.BadLine line why)) old mid new values whole sums = absurd sums
@@ -46,7 +41,7 @@ pub stopped : (e : Fault) (target : Target) (trace left : Option (List ℕ)) (ar
 stopped fault.Bay target trace left array old new values stops = absurd stops
 stopped fault.Sink target trace left array old new values stops = inl stops
 stopped fault.Disk target trace left array old new values stops = stops
-stopped fault.NoMemory target trace left array old new values stops = stops
+stopped fault.NoMemory target trace left array old new values stops = inl stops
 stopped (fault.BadLine line why) target trace left array old new values stops = stops
 stopped fault.Spent target trace left array old new values stops = stops
 stopped fault.Source target trace left array old new values stops = stops
@@ -168,16 +163,11 @@ no_cuts : (array : Option (List Block)) → LeavesCutOf array [] [] None
 no_cuts None = tt
 no_cuts (Some a) = λ image is. absurd is
 
-no_memory : (target : Target) (trace left : Option (List ℕ)) (array : Option (List Block)) (old : Option (List ℕ)) → StopsBy fault.NoMemory target trace left array old old None
-no_memory target trace left array old =
-    let (more, has) = has_some trace trace [] (has_none trace) in
-    ([], more, has, ([], [], (none_asked target, no_cuts array), answered_none array old old (keeps_same old)))
-
-ends_early : (e : BayFault) (target : Target) (trace left : Option (List ℕ)) (array : Option (List Block)) (old : Option (List ℕ)) → EndsBy (fault_of_bay e) target trace left array old old None
-ends_early bay.NoMemory target trace left array old = no_memory target trace left array old
-ends_early bay.Absent target trace left array old = keeps_same old
-ends_early bay.Failed target trace left array old = keeps_same old
-ends_early (bay.WrongLength bytes) target trace left array old = keeps_same old
+ends_early : (e : BayFault) (target : Target) (trace : Option (List ℕ)) (array : Option (List Block)) (old : Option (List ℕ)) → EndsBy (fault_of_bay e) target trace trace array old old None
+ends_early bay.NoMemory target trace array old = inl (none_run target trace array old None (no_cuts array))
+ends_early bay.Absent target trace array old = keeps_same old
+ends_early bay.Failed target trace array old = keeps_same old
+ends_early (bay.WrongLength bytes) target trace array old = keeps_same old
 
 not_there : (e : BayFault) (old new : Option Told) → new ≡ old → LeavesBy (fault_of_bay e) old new None
 not_there bay.NoMemory old new same = inl same
@@ -185,6 +175,6 @@ not_there bay.Absent old new same = same
 not_there bay.Failed old new same = same
 not_there (bay.WrongLength bytes) old new same = same
 
-pub not_made : (T : Type 0) (e : BayFault) (target : Target) (trace left : Option (List ℕ)) (told new : Option Told) (old : Option (List ℕ)) → new ≡ told → RunsInBay {T = T} target trace left told new (Err (fault_of_bay e)) old old
-not_made T e target trace left None new old same = (None, tt, None, not_there e None new same, ends_early e target trace left None old)
-not_made T e target trace left (Some t) new old same = (Some (zeros target.home), refl, None, not_there e (Some t) new same, ends_early e target trace left (Some (zeros target.home)) old)
+pub not_made : (T : Type 0) (e : BayFault) (target : Target) (trace : Option (List ℕ)) (told new : Option Told) (old : Option (List ℕ)) → new ≡ told → RunsInBay {T = T} target trace trace told new (Err (fault_of_bay e)) old old
+not_made T e target trace None new old same = (None, tt, None, not_there e None new same, ends_early e target trace None old)
+not_made T e target trace (Some t) new old same = (Some (zeros target.home), refl, None, not_there e (Some t) new same, ends_early e target trace (Some (zeros target.home)) old)

@@ -1,5 +1,5 @@
 -- The lines of a trace, one after another.
-use Rattle.std.proofs.Common.{◌≡◌, ℕ, ◌+◌, ◌≤◌, ◌<◌, ◌^◌, Bool, true, false, List, [], ◌∷◌, ◌++◌, length, map, Option, None, Some, Ok, Err, refl, sym, ap, ◌∙◌, append-nil, arith, length-append}
+use Rattle.std.proofs.Common.{◌≡◌, inl, inr, ℕ, ◌+◌, ◌≤◌, ◌<◌, ◌^◌, Bool, true, false, List, [], ◌∷◌, ◌++◌, length, map, Option, None, Some, Ok, Err, refl, sym, ap, ◌∙◌, arith, length-append}
 use Rattle.std.specs.Prelude.{is_some, cond, ◌==◌}
 use Rattle.std.specs.List.{list_any, onto_first, slice_split}
 use Rattle.std.proofs.Math.Dec.{eqb-suc-zero}
@@ -16,10 +16,10 @@ use Rattle.wol_io.proofs.Appending.{keeps_same}
 use Rattle.solo.specs.declared.fault.Fault.{Fault}
 use Rattle.solo.specs.declared.fault.Fault.TheVariants as fault
 use Rattle.solo.specs.declared.tally.Tally.{Tally}
-use Rattle.solo.specs.Requests.{HasLines, HasLinesBefore, LineRead, asked_of, lines_read, requests_at, tally_of, tally_with}
-use Rattle.solo.specs.Runs.{AnsweredAll, RunsWhole, StopsBy}
-use Rattle.solo.specs.Served.{Answered, IsSettled, LeftBy, content_after, content_of}
-use Rattle.solo.proofs.Answering.{answered_both, answered_none, left_after}
+use Rattle.solo.specs.Requests.{HasLines, HasLinesBefore, IsTaken, LineRead, asked_of, lines_read, requests_at, tally_of, tally_with}
+use Rattle.solo.specs.Runs.{AnsweredAll, RunsWhole, StopsBy, StopsIn}
+use Rattle.solo.specs.Served.{Answered, IsSettled, LeavesCutOf, LeftBy, content_after, content_of}
+use Rattle.solo.proofs.Answering.{answered_both, answered_none}
 use Rattle.solo.proofs.Cuts.{answered_cuts}
 use Rattle.solo.proofs.Marks.{OnVolume, content_both, content_none}
 use Rattle.solo.proofs.LinePieces.{on_line}
@@ -37,11 +37,6 @@ has_more (Some trace) None next lines line has takes = absurd has
 has_more (Some trace) (Some bytes) None lines line has takes = absurd takes
 has_more (Some trace) (Some bytes) (Some rest) lines line has (text, cut, read) =
     has ∙ ap (λ (texts : List (List ℕ)). map Ok lines ++ map read_of texts) cut ∙ ap (λ (first : LineRead). map Ok lines ++ first ∷ lines_read rest) read ∙ one_more lines line (lines_read rest)
-
-pub has_some : (trace pend : Option (List ℕ)) (lines : List (Option TraceLine)) → HasLinesBefore trace lines pend → (more : List LineRead) × HasLines trace lines more
-has_some None pend lines has = ([], tt)
-has_some (Some trace) None lines has = absurd has
-has_some (Some trace) (Some bytes) lines has = (lines_read bytes, has)
 
 pub has_bad : (trace pend : Option (List ℕ)) (lines : List (Option TraceLine)) (why : BadLine) → HasLinesBefore trace lines pend → RefusesLine pend why → (more : List LineRead) × HasLines trace lines (Err why ∷ more)
 has_bad None pend lines why has refuses = ([], tt)
@@ -133,6 +128,11 @@ pub has_none : (trace : Option (List ℕ)) → HasLinesBefore trace [] trace
 has_none None = tt
 has_none (Some bytes) = refl
 
+-- no line was taken
+pub none_taken : (trace : Option (List ℕ)) → IsTaken trace [] [] trace
+none_taken None = (omega arith, tt)
+none_taken (Some bytes) = (omega arith, refl)
+
 pub begins : (target : Target) (trace old : Option (List ℕ)) (values : Option (List (Values Block))) → IsSettled values → SoFar target trace (content_of values) old 0 trace (record { lines = 0; blank = 0; skipped = 0; reads = 0; writes = 0 }) values old
 begins target trace old values settled = record {
   lines = [];
@@ -167,21 +167,20 @@ module _ (target : Target) (trace : Option (List ℕ)) (array : Option (List Blo
   all_answered = (so_far.answered, answered_cuts array (asked_of target so_far.lines) values so_far.settled so_far.content)
 
   -- a line wasn't run to its end
-  left_line : (e : Fault) (left : Option (List ℕ)) (lines : List (Option TraceLine)) (more : List LineRead) (values' : Option (List (Values Block))) (new : Option (List ℕ)) → HasLines trace lines more → LeftBy e array (asked_of target lines) old new values' → StopsBy e target trace left array old new values'
-  left_line fault.Disk left lines more values' new has stops = (lines, more, has, stops)
-  left_line fault.NoMemory left lines more values' new has stops = (lines, more, has, stops)
-  left_line fault.Sink left lines more values' new has stops = (lines, more, has, stops)
-  left_line fault.Bay left lines more values' new has stops = absurd stops
-  left_line (fault.BadLine line why) left lines more values' new has stops = absurd stops
-  left_line fault.Spent left lines more values' new has stops = absurd stops
-  left_line fault.Source left lines more values' new has stops = absurd stops
+  left_line : (e : Fault) (left : Option (List ℕ)) (values' : Option (List (Values Block))) (new : Option (List ℕ)) → StopsIn e target trace left array old new values' → StopsBy e target trace left array old new values'
+  left_line fault.Disk left values' new stops = stops
+  left_line fault.NoMemory left values' new stops = inr stops
+  left_line fault.Sink left values' new stops = stops
+  left_line fault.Bay left values' new (lines, last, held, taken, printed, answered, none) = absurd none
+  left_line (fault.BadLine line why) left values' new (lines, last, held, taken, printed, answered, none) = absurd none
+  left_line fault.Spent left values' new (lines, last, held, taken, printed, answered, none) = absurd none
+  left_line fault.Source left values' new (lines, last, held, taken, printed, answered, none) = absurd none
 
-  pub stops_in_line : (e : Fault) (line : Option TraceLine) (next left : Option (List ℕ)) (values' : Option (List (Values Block))) (new : Option (List ℕ)) → TakesLine pend next (Ok line)
+  pub stops_in_line : (e : Fault) (line : Option TraceLine) (held : List ℕ) (left : Option (List ℕ)) (values' : Option (List (Values Block))) (new : Option (List ℕ)) → length held ≤ 8192 → TakesLine pend (prepend_known held left) (Ok line)
       → LeftBy e (content_of values) (requests_at target (given + 1) line) mid new values' → StopsBy e target trace left array old new values'
-  stops_in_line e line next left values' new takes stops =
-      let (more, has) = has_some trace next (so_far.lines ++ line ∷ []) (has_more trace pend next so_far.lines line so_far.has takes) in
-      left_line e left (so_far.lines ++ line ∷ []) more values' new has
-      (rw (all_asked line) (left_after e array (asked_of target so_far.lines) (requests_at target (given + 1) line) old mid new values' (on_one target (given + 1) line) so_far.answered (rw so_far.content at stops)))
+  stops_in_line e line held left values' new short takes stops =
+      let here : LeftBy e (content_after (asked_of target so_far.lines) array) (requests_at target (length so_far.lines + 1) line) mid new values' = rw so_far.number (rw so_far.content at stops) in
+      left_line e left values' new (so_far.lines, line, held, (short, has_more trace pend (prepend_known held left) so_far.lines line so_far.has takes), mid, so_far.answered, here)
 
   -- the trace is at its end
   pub ends : (held : List ℕ) (left : Option (List ℕ)) → given ≤ 2 ^ 32 → Keeps pend (prepend_known held left) → held ≡ [] → IsAtEnd left → RunsWhole target trace array tally old mid values
@@ -189,25 +188,24 @@ module _ (target : Target) (trace : Option (List ℕ)) (array : Option (List Blo
       (so_far.lines, has_all trace pend left held so_far.lines so_far.has keeps none end, omega (arith, few, so_far.number), so_far.counted, all_answered)
 
   -- the reader of the trace refused
-  pub reader_stops : (e : TraceFault) (held : List ℕ) (left : Option (List ℕ)) → Keeps pend (prepend_known held left)
+  taken_so_far : (held : List ℕ) (left : Option (List ℕ)) → length held ≤ 8192 → Keeps pend (prepend_known held left) → IsTaken trace so_far.lines held left
+  taken_so_far held left short keeps = (short, has_kept trace pend (prepend_known held left) so_far.lines so_far.has keeps)
+
+  pub reader_stops : (e : TraceFault) (held : List ℕ) (left : Option (List ℕ)) → length held ≤ 8192 → Keeps pend (prepend_known held left)
       → ((line : ℕ) (why : BadLine) → e ≡ reader.Bad line why → (line ≡ given + 1) × (line ≤ 2 ^ 32) × RefusesLine pend why)
       → (e ≡ reader.Spent → (given ≡ 2 ^ 32) × (0 < length held)) → (e ≡ reader.Source → list_any is_feed held ≡ false) → StopsBy (fault_of e) target trace left array old mid values
-  reader_stops reader.Source held left keeps bad spent cut = (so_far.lines, held, cut refl, has_kept trace pend (prepend_known held left) so_far.lines so_far.has keeps, all_answered)
-  reader_stops (reader.Bad line why) held left keeps bad spent cut =
+  reader_stops reader.Source held left short keeps bad spent cut = (so_far.lines, held, cut refl, taken_so_far held left short keeps, all_answered)
+  reader_stops (reader.Bad line why) held left short keeps bad spent cut =
       let (is, few, refuses) = bad line why refl in
       let (more, has) = has_bad trace pend so_far.lines why so_far.has refuses in
-      (so_far.lines, more, has, omega (arith, is, so_far.number), all_answered)
-  reader_stops reader.Spent held left keeps bad spent cut =
+      (so_far.lines, more, has, omega (arith, is, so_far.number), held, taken_so_far held left short keeps, all_answered)
+  reader_stops reader.Spent held left short keeps bad spent cut =
       let (all, some) = spent refl in
       let (next, more, has) = has_next trace left held so_far.lines (has_kept trace pend (prepend_known held left) so_far.lines so_far.has keeps) some in
-      (so_far.lines, next, more, has, omega (arith, all, so_far.number), all_answered)
-  reader_stops reader.NoMemory held left keeps bad spent cut =
-      let (more, has) = has_some trace pend so_far.lines so_far.has in
-      (so_far.lines, more, has, (asked_of target so_far.lines, [], (sym (append-nil (asked_of target so_far.lines)), all_answered.1), so_far.answered))
+      (so_far.lines, next, more, has, omega (arith, all, so_far.number), held, taken_so_far held left short keeps, all_answered)
+  reader_stops reader.NoMemory held left short keeps bad spent cut = inl (so_far.lines, held, taken_so_far held left short keeps, all_answered)
 
 -- there was no memory to begin with
-pub stops_first : (target : Target) (trace left : Option (List ℕ)) (old : Option (List ℕ)) (values : Option (List (Values Block))) → IsSettled values → StopsBy fault.NoMemory target trace left (content_of values) old old values
-stops_first target trace left old values settled =
-    let so_far = begins target trace old values settled in
-    let (more, has) = has_some trace trace so_far.lines so_far.has in
-    (so_far.lines, more, has, (asked_of target so_far.lines, [], (sym (append-nil (asked_of target so_far.lines)), answered_cuts (content_of values) (asked_of target so_far.lines) values so_far.settled so_far.content), so_far.answered))
+pub none_run : (target : Target) (trace : Option (List ℕ)) (array : Option (List Block)) (old : Option (List ℕ)) (values : Option (List (Values Block))) → LeavesCutOf array [] [] values → StopsBy fault.NoMemory target trace trace array old old values
+none_run target trace array old values cuts =
+    inl ([], [], none_taken trace, (rw (none_asked target) (answered_none array old old (keeps_same old)), rw (none_asked target) cuts))

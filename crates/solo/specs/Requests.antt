@@ -1,5 +1,6 @@
 -- The lines of a trace, and what they ask of the one volume of a run.
-use Rattle.std.specs.Prelude.{◌≡◌, ℕ, ◌+◌, List, [], ◌∷◌, ◌++◌, length, map, count_by, Option, None, Some, is_none, Result, Ok, ⊤}
+use Rattle.std.specs.Prelude.{◌≡◌, ℕ, ◌+◌, ◌≤◌, Bool, true, false, List, [], ◌∷◌, ◌++◌, length, map, count_by, Option, None, Some, is_none, Result, Ok, ⊤}
+use Rattle.std.specs.Io.KnownBytes.{prepend_known}
 use Rattle.wol_model.specs.Trace as model
 use Rattle.wol_model.specs.Trace.{Target, TraceLine, is_skipped, pieces, read_count, requests, requests_of, write_count}
 use Rattle.wol_model.specs.declared.trace.Kind.{Kind}
@@ -28,6 +29,12 @@ abbrev pub HasLinesBefore : (trace : Option (List ℕ)) → (lines : List (Optio
 HasLinesBefore None lines left = ⊤
 HasLinesBefore (Some trace) lines None = ⊥
 HasLinesBefore (Some trace) lines (Some left) = HasLines (Some trace) lines (lines_read left)
+
+-- These lines were taken of a trace: `held` was read behind them, and `left` is left of it.
+abbrev pub IsTaken : (trace : Option (List ℕ)) → (lines : List (Option TraceLine))
+    → (held : List ℕ) → (left : Option (List ℕ)) → Type 0
+IsTaken trace lines held left =
+    (length held ≤ 8192) × HasLinesBefore trace lines (prepend_known held left)
 
 -- the requests that these lines ask of the volume, in pieces of at most 128 blocks; the volume has
 -- number 0

@@ -1,11 +1,12 @@
 -- What requests leave of a disk and of a sink.
-use Rattle.std.specs.Prelude.{◌≡◌, ℕ, ◌≤◌, ⊤, List, [], ◌++◌, take, Option, None, Some, option_map, Result, IsErrOf, MatchResult}
+use Rattle.std.specs.Prelude.{◌≡◌, ℕ, ◌≤◌, ⊤, List, [], ◌∷◌, ◌++◌, Option, None, Some, option_map, Result, IsErrOf, MatchResult}
 use Rattle.std.specs.Io.KnownBytes.{Appends}
 use Rattle.wol_disk.specs.Disk.{Block, IsImageOf, Rose, Values, only, reads}
 use Rattle.wol_io.specs.Streams.{AppendsFront}
 use Rattle.wol_model.specs.Blocks.{after}
 use Rattle.wol_model.specs.History.{IsCut}
 use Rattle.wol_model.specs.Trace.{Request, payloads}
+use Rattle.wol_model.specs.declared.trace.Kind.TheVariants as kind
 use Rattle.solo.specs.declared.fault.Fault.{Fault}
 use Rattle.solo.specs.declared.fault.Fault.TheVariants as fault
 use Rattle.solo.specs.Texts.{AreMarks, read_lines}
@@ -42,25 +43,26 @@ abbrev pub AnsweredFront : (array : Option (List Block)) → List Request
 AnsweredFront array rs old new =
     (marks : List (Option ℕ)) × AreMarks array rs marks × AppendsFront old new (read_lines rs marks)
 
--- some first requests were answered, and of the others no more than these were in flight
-abbrev pub StopsAfter : (first rest flight : List Request) → (array : Option (List Block))
-    → List Request → (values : Option (List (Values Block))) → Type 0
-StopsAfter first rest flight array rs values =
-    (rs ≡ first ++ rest) × LeavesCutOf array first flight values
+-- of these requests this one comes directly after the first ones
+abbrev pub ComesAfter : (first : List Request) → Request → List Request → Type 0
+ComesAfter first r rs = (rest : List Request) × (rs ≡ first ++ r ∷ rest)
 
--- how requests end that weren't all answered: only by their disk, the sink, or want of memory; the
--- next one may be in flight where a call of the disk failed, and nothing elsewhere
+-- How requests end that weren't all answered: all before one were, and at that one the disk, the
+-- sink or memory failed. It may be in flight where a call of the disk failed, and nothing
+-- elsewhere; a sink that failed took a front of its line.
 abbrev pub LeftBy : Fault → (array : Option (List Block)) → List Request
     → (old new : Option (List ℕ)) → (values : Option (List (Values Block))) → Type 0
 LeftBy fault.Disk array rs old new values =
-    (first rest : List Request) × StopsAfter first rest (take 1 rest) array rs values
-    × Answered array first old new
+    (first : List Request) × (r : Request) × ComesAfter first r rs
+    × Answered array first old new × LeavesCutOf array first (r ∷ []) values
 LeftBy fault.NoMemory array rs old new values =
-    (first rest : List Request) × StopsAfter first rest [] array rs values
-    × Answered array first old new
+    (first : List Request) × (r : Request) × ComesAfter first r rs × (r.kind ≡ kind.Read)
+    × Answered array first old new × LeavesCutOf array first [] values
 LeftBy fault.Sink array rs old new values =
-    (first rest : List Request) × StopsAfter first rest [] array rs values
-    × AnsweredFront array first old new
+    (first : List Request) × (r : Request) × ComesAfter first r rs × (r.kind ≡ kind.Read)
+    × LeavesCutOf array first [] values
+    × (mid : Option (List ℕ)) × Answered array first old mid
+    × AnsweredFront (content_after first array) (r ∷ []) mid new
 LeftBy fault.Bay array rs old new values = ⊥
 LeftBy (fault.BadLine line why) array rs old new values = ⊥
 LeftBy fault.Spent array rs old new values = ⊥

@@ -184,7 +184,7 @@ module _ {D : Type 0} (tells : Bool) (state : D → State) (words : List (List �
 
   does_none : (command : Command) → Does tells state before after status command
   does_none (Solo volume) = told_fault (target_of volume) before.trace.bytes before.trace.bytes before.bay.told before.bay.told before.bay.faults before.bay.faults before.trace.faults before.trace.faults status _ _ _ (Unit {0}) solo_fault.NoMemory tt ends
-      (not_made (Unit {0}) bay_fault.NoMemory (target_of volume) before.trace.bytes before.trace.bytes before.bay.told before.bay.told before.sink.bytes refl)
+      (not_made (Unit {0}) bay_fault.NoMemory (target_of volume) before.trace.bytes before.bay.told before.bay.told before.sink.bytes refl)
   does_none Format = told_untouched _ _ _ _ _ status _ _ fault.Memory tt refl (inr ends)
   does_none (Replay options) = unreplayed _ _ _ _ _ _ _ _ _ _ _ _ _ _ fault.Memory tt refl (inr ends)
   does_none Check = look_untouched _ _ asked.Check _ _ _ _ _ status _ _ fault.Memory tt refl (inr ends)

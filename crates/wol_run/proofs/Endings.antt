@@ -1,5 +1,5 @@
 -- What is told at the end of a run.
-use Rattle.std.proofs.Common.{◌≡◌, inl, inr, ℕ, List, [], ◌∷◌, Option, Ok, Err, refl, sym, append-nil, arith}
+use Rattle.std.proofs.Common.{◌≡◌, inl, inr, ℕ, List, Option, Ok, Err, refl, arith}
 use Rattle.msr_trace.specs.declared.format.BadLine.{BadLine}
 use Rattle.wol_disk.specs.Disk.{Block, Rose, Values}
 use Rattle.wol_bay.specs.Bay.{Told}
@@ -7,7 +7,6 @@ use Rattle.wol_model.specs.Trace.{Target}
 use Rattle.solo.specs.declared.fault.Fault.{Fault}
 use Rattle.solo.specs.declared.fault.Fault.TheVariants as fault
 use Rattle.solo.specs.Images.{PartCameBackFaulty, RunsInBay}
-use Rattle.solo.specs.Requests.{asked_of}
 use Rattle.solo.specs.Runs.{EndsBy}
 use Rattle.wol_run.specs.Tops.{HasBadLine, HasCause, HasMoreLines, RunsSolo, TellsFault, TellsStatus}
 
@@ -26,8 +25,7 @@ has_cause (fault.BadLine line why) told told' bay bay' source source' disk image
 -- a bad line was met, and then there was no memory for its text
 no_memory_instead : (line : ℕ) (why : BadLine) (target : Target) (trace left : Option (List ℕ)) (array : Option (List Block)) (old new : Option (List ℕ)) (values : Option (List (Values Block)))
     → EndsBy (fault.BadLine line why) target trace left array old new values → EndsBy fault.NoMemory target trace left array old new values
-no_memory_instead line why target trace left array old new values (lines, more, has, number, (answered, cuts)) =
-    (lines, Err why ∷ more, has, (asked_of target lines, [], (sym (append-nil (asked_of target lines)), cuts), answered))
+no_memory_instead line why target trace left array old new values (lines, more, has, number, held, taken, answered) = inl (inl (lines, held, taken, answered))
 
 module _ (target : Target) (trace left : Option (List ℕ)) (told told' : Option Told) (bay bay' source source' status : ℕ) (old mid new : Option (List ℕ)) where
   pub told_fault : (T : Type 0) (e : Fault) → HasCause e told told' bay bay' source source' → TellsFault e status mid new → RunsInBay {T = T} target trace left told told' (Err e) old mid → RunsSolo target trace left told told' bay bay' source source' status old new
@@ -49,7 +47,7 @@ told_done x target trace left told told' bay bay' source source' old new (array,
 pub comes_of_bad_line : (T : Type 0) (e : Fault) (status : ℕ) (target : Target) (trace left : Option (List ℕ)) (told told' : Option Told) (old mid : Option (List ℕ)) → TellsStatus e status → status ≡ 3 → RunsInBay {T = T} target trace left told told' (Err e) old mid → HasBadLine trace
 comes_of_bad_line T e status target trace left told told' old mid (inr (inl is)) three runs = absurd (omega (arith, is, three))
 comes_of_bad_line T e status target trace left told told' old mid (inr (inr is)) three runs = absurd (omega (arith, is, three))
-comes_of_bad_line T (fault.BadLine line why) status target trace left told told' old mid (inl is) three (array, begins, values, images, (lines, more, has, number, all)) = (lines, why, more, has)
+comes_of_bad_line T (fault.BadLine line why) status target trace left told told' old mid (inl is) three (array, begins, values, images, (lines, more, has, number, held, taken, all)) = (lines, why, more, has)
 comes_of_bad_line T fault.Bay status target trace left told told' old mid (inl is) three runs = absurd (omega (arith, is, three))
 comes_of_bad_line T fault.Disk status target trace left told told' old mid (inl is) three runs = absurd (omega (arith, is, three))
 comes_of_bad_line T fault.Sink status target trace left told told' old mid (inl is) three runs = absurd (omega (arith, is, three))
@@ -60,7 +58,7 @@ comes_of_bad_line T fault.Spent status target trace left told told' old mid (inl
 pub comes_of_lines : (T : Type 0) (e : Fault) (status : ℕ) (target : Target) (trace left : Option (List ℕ)) (told told' : Option Told) (old mid : Option (List ℕ)) → TellsStatus e status → status ≡ 10 → RunsInBay {T = T} target trace left told told' (Err e) old mid → HasMoreLines trace
 comes_of_lines T e status target trace left told told' old mid (inr (inl is)) ten runs = absurd (omega (arith, is, ten))
 comes_of_lines T e status target trace left told told' old mid (inr (inr is)) ten runs = absurd (omega (arith, is, ten))
-comes_of_lines T fault.Spent status target trace left told told' old mid (inl is) ten (array, begins, values, images, (lines, next, more, has, number, all)) = (lines, next, more, has, number)
+comes_of_lines T fault.Spent status target trace left told told' old mid (inl is) ten (array, begins, values, images, (lines, next, more, has, number, held, taken, all)) = (lines, next, more, has, number)
 comes_of_lines T (fault.BadLine line why) status target trace left told told' old mid (inl is) ten runs = absurd (omega (arith, is, ten))
 comes_of_lines T fault.Bay status target trace left told told' old mid (inl is) ten runs = absurd (omega (arith, is, ten))
 comes_of_lines T fault.Disk status target trace left told told' old mid (inl is) ten runs = absurd (omega (arith, is, ten))

@@ -10,13 +10,15 @@ use Rattle.solo.proofs.answer.serve.Goals as goal
 
 pub returns-then-is_err-clause-content : goal.returns-then-is_err-clause-content
 returns-then-is_err-clause-content g c =
-    let out = left_out (request_of c.args.request.now) (request_of c.args.request.now ∷ []) (g.D.Disk.state c.args.part.now).values (g.D.Disk.state c.read.new.self).values (g.K.Sink.taken c.args.out.now) c.requires.settled c.read.ensures.values in
-    ([], request_of c.args.request.now ∷ [], out.0, out.1)
+    let r = request_of c.args.request.now in
+    let (next, answered, cuts) = left_out r (r ∷ []) (g.D.Disk.state c.args.part.now).values (g.D.Disk.state c.read.new.self).values (g.K.Sink.taken c.args.out.now) c.requires.settled c.read.ensures.values in
+    ([], r, next, answered, cuts)
 
 pub returns-in_default-clause-content : goal.returns-in_default-clause-content
 returns-in_default-clause-content g c =
-    let out = left_out (request_of c.args.request.now) [] (g.D.Disk.state c.args.part.now).values (g.D.Disk.state c.read.new.self).values (g.K.Sink.taken c.args.out.now) c.requires.settled c.read.ensures.values in
-    ([], request_of c.args.request.now ∷ [], out.0, out.1)
+    let r = request_of c.args.request.now in
+    let (next, answered, cuts) = left_out r [] (g.D.Disk.state c.args.part.now).values (g.D.Disk.state c.read.new.self).values (g.K.Sink.taken c.args.out.now) c.requires.settled c.read.ensures.values in
+    ([], r, next, c.in-Read.is, answered, cuts)
 
 pub returns-then-is_err-2-clause-content : goal.returns-then-is_err-2-clause-content
 returns-then-is_err-2-clause-content g c =

@@ -5,7 +5,7 @@ use Rattle.solo.proofs.image.run.Goals as goal
 
 pub returns-in-Err-clause-content : goal.returns-in-Err-clause-content
 returns-in-Err-clause-content g c =
-    rw c.fault_of_bay.ensures (not_made (Unit {0}) c.in-Err.fault (target_of c.args.volume.now) (g.S.Source.left c.args.trace.now) (g.S.Source.left c.args.trace.now) (g.B.Bay.state c.args.bay.now).told (g.B.Bay.state c.create.new.self).told (g.K.Sink.taken c.args.out.now) c.in-Err.ensures.err)
+    rw c.fault_of_bay.ensures (not_made (Unit {0}) c.in-Err.fault (target_of c.args.volume.now) (g.S.Source.left c.args.trace.now) (g.B.Bay.state c.args.bay.now).told (g.B.Bay.state c.create.new.self).told (g.K.Sink.taken c.args.out.now) c.in-Err.ensures.err)
 
 pub run_parts-ran-requires-clause-blank : goal.run_parts-ran-requires-clause-blank
 run_parts-ran-requires-clause-blank g c = rw c.deref_mut.ensures.value (one_part g.B.Part.Disk.state (g.B.Bay.state c.args.bay.now).told c.args.volume.now.blocks c.in-Ok.parts.items c.in-Ok.ensures.parts)

@@ -32,7 +32,7 @@ returns-in-Ok-None-clause-content g c =
 
 pub returns-in-Err-clause-content : goal.returns-in-Err-clause-content
 returns-in-Err-clause-content g c =
-    rw c.fault_of.ensures (reader_stops _ _ _ _ _ _ _ _ _ c.loop.invariant.so_far c.in-Err.fault c.next.new.self.held (g.S.Source.left c.next.new.self.source) c.in-Err.ensures.kept
+    rw c.fault_of.ensures (reader_stops _ _ _ _ _ _ _ _ _ c.loop.invariant.so_far c.in-Err.fault c.next.new.self.held (g.S.Source.left c.next.new.self.source) c.in-Err.ensures.size c.in-Err.ensures.kept
     (λ line why is. c.in-Err.ensures.bad line why (ap Err is)) (λ is. c.in-Err.ensures.spent.0 (ap Err is)) (λ is. c.in-Err.ensures.cut (ap Err is)))
 
 pub returns-in_err-take_line-clause-content : goal.returns-in_err-take_line-clause-content
@@ -40,7 +40,7 @@ returns-in_err-take_line-clause-content g c =
     let p = err_from_is_err_and c.from_residual.result c.from_residual.ensures.1 in
     let number : (c.in-Ok-Some.numbered.0 ≡ c.loop.lines.given + 1) × (c.next.new.self.given ≡ c.in-Ok-Some.numbered.0) = rw c.in-Ok-Some.field-0-is at c.in-Ok-Some.ensures.number in
     let takes : TakesLine (pending g.S.Source.left c.loop.lines) (pending g.S.Source.left c.next.new.self) (Ok (option_map trace_line c.in-Ok-Some.numbered.1)) = rw c.in-Ok-Some.field-0-is at c.in-Ok-Some.ensures.line in
-    rw (p.1, p.2) (stops_in_line _ _ _ _ _ _ _ _ _ c.loop.invariant.so_far c.in_err-take_line.field-0.0 (option_map trace_line c.in-Ok-Some.numbered.1) (pending g.S.Source.left c.next.new.self) (g.S.Source.left c.next.new.self.source) _ _ takes
+    rw (p.1, p.2) (stops_in_line _ _ _ _ _ _ _ _ _ c.loop.invariant.so_far c.in_err-take_line.field-0.0 (option_map trace_line c.in-Ok-Some.numbered.1) c.next.new.self.held (g.S.Source.left c.next.new.self.source) _ _ c.in-Ok-Some.ensures.size takes
     (rw number.0 at c.in_err-take_line.ensures.content))
 
 pub loop-preserved : goal.loop-preserved
