@@ -2,10 +2,10 @@
 use Rattle.replay.proofs.Basics.{◌≡◌, ◌<◌, ◌++◌, ℕ, Bool, false, List, [], ◌∷◌, length, take, refl, sym, ap, subst, ◌∙◌, Option, None, Some}
 use Rattle.replay.proofs.Basics.{is_some, Result, Ok, Err, inl, inr, append-nil, arith, IsTrue, slice_get, option_map_or, Appends, true}
 use Rattle.replay.proofs.Basics.{unwrap_or}
-use Rattle.replay.proofs.Terms.{AppendsFront, appends_none, front_whole, BayState, Told, Block, Rose, State, AreLegalNext, IsCut, flight_of}
+use Rattle.replay.proofs.Terms.{AppendsFront, appends_none, front_whole, BayState, Told, Block, State, AreLegalNext, IsCut, flight_of}
 use Rattle.replay.proofs.Terms.{writes, in_flight, recovered_from, TraceLine, Answered, entries_of, joined_lines, answers_of, HasOneHistory}
 use Rattle.replay.proofs.Terms.{IsReopened, Config, IsTold, AreLeft, images_read, shapes_of, status_of, Volume, targets_of, trouble_of}
-use Rattle.replay.proofs.Terms.{VolumeFault, HasGivenAll, AreAllOpen, ArePrinted, HasNotBegun, KeepsHeadline, MeetsHeadline, ArePlainMarks}
+use Rattle.replay.proofs.Terms.{VolumeFault, HasGivenAll, AreAllOpen, ArePrinted, HasFailed, HasNotBegun, KeepsHeadline, MeetsHeadline, ArePlainMarks}
 use Rattle.replay.proofs.Terms.{BeginAsRead, History, answers_in, is_broken, is_broken_at, LeavesImages, AsksNone, LeavesBay, Replayed}
 use Rattle.replay.proofs.Terms.{Replays, status_in, ServedWindow, PrintsRun, lines_asked, Given, Options, Stop}
 use Rattle.replay.proofs.Terms.{CameBackFaulty, HasFaultyPart, IsFlightAt, PartName, Write, part_named}
@@ -98,14 +98,25 @@ module _ {S T : Type 0} (tells : Bool) (left : S → Option (List ℕ)) (config 
         at HomePart way faulty = (faulty.more, faulty.more_is, (faulty.conf, faulty.conf_is, faulty.among))
         at (SegmentPart logger index) way faulty = let no : false ≡ true = ap is_some (sym unversioned_) ∙ way.0 in absurd (cc no)
 
-    reopened : IsReopened (shapes_of config) (AreLeft config exit) (Rose old.faults new.faults) (CameBackFaulty config (Home v) entry exit) v opened (answers_of v answers) (entries_of h.notes)
+    -- where a call failed a part of the volume came back with a fault
+    part_faulty : (name : PartName) → HasFaultyPart tells config v h.base.view name entry exit → HasFaultyPart true config v h.base.view name entry exit
+    part_faulty HomePart faulty = record { more = faulty.more; more_is = faulty.more_is; conf = faulty.conf; conf_is = faulty.conf_is; among = faulty.among; lies = faulty.lies }
+    part_faulty (SegmentPart logger index) faulty =
+        record { more = faulty.more; more_is = faulty.more_is; conf = faulty.conf; conf_is = faulty.conf_is; among = faulty.among; lies = (faulty.lies.0, λ yes. faulty.lies.1 telling) }
+
+    has_failed : IsTrue (is_broken h) → HasFailed config entry exit old.faults new.faults v
+    has_failed broke =
+        let (name, down, way, faulty) = images.faulty v h here broke in
+        let broken : is_broken_at r.histories v ≡ is_broken h = ap (λ (o : Option History). option_map_or is_broken o false) here in
+        record { rose = r.cause v (broken ∙ broke); base = h.base; owner = (r.are.each v h here).owner; begun = begun v h here; name = name; part = part_faulty name faulty }
+
+    reopened : IsReopened (shapes_of config) (AreLeft config exit) (HasFailed config entry exit old.faults new.faults v) (CameBackFaulty config (Home v) entry exit) v opened (answers_of v answers) (entries_of h.notes)
     reopened =
-        let broken : is_broken_at r.histories v ≡ is_some (flight_of (entries_of h.notes)) = ap (λ (o : Option History). option_map_or is_broken o false) here in
         record {
           cut = λ left_ is_left. subst (λ (a : List Block). IsCut a (writes (entries_of h.notes)) (in_flight (entries_of h.notes)) (recovered_from (shapes_of config) left_ v)) array (images.stopped v h here left_ is_left);
           torn = home_faulty;
           one_action = images.action v h here;
-          calm = λ none. none_or (flight_of (entries_of h.notes)) (λ some. none (r.cause v (broken ∙ some)));
+          calm = λ none. none_or (flight_of (entries_of h.notes)) (λ some. none (has_failed some));
         }
 
   pub headline_kept : IsTold (λ entry exit. MeetsHeadline left config options.each start now entry exit old.faults new.faults (status_in result) taken taken') old.told new.told

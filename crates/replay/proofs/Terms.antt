@@ -58,7 +58,7 @@ pub use Rattle.replay.specs.Counts.{was_drained, most_count, no_totals, was_logg
 pub use Rattle.replay.specs.Ended.{EndsFor, HasRefusedWrite, IsPartFault, memory, no_line, refused, sink_failed}
 pub use Rattle.replay.specs.Endings.{fault_of_outcome, fault_of_reclaim, fault_of_window, first_refused, lacked_memory, fault_of_read, fault_of_write}
 pub use Rattle.replay.specs.Givens.{Refuses, HasGiven, HasGivenAll, RefusesTrace, IsLive, borrow_of, faults_of, given_count}
-pub use Rattle.replay.specs.Headlined.{AreAllOpen, ArePrinted, HasNotBegun, KeepsHeadline, MeetsHeadline}
+pub use Rattle.replay.specs.Headlined.{AreAllOpen, ArePrinted, HasFailed, HasNotBegun, KeepsHeadline, MeetsHeadline}
 pub use Rattle.replay.specs.Histories.{answers_in, History, is_broken_at, next_after, next_at, AreHistories, BeginAsRead, CountAnswered, view_at, is_broken, IsHistory, ArePlainMarks, LeavesReclaimed, line_of_read}
 pub use Rattle.replay.specs.Leaves.{LeavesImages, records_in, written_array}
 pub use Rattle.replay.specs.NotOpened.{LeavesBay, LeavesViews, AsksNone}

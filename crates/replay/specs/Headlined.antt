@@ -3,13 +3,15 @@
 -- `start` and `now` are where the lines come from, before and after the run; `entry` and `exit`
 -- what the images held then, `faults` and `faults'` how many calls had failed, `taken` and
 -- `taken'` what was printed; `each` asks for the lines of reads.
-use Rattle.std.specs.Prelude.{◌≡◌, ◌≢◌, ◌⊎◌, ◌++◌, ℕ, Bool, List, [], length, take, Option, Some, slice_get, IsTrue}
+use Rattle.std.specs.Prelude.{◌≡◌, ◌≢◌, ◌⊎◌, ◌++◌, ℕ, Bool, true, List, [], length, take, Option, Some, slice_get, IsTrue}
 use Rattle.std.specs.Io.KnownBytes.{Appends}
 use Rattle.wol_disk.specs.Disk.{Rose, State}
 use Rattle.wol_io.specs.Streams.{AppendsFront}
 use Rattle.wol_bay.specs.Bay.{BayState, Told}
 use Rattle.wol_model.specs.Trace.{TraceLine, requests}
+use Rattle.wol_promise.specs.Manager.{Base}
 use Rattle.wol_promise.specs.Outcomes.{Answered, of_volume}
+use Rattle.wol_promise.specs.Policy.{PartName}
 use Rattle.wol_promise.specs.Run.{joined_lines}
 use Rattle.run_laws.specs.Answers.{answered_count, requests_in}
 use Rattle.run_laws.specs.Headline.{Headline}
@@ -18,8 +20,9 @@ use Rattle.wol_config.specs.declared.config.VolumeConf.{VolumeConf}
 use Rattle.manager.specs.declared.part.Part.TheVariants.{Home}
 use Rattle.volume_images.specs.Left.{IsTold}
 use Rattle.volume_images.specs.Volumes.{AreLeft, images_read, shapes_of}
-use Rattle.rack.specs.Closes.{CameBackFaulty}
+use Rattle.rack.specs.Closes.{CameBackFaulty, HasFaultyPart}
 use Rattle.rack.specs.Opens.{WasAccepted}
+use Rattle.rack.specs.Owners.{IsBegun}
 use Rattle.trace_gen.specs.Generated.{targets_of}
 use Rattle.replay.specs.Givens.{HasGiven, HasGivenAll}
 use Rattle.replay.specs.Histories.{line_of_read}
@@ -44,6 +47,16 @@ abbrev pub AreAllOpen : Config → (entry : Told) → Type 0
 AreAllOpen config entry = (k : ℕ) (v : VolumeConf) → slice_get config.volumes.items k ≡ Some v
     → WasAccepted config entry k v
 
+-- A call of a disk of volume v failed: the bay's count rose, and a part of the volume came back with
+-- a fault, its home or a segment of a logger in the view with which it was opened.
+pub record HasFailed (config : Config) (entry exit : Told) (faults faults' v : ℕ) : Type 0 where
+  pub rose : Rose faults faults'
+  pub base : Base
+  pub owner : base.owner ≡ v
+  pub begun : IsBegun config (images_read config entry) base
+  pub name : PartName
+  pub part : HasFaultyPart true config v base.view name entry exit
+
 pub record MeetsHeadline {S : Type 0} (left : S → Option (List ℕ)) (config : Config) (each : Bool)
     (start now : Given S) (entry exit : Told) (faults faults' status : ℕ)
     (taken taken' : Option (List ℕ)) : Type 0 where
@@ -60,8 +73,8 @@ pub record MeetsHeadline {S : Type 0} (left : S → Option (List ℕ)) (config :
       × ((v : ℕ) → answered_count answers v ≡ length (of_volume v (requests_in answers)))
   -- of these the headline holds; a home of which a call failed came back with a fault
   pub headline : Headline (shapes_of config) (images_read config entry) (AreLeft config entry)
-      (AreLeft config exit) (Rose faults faults') (λ v. CameBackFaulty config (Home v) entry exit)
-      (line_of_read config) answers
+      (AreLeft config exit) (HasFailed config entry exit faults faults')
+      (λ v. CameBackFaulty config (Home v) entry exit) (line_of_read config) answers
   -- the lines of the answered reads were printed, where they are asked for
   pub printed : ArePrinted (lines_asked config each answers) status taken taken'
 

@@ -10,10 +10,10 @@
 --
 -- A stopped disk fails each call from some call on, and that one may have written any of its
 -- blocks. `was` and `may_be` are the images that a stop may leave before and after the run: each
--- block as last synced or as written since. `failed`: a call of a disk failed. `home_failed`: so did
--- one of the home of volume v. `answers`: the requests with their outcomes, in the order of the
--- trace. `text`: a read's line with its mark, the sum, modulo 2^64, of the numbers in the first
--- eight bytes of its blocks.
+-- block as last synced or as written since. `failed`: a call of a disk of volume v failed, of its
+-- home or of a logger in its view. `home_failed`: so did one of its home. `answers`: the requests
+-- with their outcomes, in the order of the trace. `text`: a read's line with its mark, the sum,
+-- modulo 2^64, of the numbers in the first eight bytes of its blocks.
 use Rattle.std.specs.Prelude.{◌≡◌, ◌<◌, ◌≤◌, ◌⊎◌, ◌++◌, ◌∷◌, ℕ, true, List, [], length, map, take, drop, None, is_some}
 use Rattle.std.specs.List.{AllByRecursion}
 use Rattle.wol_disk.specs.Disk.{Block}
@@ -63,13 +63,13 @@ pub record IsReopened (shapes : List Shape) (may_be : Images → Type 0)
   -- there whole or not at all
   pub torn : (w : Write) → in_flight history ≡ w ∷ [] → w.version ≡ None → home_failed
   -- those in flight are of the next request, or of several next ones that were to go to a log
-  -- together, and none where no call failed
+  -- together, and none where no call of a disk of the volume failed
   pub one_action : IsOneAction v (drop (length (answered_in answers)) (requests_in answers))
       (in_flight history)
   pub calm : (failed → ⊥) → flight_of history ≡ None
 
 pub record Headline (shapes : List Shape) (entry : Images) (was may_be : Images → Type 0)
-    (failed : Type 0) (home_failed : (v : ℕ) → Type 0) (text : Request → (mark : ℕ) → List ℕ)
+    (failed home_failed : (v : ℕ) → Type 0) (text : Request → (mark : ℕ) → List ℕ)
     (answers : List Answered) : Type 0 where
   -- each volume has one legal history of its answered requests
   pub each_volume : (v : ℕ) → v < length shapes
@@ -81,7 +81,7 @@ pub record Headline (shapes : List Shape) (entry : Images) (was may_be : Images 
   -- wherever the disks stop, the images recover to that same history's acknowledged writes, and at
   -- most what was in flight
   pub reopens : (v : ℕ) (open_ : v < length shapes)
-      → IsReopened shapes may_be failed (home_failed v) v (recovered_from shapes entry v)
+      → IsReopened shapes may_be (failed v) (home_failed v) v (recovered_from shapes entry v)
       (answers_of v answers) (each_volume v open_).history
   -- sound images stay sound
   pub sound : KeepsSound shapes was may_be
