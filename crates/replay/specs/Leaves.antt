@@ -37,7 +37,7 @@ records_in config images v = extents_of v (all_segments (shapes_of config) image
 pub record LeavesImages (tells : Bool) (config : Config) (answers : List Answered)
     (histories : List History) (entry new : Told) : Type 0 where
   -- where a call of a disk of a volume failed, the part of it that is down in the end had a fault,
-  -- and what was in flight was on its way to that part
+  -- and what was in flight was on its way home, where that is its home, and else to some log
   pub faulty : (v : ℕ) (h : History) → slice_get histories v ≡ Some h → IsTrue (is_broken h)
       → (name : PartName) × ((last_look h.base.look h.notes).down ≡ Some name)
       × IsFlightAt (part_named v name) (in_flight (entries_of h.notes))

@@ -6,7 +6,7 @@
 -- Wherever the disks stop, within a write too, the images recover to that history's acknowledged
 -- writes, followed at most by a prefix of the writes in flight, or by some blocks of a single one,
 -- and that only where a call of the volume's home failed: a write to a log is there whole or not at
--- all. In flight is at most the next write, or several next ones that were to go to a log together.
+-- all. In flight is at most the next write, or several next ones, none of which was to go home.
 --
 -- A stopped disk fails each call from some call on, and that one may have written any of its
 -- blocks. `was` and `may_be` are the images that a stop may leave before and after the run: each
@@ -40,7 +40,7 @@ pub record HasOneHistory (opened : List Block) (answers : List Answered) : Type 
   pub first : answered_in answers ≡ take (length (answered_in answers)) answers
 
 -- In flight is nothing, the write that the next of these requests asks for, or the writes that
--- several next ones ask for, which were to go to a log together.
+-- several next ones ask for, none of which was to go home.
 pub record IsOneAction (v : ℕ) (next : List Request) (flight : List Write) : Type 0 where
   -- it is what so many next requests ask for, in order
   pub count : ℕ
@@ -62,8 +62,8 @@ pub record IsReopened (shapes : List Shape) (may_be : Images → Type 0)
   -- .. and a single one has none only where a call of the volume's home failed: a write to a log is
   -- there whole or not at all
   pub torn : (w : Write) → in_flight history ≡ w ∷ [] → w.version ≡ None → home_failed
-  -- those in flight are of the next request, or of several next ones that were to go to a log
-  -- together, and none where no call of a disk of the volume failed
+  -- those in flight are of the next request, or of several next ones, none of which was to go
+  -- home; and none is where no call of a disk of the volume failed
   pub one_action : IsOneAction v (drop (length (answered_in answers)) (requests_in answers))
       (in_flight history)
   pub calm : (failed → ⊥) → flight_of history ≡ None
