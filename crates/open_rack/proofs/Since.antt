@@ -50,7 +50,7 @@ none_out_still config b d same none =
 -- the names that went out came back
 pub home_again : {D : Type 0} (config : Config) (b d e : BayState) (r q : Rack D) → q.rest ≡ r.rest → NoneOut config b
     → outs d ≡ option_map (λ (os : List (Name × List ℕ)). os ++ out_names config config.volumes.items r.rest.images.items) (outs b) → LeavesNoneOut config q.rest.images.items (outs d) (outs e) → outs e ≡ outs b
-home_again {D} config b d e r q rest none out home = home (outs b) (none_named config b none)
+home_again {D} config b d e r q rest none out home = home.again (outs b) (none_named config b none)
     (out ∙ ap (λ (w : Rest D). option_map (λ (os : List (Name × List ℕ)). os ++ out_names config config.volumes.items w.images.items) (outs b)) (sym rest))
 
 -- ---- What is told in two steps

@@ -630,7 +630,7 @@ module _ {D : Type 0} (tells : Bool) (state : D → State) (told : IsTrue tells 
 
   pub all_back : NoneOut config b → LeavesNoneOut config i.out.items (outs b1) (outs b2) → b1.faults ≤ b2.faults → HasAllBack tells b b2
   all_back home none counts = record {
-    outs = none (outs b) (none_named config b home) sent.outs;
+    outs = none.again (outs b) (none_named config b home) sent.outs;
     left = λ telling. told_then (StayedSo config i.out.items n) (GivesBack state config i.out.items 0) LeavesNoMore b.told b1.told b2.told (left telling) sent.stayed back;
     counts = let c = sent.counts in omega (arith, c, counts);
   }

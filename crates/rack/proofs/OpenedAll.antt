@@ -787,7 +787,7 @@ module _ {D : Type 0} (tells : Bool) (state : D → State) (config : Config) (va
 
     -- where they came back nothing of the configuration is out
     pub opened_home : NoneOut config b → (b2 : BayState) → LeavesNoneOut config r.rest.images.items (outs b1) (outs b2) → outs b2 ≡ outs b
-    opened_home home b2 none = none (outs b) (none_named config b home) opened_out
+    opened_home home b2 none = none.again (outs b) (none_named config b home) opened_out
 
     told_stayed : {P : Told → Told → Type 0} → ((old new : Told) → StayedSo config taken.before.out.items (length config.volumes.items) old new → P old new) → IsTold P b.told b1.told
     told_stayed {P} each = told_each (StayedSo config taken.before.out.items (length config.volumes.items)) P b.told b1.told each taken.sent.stayed

@@ -232,7 +232,7 @@ module _ {D : Type 0} (tells : Bool) (state : D → State) (config : Config) (b 
 
     -- nothing of the configuration is out any more
     pub home_again : NoneOut config b → HasSentOut config i.out.items (length config.volumes.items) b b1 → (b2 : BayState) → LeavesNoneOut config out (outs b1) (outs b2) → outs b2 ≡ outs b
-    home_again home sent b2 none = none (outs b) (none_named config b home) (sent.outs ∙ ap (λ names. option_map (λ os. os ++ names) (outs b)) (sym same_names))
+    home_again home sent b2 none = none.again (outs b) (none_named config b home) (sent.outs ∙ ap (λ names. option_map (λ os. os ++ names) (outs b)) (sym same_names))
 
     -- Images that went back to their bay after want of memory for the pools, in which free segments may be other blank ones.
 

@@ -3,7 +3,7 @@ use Rattle.rack_closing.proofs.Basics.{◌≡◌, ◌<◌, ◌≤◌, ℕ, suc, 
 use Rattle.rack_closing.proofs.Basics.{option_and_then, length-map, slice_get-get_or, ⊎_elim, zero, map, AllZip, AllByRecursion, Contains, IsTrue, cases_lt, get_or_past, All-contains}
 use Rattle.rack_closing.proofs.Basics.{slice_get_within, get_or_from_slice_get, slice_get-map}
 use Rattle.rack_closing.proofs.Terms.{State, Name, BayState, IsOut, Config, VolumeConf, lock_id, TurnLock, PoolBase, Pool, FreeSegment, part_sizes, shape_in, image_here, held_here, list_of}
-use Rattle.rack_closing.proofs.Terms.{IsImageOut, IsRow, IsRest, out_names, IsClosable, KeepsButHome, ClosesStations, RefillsAll, KeepsSpindles, KeepsOtherRows, LeavesNoneOut, ImageRest, Rack}
+use Rattle.rack_closing.proofs.Terms.{IsImageOut, IsRow, IsRest, out_names, IsClosable, KeepsButHome, ClosesStations, RefillsAll, KeepsSpindles, KeepsOtherRows, LeavesNoneOut, without_all, ImageRest, Rack}
 use Rattle.rack_closing.proofs.Terms.{Rest, Block, IsImageOf, Shape, Record, Held, SaysOwnerOrFree, IsHeldBy, volume_of, state_of, Spun, part_of, IsHeld, logger_of, held_in, HeldSegment, Lane}
 use Rattle.rack_closing.proofs.Terms.{all_held, parts_of, IsReadyLane, Station, shapes_of, CanCloseStations, HasBack, AreComplete, Closing, IsClosing, home_here, IsOpenBase, base_of_station, IsStation}
 use Rattle.rack_closing.proofs.Terms.{segment_here, AreImageRests, IsDisk, TellsContent}
@@ -121,7 +121,10 @@ module _ {D : Type 0} {state : D → State} {tells : Bool} {config : Config} {b 
   names_are = out_same config config.volumes.items second.images.items r.rest.images.items (kept.image_count ∙ is.parts.images.0 ∙ sym can.rest.parts.images.0) same_out
 
   pub none_out : (old new : Option (List (Name × List ℕ))) → LeavesNoneOut config second.images.items old new → LeavesNoneOut config r.rest.images.items old new
-  none_out old new left before away are = left before away (are ∙ ap (λ (l : List (Name × List ℕ)). option_map (λ os. os ++ l) before) (sym names_are))
+  none_out old new left = record {
+    gone = left.gone ∙ ap (λ (l : List (Name × List ℕ)). option_map (without_all l) old) names_are;
+    again = λ before away are. left.again before away (are ∙ ap (λ (l : List (Name × List ℕ)). option_map (λ os. os ++ l) before) (sym names_are));
+  }
 
   pub few : length second.images.items ≤ length config.volumes.items
   few = let n = length-map config.volumes.items (shape_in config) in omega (arith, n, kept.image_count, is.parts.images.0)

@@ -53,7 +53,7 @@ pub use Rattle.rack_parts.specs.Parts.{HasBack, held_parts, IsTogether}
 pub use Rattle.rack_parts.specs.declared.rack.VolumePasses.{VolumePasses}
 pub use Rattle.rack_closing.specs.Closes.{IsOfExtent, AreListedOf, IsUnbroken, IsQuiet, IsOnLogger, ComesFrom, from_here, from_pool, from_manager, IsLogOfStation, segments_out, recovered_out, LeavesOpen, is_kept_home, RecoversTo, IsClosedVolume, HasFaultyPart, LiesInView, SaysOwnerIn, LeavesNoLog, part_named, place_in, volume_in, AreClosedVolumes, HasFaultAt, HasFaultIn, IsFaultyPart, IsNamedHere, IsPartHere, IsLeftOfParts, has_station, AreLeftOfParts}
 pub use Rattle.rack_closing.specs.Opens.{RefusesVolume, HasFaulty, IsFaultAmong, HasNewFault, RefusesImage, BeganWith, HadSegmentBefore, WereThere, KeepsAllSound, fault_in_image, RefusesOpening, RefusesBay, AreRefused}
-pub use Rattle.rack_parts.specs.Closing.{CanCloseStations, CanClosePool, CanClosePools, CanCloseSpindles, KeepsSpindles, RefillsAll, AreComplete, Closing, IsClosing, ClosesStations, home_here, IsStoredAs, KeepsButHome, KeepsOtherRows, LeavesNoneOut, GivesBack, IsComplete, HasFaultHere, IsClosedPool, entries_made}
+pub use Rattle.rack_parts.specs.Closing.{CanCloseStations, CanClosePool, CanClosePools, CanCloseSpindles, KeepsSpindles, RefillsAll, AreComplete, Closing, IsClosing, ClosesStations, home_here, IsStoredAs, KeepsButHome, KeepsOtherRows, LeavesNoneOut, without_all, GivesBack, IsComplete, HasFaultHere, IsClosedPool, entries_made}
 pub use Rattle.rack_parts.specs.Racks.{IsClosable, AreKeepers, IsOpenBase, base_of_station, IsStation, KeepToViews, NamesVolumes, IsRack}
 pub use Rattle.rack_parts.specs.Rests.{image_here, segment_here, pool_pass, spindle_pass, held_here, IsPart, IsImageRest, AreImageRests, AreLocks, OnlyAccess, IsRest, IsImageOut, list_of, IsRow, out_names, IsSegmentHere, away_with, indexes_here}
 pub use Rattle.rack_parts.specs.declared.rack.ImageRest.{ImageRest}

@@ -21,7 +21,7 @@ use Rattle.wol_config.specs.Configs.{IsValid}
 use Rattle.spin_model.specs.Spun.{state_of, disk_of}
 use Rattle.volume_images.specs.Formatted.{part_sizes}
 use Rattle.volume_images.specs.Left.{IsTold}
-use Rattle.rack_parts.specs.Closing.{LeavesNoneOut}
+use Rattle.rack_parts.specs.Closing.{LeavesNoneOut, without_all}
 use Rattle.rack_parts.proofs.Members.{first_in, later_in}
 
 -- ---- The names of images that are out, as the last ones go back
@@ -75,6 +75,36 @@ module _ {D : Type 0} (config : Config) where
       go : (b : Bool) → bytes_eq w.name name ≡ b → at_name name (out_names config vs images) ≡ None → cond b (Some (part_sizes (shape_in config w))) (at_name name (out_names config vs images)) ≡ None
       go true e rest = absurd (apart 0 w (omega arith) refl ((bytes_eq-Decides w.name name).0 e))
       go false e rest = rest
+
+-- ---- The names of the images behind one
+
+module _ {D : Type 0} (config : Config) where
+  -- behind all of them there is none
+  behind_all : (vs : List VolumeConf) (images : List (Option (ImageRest D))) → out_names config (drop (length images) vs) (drop (length images) images) ≡ []
+  behind_all vs [] = none_names D config vs
+  behind_all [] (i ∷ images) = refl
+  behind_all (w ∷ vs) (i ∷ images) = behind_all vs images
+
+  -- one that isn't out adds none
+  behind_home : (vs : List VolumeConf) (images : List (Option (ImageRest D))) (n : ℕ) → slice_get images n ≡ Some None
+      → out_names config (drop n vs) (drop n images) ≡ out_names config (drop (suc n) vs) (drop (suc n) images)
+  behind_home [] images zero is = refl
+  behind_home [] images (suc n) is = refl
+  behind_home (w ∷ vs) [] n is = absurd (cc is)
+  behind_home (w ∷ vs) (Some i ∷ images) zero is = absurd (cc is)
+  behind_home (w ∷ vs) (None ∷ images) zero is = refl
+  behind_home (w ∷ vs) (i ∷ images) (suc n) is = behind_home vs images n is
+
+  -- one that is out adds its own
+  behind_out : (vs : List VolumeConf) (images : List (Option (ImageRest D))) (n : ℕ) (v : VolumeConf) (r : ImageRest D) → slice_get vs n ≡ Some v → slice_get images n ≡ Some (Some r)
+      → out_names config (drop n vs) (drop n images) ≡ (v.name, part_sizes (shape_in config v)) ∷ out_names config (drop (suc n) vs) (drop (suc n) images)
+  behind_out [] images n v r there is = absurd (cc there)
+  behind_out (w ∷ vs) [] n v r there is = absurd (cc is)
+  behind_out (w ∷ vs) (Some i ∷ images) zero v r there is =
+      let same : w ≡ v = cc in
+      ap (λ (u : VolumeConf). (u.name, part_sizes (shape_in config u)) ∷ out_names config vs images) same
+  behind_out (w ∷ vs) (None ∷ images) zero v r there is = absurd (cc is)
+  behind_out (w ∷ vs) (i ∷ images) (suc n) v r there is = behind_out vs images n v r there is
 
 -- the last one that is out goes back
 pub last_gone : (config : Config) (before names : List (Name × List ℕ)) (v : VolumeConf) → at_name v.name before ≡ None → at_name v.name names ≡ None
@@ -351,6 +381,7 @@ pub record IsBackFrom {D : Type 0} (state : D → State) (config : Config) (imag
   pub out : (k : ℕ) (v : VolumeConf) → k < n → slice_get config.volumes.items k ≡ Some v → IsImageOut images k → IsOut v.name (part_sizes (shape_in config v)) b'
   pub names : (before : Option (List (Name × List ℕ))) → IfSome before (λ os. All (λ (v : VolumeConf). at_name v.name os ≡ None) config.volumes.items)
       → outs b ≡ option_map (λ os. os ++ out_names config config.volumes.items images) before → outs b' ≡ option_map (λ os. os ++ out_names config config.volumes.items (take n images)) before
+  pub gone : outs b' ≡ option_map (without_all (out_names config (drop n config.volumes.items) (drop n images))) (outs b)
   pub back : IsTold (GivesBack state config images n) b.told b'.told
   pub cause : HasFaultHere state images n → Rose b.faults b'.faults
   pub counts : b.faults ≤ b'.faults
@@ -363,10 +394,15 @@ module _ {D : Type 0} (state : D → State) (config : Config) (images : List (Op
   none_so_far b are = record {
     out = λ k v less at is. are k v at is;
     names = λ before none is. is ∙ ap (λ (l : List (Option (ImageRest D))). option_map (λ os. os ++ out_names config config.volumes.items l) before) (sym (take_all (length images) images (omega arith)));
+    gone = all_there (outs b);
     back = told_self (GivesBack state config images (length images)) b.told (λ t. none_back state config images t past);
     cause = λ fault. absurd (none-some fault.image (sym (past fault.volume fault.behind) ∙ fault.here));
     counts = omega arith;
   }
+    where
+      all_there : (o : Option (List (Name × List ℕ))) → o ≡ option_map (without_all (out_names config (drop (length images) config.volumes.items) (drop (length images) images))) o
+      all_there None = refl
+      all_there (Some os) = ap (λ (ns : List (Name × List ℕ)). Some (without_all ns os)) (sym (behind_all config config.volumes.items images))
 
   module _ (valid : IsValid config) (n : ℕ) (v : VolumeConf) (at : slice_get config.volumes.items n ≡ Some v) (b cur new : BayState) where
     others_named : (k : ℕ) (w : VolumeConf) → k ≢ n → slice_get config.volumes.items k ≡ Some w → w.name ≢ v.name
@@ -380,6 +416,7 @@ module _ {D : Type 0} (state : D → State) (config : Config) (images : List (Op
     passes_over none so_far told faults = record {
       out = λ k w less is out. subst (λ (o : Option Told). IfSome o (λ t. at_name w.name t.out ≡ Some (part_sizes (shape_in config w)))) (sym told) (so_far.out k w (omega (arith, less)) is out);
       names = λ before away is. same_outs told ∙ so_far.names before away is ∙ ap (λ (l : List (Name × List ℕ)). option_map (λ os. os ++ l) before) (home_more config config.volumes.items images n none);
+      gone = same_outs told ∙ so_far.gone ∙ ap (λ (ns : List (Name × List ℕ)). option_map (without_all ns) (outs b)) (sym (behind_home config config.volumes.items images n none));
       back = subst (λ (o : Option Told). IsTold (GivesBack state config images n) b.told o) (sym told) (weaker b.told cur.told so_far.back);
       cause = λ fault. subst (λ (m : ℕ). Rose b.faults m) (sym faults) (so_far.cause (record { volume = fault.volume; behind = behind fault; image = fault.image; here = fault.here; disks = fault.disks; together = fault.together; fault = fault.fault }));
       counts = subst (λ (m : ℕ). b.faults ≤ m) (sym faults) so_far.counts;
@@ -406,6 +443,8 @@ module _ {D : Type 0} (state : D → State) (config : Config) (images : List (Op
     comes_back r disks is_out together apart so_far told cause counts = record {
       out = λ k w less is out. others_out v.name w.name (part_sizes (shape_in config w)) (blocks_of state disks) (faulty_places state disks) cur new (others_named k w (λ e. absurd (omega (arith, less, e))) is) told (so_far.out k w (omega (arith, less)) is out);
       names = λ before away is. names_then before away (so_far.names before away is);
+      gone = it_goes ∙ ap (option_map (without v.name)) so_far.gone ∙ one_less (out_names config (drop (suc n) config.volumes.items) (drop (suc n) images)) (outs b)
+          ∙ ap (λ (ns : List (Name × List ℕ)). option_map (without_all ns) (outs b)) (sym (behind_out config config.volumes.items images n v r at is_out));
       back = subst (λ (o : Option Told). IsTold (GivesBack state config images n) b.told o) (sym told) (stronger b.told cur.told apart so_far.back);
       cause = λ fault. rose fault (cases_eq fault.volume n);
       counts = omega (arith, so_far.counts, counts);
@@ -448,22 +487,26 @@ module _ {D : Type 0} (state : D → State) (config : Config) (images : List (Op
             rose_on b.faults cur.faults new.faults
             (so_far.cause (record { volume = fault.volume; behind = omega (arith, fault.behind, differs); image = fault.image; here = fault.here; disks = fault.disks; together = fault.together; fault = fault.fault })) counts
 
-        gone : outs new ≡ option_map (without v.name) (outs cur)
-        gone = ap (λ (o : Option Told). option_map (λ t. t.out) o) told ∙ through cur.told
+        it_goes : outs new ≡ option_map (without v.name) (outs cur)
+        it_goes = ap (λ (o : Option Told). option_map (λ t. t.out) o) told ∙ through cur.told
           where
             through : (o : Option Told) → option_map (λ t. t.out) (option_map (came_back v.name (blocks_of state disks) (faulty_places state disks)) o) ≡ option_map (without v.name) (option_map (λ t. t.out) o)
             through None = refl
             through (Some t) = refl
 
+        one_less : (ns : List (Name × List ℕ)) (o : Option (List (Name × List ℕ))) → option_map (without v.name) (option_map (without_all ns) o) ≡ option_map (without_all ((v.name, part_sizes (shape_in config v)) ∷ ns)) o
+        one_less ns None = refl
+        one_less ns (Some os) = refl
+
         names_then : (before : Option (List (Name × List ℕ))) → IfSome before (λ os. All (λ (w : VolumeConf). at_name w.name os ≡ None) config.volumes.items)
             → outs cur ≡ option_map (λ os. os ++ out_names config config.volumes.items (take (suc n) images)) before → outs new ≡ option_map (λ os. os ++ out_names config config.volumes.items (take n images)) before
-        names_then None away is = gone ∙ ap (option_map (without v.name)) is
+        names_then None away is = it_goes ∙ ap (option_map (without v.name)) is
         names_then (Some os) away is =
             let more : out_names config config.volumes.items (take (suc n) images) ≡ out_names config config.volumes.items (take n images) ++ (v.name, part_sizes (shape_in config v)) ∷ [] = out_more config config.volumes.items images n v r at is_out in
             let free : at_name v.name os ≡ None = All-contains (λ (w : VolumeConf). at_name w.name os ≡ None) config.volumes.items v away (n, slice_get_within config.volumes.items n v at, get_or_from_slice_get config.volumes.items n v v at) in
             let apart : at_name v.name (out_names config config.volumes.items (take n images)) ≡ None =
             not_named config config.volumes.items (take n images) v.name (λ k w within at_k. others_named k w (λ same. absurd (let l = length-take n images in omega (arith, l, within, same))) at_k) in
-            gone ∙ ap (option_map (without v.name)) (is ∙ ap (λ (l : List (Name × List ℕ)). Some (os ++ l)) more) ∙ ap (λ (l : List (Name × List ℕ)). Some l) (last_gone config os (out_names config config.volumes.items (take n images)) v free apart)
+            it_goes ∙ ap (option_map (without v.name)) (is ∙ ap (λ (l : List (Name × List ℕ)). Some (os ++ l)) more) ∙ ap (λ (l : List (Name × List ℕ)). Some l) (last_gone config os (out_names config config.volumes.items (take n images)) v free apart)
 
   -- the next one comes back, or isn't out
   pub one_more_back : IsValid config → (n : ℕ) (v : VolumeConf) → slice_get config.volumes.items n ≡ Some v → (b cur new : BayState) (image : Option (ImageRest D)) → slice_get images n ≡ Some image → IfSome cur.told (λ t. AreNamedApart t) → IsBackFrom state config images (suc n) b cur
@@ -473,7 +516,7 @@ module _ {D : Type 0} (state : D → State) (config : Config) (images : List (Op
 
   -- all are back
   pub all_are_back : (b b' : BayState) → IsBackFrom state config images 0 b b' → LeavesNoneOut config images (outs b) (outs b')
-  all_are_back b b' so_far before away is = so_far.names before away is ∙ nothing before
+  all_are_back b b' so_far = record { gone = so_far.gone; again = λ before away is. so_far.names before away is ∙ nothing before }
     where
       none_left : out_names {D = D} config config.volumes.items [] ≡ []
       none_left = none_names D config config.volumes.items

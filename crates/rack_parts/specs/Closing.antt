@@ -6,7 +6,7 @@ use Rattle.wol_disk.specs.Disk.{Block, Values, State, Rose}
 use Rattle.wol_model.specs.Blocks.{AreApart}
 use Rattle.wol_model.specs.Heads.{Shape}
 use Rattle.wol_model.specs.Journal.{Needed, Done}
-use Rattle.wol_bay.specs.Bay.{Name, Told, BayState, at_name, came_back}
+use Rattle.wol_bay.specs.Bay.{Name, Told, BayState, at_name, came_back, without}
 use Rattle.wol_bay.specs.Parts.{blocks_of, faulty_places}
 use Rattle.wol_config.specs.declared.config.Config.{Config}
 use Rattle.wol_config.specs.declared.config.VolumeConf.{VolumeConf}
@@ -350,15 +350,23 @@ IsImageBack {D} state name (Some r) old new =
     old.told)
     × (faulty_places state disks ≢ [] → Rose old.faults new.faults) × (old.faults ≤ new.faults)
 
--- the names that went out for these images aren't out any more, and all others are as they were;
--- where nothing was told nothing is
-abbrev pub LeavesNoneOut : {D : Type 0} → Config → List (Option (ImageRest D))
-    → (old new : Option (List (Name × List ℕ))) → Type 0
-LeavesNoneOut config images old new =
-    (before : Option (List (Name × List ℕ)))
-    → IfSome before (λ os. All (λ (v : VolumeConf). at_name v.name os ≡ None) config.volumes.items)
-    → old ≡ option_map (λ os. os ++ out_names config config.volumes.items images) before
-    → new ≡ before
+-- the entries without those of these names
+abbrev pub without_all : {A B : Type 0} → (gone : List (Name × B)) → List (Name × A)
+    → List (Name × A)
+without_all [] es = es
+without_all (n ∷ ns) es = without n.0 (without_all ns es)
+
+-- The names that went out for these images aren't out any more, and all others are as they were;
+-- where nothing was told nothing is.
+pub record LeavesNoneOut {D : Type 0} (config : Config) (images : List (Option (ImageRest D)))
+    (old new : Option (List (Name × List ℕ))) : Type 0 where
+  pub gone : new ≡ option_map (without_all (out_names config config.volumes.items images)) old
+  -- where none of the configuration was out before them, those are out that were out then
+  pub again : (before : Option (List (Name × List ℕ)))
+      → IfSome before
+      (λ os. All (λ (v : VolumeConf). at_name v.name os ≡ None) config.volumes.items)
+      → old ≡ option_map (λ os. os ++ out_names config config.volumes.items images) before
+      → new ≡ before
 
 -- an image is in the bay with the blocks of its parts, and those with a fault are among these
 pub record IsStoredAs {D : Type 0} (state : D → State) (name : Name) (r : ImageRest D)

@@ -48,7 +48,7 @@ module _ {D S : Type 0} (state : D → State) (tells : Bool) (left : S → Optio
       → outs b ≡ option_map (λ os. os ++ out_names config config.volumes.items old.rest.images.items) (outs entry)
       → LeavesNoneOut config new.rest.images.items (outs b) (outs last) → outs last ≡ outs entry
   outs_same result runs entry last home opened leaves =
-      leaves (outs entry) (outs_home config entry home)
+      leaves.again (outs entry) (outs_home config entry home)
       (subst (λ (r : Rest D). outs b ≡ option_map (λ os. os ++ out_names config config.volumes.items r.images.items) (outs entry)) (sym (same_rest result runs)) opened)
 
 -- ---- Spindles

@@ -7,4 +7,4 @@ close_all-spindles-requires-clause-rack g c =
     record { out = r.out; locks = r.locks; keepers = r.keepers; stations = r.stations; rising = r.rising; bases = r.bases; rest = r.rest; foreign = r.foreign; accesses = r.accesses }
 
 pub returns : goal.returns
-returns g c = c.close_all-spindles.ensures.home _ (none_named c.args.config.now (g.B.Bay.state c.args.bay.now) c.requires.home) c.in-Ok.ensures.out
+returns g c = c.close_all-spindles.ensures.home.again _ (none_named c.args.config.now (g.B.Bay.state c.args.bay.now) c.requires.home) c.in-Ok.ensures.out
