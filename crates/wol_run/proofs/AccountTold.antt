@@ -52,7 +52,7 @@ module _ {D S T : Type 0} (tells : Bool) (state : D → State) (left : S → Opt
         reclaimed = a.reclaimed;
       }))
 
-pub account_kept : {D : Type 0} (tells : Bool) (state : D → State) (options : Options) (start : GivenLines) (left left_of_trace : Option (List ℕ)) (old new : BayState) (sink sink' status : ℕ) (taken taken' : Option (List ℕ))
-    → (run : IsReplay tells state options start left left_of_trace old new sink sink' status taken taken') → KeepsAccount tells state (λ bytes. bytes) run.over.config options.reclaim start run.now old new status taken taken'
-account_kept tells state options start left left_of_trace old new sink sink' status taken taken' run = account_ends tells state (λ bytes. bytes) run.over.config options.reclaim start run.now old new run.over.result status taken run.over.printed_then taken'
-    (keeps_account tells state (λ bytes. bytes) run.over.config options start run.now old new sink run.over.sink_then taken run.over.printed_then run.over.result run.replayed) run.over.ends
+pub account_kept : {D : Type 0} (tells : Bool) (state : D → State) (options : Options) (config : Config) (start : GivenLines) (left_of_trace : Option (List ℕ)) (old new : BayState) (sink sink' status : ℕ) (taken taken' : Option (List ℕ))
+    → (run : IsReplay tells state options config start left_of_trace old new sink sink' status taken taken') → KeepsAccount tells state (λ bytes. bytes) config options.reclaim start run.now old new status taken taken'
+account_kept tells state options config start left_of_trace old new sink sink' status taken taken' run = account_ends tells state (λ bytes. bytes) config options.reclaim start run.now old new run.over.result status taken run.over.printed_then taken'
+    (keeps_account tells state (λ bytes. bytes) config options start run.now old new sink run.over.sink_then taken run.over.printed_then run.over.result run.replayed) run.over.ends

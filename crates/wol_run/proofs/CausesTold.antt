@@ -80,13 +80,13 @@ use Rattle.wol_run.specs.Causes.{AskFor, HasRefusal, IsCause, IsClosedFor, repla
 use Rattle.wol_run.specs.Causes as row
 use Rattle.wol_run.specs.Cleaning.{IsCleaning}
 use Rattle.wol_run.specs.Commands.{changes_view, runs_trace, uses_bay, uses_config}
-use Rattle.wol_run.specs.Inspecting.{AreTold, IsLook, status_of_first}
+use Rattle.wol_run.specs.Inspecting.{AreTold, IsLook, LooksFor, status_of_first}
 use Rattle.wol_run.specs.Outside.{Outside}
 use Rattle.wol_run.specs.Comparing.{IsComparison}
 use Rattle.wol_run.specs.Replaying.{EndsReplay, GivenLines, HasLeft, IsReplay, trace_of}
 use Rattle.wol_run.specs.Run.{IsCleaningOf, IsComparisonOf, IsFormat, IsListingOf, IsLookFor, IsReplayOf, IsServingOf, IsViewChangeOf}
-use Rattle.wol_run.specs.Serving.{HasBadBytes, served_as}
-use Rattle.wol_run.specs.Settings.{HasConfig, IsFaultLine, line_of_fault}
+use Rattle.wol_run.specs.Serving.{HasBadBytes, served_as, wire}
+use Rattle.wol_run.specs.Settings.{IsFaultLine, line_of_fault}
 use Rattle.wol_run.specs.Tops.{EndsWith, HasBadLine, HasMoreLines}
 use Rattle.wol_run.specs.Viewing.{EndsChange, IsViewChange, RefusesChange, view_change_by}
 use Rattle.wol_run.proofs.Asked.{of_asked, uses_alike}
@@ -99,10 +99,11 @@ use Rattle.wol_run.proofs.Served.{bad_behind, bad_handshake, bad_magic, cut_requ
 use Rattle.wol_run.proofs.Unread.{ends_unread, line_unread, wanted_or_sink}
 use Rattle.wol_run.proofs.WindowFaults.{ends_window}
 
--- what is told of the images is told of them in other words
-if_told : (P Q : Told → Type 0) (o : Option Told) → ((t : Told) → P t → Q t) → IfSome o P → IfSome o Q
-if_told P Q None on h = tt
-if_told P Q (Some t) on h = on t h
+-- what is so of the bay at entry by what is told of it at entry and at exit
+at_entry : (P : Told → Told → Type 0) (Q : Told → Type 0) (old new : Option Told) → ((entry left : Told) → P entry left → Q entry) → IsTold P old new → IfSome old Q
+at_entry P Q None new on told = tt
+at_entry P Q (Some entry) None on told = absurd told
+at_entry P Q (Some entry) (Some left) on told = on entry left told
 
 -- ---- The first volume that isn't in order
 
@@ -129,23 +130,23 @@ first_at (t ∷ ts) o is = by t.trouble refl is (first_at ts o)
 
 -- ---- All commands
 
-module _ {D : Type 0} (tells : Bool) (state : D → State) (words : List (List ℕ)) (before after : Outside) where
+module _ {D : Type 0} (tells : Bool) (state : D → State) (read : Option Config) (words : List (List ℕ)) (before after : Outside) where
   abbrev pub Cause : (status : ℕ) → Type 0
-  Cause status = IsCause tells state words before after status
+  Cause status = IsCause tells state read words before after status
 
   pub at_status : (k status : ℕ) → status ≡ k → Cause k → Cause status
   at_status k status is cause = subst Cause (sym is) cause
 
   -- the command that was read is done; it uses no trace
-  done_without : (read : Command) → IsCommand words read → runs_trace read ≡ false → Cause 0
-  done_without read is none = row.done read is (λ asks. absurd (true≢false (sym asks.does ∙ of_asked (λ c. runs_trace c ≡ false) uses_alike words read asks.command is asks.is none)))
+  done_without : (own : Command) → IsCommand words own → runs_trace own ≡ false → Cause 0
+  done_without own is none = row.done own is (λ asks. absurd (true≢false (sym asks.does ∙ of_asked (λ c. runs_trace c ≡ false) uses_alike words own asks.command is asks.is none)))
 
   part_cause : AskFor words uses_bay → (p : Part) → Rose before.bay.faults after.bay.faults → Cause (trouble_status (trouble_of_part p))
   part_cause bay (part.Home volume) rose = row.part_failed bay rose
   part_cause bay (part.Segment volume index) rose = row.part_failed bay rose
 
   -- what a volume's trouble comes of
-  trouble_cause : AskFor words uses_config → AskFor words uses_bay → (t : Trouble) → IsClosedFor tells state before after (trouble_status t)
+  trouble_cause : AskFor words uses_config → AskFor words uses_bay → (t : Trouble) → IsClosedFor tells state read before after (trouble_status t)
       → (trouble_status t ≡ 4 → Rose before.bay.faults after.bay.faults) → Cause (trouble_status t)
   trouble_cause config bay trouble.Absent is rose = row.no_image config is
   trouble_cause config bay (trouble.Length bytes) is rose = row.image config is
@@ -201,20 +202,20 @@ module _ {D : Type 0} (tells : Bool) (state : D → State) (words : List (List �
       no_further now run trace.Spent other refuses same = at_status 10 status same (row.more_lines for_lines (more_of before.trace.bytes now run trace.Spent refl refuses))
       no_further now run trace.NoMemory other refuses same = absurd (other refl)
 
-      module _ (run : IsComparison (trace_of before.trace.bytes) before.config.bytes after.trace.bytes before.sink.faults after.sink.faults status before.sink.bytes after.sink.bytes) where
-        of_behind : (ls : List (Option TraceLine)) (x : Result (Unit {0}) Stop) → EndsBehind (λ bytes. bytes) run.over.config (trace_of before.trace.bytes) run.now before.sink.faults run.over.sink_then before.sink.bytes run.over.printed_then ls x
-            → EndsReplay run.over.config x status run.over.printed_then after.sink.bytes → Cause status
-        of_behind ls x (behind.whole done all calm more) ends = at_status 0 status ends.0 (row.done WhatIf is (λ asks. at_end before.trace.bytes after.trace.bytes run.now ls run.over.config run.rest all))
+      module _ (config : Config) (run : IsComparison config (trace_of before.trace.bytes) after.trace.bytes before.sink.faults after.sink.faults status before.sink.bytes after.sink.bytes) where
+        of_behind : (ls : List (Option TraceLine)) (x : Result (Unit {0}) Stop) → EndsBehind (λ bytes. bytes) config (trace_of before.trace.bytes) run.now before.sink.faults run.over.sink_then before.sink.bytes run.over.printed_then ls x
+            → EndsReplay config x status run.over.printed_then after.sink.bytes → Cause status
+        of_behind ls x (behind.whole done all calm more) ends = at_status 0 status ends.0 (row.done WhatIf is (λ asks. at_end before.trace.bytes after.trace.bytes run.now ls config run.rest all))
         of_behind ls x (behind.sink_failed all rose front) ends = of_sink ends.0
         of_behind ls x (behind.no_line refusal other refuses calm kept) ends = told_cause _ (fault_of_trace refusal) run.over.printed_then ends (no_further run.now ls refusal other refuses)
         of_behind ls x (behind.memory calm kept) ends = told_cause _ fault.Memory run.over.printed_then ends memory_cause
 
-      pub comparison_cause : IsComparisonOf before after status → Cause status
-      comparison_cause (inl run) = of_behind run run.compares.run run.over.result run.compares.ends run.over.ends
-      comparison_cause (inr unread) = ended_cause unread.text unread.wanted _ unread.ends (unread_cause (record { command = WhatIf; is = is; does = refl }) unread.text unread.wanted unread.line_)
+      pub comparison_cause : (o : Option Config) → IsComparisonOf o before after status → Cause status
+      comparison_cause (Some config) run = of_behind config run run.compares.run run.over.result run.compares.ends run.over.ends
+      comparison_cause None unread = ended_cause unread.text unread.wanted _ unread.ends (unread_cause (record { command = WhatIf; is = is; does = refl }) unread.text unread.wanted unread.line_)
 
-    pub gen_cause : (what : Generated) → IsCommand words (Gen what) → IsListingOf before after status what → Cause status
-    gen_cause what is run = elim (ends_gen what _ _ _ status _ _ run) [
+    pub gen_cause : (what : Generated) → IsCommand words (Gen what) → IsListingOf read before after status what → Cause status
+    gen_cause what is run = elim (ends_gen what read _ _ _ status _ _ run) [
       | inl none ↦ at_status 0 status none (done_without (Gen what) is refl)
       | inr (inl (two, none)) ↦ at_status 2 status two (row.no_config (record { command = Gen what; is = is; does = refl }) none)
       | inr (inr (inl seven)) ↦ of_sink seven
@@ -222,8 +223,8 @@ module _ {D : Type 0} (tells : Bool) (state : D → State) (words : List (List �
       | inr (inr (inr (inr nine))) ↦ at_status 9 status nine row.no_memory
     ]
 
-    pub format_cause : IsCommand words Format → IsFormat before after status → Cause status
-    format_cause is run = elim (ends_format _ _ _ _ _ status _ _ run) [
+    pub format_cause : IsCommand words Format → IsFormat read before after status → Cause status
+    format_cause is run = elim (ends_format read _ _ _ _ _ status _ _ run) [
       | inl none ↦ at_status 0 status none (done_without Format is refl)
       | inr (inl (two, none)) ↦ at_status 2 status two (row.no_config (record { command = Format; is = is; does = refl }) none)
       | inr (inr (inl (four, rose))) ↦ at_status 4 status four (row.part_failed (record { command = Format; is = is; does = refl }) rose)
@@ -240,15 +241,15 @@ module _ {D : Type 0} (tells : Bool) (state : D → State) (words : List (List �
       for_bay = record { command = command; is = is; does = bay_ }
 
       -- a volume that was refused, and those before it were opened
-      refused_cause : (config : Config) → HasConfig before.config.bytes config → (k : ℕ) (conf : VolumeConf) (out : List (Option (ImageRest D))) (f : VolumeFault) → slice_get config.volumes.items k ≡ Some conf
+      refused_cause : (config : Config) → read ≡ Some config → (k : ℕ) (conf : VolumeConf) (out : List (Option (ImageRest D))) (f : VolumeFault) → slice_get config.volumes.items k ≡ Some conf
           → ((j : ℕ) (v : VolumeConf) → slice_get config.volumes.items j ≡ Some v → image_here out j ≡ None → (e : VolumeFault) × RefusesVolume tells state config out before.bay after.bay j v e)
           → (IsTrue tells → IfSome before.bay.told (λ t. WereThere config out t)) → RefusesVolume tells state config out before.bay after.bay k conf f
           → ((j : ℕ) → j < k → IsTrue tells → IfSome before.bay.told (λ images. WasOpened config (is_kept_home out) images j)) → (trouble_status (trouble_of f) ≡ 4 → Rose before.bay.faults after.bay.faults) → Cause (trouble_status (trouble_of f))
       refused_cause config has k conf out f conf_is missing there refuses first =
-          trouble_cause for_config for_bay (trouble_of f) (record { config = config; has = has; volume = k; conf = conf; conf_is = conf_is; out = out; missing = missing; there = there; fault = f; refused = refuses; status_is = refl; first = first })
+          trouble_cause for_config for_bay (trouble_of f) (record { config = config; is_read = has; volume = k; conf = conf; conf_is = conf_is; out = out; missing = missing; there = there; fault = f; refused = refuses; status_is = refl; first = first })
 
       -- the first volume that isn't open, and why it isn't
-      closed_cause : (config : Config) → HasConfig before.config.bytes config → (k : ℕ) (f : VolumeFault) → IsFirstClosed tells state config before.bay after.bay k f → Cause (trouble_status (trouble_of f))
+      closed_cause : (config : Config) → read ≡ Some config → (k : ℕ) (f : VolumeFault) → IsFirstClosed tells state config before.bay after.bay k f → Cause (trouble_status (trouble_of f))
       closed_cause config has k f first =
           refused_cause config has k first.conf first.out f first.conf_is first.missing first.there first.refused (λ j less. (first.before j less).1) (λ four. first.cause (of_call f _ first.names four))
 
@@ -263,7 +264,7 @@ module _ {D : Type 0} (tells : Bool) (state : D → State) (words : List (List �
       was_opened config what told are j u here none telling = elim (are.each j u here) [
         | inl refusal ↦ absurd (let no : None ≡ Some (trouble_of refusal.fault) = sym none ∙ refusal.trouble in cc)
         | inr (inl order) ↦
-            if_told _ _ before.bay.told (λ images o. record {
+            at_entry _ _ before.bay.told after.bay.told (λ images left o. record {
               base = o.base.volume.began;
               owner = o.owner;
               begun = o.began;
@@ -272,7 +273,7 @@ module _ {D : Type 0} (tells : Bool) (state : D → State) (words : List (List �
         | inr (inr part) ↦ absurd (let no : None ≡ Some _ = sym none ∙ part.trouble in cc)
       ]
 
-      look_trouble : (config : Config) → HasConfig before.config.bytes config → (what : Asked) (told : List Telling) → AreTold tells state what config before.bay after.bay told
+      look_trouble : (config : Config) → read ≡ Some config → (what : Asked) (told : List Telling) → AreTold tells state what config before.bay after.bay told
           → (o : Trouble) → IsFirst told o → Cause (trouble_status o)
       look_trouble config has what told are o (k, t, here, is_o, earlier) = elim (are.each k t here) [
         | inl refusal ↦
@@ -284,40 +285,42 @@ module _ {D : Type 0} (tells : Bool) (state : D → State) (words : List (List �
         | inr (inr part) ↦ subst (λ (x : Trouble). Cause (trouble_status x)) (same_Some (trouble_of_part (part_named k part.name)) o (sym part.trouble ∙ is_o)) (part_cause for_bay (part_named k part.name) part.rose)
       ]
 
-      pub look_cause : runs_trace command ≡ false → (what : Asked) → IsLookFor tells state before after status what → Cause status
-      look_cause none what run = ended_cause run.text run.wanted _ run.ends (λ same. elim run.allowed [
-        | inl look ↦ by look (first_trouble look.looked.told) refl (same ∙ look.done)
-        | inr (inl cut) ↦ memory_cause (same ∙ cut.memory)
-        | inr (inr untouched) ↦ unread_cause for_config run.text run.wanted untouched.line_ same
-      ])
+      pub look_cause : runs_trace command ≡ false → (what : Asked) → IsLookFor tells state read before after status what → Cause status
+      look_cause none what run = ended_cause run.text run.wanted _ run.ends (λ same. by read refl run.allowed same)
         where
-          by : (look : IsLook tells state what before.config.bytes before.bay after.bay run.text run.wanted) (first : Option Trouble) → first_trouble look.looked.told ≡ first → status ≡ status_of_first (first_trouble look.looked.told) → Cause status
-          by look None is_first at = at_status 0 status (at ∙ ap status_of_first is_first) (done_without command is none)
-          by look (Some o) is_first at = at_status (trouble_status o) status (at ∙ ap status_of_first is_first) (look_trouble look.looked.config look.looked.has what look.looked.told look.looked.are o (first_at look.looked.told o is_first))
+          of_look : (config : Config) → read ≡ Some config → (look : IsLook tells state what config before.bay after.bay run.text run.wanted) (first : Option Trouble) → first_trouble look.looked.told ≡ first
+              → status ≡ status_of_first (first_trouble look.looked.told) → Cause status
+          of_look config has look None is_first at = at_status 0 status (at ∙ ap status_of_first is_first) (done_without command is none)
+          of_look config has look (Some o) is_first at = at_status (trouble_status o) status (at ∙ ap status_of_first is_first) (look_trouble config has what look.looked.told look.looked.are o (first_at look.looked.told o is_first))
+
+          by : (o : Option Config) → read ≡ o → LooksFor tells state what o before.config.bytes before.config.faults after.config.faults before.bay after.bay run.text run.wanted → status ≡ run.wanted → Cause status
+          by (Some config) has (inl look) same = of_look config has look (first_trouble look.looked.told) refl (same ∙ look.done)
+          by (Some config) has (inr cut) same = memory_cause (same ∙ cut.memory)
+          by None has untouched same = unread_cause for_config run.text run.wanted untouched.line_ same
 
       -- ---- A view that was to be changed
 
       module _ (verb : Verb) (named : Named) (changes : view_change_by command ≡ Some (verb, named)) (again : AskFor words changes_view) (none : runs_trace command ≡ false) where
-        module _ (run : IsViewChange tells state verb named before.config.bytes before.bay after.bay before.sink.faults after.sink.faults status before.sink.bytes after.sink.bytes) where
+        module _ (config : Config) (has : read ≡ Some config) (run : IsViewChange tells state verb named config before.bay after.bay before.sink.faults after.sink.faults status before.sink.bytes after.sink.bytes) where
           abbrev EndsSo : Result (Unit {0}) ViewStop → Type 0
-          EndsSo r = EndsChange run.config run.order r status run.printed_then after.sink.bytes
+          EndsSo r = EndsChange config run.order r status run.printed_then after.sink.bytes
 
-          refused_for : (refusal : ViewRefusal) → RefusesChange tells run.config run.order before.bay after.bay refusal → HasRefusal tells words before after
-          refused_for refusal why = record { config = run.config; has = run.has; command = command; is = is; verb = verb; named = named; changes = changes; order = run.order; is_order = run.is_order; refusal = refusal; cause = why }
+          refused_for : (refusal : ViewRefusal) → RefusesChange tells config run.order before.bay after.bay refusal → HasRefusal tells read words before after
+          refused_for refusal why = record { config = config; is_read = has; command = command; is = is; verb = verb; named = named; changes = changes; order = run.order; is_order = run.is_order; refusal = refusal; cause = why }
 
           -- a refusal was told, or the sink or memory failed
-          of_refusal : (refusal : ViewRefusal) → RefusesChange tells run.config run.order before.bay after.bay refusal → EndsSo (Err (view_stop.Refused refusal)) → Cause status
+          of_refusal : (refusal : ViewRefusal) → RefusesChange tells config run.order before.bay after.bay refusal → EndsSo (Err (view_stop.Refused refusal)) → Cause status
           of_refusal refusal why (inl ends) = ended_cause _ 15 run.printed_then ends (λ same. at_status 15 status same (row.view_refused (refused_for refusal why)))
           of_refusal refusal why (inr ends) = ended_cause _ 9 run.printed_then ends memory_cause
 
-          of_failure : (volume : ℕ) (t : Trouble) → FailsWith tells run.config volume before.bay after.bay t → Cause (trouble_status t)
+          of_failure : (volume : ℕ) (t : Trouble) → FailsWith tells config volume before.bay after.bay t → Cause (trouble_status t)
           of_failure volume t (changed.part part base owner begun faulty rose) = part_cause for_bay (part_named volume part) rose
           of_failure volume t (changed.bay rose) = row.part_failed for_bay rose
           of_failure volume t (changed.label rose) = row.part_failed for_bay rose
-          of_failure volume t (changed.damaged block damaged) = row.damaged_view again (record { config = run.config; has = run.has; volume = volume; block = block; damaged = damaged })
+          of_failure volume t (changed.damaged block damaged) = row.damaged_view again (record { config = config; is_read = has; volume = volume; block = block; damaged = damaged })
           of_failure volume t (changed.untold x other never) = row.image_again again x other never
 
-          of_failed : (volume : ℕ) (f : Fault) → FailsFor tells run.config volume before.bay after.bay f → status ≡ status_of f → Cause status
+          of_failed : (volume : ℕ) (f : Fault) → FailsFor tells config volume before.bay after.bay f → status ≡ status_of f → Cause status
           of_failed volume fault.Words fails same = absurd fails
           of_failed volume (fault.Config why) fails same = absurd fails
           of_failed volume (fault.Line number why) fails same = absurd fails
@@ -328,12 +331,12 @@ module _ {D : Type 0} (tells : Bool) (state : D → State) (words : List (List �
           of_failed volume fault.Lines fails same = absurd fails
           of_failed volume (fault.Versions number) fails same = absurd fails
 
-          module _ (volume logger : ℕ) (named_ : AreNamed run.config run.order volume logger) where
+          module _ (volume logger : ℕ) (named_ : AreNamed config run.order volume logger) where
             abbrev change : Change
             change = change_of run.order.verb logger
 
-            refused_open : (refusal : ViewRefusal) (view : List ℕ) → (IsTrue tells → IsTold (ChangesViewOf {T = Unit {0}} run.config volume change (Err (view_stop.Refused refusal)) view) before.bay.told after.bay.told)
-                → RefusesChange tells run.config run.order before.bay after.bay refusal
+            refused_open : (refusal : ViewRefusal) (view : List ℕ) → (IsTrue tells → IsTold (ChangesViewOf {T = Unit {0}} config volume change (Err (view_stop.Refused refusal)) view) before.bay.told after.bay.told)
+                → RefusesChange tells config run.order before.bay after.bay refusal
             refused_open refusal view views = inr (
               volume,
               logger,
@@ -341,47 +344,47 @@ module _ {D : Type 0} (tells : Bool) (state : D → State) (words : List (List �
               λ telling. on_told _ _ before.bay.told after.bay.told (views telling) (λ old new h. record { ids = h.ids; at_entry = h.at_entry; cause = h.becomes.0 }),
             )
 
-            of_open : (view : List ℕ) (r : Result (Unit {0}) ViewStop) → ChangesOpen tells run.config volume change view before.bay after.bay r → EndsSo r → Cause status
+            of_open : (view : List ℕ) (r : Result (Unit {0}) ViewStop) → ChangesOpen tells config volume change view before.bay after.bay r → EndsSo r → Cause status
             of_open view (Ok done) open_ ends = at_status 0 status ends.0 (done_without command is none)
             of_open view (Err view_stop.Sink) open_ ends = of_sink ends.0
             of_open view (Err (view_stop.Refused refusal)) open_ ends = of_refusal refusal (refused_open refusal view open_.views) ends
             of_open view (Err (view_stop.Fault f)) open_ ends = told_cause _ f run.printed_then ends (of_failed volume f (open_.fails f refl))
 
-          of_change : (r : Result (Unit {0}) ViewStop) → ChangesView tells state run.config run.order before.bay after.bay before.sink.faults run.sink_then before.sink.bytes run.printed_then r → EndsSo r → Cause status
+          of_change : (r : Result (Unit {0}) ViewStop) → ChangesView tells state config run.order before.bay after.bay before.sink.faults run.sink_then before.sink.bytes run.printed_then r → EndsSo r → Cause status
           of_change r (changed.unknown refusal unknown prints same) ends = of_refusal refusal (inl unknown) ends
           of_change r (changed.no_memory volume logger named_ prints leaves) ends = told_cause _ fault.Memory run.printed_then ends memory_cause
           of_change r (changed.closed volume logger k f named_ prints first leaves) ends =
-              told_cause _ (fault.Volume k (trouble_of f)) run.printed_then ends (λ same. at_status (trouble_status (trouble_of f)) status same (closed_cause run.config run.has k f first))
+              told_cause _ (fault.Volume k (trouble_of f)) run.printed_then ends (λ same. at_status (trouble_status (trouble_of f)) status same (closed_cause config has k f first))
           of_change r (changed.opened volume logger view x named_ prints open_) ends = of_open volume logger named_ view x open_ ends
 
-        pub view_cause : IsViewChangeOf tells state before after status (verb, named) → Cause status
-        view_cause (inl run) = of_change run run.result run.changes run.ends
-        view_cause (inr unread) = ended_cause unread.text unread.wanted _ unread.ends (unread_cause for_config unread.text unread.wanted unread.untouched.line_)
+        pub view_cause : (o : Option Config) → read ≡ o → IsViewChangeOf tells state o before after status (verb, named) → Cause status
+        view_cause (Some config) has run = of_change config has run run.result run.changes run.ends
+        view_cause None has unread = ended_cause unread.text unread.wanted _ unread.ends (unread_cause for_config unread.text unread.wanted unread.untouched.line_)
 
       -- ---- Volumes that were cleaned
 
       module _ (cleans_ : IsCommand words Clean) where
-        module _ (run : IsCleaning tells state before.config.bytes before.bay after.bay before.sink.faults after.sink.faults status before.sink.bytes after.sink.bytes) where
-          of_clean_fault : (n : ℕ) (f : CleanFault) → CleansVolume tells state run.over.config before.bay after.bay n (Err f) → status ≡ status_of (fault_of n f) → Cause status
+        module _ (config : Config) (has : read ≡ Some config) (run : IsCleaning tells state config before.bay after.bay before.sink.faults after.sink.faults status before.sink.bytes after.sink.bytes) where
+          of_clean_fault : (n : ℕ) (f : CleanFault) → CleansVolume tells state config before.bay after.bay n (Err f) → status ≡ status_of (fault_of n f) → Cause status
           of_clean_fault n (DiskFault p) cleans same = at_status (trouble_status (trouble_of_part p)) status same (part_cause for_bay p (cleans.cause p refl))
-          of_clean_fault n VersionsSpent cleans same = at_status 11 status same (row.no_version_to_copy cleans_ (record { config = run.over.config; has = run.over.has; base = cleans.base.volume.began; begun = cleans.begun; lacks = cleans.spent refl }))
+          of_clean_fault n VersionsSpent cleans same = at_status 11 status same (row.no_version_to_copy cleans_ (record { config = config; is_read = has; base = cleans.base.volume.began; begun = cleans.begun; lacks = cleans.spent refl }))
           of_clean_fault n NoMemory cleans same = at_status 9 status same row.no_memory
 
-          of_cleaned : (r : Result (Unit {0}) Stop) → EndsCleaning tells state run.over.config before.bay after.bay before.sink.faults run.over.sink_then before.sink.bytes run.over.printed_then r → EndsReplay run.over.config r status run.over.printed_then after.sink.bytes → Cause status
+          of_cleaned : (r : Result (Unit {0}) Stop) → EndsCleaning tells state config before.bay after.bay before.sink.faults run.over.sink_then before.sink.bytes run.over.printed_then r → EndsReplay config r status run.over.printed_then after.sink.bytes → Cause status
           of_cleaned r (cleaned.whole told are all calm more) ends = at_status 0 status ends.0 (done_without Clean cleans_ refl)
           of_cleaned r (cleaned.refused told f are less cleans calm more) ends = told_cause _ (fault_of _ f) run.over.printed_then ends (of_clean_fault _ f cleans)
           of_cleaned r (cleaned.no_memory told c are calm more) ends = told_cause _ fault.Memory run.over.printed_then ends memory_cause
           of_cleaned r (cleaned.sink_failed told c are rose front) ends = of_sink ends.0
 
-          of_bay : (r : Result (Unit {0}) Stop) → CleansBay tells state run.over.config before.bay after.bay before.sink.faults run.over.sink_then before.sink.bytes run.over.printed_then r → EndsReplay run.over.config r status run.over.printed_then after.sink.bytes → Cause status
+          of_bay : (r : Result (Unit {0}) Stop) → CleansBay tells state config before.bay after.bay before.sink.faults run.over.sink_then before.sink.bytes run.over.printed_then r → EndsReplay config r status run.over.printed_then after.sink.bytes → Cause status
           of_bay r (cleaned.unopened calm kept) ends = told_cause _ fault.Memory run.over.printed_then ends memory_cause
           of_bay r (cleaned.closed k f calm kept first) ends =
-              told_cause _ (fault.Volume k (trouble_of f)) run.over.printed_then ends (λ same. at_status (trouble_status (trouble_of f)) status same (closed_cause run.over.config run.over.has k f first))
+              told_cause _ (fault.Volume k (trouble_of f)) run.over.printed_then ends (λ same. at_status (trouble_status (trouble_of f)) status same (closed_cause config has k f first))
           of_bay r (cleaned.ran x ended arrays) ends = of_cleaned x ended ends
 
-        pub clean_cause : IsCleaningOf tells state before after status → Cause status
-        clean_cause (inl run) = of_bay run run.over.result run.cleans run.over.ends
-        clean_cause (inr unread) = ended_cause unread.text unread.wanted _ unread.ends (unread_cause for_config unread.text unread.wanted unread.untouched.line_)
+        pub clean_cause : (o : Option Config) → read ≡ o → IsCleaningOf tells state o before after status → Cause status
+        clean_cause (Some config) has run = of_bay config has run run.over.result run.cleans run.over.ends
+        clean_cause None has unread = ended_cause unread.text unread.wanted _ unread.ends (unread_cause for_config unread.text unread.wanted unread.untouched.line_)
 
       -- ---- A volume that was served
 
@@ -418,19 +421,19 @@ module _ {D : Type 0} (tells : Bool) (state : D → State) (words : List (List �
           of_unagreed unagreed.TooMany begins_ same = at_status 14 status same (bad_client (bad_handshake config volume begins from to unagreed.TooMany begins_ refl))
           of_unagreed unagreed.Unoffered begins_ same = at_status 14 status same (bad_client (bad_handshake config volume begins from to unagreed.Unoffered begins_ refl))
 
-        of_named : (config : Config) → HasConfig before.config.bytes config → (r : Result Ended NbdStop) → ServesNamed tells state config begins name before.bay after.bay from to r → status ≡ status_of_answer r → Cause status
+        of_named : (config : Config) → read ≡ Some config → (r : Result Ended NbdStop) → ServesNamed tells state config begins name before.bay after.bay from to r → status ≡ status_of_answer r → Cause status
         of_named config has r (nbd_case.unknown unknown_ bay same_wire) same =
-            at_status 15 status same (row.unknown_volume (record { config = config; has = has; command = command; is = is; begins = begins; name = name; serves = serves_; unknown = unknown_ }))
+            at_status 15 status same (row.unknown_volume (record { config = config; is_read = has; command = command; is = is; begins = begins; name = name; serves = serves_; unknown = unknown_ }))
         of_named config has r (nbd_case.no_memory volume is_named leaves same_wire) same = at_status 9 status same row.no_memory
         of_named config has r (nbd_case.closed volume k f is_named first leaves same_wire) same = at_status (trouble_status (trouble_of f)) status same (closed_cause config has k f first)
         of_named config has r (nbd_case.unagreed volume why is_named begins_ leaves) same = of_unagreed config volume why begins_ same
         of_named config has r (nbd_case.unbegun volume f is_named begins_ leaves) same = of_fault f (fault_of_any Shaken Ended from.source_faults to.source_faults from.sink_faults to.sink_faults f (faults_begun config volume begins from to f begins_)) same
         of_named config has r (nbd_case.served volume begun answer is_named begins_ serves) same = of_session config volume begun answer begins_ serves same
 
-        pub serving_cause : IsServingOf tells state before after status (begins, name) → Cause status
-        serving_cause (inl run) = of_named run.config run.has run.result run.serves run.done
-        serving_cause (inr (inl unread)) = unread_cause for_config (line_of_fault unread.fault) (status_of unread.fault) (line_unread unread.fault _ _ _ unread.cause) unread.told
-        serving_cause (inr (inr none_)) = ended_cause _ 9 _ none_.ends memory_cause
+        pub serving_cause : (o : Option Config) → read ≡ o → IsServingOf tells state o before after status (begins, name) → Cause status
+        serving_cause (Some config) has run = of_named config has run.result run.serves run.done
+        serving_cause None has (inl unread) = unread_cause for_config (line_of_fault unread.fault) (status_of unread.fault) (line_unread unread.fault _ _ _ unread.cause) unread.told
+        serving_cause None has (inr none_) = ended_cause _ 9 _ none_.ends memory_cause
 
       -- ---- Lines that were replayed
 
@@ -438,9 +441,9 @@ module _ {D : Type 0} (tells : Bool) (state : D → State) (words : List (List �
           (source : status ≡ 8 → Rose before.config.faults after.config.faults ⊎ Rose before.trace.faults after.trace.faults)
           (line : status ≡ 3 → AskFor words runs_trace × HasBadLine before.trace.bytes) (lines : status ≡ 10 → AskFor words runs_trace × HasMoreLines before.trace.bytes)
           (ended : (now : GivenLines) (run : List (Option TraceLine)) (config : Config) → HasLeft now after.trace.bytes → HasGivenAll (λ bytes. bytes) (targets_of config) start now run → AskFor words runs_trace → IsAtEnd after.trace.bytes) where
-        module _ (run : IsReplay tells state how start before.config.bytes after.trace.bytes before.bay after.bay before.sink.faults after.sink.faults status before.sink.bytes after.sink.bytes) where
+        module _ (config : Config) (has : read ≡ Some config) (run : IsReplay tells state how config start after.trace.bytes before.bay after.bay before.sink.faults after.sink.faults status before.sink.bytes after.sink.bytes) where
           abbrev Ends : Result (Unit {0}) Stop → Type 0
-          Ends r = EndsReplay run.over.config r status run.over.printed_then after.sink.bytes
+          Ends r = EndsReplay config r status run.over.printed_then after.sink.bytes
 
           of_line : (refusal : TraceFault) → refusal ≢ trace.NoMemory → status ≡ status_of (fault_of_trace refusal) → Cause status
           of_line trace.Source other same = at_status 8 status same (row.source_failed (source same))
@@ -448,15 +451,15 @@ module _ {D : Type 0} (tells : Bool) (state : D → State) (words : List (List �
           of_line trace.Spent other same = at_status 10 status same (row.more_lines (lines same).0 (lines same).1)
           of_line trace.NoMemory other same = absurd (other refl)
 
-          module _ (r : Result (Unit {0}) Stop) (of : Replays tells (λ bytes. bytes) run.over.config how start run.now before.bay after.bay r before.sink.faults run.over.sink_then before.sink.bytes run.over.printed_then) where
+          module _ (r : Result (Unit {0}) Stop) (of : Replays tells (λ bytes. bytes) config how start run.now before.bay after.bay r before.sink.faults run.over.sink_then before.sink.bytes run.over.printed_then) where
             of_versions : (v : ℕ) (s : ServedWindow) → of.last ≡ s ∷ [] → HasRefusedWrite v s → r ≡ Err (stop.Fault (fault.Versions v)) → Cause 11
             of_versions v s only write told =
-                let spent = spent_of tells (λ bytes. bytes) run.over.config how start run.now before.bay after.bay r before.sink.faults run.over.sink_then before.sink.bytes run.over.printed_then of v s only write told in
+                let spent = spent_of tells (λ bytes. bytes) config how start run.now before.bay after.bay r before.sink.faults run.over.sink_then before.sink.bytes run.over.printed_then of v s only write told in
                 row.no_version for_config
-                (record { config = run.over.config; has = run.over.has; command = command; is = is; how = how; start = start; replays = replays; now = run.now; lines = of.run; more = of.more; given = of.given; base = spent.base; begun = spent.begun; logged = spent.logged; few = spent.few; spent = spent.spent })
+                (record { config = config; is_read = has; command = command; is = is; how = how; start = start; replays = replays; now = run.now; lines = of.run; more = of.more; given = of.given; base = spent.base; begun = spent.begun; logged = spent.logged; few = spent.few; spent = spent.spent })
 
-            of_end : (x : Result (Unit {0}) Stop) → x ≡ r → EndsFor (λ bytes. bytes) run.over.config start run.now of.run of.last before.bay.faults after.bay.faults before.sink.faults run.over.sink_then x → Ends x → Cause status
-            of_end x same (whole d none all) ends = at_status 0 status ends.0 (row.done command is (ended run.now of.run run.over.config run.rest all))
+            of_end : (x : Result (Unit {0}) Stop) → x ≡ r → EndsFor (λ bytes. bytes) config start run.now of.run of.last before.bay.faults after.bay.faults before.sink.faults run.over.sink_then x → Ends x → Cause status
+            of_end x same (whole d none all) ends = at_status 0 status ends.0 (row.done command is (ended run.now of.run config run.rest all))
             of_end x same (no_line refusal other empty refuses) ends = told_cause _ (fault_of_trace refusal) run.over.printed_then ends (of_line refusal other)
             of_end x same (refused f s only told rose versions) ends = told_cause _ f run.over.printed_then ends (λ at. elim (ends_window s.batch.requests s.answer f told) [
               | inl (part, four) ↦ at_status 4 status (at ∙ four) (row.part_failed for_bay (rose part))
@@ -466,12 +469,12 @@ module _ {D : Type 0} (tells : Bool) (state : D → State) (words : List (List �
             of_end x same memory ends = told_cause _ fault.Memory run.over.printed_then ends memory_cause
             of_end x same (sink_failed rose) ends = of_sink ends.0
 
-          of_replayed : (r : Result (Unit {0}) Stop) → Replayed tells state (λ bytes. bytes) run.over.config how start run.now before.bay after.bay before.sink.faults run.over.sink_then before.sink.bytes run.over.printed_then r → Ends r → Cause status
+          of_replayed : (r : Result (Unit {0}) Stop) → Replayed tells state (λ bytes. bytes) config how start run.now before.bay after.bay before.sink.faults run.over.sink_then before.sink.bytes run.over.printed_then r → Ends r → Cause status
           of_replayed r (no_memory asks leaves) ends = told_cause _ fault.Memory run.over.printed_then ends memory_cause
           of_replayed r (closed k f asks first leaves) ends =
-              told_cause _ (fault.Volume k (trouble_of f)) run.over.printed_then ends (λ same. at_status (trouble_status (trouble_of f)) status same (closed_cause run.over.config run.over.has k f first))
+              told_cause _ (fault.Volume k (trouble_of f)) run.over.printed_then ends (λ same. at_status (trouble_status (trouble_of f)) status same (closed_cause config has k f first))
           of_replayed r (ran r2 of) ends = of_end r2 of r2 refl of.ends ends
 
-        pub replay_cause : IsReplayOf tells state before after status (how, start) → Cause status
-        replay_cause (inl run) = of_replayed run run.over.result run.replayed run.over.ends
-        replay_cause (inr unread) = ended_cause unread.text unread.wanted _ unread.ends (unread_cause for_config unread.text unread.wanted unread.untouched.line_)
+        pub replay_cause : (o : Option Config) → read ≡ o → IsReplayOf tells state o before after status (how, start) → Cause status
+        replay_cause (Some config) has run = of_replayed config has run run.over.result run.replayed run.over.ends
+        replay_cause None has unread = ended_cause unread.text unread.wanted _ unread.ends (unread_cause for_config unread.text unread.wanted unread.untouched.line_)

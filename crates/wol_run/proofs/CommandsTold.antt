@@ -1,5 +1,5 @@
 -- What a run promises, command by command.
-use Rattle.std.proofs.Common.{◌≡◌, ◌⊎◌, inl, inr, ℕ, ◌<◌, Bool, true, false, List, Option, Err, Ok, refl, sym, ◌∙◌, true≢false}
+use Rattle.std.proofs.Common.{◌≡◌, ◌⊎◌, inl, inr, ℕ, ◌<◌, Bool, true, false, List, Option, None, Err, Ok, refl, sym, ◌∙◌, true≢false}
 use Rattle.std.specs.Prelude.{codes}
 use Rattle.std.specs.Io.KnownBytes.{IsAtEnd}
 use Rattle.wol_disk.specs.Disk.{Rose, State}
@@ -30,7 +30,7 @@ use Rattle.wol_run.specs.Outside.{LeavesUnused, NothingFailed, Outside, Stream}
 use Rattle.wol_run.specs.Replaying.{lines_of, options_as, trace_of}
 use Rattle.wol_run.specs.Run.{Does, IsCleaningOf, IsComparisonOf, IsFormat, IsListingOf, IsLookFor, IsReplayOf, IsServingOf, IsViewChangeOf, Run}
 use Rattle.wol_run.specs.Serving.{EndsAtClient}
-use Rattle.wol_run.specs.Settings.{IsConfigured}
+use Rattle.wol_run.specs.Settings.{IsConfigured, OfRead}
 use Rattle.wol_run.specs.Tops.{EndsWith, HasCause, IsDoneOrMemory, TellsFault, TellsStatus}
 use Rattle.wol_run.proofs.Asked.{of_asked, uses_alike}
 use Rattle.wol_run.proofs.CausesTold.{clean_cause, comparison_cause, format_cause, gen_cause, look_cause, replay_cause, serving_cause, view_cause}
@@ -57,59 +57,59 @@ module _ {D : Type 0} (tells : Bool) (state : D → State) (words : List (List �
   used : {b : Bool} → b ≡ true → b ≡ false → ⊥
   used is none = true≢false (sym is ∙ none)
 
-  pub gen_promise : (what : Generated) → IsCommand words (Gen what) → IsListingOf before after status what → after.trace ≡ before.trace → after.bay ≡ before.bay → Run tells state words before after status
-  gen_promise what is run trace bay = of_command tells state words before after status (Gen what) is run (gen_cause tells state words before after status seven what is run) later
+  pub gen_promise : (what : Generated) → IsCommand words (Gen what) → OfRead before.config.bytes (λ read. IsListingOf read before after status what) → after.trace ≡ before.trace → after.bay ≡ before.bay → Run tells state words before after status
+  gen_promise what is run trace bay = of_command tells state words before after status run.read run.has (Gen what) is run.is (gen_cause tells state run.read words before after status seven what is run.is) later
       (record { config = λ none. absurd (used refl (none (Gen what) is)); trace = λ none. trace; bay = λ none. bay })
-      (λ order calm. inl (complete_gen what _ _ _ status _ _ order (calm.config refl) (λ is_7. calm.sink (seven is_7)) run))
+      (λ order calm. inl (complete_gen what run.read _ _ _ status _ _ order (calm.config refl) (λ is_7. calm.sink (seven is_7)) run.is))
 
-  pub format_promise : IsCommand words Format → IsFormat before after status → after.trace ≡ before.trace → Run tells state words before after status
-  format_promise is run trace = of_command tells state words before after status Format is run (format_cause tells state words before after status seven is run) later
+  pub format_promise : IsCommand words Format → OfRead before.config.bytes (λ read. IsFormat read before after status) → after.trace ≡ before.trace → Run tells state words before after status
+  format_promise is run trace = of_command tells state words before after status run.read run.has Format is run.is (format_cause tells state run.read words before after status seven is run.is) later
       (record { config = λ none. absurd (used refl (none Format is)); trace = λ none. trace; bay = λ none. absurd (used refl (none Format is)) })
-      (λ order calm. inl (complete_format _ _ _ _ _ status _ _ order (calm.config refl) (calm.bay refl) (λ is_7. calm.sink (seven is_7)) run))
+      (λ order calm. inl (complete_format run.read _ _ _ _ _ status _ _ order (calm.config refl) (calm.bay refl) (λ is_7. calm.sink (seven is_7)) run.is))
 
   -- the volumes were looked at, and where nothing stood in the way the look came to its end
   module _ (complete : Free → IsDoneOrMemory status) (trace : after.trace ≡ before.trace) where
-    pub check_promise : IsCommand words Check → IsLookFor tells state before after status asked.Check → Run tells state words before after status
-    check_promise is run = of_command tells state words before after status Check is run (look_cause tells state words before after status seven Check is refl refl refl asked.Check run) later
+    pub check_promise : IsCommand words Check → OfRead before.config.bytes (λ read. IsLookFor tells state read before after status asked.Check) → Run tells state words before after status
+    check_promise is run = of_command tells state words before after status run.read run.has Check is run.is (look_cause tells state run.read words before after status seven Check is refl refl refl asked.Check run.is) later
         (record { config = λ none. absurd (used refl (none Check is)); trace = λ none. trace; bay = λ none. absurd (used refl (none Check is)) })
         (λ order calm. inl (complete (free Check refl refl order.0 order.1 calm)))
 
-    pub dump_promise : IsCommand words Dump → IsLookFor tells state before after status asked.Dump → Run tells state words before after status
-    dump_promise is run = of_command tells state words before after status Dump is run (look_cause tells state words before after status seven Dump is refl refl refl asked.Dump run) later
+    pub dump_promise : IsCommand words Dump → OfRead before.config.bytes (λ read. IsLookFor tells state read before after status asked.Dump) → Run tells state words before after status
+    dump_promise is run = of_command tells state words before after status run.read run.has Dump is run.is (look_cause tells state run.read words before after status seven Dump is refl refl refl asked.Dump run.is) later
         (record { config = λ none. absurd (used refl (none Dump is)); trace = λ none. trace; bay = λ none. absurd (used refl (none Dump is)) })
         (λ order calm. inl (complete (free Dump refl refl order.0 order.1 calm)))
 
-  pub replay_promise : (options : Options) → IsCommand words (Replay options) → IsReplayOf tells state before after status (options_as options, trace_of before.trace.bytes)
+  pub replay_promise : (options : Options) → IsCommand words (Replay options) → OfRead before.config.bytes (λ read. IsReplayOf tells state read before after status (options_as options, trace_of before.trace.bytes))
       → (status ≡ 8 → Rose before.config.faults after.config.faults ⊎ Rose before.trace.faults after.trace.faults)
       → ((lines : _) (all : Free) → HaveVersions before.config.bytes all.images.entry (λ c. lines) → IsGoodTrace before.trace.bytes lines → ¬ Rose before.trace.faults after.trace.faults → IsDoneOrMemory status)
       → Run tells state words before after status
-  replay_promise options is run source complete = of_command tells state words before after status (Replay options) is run
-      (replay_cause tells state words before after status seven (Replay options) is refl refl (options_as options) (trace_of before.trace.bytes) refl source
-      (λ three. (for_trace, replay_bad_line tells state (options_as options) _ _ _ _ _ _ _ _ status _ _ before.trace.bytes run three))
-      (λ ten. (for_trace, replay_more_lines tells state (options_as options) _ _ _ _ _ _ _ _ status _ _ before.trace.bytes run ten))
-      (λ now lines config rest all uses. at_end before.trace.bytes after.trace.bytes now lines config rest all) run) later
+  replay_promise options is run source complete = of_command tells state words before after status run.read run.has (Replay options) is run.is
+      (replay_cause tells state run.read words before after status seven (Replay options) is refl refl (options_as options) (trace_of before.trace.bytes) refl source
+      (λ three. (for_trace, replay_bad_line tells state (options_as options) run.read _ _ _ _ _ _ _ _ status _ _ before.trace.bytes run.is three))
+      (λ ten. (for_trace, replay_more_lines tells state (options_as options) run.read _ _ _ _ _ _ _ _ status _ _ before.trace.bytes run.is ten))
+      (λ now lines config rest all uses. at_end before.trace.bytes after.trace.bytes now lines config rest all) run.read refl run.is) later
       (record { config = λ none. absurd (used refl (none (Replay options) is)); trace = λ none. absurd (used refl (none (Replay options) is)); bay = λ none. absurd (used refl (none (Replay options) is)) })
       (λ order calm. inl (complete order.2 (free (Replay options) refl refl order.0 order.1 calm) order.4 order.3 (calm.trace refl)))
     where
       for_trace : AskFor words runs_trace
       for_trace = record { command = Replay options; is = is; does = refl }
 
-  pub soak_promise : (what : Generated) (options : Options) → IsCommand words (Soak what options) → IsReplayOf tells state before after status (options_as options, lines_of what)
+  pub soak_promise : (what : Generated) (options : Options) → IsCommand words (Soak what options) → OfRead before.config.bytes (λ read. IsReplayOf tells state read before after status (options_as options, lines_of what))
       → (status ≡ 8 → Rose before.config.faults after.config.faults)
       → ((all : Free) → HaveVersions before.config.bytes all.images.entry (seed_lines what) → IsDoneOrMemory status)
       → after.trace ≡ before.trace → Run tells state words before after status
-  soak_promise what options is run source complete trace = of_command tells state words before after status (Soak what options) is run
-      (replay_cause tells state words before after status seven (Soak what options) is refl refl (options_as options) (lines_of what) refl (λ eight. inl (source eight))
-      (λ three. absurd (soak_not_three tells state (options_as options) _ _ _ _ _ _ _ _ status _ _ what run three))
-      (λ ten. absurd (soak_not_ten tells state (options_as options) _ _ _ _ _ _ _ _ status _ _ what run ten))
-      (λ now lines config rest all asks. absurd (used asks.does (of_asked (λ c. runs_trace c ≡ false) uses_alike words (Soak what options) asks.command is asks.is refl))) run) later
+  soak_promise what options is run source complete trace = of_command tells state words before after status run.read run.has (Soak what options) is run.is
+      (replay_cause tells state run.read words before after status seven (Soak what options) is refl refl (options_as options) (lines_of what) refl (λ eight. inl (source eight))
+      (λ three. absurd (soak_not_three tells state (options_as options) run.read _ _ _ _ _ _ _ _ status _ _ what run.is three))
+      (λ ten. absurd (soak_not_ten tells state (options_as options) run.read _ _ _ _ _ _ _ _ status _ _ what run.is ten))
+      (λ now lines config rest all asks. absurd (used asks.does (of_asked (λ c. runs_trace c ≡ false) uses_alike words (Soak what options) asks.command is asks.is refl))) run.read refl run.is) later
       (record { config = λ none. absurd (used refl (none (Soak what options) is)); trace = λ none. trace; bay = λ none. absurd (used refl (none (Soak what options) is)) })
       (λ order calm. inl (complete (free (Soak what options) refl refl order.0 order.1 calm) order.2))
 
-  pub comparison_promise : IsCommand words WhatIf → IsComparisonOf before after status → (status ≡ 8 → Rose before.config.faults after.config.faults ⊎ Rose before.trace.faults after.trace.faults)
+  pub comparison_promise : IsCommand words WhatIf → OfRead before.config.bytes (λ read. IsComparisonOf read before after status) → (status ≡ 8 → Rose before.config.faults after.config.faults ⊎ Rose before.trace.faults after.trace.faults)
       → ((lines : _) → IsGoodTrace before.trace.bytes lines → IsConfigured before.config.bytes → ¬ Rose before.config.faults after.config.faults → ¬ Rose before.trace.faults after.trace.faults → ¬ Rose before.sink.faults after.sink.faults
       → IsDoneOrMemory status) → after.bay ≡ before.bay → Run tells state words before after status
-  comparison_promise is run source complete bay = of_command tells state words before after status WhatIf is run (comparison_cause tells state words before after status seven is source run) later
+  comparison_promise is run source complete bay = of_command tells state words before after status run.read run.has WhatIf is run.is (comparison_cause tells state run.read words before after status seven is source run.read run.is) later
       (record { config = λ none. absurd (used refl (none WhatIf is)); trace = λ none. absurd (used refl (none WhatIf is)); bay = λ none. bay })
       (λ order calm. inl (complete order.1 order.2 order.0 (calm.config refl) (calm.trace refl) calm.sink))
 
@@ -119,22 +119,22 @@ module _ {D : Type 0} (tells : Bool) (state : D → State) (words : List (List �
     view_ends changes (inl done) = inl done
     view_ends changes (inr refused) = inr (inl (changes, refused))
 
-    pub view_add_promise : (names : ViewNames) → IsCommand words (ViewAdd names) → IsViewChangeOf tells state before after status (Add, named_by names) → Run tells state words before after status
-    view_add_promise names is run = of_command tells state words before after status (ViewAdd names) is run
-        (view_cause tells state words before after status seven (ViewAdd names) is refl refl Add (named_by names) refl (record { command = ViewAdd names; is = is; does = refl }) refl run) later
+    pub view_add_promise : (names : ViewNames) → IsCommand words (ViewAdd names) → OfRead before.config.bytes (λ read. IsViewChangeOf tells state read before after status (Add, named_by names)) → Run tells state words before after status
+    view_add_promise names is run = of_command tells state words before after status run.read run.has (ViewAdd names) is run.is
+        (view_cause tells state run.read words before after status seven (ViewAdd names) is refl refl Add (named_by names) refl (record { command = ViewAdd names; is = is; does = refl }) refl run.read refl run.is) later
         (record { config = λ none. absurd (used refl (none (ViewAdd names) is)); trace = λ none. trace; bay = λ none. absurd (used refl (none (ViewAdd names) is)) })
         (λ order calm. view_ends refl (complete (free (ViewAdd names) refl refl order.0 order.1 calm)))
 
-    pub view_remove_promise : (names : ViewNames) → IsCommand words (ViewRemove names) → IsViewChangeOf tells state before after status (Remove, named_by names) → Run tells state words before after status
-    view_remove_promise names is run = of_command tells state words before after status (ViewRemove names) is run
-        (view_cause tells state words before after status seven (ViewRemove names) is refl refl Remove (named_by names) refl (record { command = ViewRemove names; is = is; does = refl }) refl run) later
+    pub view_remove_promise : (names : ViewNames) → IsCommand words (ViewRemove names) → OfRead before.config.bytes (λ read. IsViewChangeOf tells state read before after status (Remove, named_by names)) → Run tells state words before after status
+    view_remove_promise names is run = of_command tells state words before after status run.read run.has (ViewRemove names) is run.is
+        (view_cause tells state run.read words before after status seven (ViewRemove names) is refl refl Remove (named_by names) refl (record { command = ViewRemove names; is = is; does = refl }) refl run.read refl run.is) later
         (record { config = λ none. absurd (used refl (none (ViewRemove names) is)); trace = λ none. trace; bay = λ none. absurd (used refl (none (ViewRemove names) is)) })
         (λ order calm. view_ends refl (complete (free (ViewRemove names) refl refl order.0 order.1 calm)))
 
-  pub clean_promise : IsCommand words Clean → IsCleaningOf tells state before after status
+  pub clean_promise : IsCommand words Clean → OfRead before.config.bytes (λ read. IsCleaningOf tells state read before after status)
       → ((all : Free) → HaveVersionsToClean before.config.bytes all.images.entry → IsDoneOrMemory status)
       → after.trace ≡ before.trace → Run tells state words before after status
-  clean_promise is run complete trace = of_command tells state words before after status Clean is run (clean_cause tells state words before after status seven Clean is refl refl is run) later
+  clean_promise is run complete trace = of_command tells state words before after status run.read run.has Clean is run.is (clean_cause tells state run.read words before after status seven Clean is refl refl is run.read refl run.is) later
       (record { config = λ none. absurd (used refl (none Clean is)); trace = λ none. trace; bay = λ none. absurd (used refl (none Clean is)) })
       (λ order calm. inl (complete (free Clean refl refl order.0 order.1 calm) order.2))
 
@@ -144,15 +144,15 @@ module _ {D : Type 0} (tells : Bool) (state : D → State) (words : List (List �
     at_client serves (inl done) = inl done
     at_client serves (inr other) = inr (inr (serves, other))
 
-    pub nbd_promise : (name : ServedName) → IsCommand words (Nbd name) → IsServingOf tells state before after status (AtOnce, served_by name) → Run tells state words before after status
-    nbd_promise name is run = of_command tells state words before after status (Nbd name) is run
-        (serving_cause tells state words before after status seven (Nbd name) is refl refl AtOnce (served_by name) refl refl run) later
+    pub nbd_promise : (name : ServedName) → IsCommand words (Nbd name) → OfRead before.config.bytes (λ read. IsServingOf tells state read before after status (AtOnce, served_by name)) → Run tells state words before after status
+    nbd_promise name is run = of_command tells state words before after status run.read run.has (Nbd name) is run.is
+        (serving_cause tells state run.read words before after status seven (Nbd name) is refl refl AtOnce (served_by name) refl refl run.read refl run.is) later
         (record { config = λ none. absurd (used refl (none (Nbd name) is)); trace = λ none. absurd (used refl (none (Nbd name) is)); bay = λ none. absurd (used refl (none (Nbd name) is)) })
         (λ order calm. at_client refl (complete (free (Nbd name) refl refl order.0 order.1 calm) (calm.trace refl)))
 
-    pub serve_promise : (name : ServedName) → IsCommand words (Serve name) → IsServingOf tells state before after status (Handshake, served_by name) → Run tells state words before after status
-    serve_promise name is run = of_command tells state words before after status (Serve name) is run
-        (serving_cause tells state words before after status seven (Serve name) is refl refl Handshake (served_by name) refl refl run) later
+    pub serve_promise : (name : ServedName) → IsCommand words (Serve name) → OfRead before.config.bytes (λ read. IsServingOf tells state read before after status (Handshake, served_by name)) → Run tells state words before after status
+    serve_promise name is run = of_command tells state words before after status run.read run.has (Serve name) is run.is
+        (serving_cause tells state run.read words before after status seven (Serve name) is refl refl Handshake (served_by name) refl refl run.read refl run.is) later
         (record { config = λ none. absurd (used refl (none (Serve name) is)); trace = λ none. absurd (used refl (none (Serve name) is)); bay = λ none. absurd (used refl (none (Serve name) is)) })
         (λ order calm. at_client refl (complete (free (Serve name) refl refl order.0 order.1 calm) (calm.trace refl)))
 
@@ -164,7 +164,7 @@ module _ {D : Type 0} (tells : Bool) (state : D → State) (words : List (List �
     pub solo_fault_promise : (T : Type 0) (e : Fault) (mid : Option (List ℕ)) → TellsStatus e status → TellsFault e status mid after.sink.bytes
         → HasCause e before.bay.told after.bay.told before.bay.faults after.bay.faults before.trace.faults after.trace.faults
         → RunsInBay {T = T} (target_of own) before.trace.bytes after.trace.bytes before.bay.told after.bay.told (Err e) before.sink.bytes mid → Run tells state words before after status
-    solo_fault_promise T e mid told tells_ cause run = of_command tells state words before after status (Solo own) is
+    solo_fault_promise T e mid told tells_ cause run = of_command tells state words before after status None tt (Solo own) is
         (told_fault (target_of own) _ _ _ _ _ _ _ _ status _ mid _ T e cause tells_ run)
         (solo_cause tells state words before after own is T status mid seven e told cause run) later unused
         (λ order calm. inl (solo_complete T (target_of own) _ _ _ _ _ mid _ _ _ _ status (calm.bay refl) (calm.trace refl) (λ is_7. calm.sink (seven is_7)) order e told cause run))
@@ -172,7 +172,7 @@ module _ {D : Type 0} (tells : Bool) (state : D → State) (words : List (List �
 -- they were run to their end
 pub solo_done_promise : {D : Type 0} (tells : Bool) (state : D → State) (words : List (List ℕ)) (before after : Outside) → (before.sink.faults < after.sink.faults → ⊥) → (own : Volume) → IsCommand words (Solo own) → after.config ≡ before.config
     → IsAtEnd after.trace.bytes → {T : Type 0} (x : T) → RunsInBay (target_of own) before.trace.bytes after.trace.bytes before.bay.told after.bay.told (Ok x) before.sink.bytes after.sink.bytes → Run tells state words before after 0
-solo_done_promise tells state words before after calm own is config end x run = of_command tells state words before after 0 (Solo own) is
+solo_done_promise tells state words before after calm own is config end x run = of_command tells state words before after 0 None tt (Solo own) is
     (told_done x (target_of own) _ _ _ _ _ _ _ _ _ _ run) (row.done (Solo own) is (λ uses. end)) (λ less. absurd (calm less))
     (record { config = λ none. config; trace = λ none. absurd (true≢false (none (Solo own) is)); bay = λ none. absurd (true≢false (none (Solo own) is)) })
     (λ order still. inl (inl refl))
@@ -182,21 +182,21 @@ module _ {D : Type 0} (tells : Bool) (state : D → State) (words : List (List �
   abbrev after : Outside
   after = record before { sink = sink }
 
-  does_none : (command : Command) → Does tells state before after status command
+  does_none : (command : Command) → Does tells state None before after status command
   does_none (Solo volume) = told_fault (target_of volume) before.trace.bytes before.trace.bytes before.bay.told before.bay.told before.bay.faults before.bay.faults before.trace.faults before.trace.faults status _ _ _ (Unit {0}) solo_fault.NoMemory tt ends
       (not_made (Unit {0}) bay_fault.NoMemory (target_of volume) before.trace.bytes before.bay.told before.bay.told before.sink.bytes refl)
   does_none Format = told_untouched _ _ _ _ _ status _ _ fault.Memory tt refl (inr ends)
-  does_none (Replay options) = unreplayed _ _ _ _ _ _ _ _ _ _ _ _ _ _ fault.Memory tt refl (inr ends)
+  does_none (Replay options) = unreplayed _ _ _ _ _ _ _ _ _ fault.Memory tt refl (inr ends)
   does_none Check = look_untouched _ _ asked.Check _ _ _ _ _ status _ _ fault.Memory tt refl (inr ends)
   does_none Dump = look_untouched _ _ asked.Dump _ _ _ _ _ status _ _ fault.Memory tt refl (inr ends)
   does_none (Gen what) = told_unread what _ _ _ status _ _ fault.Memory tt (inr ends)
-  does_none (Soak what options) = unreplayed _ _ _ _ _ _ _ _ _ _ _ _ _ _ fault.Memory tt tt (inr ends)
-  does_none WhatIf = uncompared _ _ _ _ _ _ _ _ _ _ fault.Memory tt refl (inr ends)
-  does_none (ViewAdd names) = inr (not_begun _ _ _ _ _ status _ _ fault.Memory tt refl (inr ends))
-  does_none (ViewRemove names) = inr (not_begun _ _ _ _ _ status _ _ fault.Memory tt refl (inr ends))
-  does_none Clean = inr (not_begun _ _ _ _ _ status _ _ fault.Memory tt refl (inr ends))
-  does_none (Nbd name) = inr (inr (record { bay = refl; source = (refl, refl); ends = ends }))
-  does_none (Serve name) = inr (inr (record { bay = refl; source = (refl, refl); ends = ends }))
+  does_none (Soak what options) = unreplayed _ _ _ _ _ _ _ _ _ fault.Memory tt tt (inr ends)
+  does_none WhatIf = uncompared _ _ _ _ _ _ _ _ fault.Memory tt refl (inr ends)
+  does_none (ViewAdd names) = not_begun _ _ _ _ _ status _ _ fault.Memory tt refl (inr ends)
+  does_none (ViewRemove names) = not_begun _ _ _ _ _ status _ _ fault.Memory tt refl (inr ends)
+  does_none Clean = not_begun _ _ _ _ _ status _ _ fault.Memory tt refl (inr ends)
+  does_none (Nbd name) = inr (record { bay = refl; source = (refl, refl); ends = ends })
+  does_none (Serve name) = inr (record { bay = refl; source = (refl, refl); ends = ends })
 
   pub memory_promise : (status ≡ 7 → Rose before.sink.faults sink.faults) → (before.sink.faults < sink.faults → status ≡ 7) → Run tells state words before after status
-  memory_promise seven later = of_unread_words tells state words before after status does_none ends seven later (record { config = λ none. refl; trace = λ none. refl; bay = λ none. refl })
+  memory_promise seven later = of_unread_words tells state words before after status None tt does_none ends seven later (record { config = λ none. refl; trace = λ none. refl; bay = λ none. refl })

@@ -14,9 +14,9 @@ use Rattle.replay.specs.declared.stop.Stop.{Stop}
 use Rattle.replay.specs.declared.stop.Stop.TheVariants as stop
 use Rattle.comparison.specs.Compares.{Compares, EndsBehind}
 use Rattle.comparison.specs.Compares as behind
-use Rattle.wol_run.specs.Comparing.{IsComparison, RunsWhatIf}
+use Rattle.wol_run.specs.Comparing.{IsComparison, IsUncompared}
 use Rattle.wol_run.specs.Replaying.{EndsReplay, GivenLines, HasLeft, HasSource, seen}
-use Rattle.wol_run.specs.Settings.{HasConfig, IsUnread, line_of_fault}
+use Rattle.wol_run.specs.Settings.{IsUnread, line_of_fault}
 use Rattle.wol_run.specs.Tops.{EndsWith}
 use Rattle.wol_run.proofs.ReplayEnds.{NoLine, same_fault}
 use Rattle.wol_run.proofs.ReplayFaults.{CanEnd, trace_can}
@@ -89,29 +89,29 @@ module _ {S T : Type 0} (left : S → Option (List ℕ)) (config : Config) (star
 
 -- a comparison over a configuration that was had, and its end
 pub is_comparison : {S : Type 0} (left : S → Option (List ℕ)) (config : Config) (start now : Given S) (sink sink' after : ℕ) (printed then printed' : Option (List ℕ)) (status : ℕ) (result : Result (Unit {0}) Stop)
-    → Compares left config start now sink sink' printed then result → sink' ≤ after → EndsReplay config result status then printed' → (bytes rest : Option (List ℕ)) → HasConfig bytes config → HasLeft (seen left now) rest
-    → IsComparison (seen left start) bytes rest sink after status printed printed'
-is_comparison left config start now sink sink' after printed then printed' status result compares later ends bytes rest has left_is = record {
-  over = record { config = config; has = has; result = result; sink_then = sink'; later = later; printed_then = then; ends = ends };
+    → Compares left config start now sink sink' printed then result → sink' ≤ after → EndsReplay config result status then printed' → (rest : Option (List ℕ)) → HasLeft (seen left now) rest
+    → IsComparison config (seen left start) rest sink after status printed printed'
+is_comparison left config start now sink sink' after printed then printed' status result compares later ends rest left_is = record {
+  over = record { result = result; sink_then = sink'; later = later; printed_then = then; ends = ends };
   now = seen left now;
   rest = left_is;
   compares = comparison_seen left config start now sink sink' printed then result compares;
 }
 
 -- the configuration wasn't had
-pub uncompared : (start : GivenLines) (left rest : Option (List ℕ)) (faults faults' : ℕ) (sink sink' status : ℕ) (printed printed' : Option (List ℕ)) → (e : Fault) → IsUnread e left faults faults' → HasLeft start rest
-    → EndsWith (line_of_fault e) (status_of e) status printed printed' ⊎ EndsWith (codes "fault 9 memory\n") 9 status printed printed' → RunsWhatIf start left faults faults' rest sink sink' status printed printed'
-uncompared start left rest faults faults' sink sink' status printed printed' e cause kept (inl ends) = inr (record {
+pub uncompared : (start : GivenLines) (left rest : Option (List ℕ)) (faults faults' status : ℕ) (printed printed' : Option (List ℕ)) → (e : Fault) → IsUnread e left faults faults' → HasLeft start rest
+    → EndsWith (line_of_fault e) (status_of e) status printed printed' ⊎ EndsWith (codes "fault 9 memory\n") 9 status printed printed' → IsUncompared start left rest faults faults' status printed printed'
+uncompared start left rest faults faults' status printed printed' e cause kept (inl ends) = record {
   text = line_of_fault e;
   wanted = status_of e;
   line_ = line_unread e left faults faults' cause;
   rest = kept;
   ends = ends;
-})
-uncompared start left rest faults faults' sink sink' status printed printed' e cause kept (inr ends) = inr (record {
+}
+uncompared start left rest faults faults' status printed printed' e cause kept (inr ends) = record {
   text = codes "fault 9 memory\n";
   wanted = 9;
   line_ = line_of_memory left faults faults';
   rest = kept;
   ends = ends;
-})
+}

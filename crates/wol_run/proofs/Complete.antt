@@ -5,6 +5,7 @@ use Rattle.wol_disk.specs.Disk.{Rose}
 use Rattle.wol_bay.specs.Bay.{BayState}
 use Rattle.wol_config.specs.Configs.{IsDocument, IsRefusal}
 use Rattle.wol_config.specs.Documents.{document_fault}
+use Rattle.wol_config.specs.declared.config.Config.{Config}
 use Rattle.wol_config.specs.declared.config.ConfigFault.{ConfigFault}
 use Rattle.wol_config.specs.declared.config.ConfigFault.TheVariants as refused
 use Rattle.command_words.specs.declared.command.Generated.{Generated}
@@ -34,8 +35,8 @@ no_both left is none = by none.why none.fault (subst (λ (o : Option (List ℕ))
     by (refused.Twice volume name) fault at = other at.0 at.1 (refused.Twice volume name) at.2
     by (refused.BadView volume name) fault at = other at.0 at.1 (refused.BadView volume name) at.2
 
-pub complete_gen : (asked : Generated) (left : Option (List ℕ)) (faults faults' status : ℕ) (printed new : Option (List ℕ)) → IsConfigured left → ¬ Rose faults faults' → (status ≡ 7 → ⊥) → RunsGen asked left faults faults' status printed new → IsDoneOrMemory status
-complete_gen asked left faults faults' status printed new is calm whole run = elim (ends_gen asked left faults faults' status printed new run) [
+pub complete_gen : (asked : Generated) (read : Option Config) (left : Option (List ℕ)) (faults faults' status : ℕ) (printed new : Option (List ℕ)) → IsConfigured left → ¬ Rose faults faults' → (status ≡ 7 → ⊥) → RunsGen asked read left faults faults' status printed new → IsDoneOrMemory status
+complete_gen asked read left faults faults' status printed new is calm whole run = elim (ends_gen asked read left faults faults' status printed new run) [
   | inl done ↦ inl done
   | inr (inl (two, none)) ↦ absurd (no_both left is none)
   | inr (inr (inl seven)) ↦ absurd (whole seven)
@@ -43,9 +44,9 @@ complete_gen asked left faults faults' status printed new is calm whole run = el
   | inr (inr (inr (inr memory))) ↦ inr memory
 ]
 
-pub complete_format : (left : Option (List ℕ)) (faults faults' : ℕ) (old new : BayState) (status : ℕ) (printed now : Option (List ℕ)) → IsConfigured left → ¬ Rose faults faults' → ¬ Rose old.faults new.faults → (status ≡ 7 → ⊥)
-    → RunsFormat left faults faults' old new status printed now → IsDoneOrMemory status
-complete_format left faults faults' old new status printed now is calm bay_calm whole run = elim (ends_format left faults faults' old new status printed now run) [
+pub complete_format : (read : Option Config) (left : Option (List ℕ)) (faults faults' : ℕ) (old new : BayState) (status : ℕ) (printed now : Option (List ℕ)) → IsConfigured left → ¬ Rose faults faults' → ¬ Rose old.faults new.faults → (status ≡ 7 → ⊥)
+    → RunsFormat read left faults faults' old new status printed now → IsDoneOrMemory status
+complete_format read left faults faults' old new status printed now is calm bay_calm whole run = elim (ends_format read left faults faults' old new status printed now run) [
   | inl done ↦ inl done
   | inr (inl (two, none)) ↦ absurd (no_both left is none)
   | inr (inr (inl (four, rose))) ↦ absurd (bay_calm rose)

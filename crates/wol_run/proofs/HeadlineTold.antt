@@ -109,12 +109,12 @@ keeps_ends tells state left config each start now old new result status taken th
 
 -- what is kept of each run over a configuration that was had
 pub runs_kept : {D : Type 0} (tells : Bool) (state : D → State) (options : Options) (start : GivenLines) (left : Option (List ℕ)) (faults faults' : ℕ) (left_of_trace : Option (List ℕ)) (old new : BayState) (sink sink' status : ℕ) (taken taken' : Option (List ℕ))
-    → (Keeps : Config → GivenLines → Type 0) → ((run : IsReplay tells state options start left left_of_trace old new sink sink' status taken taken') → Keeps run.over.config run.now)
-    → RunsReplay tells state options start left faults faults' left_of_trace old new sink sink' status taken taken' → RunsKept Keeps start left faults faults' left_of_trace old new status taken taken'
-runs_kept tells state options start left faults faults' left_of_trace old new sink sink' status taken taken' Keeps keeps (inl run) = inl (record { config = run.over.config; has = run.over.has; now = run.now; rest = run.rest; keeps = keeps run })
-runs_kept tells state options start left faults faults' left_of_trace old new sink sink' status taken taken' Keeps keeps (inr unread) = inr unread
+    → (Keeps : Config → GivenLines → Type 0) → ((config : Config) (run : IsReplay tells state options config start left_of_trace old new sink sink' status taken taken') → Keeps config run.now)
+    → (read : Option Config) → RunsReplay tells state options read start left faults faults' left_of_trace old new sink sink' status taken taken' → RunsKept Keeps read start left faults faults' left_of_trace old new status taken taken'
+runs_kept tells state options start left faults faults' left_of_trace old new sink sink' status taken taken' Keeps keeps (Some config) run = record { now = run.now; rest = run.rest; keeps = keeps config run }
+runs_kept tells state options start left faults faults' left_of_trace old new sink sink' status taken taken' Keeps keeps None unread = unread
 
-pub headline_kept : {D : Type 0} (tells : Bool) (state : D → State) (options : Options) (start : GivenLines) (left left_of_trace : Option (List ℕ)) (old new : BayState) (sink sink' status : ℕ) (taken taken' : Option (List ℕ))
-    → (run : IsReplay tells state options start left left_of_trace old new sink sink' status taken taken') → KeepsHeadline tells state (λ bytes. bytes) run.over.config options.each start run.now old new status taken taken'
-headline_kept tells state options start left left_of_trace old new sink sink' status taken taken' run = keeps_ends tells state (λ bytes. bytes) run.over.config options.each start run.now old new run.over.result status taken run.over.printed_then taken'
-    (keeps_headline tells state (λ bytes. bytes) run.over.config options start run.now old new sink run.over.sink_then taken run.over.printed_then run.over.result run.replayed) run.over.ends
+pub headline_kept : {D : Type 0} (tells : Bool) (state : D → State) (options : Options) (config : Config) (start : GivenLines) (left_of_trace : Option (List ℕ)) (old new : BayState) (sink sink' status : ℕ) (taken taken' : Option (List ℕ))
+    → (run : IsReplay tells state options config start left_of_trace old new sink sink' status taken taken') → KeepsHeadline tells state (λ bytes. bytes) config options.each start run.now old new status taken taken'
+headline_kept tells state options config start left_of_trace old new sink sink' status taken taken' run = keeps_ends tells state (λ bytes. bytes) config options.each start run.now old new run.over.result status taken run.over.printed_then taken'
+    (keeps_headline tells state (λ bytes. bytes) config options start run.now old new sink run.over.sink_then taken run.over.printed_then run.over.result run.replayed) run.over.ends

@@ -1,5 +1,5 @@
 -- What is told at the end of a run of `check` or `dump`.
-use Rattle.std.proofs.Common.{◌≡◌, ◌⊎◌, inl, inr, ℕ, Bool, List, ◌++◌, length, Option, Result, Ok, Err, refl, ap, ◌∙◌}
+use Rattle.std.proofs.Common.{◌≡◌, ◌⊎◌, inl, inr, ℕ, Bool, List, ◌++◌, length, Option, None, Some, Result, Ok, Err, refl, ap, ◌∙◌}
 use Rattle.std.specs.Prelude.{codes}
 use Rattle.std.specs.Io.KnownBytes.{Appends}
 use Rattle.wol_disk.specs.Disk.{State}
@@ -19,7 +19,7 @@ use Rattle.inspection.specs.declared.calls.Stop.TheVariants.{Sink, Memory}
 use Rattle.volume_images.specs.Left.{IsTold}
 use Rattle.rack.specs.Opens.{KeepsOthers}
 use Rattle.wol_run.specs.Inspecting.{AreTold, HasLooked, IsCutLook, RunsLook, status_of_first}
-use Rattle.wol_run.specs.Settings.{HasConfig, IsUnread, line_of_fault}
+use Rattle.wol_run.specs.Settings.{IsUnread, line_of_fault}
 use Rattle.wol_run.specs.Tops.{EndsWith}
 use Rattle.wol_run.proofs.Unread.{line_of_memory, line_unread}
 
@@ -28,27 +28,27 @@ use Rattle.wol_run.proofs.Unread.{line_of_memory, line_unread}
 module _ {D : Type 0} (tells : Bool) (state : D → State) (asked : Asked) (left : Option (List ℕ)) (faults faults' : ℕ) (old new : BayState) (status : ℕ) (printed now : Option (List ℕ)) where
   -- the configuration wasn't had
   pub look_untouched : (e : Fault) → IsUnread e left faults faults' → new ≡ old
-      → EndsWith (line_of_fault e) (status_of e) status printed now ⊎ EndsWith (codes "fault 9 memory\n") 9 status printed now → RunsLook tells state asked left faults faults' old new status printed now
+      → EndsWith (line_of_fault e) (status_of e) status printed now ⊎ EndsWith (codes "fault 9 memory\n") 9 status printed now → RunsLook tells state asked None left faults faults' old new status printed now
   look_untouched e cause same (inl ends) = record {
     text = line_of_fault e;
     wanted = status_of e;
-    allowed = inr (inr (record { line_ = line_unread e left faults faults' cause; bay = same }));
+    allowed = record { line_ = line_unread e left faults faults' cause; bay = same };
     ends = ends;
   }
   look_untouched e cause same (inr ends) = record {
     text = codes "fault 9 memory\n";
     wanted = 9;
-    allowed = inr (inr (record { line_ = line_of_memory left faults faults'; bay = same }));
+    allowed = record { line_ = line_of_memory left faults faults'; bay = same };
     ends = ends;
   }
 
-  module _ (config : Config) (has : HasConfig left config) (leaves : LeavesViews tells state config old new) (others : IsTold (KeepsOthers config) old.told new.told) where
+  module _ (config : Config) (leaves : LeavesBay tells state config old new) (others : IsTold (KeepsOthers config) old.told new.told) where
     module _ (told : List Telling) (are : AreTold tells state asked config old new told) where
-      abbrev looked : HasLooked tells state asked left old new
-      looked = record { config = config; has = has; told = told; are = are }
+      abbrev looked : HasLooked tells state asked config old new
+      looked = record { told = told; are = are }
 
       look_told : (first : Option Trouble) → length told ≡ length config.volumes.items → first ≡ first_trouble told → Appends printed now (text_of told) → status ≡ status_of_first first
-          → RunsLook tells state asked left faults faults' old new status printed now
+          → RunsLook tells state asked (Some config) left faults faults' old new status printed now
       look_told first all is more same = record {
         text = text_of told;
         wanted = status_of_first (first_trouble told);
@@ -56,14 +56,14 @@ module _ {D : Type 0} (tells : Bool) (state : D → State) (asked : Asked) (left
         ends = inl (same ∙ ap status_of_first is, more);
       }
 
-      cut_look : IsCutLook tells state asked left old new (text_of told ++ codes "fault 9 memory\n") 9
+      cut_look : IsCutLook tells state asked config old new (text_of told ++ codes "fault 9 memory\n") 9
       cut_look = record { looked = looked; lines_ = refl; memory = refl }
 
-      look_stopped : AppendsFront printed now (text_of told) → status ≡ 7 → RunsLook tells state asked left faults faults' old new status printed now
+      look_stopped : AppendsFront printed now (text_of told) → status ≡ 7 → RunsLook tells state asked (Some config) left faults faults' old new status printed now
       look_stopped front seven = record {
         text = text_of told ++ codes "fault 9 memory\n";
         wanted = 9;
-        allowed = inr (inl cut_look);
+        allowed = inr cut_look;
         ends = inr (seven, front_longer printed now (text_of told) (codes "fault 9 memory\n") front);
       }
 
@@ -71,11 +71,11 @@ module _ {D : Type 0} (tells : Bool) (state : D → State) (asked : Asked) (left
       then_memory mid first (inl (nine, more)) = inl (nine, appends_both printed mid now (text_of told) (codes "fault 9 memory\n") first more)
       then_memory mid first (inr (seven, front)) = inr (seven, front_last printed mid now (text_of told) (codes "fault 9 memory\n") first front)
 
-      look_memory : (mid : Option (List ℕ)) → Appends printed mid (text_of told) → EndsWith (codes "fault 9 memory\n") 9 status mid now → RunsLook tells state asked left faults faults' old new status printed now
+      look_memory : (mid : Option (List ℕ)) → Appends printed mid (text_of told) → EndsWith (codes "fault 9 memory\n") 9 status mid now → RunsLook tells state asked (Some config) left faults faults' old new status printed now
       look_memory mid first ends = record {
         text = text_of told ++ codes "fault 9 memory\n";
         wanted = 9;
-        allowed = inr (inl cut_look);
+        allowed = inr cut_look;
         ends = then_memory mid first ends;
       }
 
@@ -84,14 +84,14 @@ module _ {D : Type 0} (tells : Bool) (state : D → State) (asked : Asked) (left
 
     -- all volumes were told
     pub look_whole : (first : Option Trouble) (sink sink' : ℕ) → Inspects tells state config asked old new (Ok first) sink sink' printed now → status ≡ status_of_first first
-        → RunsLook tells state asked left faults faults' old new status printed now
+        → RunsLook tells state asked (Some config) left faults faults' old new status printed now
     look_whole first sink sink' i same = look_told i.told (are_told (Ok first) sink sink' now i) first i.prints.0 i.prints.1 i.prints.3 same
 
     -- the sink failed
-    pub look_failed : (sink sink' : ℕ) → Inspects tells state config asked old new (Err Sink) sink sink' printed now → status ≡ 7 → RunsLook tells state asked left faults faults' old new status printed now
+    pub look_failed : (sink sink' : ℕ) → Inspects tells state config asked old new (Err Sink) sink sink' printed now → status ≡ 7 → RunsLook tells state asked (Some config) left faults faults' old new status printed now
     look_failed sink sink' i seven = look_stopped i.told (are_told (Err Sink) sink sink' now i) i.prints.1 seven
 
     -- there was no memory
     pub look_cut : (sink sink' : ℕ) (mid : Option (List ℕ)) → Inspects tells state config asked old new (Err Memory) sink sink' printed mid → EndsWith (codes "fault 9 memory\n") 9 status mid now
-        → RunsLook tells state asked left faults faults' old new status printed now
+        → RunsLook tells state asked (Some config) left faults faults' old new status printed now
     look_cut sink sink' mid i ends = look_memory i.told (are_told (Err Memory) sink sink' mid i) mid i.prints.1 ends

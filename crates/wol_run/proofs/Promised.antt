@@ -1,5 +1,5 @@
 -- What a run promises, by what each of its commands gives.
-use Rattle.std.proofs.Common.{◌≡◌, ◌⊎◌, inl, inr, ℕ, ◌<◌, Bool, List, Option, Some, refl, sym, subst, ◌∙◌, true≢false}
+use Rattle.std.proofs.Common.{◌≡◌, ◌⊎◌, inl, inr, ℕ, ◌<◌, Bool, true, List, Option, None, Some, refl, sym, subst, ◌∙◌, true≢false}
 use Rattle.std.specs.Prelude.{IfSome, codes}
 use Rattle.wol_disk.specs.Disk.{Rose, State}
 use Rattle.wol_config.specs.declared.config.Config.{Config}
@@ -7,23 +7,23 @@ use Rattle.solo.specs.Volume.{target_of}
 use Rattle.solo.specs.declared.volume.Volume.{Volume}
 use Rattle.inspection.specs.declared.asked.Asked.{Asked}
 use Rattle.inspection.specs.declared.asked.Asked.TheVariants as asked
+use Rattle.replay.specs.Account.{KeepsAccount}
+use Rattle.replay.specs.Headlined.{KeepsHeadline}
 use Rattle.replay.specs.declared.session.Options.{Options as Serving}
 use Rattle.command_words.specs.Commands.{IsCommand, NoCommand}
 use Rattle.command_words.specs.declared.command.Command.{Command}
 use Rattle.command_words.specs.declared.command.Command.TheVariants.{Check, Clean, Dump, Format, Gen, Nbd, Replay, Serve, Soak, Solo, ViewAdd, ViewRemove, WhatIf}
-use Rattle.command_words.specs.declared.command.Generated.{Generated}
 use Rattle.nbd_serving.specs.declared.serving.Beginning.{Beginning}
 use Rattle.nbd_serving.specs.declared.serving.Beginning.TheVariants.{AtOnce, Handshake}
-use Rattle.command_words.specs.Table.{Named}
 use Rattle.command_words.specs.Values.{served_by}
-use Rattle.view_commands.specs.declared.order.Verb.{Verb}
 use Rattle.view_commands.specs.declared.order.Verb.TheVariants.{Add, Remove}
 use Rattle.wol_run.specs.Causes.{IsCause, replayed_by}
+use Rattle.wol_run.specs.Commands.{uses_config}
 use Rattle.wol_run.specs.Causes as row
 use Rattle.wol_run.specs.Formatting.{IsNotBegun}
 use Rattle.wol_run.specs.Outside.{LeavesUnused, NothingFailed, Outside}
-use Rattle.wol_run.specs.Replaying.{GivenLines}
-use Rattle.wol_run.specs.Run.{ComesToItsEnd, Does, IsAccountOf, IsCleaningOf, IsComparisonOf, IsFormat, IsHeadlineOf, IsListingOf, IsLookFor, IsReplayOf, IsServingOf, IsUnconfigured, IsViewChangeOf, ReadsInOrder, Run}
+use Rattle.wol_run.specs.Replaying.{GivenLines, lines_of, options_as, trace_of}
+use Rattle.wol_run.specs.Run.{ComesToItsEnd, Does, IsAccountOf, IsHeadlineOf, IsLookFor, IsReplayOf, IsServingOf, IsUnconfigured, IsViewChangeOf, ReadsInOrder, Run}
 use Rattle.wol_run.specs.Settings.{HasConfig, HasNoConfig, IsFaultLine, line_of_fault}
 use Rattle.report.specs.Faults.{status_of}
 use Rattle.wol_run.specs.Tops.{EndsWith, RunsSolo}
@@ -53,10 +53,10 @@ module _ (left : Option (List ℕ)) (bytes : List ℕ) (told : left ≡ Some byt
 
 -- ---- The command that the words ask for
 
-module _ {D : Type 0} (tells : Bool) (state : D → State) (words : List (List ℕ)) (before after : Outside) (status : ℕ) where
+module _ {D : Type 0} (tells : Bool) (state : D → State) (words : List (List ℕ)) (before after : Outside) (status : ℕ) (read : Option Config) (is_read : IfSome read (HasConfig before.config.bytes)) where
   -- what the command does, by its row
   abbrev Did : Command → Type 0
-  Did command = Does tells state before after status command
+  Did command = Does tells state read before after status command
 
   solo_alike : (own volume : Volume) → target_of own ≡ target_of volume → Did (Solo own) → Did (Solo volume)
   solo_alike own volume same does = subst (λ t. RunsSolo t before.trace.bytes after.trace.bytes before.bay.told after.bay.told before.bay.faults after.bay.faults before.trace.faults after.trace.faults status before.sink.bytes after.sink.bytes) same does
@@ -64,20 +64,24 @@ module _ {D : Type 0} (tells : Bool) (state : D → State) (words : List (List �
   does_alike : IsAlike Did
   does_alike = record {
     solo = solo_alike;
-    add = λ own other same does. subst (λ n. IsViewChangeOf tells state before after status (Add, n)) same does;
-    remove = λ own other same does. subst (λ n. IsViewChangeOf tells state before after status (Remove, n)) same does;
-    nbd = λ own other same does. subst (λ n. IsServingOf tells state before after status (AtOnce, n)) same does;
-    serve = λ own other same does. subst (λ n. IsServingOf tells state before after status (Handshake, n)) same does;
+    add = λ own other same does. subst (λ n. IsViewChangeOf tells state read before after status (Add, n)) same does;
+    remove = λ own other same does. subst (λ n. IsViewChangeOf tells state read before after status (Remove, n)) same does;
+    nbd = λ own other same does. subst (λ n. IsServingOf tells state read before after status (AtOnce, n)) same does;
+    serve = λ own other same does. subst (λ n. IsServingOf tells state read before after status (Handshake, n)) same does;
   }
 
-  headline_of : (how : Serving × GivenLines) → IsReplayOf tells state before after status how → IsHeadlineOf tells state before after status how
-  headline_of (how, start) run = runs_kept tells state how start _ _ _ _ _ _ _ _ _ _ _ _ (headline_kept tells state how start _ _ _ _ _ _ _ _ _) run
+  headline_of : (how : Serving × GivenLines) → IsReplayOf tells state read before after status how → IsHeadlineOf tells state read before after status how
+  headline_of (how, start) run = runs_kept tells state how start _ _ _ _ _ _ _ _ _ _ _
+      (λ config now. KeepsHeadline tells state (λ bytes. bytes) config how.each start now before.bay after.bay status before.sink.bytes after.sink.bytes)
+      (λ config. headline_kept tells state how config start _ _ _ _ _ _ _ _) read run
 
-  account_of : (how : Serving × GivenLines) → IsReplayOf tells state before after status how → IsAccountOf tells state before after status how
-  account_of (how, start) run = runs_kept tells state how start _ _ _ _ _ _ _ _ _ _ _ _ (account_kept tells state how start _ _ _ _ _ _ _ _ _) run
+  account_of : (how : Serving × GivenLines) → IsReplayOf tells state read before after status how → IsAccountOf tells state read before after status how
+  account_of (how, start) run = runs_kept tells state how start _ _ _ _ _ _ _ _ _ _ _
+      (λ config now. KeepsAccount tells state (λ bytes. bytes) config how.reclaim start now before.bay after.bay status before.sink.bytes after.sink.bytes)
+      (λ config. account_kept tells state how config start _ _ _ _ _ _ _ _) read run
 
   -- what holds of lines that were replayed holds of those of each command that replays
-  of_replayed : (P : Serving × GivenLines → Type 0) → ((how : Serving × GivenLines) → IsReplayOf tells state before after status how → P how)
+  of_replayed : (P : Serving × GivenLines → Type 0) → ((how : Serving × GivenLines) → IsReplayOf tells state read before after status how → P how)
       → (command : Command) → Did command → IfSome (replayed_by command before.trace.bytes) P
   of_replayed P gives (Solo volume) did = tt
   of_replayed P gives Format did = tt
@@ -95,88 +99,52 @@ module _ {D : Type 0} (tells : Bool) (state : D → State) (words : List (List �
 
   -- ---- .. where the configuration is none
 
-  gen_unconfigured : (what : Generated) → IsListingOf before after status what → (bytes : List ℕ) → before.config.bytes ≡ Some bytes → HasNoConfig (Some bytes) → TellsNoConfig status
-  gen_unconfigured what run bytes told none = elim (wanted_or_sink run.text run.wanted status _ _ run.ends) [
-    | inr seven ↦ inr (inl seven)
-    | inl same ↦ elim run.allowed [
-      | inl listed ↦ absurd (never_had _ bytes told none listed.config listed.has)
-      | inr (inl cut) ↦ inr (inr (inr (same ∙ cut.memory)))
-      | inr (inr line) ↦ of_unread _ bytes told none _ _ run.text run.wanted status line same
+  module _ (bytes : List ℕ) (told : before.config.bytes ≡ Some bytes) (none : HasNoConfig (Some bytes)) where
+    none_read : (o : Option Config) → IfSome o (HasConfig before.config.bytes) → o ≡ None
+    none_read None has = refl
+    none_read (Some config) has = absurd (never_had _ bytes told none config has)
+
+    untold : (text : List ℕ) (wanted : ℕ) → IsFaultLine before.config.bytes before.config.faults after.config.faults text wanted → EndsWith text wanted status before.sink.bytes after.sink.bytes → TellsNoConfig status
+    untold text wanted line ends = elim (wanted_or_sink text wanted status _ _ ends) [
+      | inr seven ↦ inr (inl seven)
+      | inl same ↦ of_unread _ bytes told none _ _ text wanted status line same
     ]
-  ]
 
-  format_unconfigured : IsFormat before after status → (bytes : List ℕ) → before.config.bytes ≡ Some bytes → HasNoConfig (Some bytes) → TellsNoConfig status
-  format_unconfigured run bytes told none = elim (wanted_or_sink run.text run.wanted status _ _ run.ends) [
-    | inr seven ↦ inr (inl seven)
-    | inl same ↦ elim run.allowed [
-      | inl whole ↦ absurd (never_had _ bytes told none whole.config whole.has)
-      | inr (inl failed) ↦ absurd (never_had _ bytes told none failed.config failed.has)
-      | inr (inr (inl cut)) ↦ inr (inr (inr (same ∙ cut.memory)))
-      | inr (inr (inr untouched)) ↦ of_unread _ bytes told none _ _ run.text run.wanted status untouched.line_ same
+    not_begun_unconfigured : IsNotBegun before.config.bytes before.config.faults after.config.faults before.bay after.bay status before.sink.bytes after.sink.bytes → TellsNoConfig status
+    not_begun_unconfigured unread = untold unread.text unread.wanted unread.untouched.line_ unread.ends
+
+    replay_unconfigured : (how : Serving × GivenLines) → IsReplayOf tells state None before after status how → TellsNoConfig status
+    replay_unconfigured (how, start) unread = untold unread.text unread.wanted unread.untouched.line_ unread.ends
+
+    look_unconfigured : (what : Asked) → IsLookFor tells state None before after status what → TellsNoConfig status
+    look_unconfigured what run = untold run.text run.wanted run.allowed.line_ run.ends
+
+    serving_unconfigured : (how : Beginning × List ℕ) → IsServingOf tells state None before after status how → TellsNoConfig status
+    serving_unconfigured how (inl unread) = of_unread _ bytes told none _ _ (line_of_fault unread.fault) (status_of unread.fault) status (line_unread unread.fault _ _ _ unread.cause) unread.told
+    serving_unconfigured how (inr words_) = elim (wanted_or_sink _ 9 status _ _ words_.ends) [
+      | inl nine ↦ inr (inr (inr nine))
+      | inr seven ↦ inr (inl seven)
     ]
-  ]
 
-  look_unconfigured : (what : Asked) → IsLookFor tells state before after status what → (bytes : List ℕ) → before.config.bytes ≡ Some bytes → HasNoConfig (Some bytes) → TellsNoConfig status
-  look_unconfigured what run bytes told none = elim (wanted_or_sink run.text run.wanted status _ _ run.ends) [
-    | inr seven ↦ inr (inl seven)
-    | inl same ↦ elim run.allowed [
-      | inl look ↦ absurd (never_had _ bytes told none look.looked.config look.looked.has)
-      | inr (inl cut) ↦ inr (inr (inr (same ∙ cut.memory)))
-      | inr (inr untouched) ↦ of_unread _ bytes told none _ _ run.text run.wanted status untouched.line_ same
-    ]
-  ]
-
-  replay_unconfigured : (how : _) → IsReplayOf tells state before after status how → (bytes : List ℕ) → before.config.bytes ≡ Some bytes → HasNoConfig (Some bytes) → TellsNoConfig status
-  replay_unconfigured (how, start) (inl run) bytes told none = absurd (never_had _ bytes told none run.over.config run.over.has)
-  replay_unconfigured (how, start) (inr unread) bytes told none = elim (wanted_or_sink unread.text unread.wanted status _ _ unread.ends) [
-    | inr seven ↦ inr (inl seven)
-    | inl same ↦ of_unread _ bytes told none _ _ unread.text unread.wanted status unread.untouched.line_ same
-  ]
-
-  comparison_unconfigured : IsComparisonOf before after status → (bytes : List ℕ) → before.config.bytes ≡ Some bytes → HasNoConfig (Some bytes) → TellsNoConfig status
-  comparison_unconfigured (inl run) bytes told none = absurd (never_had _ bytes told none run.over.config run.over.has)
-  comparison_unconfigured (inr unread) bytes told none = elim (wanted_or_sink unread.text unread.wanted status _ _ unread.ends) [
-    | inr seven ↦ inr (inl seven)
-    | inl same ↦ of_unread _ bytes told none _ _ unread.text unread.wanted status unread.line_ same
-  ]
-
-  not_begun_unconfigured : IsNotBegun before.config.bytes before.config.faults after.config.faults before.bay after.bay status before.sink.bytes after.sink.bytes
-      → (bytes : List ℕ) → before.config.bytes ≡ Some bytes → HasNoConfig (Some bytes) → TellsNoConfig status
-  not_begun_unconfigured unread bytes told none = elim (wanted_or_sink unread.text unread.wanted status _ _ unread.ends) [
-    | inr seven ↦ inr (inl seven)
-    | inl same ↦ of_unread _ bytes told none _ _ unread.text unread.wanted status unread.untouched.line_ same
-  ]
-
-  view_unconfigured : (how : Verb × Named) → IsViewChangeOf tells state before after status how → (bytes : List ℕ) → before.config.bytes ≡ Some bytes → HasNoConfig (Some bytes) → TellsNoConfig status
-  view_unconfigured (verb, named) (inl run) bytes told none = absurd (never_had _ bytes told none run.config run.has)
-  view_unconfigured (verb, named) (inr unread) bytes told none = not_begun_unconfigured unread bytes told none
-
-  clean_unconfigured : IsCleaningOf tells state before after status → (bytes : List ℕ) → before.config.bytes ≡ Some bytes → HasNoConfig (Some bytes) → TellsNoConfig status
-  clean_unconfigured (inl run) bytes told none = absurd (never_had _ bytes told none run.over.config run.over.has)
-  clean_unconfigured (inr unread) bytes told none = not_begun_unconfigured unread bytes told none
-
-  serving_unconfigured : (how : Beginning × List ℕ) → IsServingOf tells state before after status how → (bytes : List ℕ) → before.config.bytes ≡ Some bytes → HasNoConfig (Some bytes) → TellsNoConfig status
-  serving_unconfigured how (inl run) bytes told none = absurd (never_had _ bytes told none run.config run.has)
-  serving_unconfigured how (inr (inl unread)) bytes told none = of_unread _ bytes told none _ _ (line_of_fault unread.fault) (status_of unread.fault) status (line_unread unread.fault _ _ _ unread.cause) unread.told
-  serving_unconfigured how (inr (inr words_)) bytes told none = elim (wanted_or_sink _ 9 status _ _ words_.ends) [
-    | inl nine ↦ inr (inr (inr nine))
-    | inr seven ↦ inr (inl seven)
-  ]
+    unconfigured_none : (command : Command) → uses_config command ≡ true → Does tells state None before after status command → TellsNoConfig status
+    unconfigured_none (Solo volume) uses did = absurd (true≢false (sym uses))
+    unconfigured_none Format uses did = untold did.text did.wanted did.allowed.line_ did.ends
+    unconfigured_none (Replay options) uses did = replay_unconfigured (options_as options, trace_of before.trace.bytes) did
+    unconfigured_none Check uses did = look_unconfigured asked.Check did
+    unconfigured_none Dump uses did = look_unconfigured asked.Dump did
+    unconfigured_none (Gen what) uses did = untold did.text did.wanted did.allowed did.ends
+    unconfigured_none (Soak what options) uses did = replay_unconfigured (options_as options, lines_of what) did
+    unconfigured_none WhatIf uses did = untold did.text did.wanted did.line_ did.ends
+    unconfigured_none (ViewAdd names) uses did = not_begun_unconfigured did
+    unconfigured_none (ViewRemove names) uses did = not_begun_unconfigured did
+    unconfigured_none Clean uses did = not_begun_unconfigured did
+    unconfigured_none (Nbd name) uses did = serving_unconfigured (AtOnce, served_by name) did
+    unconfigured_none (Serve name) uses did = serving_unconfigured (Handshake, served_by name) did
 
   unconfigured_of : (command : Command) → Did command → IsUnconfigured command before → TellsNoConfig status
-  unconfigured_of (Solo volume) did (uses, bytes, told, none) = absurd (true≢false (sym uses))
-  unconfigured_of Format did (uses, bytes, told, none) = format_unconfigured did bytes told none
-  unconfigured_of (Replay options) did (uses, bytes, told, none) = replay_unconfigured _ did bytes told none
-  unconfigured_of Check did (uses, bytes, told, none) = look_unconfigured asked.Check did bytes told none
-  unconfigured_of Dump did (uses, bytes, told, none) = look_unconfigured asked.Dump did bytes told none
-  unconfigured_of (Gen what) did (uses, bytes, told, none) = gen_unconfigured what did bytes told none
-  unconfigured_of (Soak what options) did (uses, bytes, told, none) = replay_unconfigured _ did bytes told none
-  unconfigured_of WhatIf did (uses, bytes, told, none) = comparison_unconfigured did bytes told none
-  unconfigured_of (ViewAdd names) did (uses, bytes, told, none) = view_unconfigured _ did bytes told none
-  unconfigured_of (ViewRemove names) did (uses, bytes, told, none) = view_unconfigured _ did bytes told none
-  unconfigured_of Clean did (uses, bytes, told, none) = clean_unconfigured did bytes told none
-  unconfigured_of (Nbd name) did (uses, bytes, told, none) = serving_unconfigured (AtOnce, served_by name) did bytes told none
-  unconfigured_of (Serve name) did (uses, bytes, told, none) = serving_unconfigured (Handshake, served_by name) did bytes told none
+  unconfigured_of command did (uses, bytes, told, none) =
+      let no : read ≡ None = none_read bytes told none read is_read in
+      unconfigured_none bytes told none command uses (subst (λ (o : Option Config). Does tells state o before after status command) no did)
 
   -- ---- The whole
 
@@ -194,11 +162,13 @@ module _ {D : Type 0} (tells : Bool) (state : D → State) (words : List (List �
 
   pub promise : ((command : Command) → IsCommand words command → Did command)
       → (NoCommand words → EndsWith (codes "fault 1 words\n") 1 status before.sink.bytes after.sink.bytes ⊎ EndsWith (codes "fault 9 memory\n") 9 status before.sink.bytes after.sink.bytes)
-      → IsCause tells state words before after status → (before.sink.faults < after.sink.faults → status ≡ 7) → LeavesUnused words before after → ((command : Command) → IsCommand words command → Completes command)
+      → IsCause tells state read words before after status → (before.sink.faults < after.sink.faults → status ≡ 7) → LeavesUnused words before after → ((command : Command) → IsCommand words command → Completes command)
       → Run tells state words before after status
   promise does refused cause sink unused complete = record {
-    headline = λ command is. of_replayed (IsHeadlineOf tells state before after status) headline_of command (does command is);
-    account = λ command is. of_replayed (IsAccountOf tells state before after status) account_of command (does command is);
+    read = read;
+    is_read = is_read;
+    headline = λ command is. of_replayed (IsHeadlineOf tells state read before after status) headline_of command (does command is);
+    account = λ command is. of_replayed (IsAccountOf tells state read before after status) account_of command (does command is);
     does = does;
     refused = refused;
     cause = cause;
@@ -209,20 +179,20 @@ module _ {D : Type 0} (tells : Bool) (state : D → State) (words : List (List �
   }
 
   -- the words are a command, which was read
-  pub of_command : (read : Command) → IsCommand words read → Did read → IsCause tells state words before after status → (before.sink.faults < after.sink.faults → status ≡ 7) → LeavesUnused words before after
-      → (ReadsInOrder tells read before → NothingFailed read before after → ComesToItsEnd read status) → Run tells state words before after status
-  of_command read is does cause sink unused complete = promise
-      (λ command so. of_asked Did does_alike words read command is so does)
-      (λ none. absurd (none read is)) cause sink unused
-      (λ command so. of_asked Completes completes_alike words read command is so complete)
+  pub of_command : (own : Command) → IsCommand words own → Did own → IsCause tells state read words before after status → (before.sink.faults < after.sink.faults → status ≡ 7) → LeavesUnused words before after
+      → (ReadsInOrder tells own before → NothingFailed own before after → ComesToItsEnd own status) → Run tells state words before after status
+  of_command own is does cause sink unused complete = promise
+      (λ command so. of_asked Did does_alike words own command is so does)
+      (λ none. absurd (none own is)) cause sink unused
+      (λ command so. of_asked Completes completes_alike words own command is so complete)
 
   -- they are none
   pub of_none : NoCommand words → EndsWith (codes "fault 1 words\n") 1 status before.sink.bytes after.sink.bytes → (status ≡ 7 → Rose before.sink.faults after.sink.faults)
       → (before.sink.faults < after.sink.faults → status ≡ 7) → LeavesUnused words before after → Run tells state words before after status
   of_none none ends rose sink unused = promise (λ command is. absurd (none command is)) (λ _. inl ends)
       (elim (wanted_or_sink _ 1 status _ _ ends) [
-        | inl one ↦ at_status tells state words before after 1 status one (row.no_command none)
-        | inr seven ↦ at_status tells state words before after 7 status seven (row.sink_failed (rose seven))
+        | inl one ↦ at_status tells state read words before after 1 status one (row.no_command none)
+        | inr seven ↦ at_status tells state read words before after 7 status seven (row.sink_failed (rose seven))
       ]) sink unused (λ command is. absurd (none command is))
 
   -- there was no memory to read them
@@ -230,8 +200,8 @@ module _ {D : Type 0} (tells : Bool) (state : D → State) (words : List (List �
       → (before.sink.faults < after.sink.faults → status ≡ 7) → LeavesUnused words before after → Run tells state words before after status
   of_unread_words does ends rose sink unused = promise (λ command is. does command) (λ _. inr ends)
       (elim (wanted_or_sink _ 9 status _ _ ends) [
-        | inl nine ↦ at_status tells state words before after 9 status nine row.no_memory
-        | inr seven ↦ at_status tells state words before after 7 status seven (row.sink_failed (rose seven))
+        | inl nine ↦ at_status tells state read words before after 9 status nine row.no_memory
+        | inr seven ↦ at_status tells state read words before after 7 status seven (row.sink_failed (rose seven))
       ]) sink unused
       (λ command is order calm. elim (wanted_or_sink _ 9 status _ _ ends) [
         | inl nine ↦ inl (inr nine)

@@ -75,23 +75,23 @@ ends_status config (Err (stop.Fault f)) status printed new (inr ends) = elim (wa
 -- ---- What statuses come of
 
 -- the configuration wasn't had
-pub unreplayed : {D : Type 0} (tells : Bool) (state : D → State) (options : Options) (start : GivenLines) (left : Option (List ℕ)) (faults faults' : ℕ) (rest : Option (List ℕ)) (bay : BayState) (sink sink' status : ℕ) (printed printed' : Option (List ℕ)) (e : Fault)
+pub unreplayed : (start : GivenLines) (left : Option (List ℕ)) (faults faults' : ℕ) (rest : Option (List ℕ)) (bay : BayState) (status : ℕ) (printed printed' : Option (List ℕ)) (e : Fault)
     → IsUnread e left faults faults' → HasLeft start rest → EndsWith (line_of_fault e) (status_of e) status printed printed' ⊎ EndsWith (codes "fault 9 memory\n") 9 status printed printed'
-    → RunsReplay tells state options start left faults faults' rest bay bay sink sink' status printed printed'
-unreplayed tells state options start left faults faults' rest bay sink sink' status printed printed' e cause same (inl ends) = inr (record {
+    → IsUnreplayed start left rest faults faults' bay bay status printed printed'
+unreplayed start left faults faults' rest bay status printed printed' e cause same (inl ends) = record {
   text = line_of_fault e;
   wanted = status_of e;
   untouched = record { line_ = line_unread e left faults faults' cause; bay = refl };
   rest = same;
   ends = ends;
-})
-unreplayed tells state options start left faults faults' rest bay sink sink' status printed printed' e cause same (inr ends) = inr (record {
+}
+unreplayed start left faults faults' rest bay status printed printed' e cause same (inr ends) = record {
   text = codes "fault 9 memory\n";
   wanted = 9;
   untouched = record { line_ = line_of_memory left faults faults'; bay = refl };
   rest = same;
   ends = ends;
-})
+}
 
 module _ {D : Type 0} (tells : Bool) (state : D → State) (options : Options) (start : GivenLines) (left : Option (List ℕ)) (faults faults' : ℕ) (rest : Option (List ℕ)) (old new : BayState) (sink sink' status : ℕ) (printed printed' : Option (List ℕ)) where
   -- the status of a run that wasn't begun
@@ -106,18 +106,18 @@ module _ {D : Type 0} (tells : Bool) (state : D → State) (options : Options) (
   ]
 
   -- the fault of a run whose status isn't 0, 7 or 9
-  module _ (is : IsReplay tells state options start left rest old new sink sink' status printed printed') where
+  module _ (config : Config) (is : IsReplay tells state options config start rest old new sink sink' status printed printed') where
     ended : (status ≡ 0) ⊎ (status ≡ 7) ⊎ (status ≡ 9)
         ⊎ ((f : Fault) × (status ≡ status_of f) × (IsOfWindow f ⊎ NoLine (λ bytes. bytes) start is.now f) × CanEnd f)
-    ended = elim (ends_status is.over.config is.over.result status is.over.printed_then printed' is.over.ends) [
+    ended = elim (ends_status config is.over.result status is.over.printed_then printed' is.over.ends) [
       | inl zero_ ↦ inl zero_
       | inr (inl seven) ↦ inr (inl seven)
       | inr (inr (inl nine)) ↦ inr (inr (inl nine))
       | inr (inr (inr (f, err, same))) ↦ inr (inr (inr (
         f,
         same,
-        ended_by tells state options _ is.over.config start is.now old new sink is.over.sink_then printed is.over.printed_then is.over.result is.replayed f err,
-        can_end tells state options _ is.over.config start is.now old new sink is.over.sink_then printed is.over.printed_then is.over.result is.replayed f err,
+        ended_by tells state options _ config start is.now old new sink is.over.sink_then printed is.over.printed_then is.over.result is.replayed f err,
+        can_end tells state options _ config start is.now old new sink is.over.sink_then printed is.over.printed_then is.over.result is.replayed f err,
       )))
     ]
 
@@ -133,10 +133,10 @@ module _ {D : Type 0} (tells : Bool) (state : D → State) (options : Options) (
     ]
 
   -- why no further line came at status 3 or 10
-  stopped_at : (k : ℕ) → k ≢ 0 → k ≢ 2 → k ≢ 7 → k ≢ 8 → k ≢ 9 → ((f : Fault) → IsOfWindow f → status_of f ≢ k) → RunsReplay tells state options start left faults faults' rest old new sink sink' status printed printed' → status ≡ k
+  stopped_at : (k : ℕ) → k ≢ 0 → k ≢ 2 → k ≢ 7 → k ≢ 8 → k ≢ 9 → ((f : Fault) → IsOfWindow f → status_of f ≢ k) → (read : Option Config) → RunsReplay tells state options read start left faults faults' rest old new sink sink' status printed printed' → status ≡ k
       → (refusal : TraceFault) × (refusal ≢ trace.NoMemory) × (status_of (fault_of_trace refusal) ≡ k) × (now : GivenLines) × (run : List (Option TraceLine)) × Refuses (λ bytes. bytes) refusal start now run
-  stopped_at k no_zero no_two no_seven no_eight no_nine no_window (inl is) is_k = begun_by is k no_zero no_seven no_nine no_window is_k
-  stopped_at k no_zero no_two no_seven no_eight no_nine no_window (inr is) is_k = elim (unreplayed_status is) [
+  stopped_at k no_zero no_two no_seven no_eight no_nine no_window (Some config) is is_k = begun_by config is k no_zero no_seven no_nine no_window is_k
+  stopped_at k no_zero no_two no_seven no_eight no_nine no_window None is is_k = elim (unreplayed_status is) [
     | inl (two, none_had) ↦ absurd (no_two (sym is_k ∙ two))
     | inr (inl seven) ↦ absurd (no_seven (sym is_k ∙ seven))
     | inr (inr (inl (eight, rose))) ↦ absurd (no_eight (sym is_k ∙ eight))
@@ -171,23 +171,23 @@ none_of_seed : (asked : Generated) (now : GivenLines) (run : List (Option TraceL
 none_of_seed asked (given.Trace q) run refusal other refuses = refuses
 none_of_seed asked (given.Generated g count) run refusal other refuses = other refuses
 
-module _ {D : Type 0} (tells : Bool) (state : D → State) (options : Options) (left : Option (List ℕ)) (faults faults' : ℕ) (rest : Option (List ℕ)) (old new : BayState) (sink sink' status : ℕ) (printed printed' : Option (List ℕ)) where
-  pub replay_bad_line : (bytes : Option (List ℕ)) → RunsReplay tells state options (trace_of bytes) left faults faults' rest old new sink sink' status printed printed' → status ≡ 3 → HasBadLine bytes
+module _ {D : Type 0} (tells : Bool) (state : D → State) (options : Options) (read : Option Config) (left : Option (List ℕ)) (faults faults' : ℕ) (rest : Option (List ℕ)) (old new : BayState) (sink sink' status : ℕ) (printed printed' : Option (List ℕ)) where
+  pub replay_bad_line : (bytes : Option (List ℕ)) → RunsReplay tells state options read (trace_of bytes) left faults faults' rest old new sink sink' status printed printed' → status ≡ 3 → HasBadLine bytes
   replay_bad_line bytes runs three =
-      let by = stopped_at tells state options (trace_of bytes) left faults faults' rest old new sink sink' status printed printed' 3 (λ e. omega (arith, e)) (λ e. omega (arith, e)) (λ e. omega (arith, e)) (λ e. omega (arith, e)) (λ e. omega (arith, e)) not_three runs three in
+      let by = stopped_at tells state options (trace_of bytes) left faults faults' rest old new sink sink' status printed printed' 3 (λ e. omega (arith, e)) (λ e. omega (arith, e)) (λ e. omega (arith, e)) (λ e. omega (arith, e)) (λ e. omega (arith, e)) not_three read runs three in
       bad_of bytes by.3 by.4 by.0 by.2 by.5
 
-  pub replay_more_lines : (bytes : Option (List ℕ)) → RunsReplay tells state options (trace_of bytes) left faults faults' rest old new sink sink' status printed printed' → status ≡ 10 → HasMoreLines bytes
+  pub replay_more_lines : (bytes : Option (List ℕ)) → RunsReplay tells state options read (trace_of bytes) left faults faults' rest old new sink sink' status printed printed' → status ≡ 10 → HasMoreLines bytes
   replay_more_lines bytes runs ten =
-      let by = stopped_at tells state options (trace_of bytes) left faults faults' rest old new sink sink' status printed printed' 10 (λ e. omega (arith, e)) (λ e. omega (arith, e)) (λ e. omega (arith, e)) (λ e. omega (arith, e)) (λ e. omega (arith, e)) not_ten runs ten in
+      let by = stopped_at tells state options (trace_of bytes) left faults faults' rest old new sink sink' status printed printed' 10 (λ e. omega (arith, e)) (λ e. omega (arith, e)) (λ e. omega (arith, e)) (λ e. omega (arith, e)) (λ e. omega (arith, e)) not_ten read runs ten in
       more_of bytes by.3 by.4 by.0 by.2 by.5
 
-  pub soak_not_three : (asked : Generated) → RunsReplay tells state options (lines_of asked) left faults faults' rest old new sink sink' status printed printed' → status ≢ 3
+  pub soak_not_three : (asked : Generated) → RunsReplay tells state options read (lines_of asked) left faults faults' rest old new sink sink' status printed printed' → status ≢ 3
   soak_not_three asked runs three =
-      let by = stopped_at tells state options (lines_of asked) left faults faults' rest old new sink sink' status printed printed' 3 (λ e. omega (arith, e)) (λ e. omega (arith, e)) (λ e. omega (arith, e)) (λ e. omega (arith, e)) (λ e. omega (arith, e)) not_three runs three in
+      let by = stopped_at tells state options (lines_of asked) left faults faults' rest old new sink sink' status printed printed' 3 (λ e. omega (arith, e)) (λ e. omega (arith, e)) (λ e. omega (arith, e)) (λ e. omega (arith, e)) (λ e. omega (arith, e)) not_three read runs three in
       none_of_seed asked by.3 by.4 by.0 by.1 by.5
 
-  pub soak_not_ten : (asked : Generated) → RunsReplay tells state options (lines_of asked) left faults faults' rest old new sink sink' status printed printed' → status ≢ 10
+  pub soak_not_ten : (asked : Generated) → RunsReplay tells state options read (lines_of asked) left faults faults' rest old new sink sink' status printed printed' → status ≢ 10
   soak_not_ten asked runs ten =
-      let by = stopped_at tells state options (lines_of asked) left faults faults' rest old new sink sink' status printed printed' 10 (λ e. omega (arith, e)) (λ e. omega (arith, e)) (λ e. omega (arith, e)) (λ e. omega (arith, e)) (λ e. omega (arith, e)) not_ten runs ten in
+      let by = stopped_at tells state options (lines_of asked) left faults faults' rest old new sink sink' status printed printed' 10 (λ e. omega (arith, e)) (λ e. omega (arith, e)) (λ e. omega (arith, e)) (λ e. omega (arith, e)) (λ e. omega (arith, e)) not_ten read runs ten in
       none_of_seed asked by.3 by.4 by.0 by.1 by.5

@@ -21,7 +21,6 @@ use Rattle.replay.specs.declared.given.Given.TheVariants.{Trace, Generated}
 use Rattle.replay.specs.declared.session.Options.{Options}
 use Rattle.replay.specs.declared.stop.Stop.{Stop}
 use Rattle.wol_run.specs.Replaying.{EndsReplay, HasLeft, HasSource, IsReplay, seen}
-use Rattle.wol_run.specs.Settings.{HasConfig}
 
 module _ {S : Type 0} (left : S → Option (List ℕ)) (targets : List Target) where
   pub given_seen : (start now : Given S) (ls : List (Option TraceLine)) → HasGiven left targets start now ls → HasGiven (λ bytes. bytes) targets (seen left start) (seen left now) ls
@@ -146,9 +145,9 @@ seed_calm faults (Generated g n) (Generated k m) other others (inr most) = omega
 -- a replay over a configuration that was had, and its end
 pub is_replay : {D S : Type 0} (tells : Bool) (state : D → State) (left : S → Option (List ℕ)) (config : Config) (options : Options) (start now : Given S) (old new : BayState) (sink sink' after : ℕ) (printed then printed' : Option (List ℕ)) (status : ℕ)
     (result : Result (Unit {0}) Stop) → IsTold (KeepsOthers config) old.told new.told → Replayed tells state left config options start now old new sink sink' printed then result → sink' ≤ after → EndsReplay config result status then printed'
-    → (bytes rest : Option (List ℕ)) → HasConfig bytes config → HasLeft (seen left now) rest → IsReplay tells state options (seen left start) bytes rest old new sink after status printed printed'
-is_replay tells state left config options start now old new sink sink' after printed then printed' status result others replayed later ends bytes rest has left_is = record {
-  over = record { config = config; has = has; result = result; sink_then = sink'; later = later; printed_then = then; ends = ends };
+    → (rest : Option (List ℕ)) → HasLeft (seen left now) rest → IsReplay tells state options config (seen left start) rest old new sink after status printed printed'
+is_replay tells state left config options start now old new sink sink' after printed then printed' status result others replayed later ends rest left_is = record {
+  over = record { result = result; sink_then = sink'; later = later; printed_then = then; ends = ends };
   now = seen left now;
   rest = left_is;
   others = others;

@@ -1,5 +1,5 @@
 -- Why `solo` ended with its status, and when it is done.
-use Rattle.std.proofs.Common.{◌≡◌, inl, inr, ℕ, ◌<◌, Bool, List, Option, Err, refl, arith}
+use Rattle.std.proofs.Common.{◌≡◌, inl, inr, ℕ, ◌<◌, Bool, List, Option, None, Err, refl, arith}
 use Rattle.wol_disk.specs.Disk.{Rose, State}
 use Rattle.wol_bay.specs.Bay.{Told}
 use Rattle.wol_model.specs.Trace.{Target}
@@ -28,21 +28,21 @@ module _ {D : Type 0} (tells : Bool) (state : D → State) (words : List (List �
   for_trace = record { command = Solo own; is = is; does = refl }
 
   abbrev Cause : ℕ → Type 0
-  Cause k = IsCause tells state words before after k
+  Cause k = IsCause tells state None words before after k
 
   pub solo_cause : (e : Fault) → TellsStatus e status → HasCause e before.bay.told after.bay.told before.bay.faults after.bay.faults before.trace.faults after.trace.faults
       → RunsInBay {T = T} (target_of own) before.trace.bytes after.trace.bytes before.bay.told after.bay.told (Err e) before.sink.bytes mid → Cause status
-  solo_cause e (inr (inl seven)) cause runs = at_status tells state words before after 7 status seven (row.sink_failed (sink seven))
-  solo_cause e (inr (inr nine)) cause runs = at_status tells state words before after 9 status nine row.no_memory
+  solo_cause e (inr (inl seven)) cause runs = at_status tells state None words before after 7 status seven (row.sink_failed (sink seven))
+  solo_cause e (inr (inr nine)) cause runs = at_status tells state None words before after 9 status nine row.no_memory
   solo_cause (fault.BadLine line why) (inl same) cause runs =
-      at_status tells state words before after 3 status same (row.bad_line for_trace (comes_of_bad_line T (fault.BadLine line why) status (target_of own) before.trace.bytes after.trace.bytes before.bay.told after.bay.told before.sink.bytes mid (inl same) same runs))
-  solo_cause fault.Bay (inl same) cause runs = at_status tells state words before after 4 status same (row.part_failed for_bay cause)
-  solo_cause fault.Disk (inl same) cause runs = at_status tells state words before after 4 status same (row.part_failed for_bay cause.0)
-  solo_cause fault.Sink (inl same) cause runs = at_status tells state words before after 7 status same (row.sink_failed (sink same))
-  solo_cause fault.Source (inl same) cause runs = at_status tells state words before after 8 status same (row.source_failed (inr cause))
-  solo_cause fault.NoMemory (inl same) cause runs = at_status tells state words before after 9 status same row.no_memory
+      at_status tells state None words before after 3 status same (row.bad_line for_trace (comes_of_bad_line T (fault.BadLine line why) status (target_of own) before.trace.bytes after.trace.bytes before.bay.told after.bay.told before.sink.bytes mid (inl same) same runs))
+  solo_cause fault.Bay (inl same) cause runs = at_status tells state None words before after 4 status same (row.part_failed for_bay cause)
+  solo_cause fault.Disk (inl same) cause runs = at_status tells state None words before after 4 status same (row.part_failed for_bay cause.0)
+  solo_cause fault.Sink (inl same) cause runs = at_status tells state None words before after 7 status same (row.sink_failed (sink same))
+  solo_cause fault.Source (inl same) cause runs = at_status tells state None words before after 8 status same (row.source_failed (inr cause))
+  solo_cause fault.NoMemory (inl same) cause runs = at_status tells state None words before after 9 status same row.no_memory
   solo_cause fault.Spent (inl same) cause runs =
-      at_status tells state words before after 10 status same (row.more_lines for_trace (comes_of_lines T fault.Spent status (target_of own) before.trace.bytes after.trace.bytes before.bay.told after.bay.told before.sink.bytes mid (inl same) same runs))
+      at_status tells state None words before after 10 status same (row.more_lines for_trace (comes_of_lines T fault.Spent status (target_of own) before.trace.bytes after.trace.bytes before.bay.told after.bay.told before.sink.bytes mid (inl same) same runs))
 
 -- it is done where no call failed and the trace can be run to its end, or there was no memory
 module _ (T : Type 0) (target : Target) (trace left : Option (List ℕ)) (told told' : Option Told) (old mid : Option (List ℕ)) (bay bay' source source' status : ℕ)

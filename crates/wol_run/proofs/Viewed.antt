@@ -15,7 +15,6 @@ use Rattle.view_commands.specs.Runs.{ChangesOpen, ChangesView, Completes, FailsF
 use Rattle.view_commands.specs.declared.order.Order.{Order}
 use Rattle.view_commands.specs.declared.order.Stop.{Stop}
 use Rattle.view_commands.specs.declared.order.Stop.TheVariants as stop
-use Rattle.wol_run.specs.Settings.{HasConfig}
 use Rattle.wol_run.specs.Tops.{EndsWith, IsDoneOrMemory}
 use Rattle.wol_run.specs.Viewing.{EndsChange, IsOrder, IsViewChange}
 use Rattle.wol_run.proofs.ReplayFaults.{CanEnd}
@@ -57,11 +56,9 @@ module _ {D : Type 0} (tells : Bool) (state : D → State) (config : Config) (or
 -- a change over a configuration that was had, and its end
 pub is_view_change : {D : Type 0} (tells : Bool) (state : D → State) (config : Config) (order : Order) (old new : BayState) (sink sink' after : ℕ) (printed then printed' : Option (List ℕ)) (status : ℕ) (result : Result (Unit {0}) Stop)
     → (IsTrue tells → IsTold (LeavesAll tells state config old new) old.told new.told) → (IsTrue tells → IsTold (KeepsAllSound config) old.told new.told)
-    → (IsTrue tells → IsTold (KeepsOthers config) old.told new.told) → ChangesView tells state config order old new sink sink' printed then result → sink' ≤ after → EndsChange config order result status then printed' → (bytes : Option (List ℕ)) → HasConfig bytes config
-    → (named : _) → IsOrder order.verb named order → IsViewChange tells state order.verb named bytes old new sink after status printed printed'
-is_view_change tells state config order old new sink sink' after printed then printed' status result left_ sound others changes later ends bytes has named is = record {
-  config = config;
-  has = has;
+    → (IsTrue tells → IsTold (KeepsOthers config) old.told new.told) → ChangesView tells state config order old new sink sink' printed then result → sink' ≤ after → EndsChange config order result status then printed'
+    → (named : _) → IsOrder order.verb named order → IsViewChange tells state order.verb named config old new sink after status printed printed'
+is_view_change tells state config order old new sink sink' after printed then printed' status result left_ sound others changes later ends named is = record {
   order = order;
   is_order = is;
   result = result;

@@ -1,4 +1,5 @@
--- Why the program ended with its status: a row for each, in the order of their numbers.
+-- Why the program ended with its status: a row for each, in the order of their numbers. `read` is
+-- the configuration that was read, where one was.
 use Rattle.std.specs.Prelude.{◌≡◌, ◌≢◌, ◌≤◌, ◌<◌, ◌⊎◌, ◌+◌, ◌^◌, ◌++◌, ℕ, Bool, true, List, Option, None, Some, IfSome, IsTrue, slice_get}
 use Rattle.std.specs.Io.KnownBytes.{IsAtEnd}
 use Rattle.wol_disk.specs.Disk.{Rose, State}
@@ -36,7 +37,7 @@ use Rattle.wol_run.specs.Commands.{changes_view, runs_trace, uses_bay, uses_conf
 use Rattle.wol_run.specs.Outside.{Outside}
 use Rattle.wol_run.specs.Replaying.{GivenLines, lines_of, options_as, trace_of}
 use Rattle.wol_run.specs.Serving.{HasBadBytes, served_as}
-use Rattle.wol_run.specs.Settings.{HasConfig, HasNoConfig}
+use Rattle.wol_run.specs.Settings.{HasNoConfig}
 use Rattle.wol_run.specs.Tops.{HasBadLine, HasMoreLines}
 use Rattle.wol_run.specs.Viewing.{IsOrder, RefusesChange, view_change_by}
 use Rattle.wol_config.specs.Configs.{most_of}
@@ -50,10 +51,10 @@ pub record AskFor (words : List (List ℕ)) (uses : Command → Bool) : Type 0 w
 -- The first volume of the configuration that isn't open was refused for a cause of this status.
 -- Those before it were opened, of their own images and of those of the loggers of their views; an
 -- image that is out was there and may be opened, and each other one was refused.
-pub record IsClosedFor {D : Type 0} (tells : Bool) (state : D → State) (before after : Outside)
-    (status : ℕ) : Type 0 where
+pub record IsClosedFor {D : Type 0} (tells : Bool) (state : D → State) (read : Option Config)
+    (before after : Outside) (status : ℕ) : Type 0 where
   pub config : Config
-  pub has : HasConfig before.config.bytes config
+  pub is_read : read ≡ Some config
   pub volume : ℕ
   pub conf : VolumeConf
   pub conf_is : slice_get config.volumes.items volume ≡ Some conf
@@ -77,10 +78,10 @@ replayed_by command trace = None
 
 -- A volume had no version left for a write: its writes that went to logs, fewer than are asked of
 -- it, took all versions from the next one at opening on.
-pub record HasNoVersion (tells : Bool) (words : List (List ℕ))
+pub record HasNoVersion (tells : Bool) (read : Option Config) (words : List (List ℕ))
     (before after : Outside) : Type 0 where
   pub config : Config
-  pub has : HasConfig before.config.bytes config
+  pub is_read : read ≡ Some config
   pub command : Command
   pub is : IsCommand words command
   pub how : Serving
@@ -100,9 +101,10 @@ pub record HasNoVersion (tells : Bool) (words : List (List ℕ))
 
 -- A volume had no version left for a copy: the next one at opening, and the number of chunks of
 -- what lies in its logs, come to more than 2^63.
-pub record HasNoVersionToCopy (tells : Bool) (before after : Outside) : Type 0 where
+pub record HasNoVersionToCopy (tells : Bool) (read : Option Config) (before after : Outside) :
+    Type 0 where
   pub config : Config
-  pub has : HasConfig before.config.bytes config
+  pub is_read : read ≡ Some config
   pub base : Base
   pub begun : IsTrue tells
       → IsTold (λ entry exit. IsBegun config (images_read config entry) base)
@@ -111,9 +113,10 @@ pub record HasNoVersionToCopy (tells : Bool) (before after : Outside) : Type 0 w
 
 -- A view was to be changed, and that is refused: a word names no volume, or the view can't be
 -- changed so.
-pub record HasRefusal (tells : Bool) (words : List (List ℕ)) (before after : Outside) : Type 0 where
+pub record HasRefusal (tells : Bool) (read : Option Config) (words : List (List ℕ))
+    (before after : Outside) : Type 0 where
   pub config : Config
-  pub has : HasConfig before.config.bytes config
+  pub is_read : read ≡ Some config
   pub command : Command
   pub is : IsCommand words command
   pub verb : Verb
@@ -125,9 +128,9 @@ pub record HasRefusal (tells : Bool) (words : List (List ℕ)) (before after : O
   pub cause : RefusesChange tells config order before.bay after.bay refusal
 
 -- the volume that is to be served isn't configured
-pub record HasUnknownVolume (words : List (List ℕ)) (before : Outside) : Type 0 where
+pub record HasUnknownVolume (read : Option Config) (words : List (List ℕ)) : Type 0 where
   pub config : Config
-  pub has : HasConfig before.config.bytes config
+  pub is_read : read ≡ Some config
   pub command : Command
   pub is : IsCommand words command
   pub begins : Beginning
@@ -145,19 +148,20 @@ pub record HasBadClient (words : List (List ℕ)) (before after : Outside) : Typ
   pub bad : HasBadBytes begins before.trace.bytes after.trace.bytes
 
 -- A block of the label and view of a volume is damaged, as its image reads.
-pub record HasDamagedView (tells : Bool) (before after : Outside) : Type 0 where
+pub record HasDamagedView (tells : Bool) (read : Option Config) (before after : Outside) :
+    Type 0 where
   pub config : Config
-  pub has : HasConfig before.config.bytes config
+  pub is_read : read ≡ Some config
   pub volume : ℕ
   pub block : ℕ
   pub damaged : IsTrue tells
       → IsTold (λ entry left. IsDamagedIn (images_read config entry) volume block)
       before.bay.told after.bay.told
 
-module _ {D : Type 0} (tells : Bool) (state : D → State) (words : List (List ℕ))
-    (before after : Outside) where
+module _ {D : Type 0} (tells : Bool) (state : D → State) (read : Option Config)
+    (words : List (List ℕ)) (before after : Outside) where
   pub data IsCause : (status : ℕ) → Type 0 where
-    -- 0: the command was done; a trace that it uses was read to its end
+    -- 0: the command was done; a trace whose lines it runs was read to its end
     done : (command : Command) → IsCommand words command
         → (AskFor words runs_trace → IsAtEnd after.trace.bytes) → IsCause 0
     -- 1: the words ask for no command
@@ -170,9 +174,9 @@ module _ {D : Type 0} (tells : Bool) (state : D → State) (words : List (List �
     part_failed : AskFor words uses_bay → Rose before.bay.faults after.bay.faults → IsCause 4
     -- 5: an image has another length or label, is damaged, has a record twice, or has a segment of
     -- a volume whose view doesn't name it
-    image : AskFor words uses_config → IsClosedFor tells state before after 5 → IsCause 5
+    image : AskFor words uses_config → IsClosedFor tells state read before after 5 → IsCause 5
     -- 6: a view names a logger that isn't configured or whose image was refused
-    no_logger : AskFor words uses_config → IsClosedFor tells state before after 6 → IsCause 6
+    no_logger : AskFor words uses_config → IsClosedFor tells state read before after 6 → IsCause 6
     -- 7: a call of the sink failed
     sink_failed : Rose before.sink.faults after.sink.faults → IsCause 7
     -- 8: a call of the source of the configuration or of the trace failed
@@ -183,19 +187,22 @@ module _ {D : Type 0} (tells : Bool) (state : D → State) (words : List (List �
     -- 10: there are more than 2^32 lines
     more_lines : AskFor words runs_trace → HasMoreLines before.trace.bytes → IsCause 10
     -- 11: a volume had no version left for a write
-    no_version : AskFor words uses_config → HasNoVersion tells words before after → IsCause 11
+    no_version : AskFor words uses_config → HasNoVersion tells read words before after
+        → IsCause 11
     -- 11 too: a volume had no version left for a copy
-    no_version_to_copy : IsCommand words Clean → HasNoVersionToCopy tells before after → IsCause 11
+    no_version_to_copy : IsCommand words Clean → HasNoVersionToCopy tells read before after
+        → IsCause 11
     -- 12: the bay has no image of a volume's name
-    no_image : AskFor words uses_config → IsClosedFor tells state before after 12 → IsCause 12
+    no_image : AskFor words uses_config → IsClosedFor tells state read before after 12
+        → IsCause 12
     -- 14: a client's bytes are no handshake or no requests
     bad_client : HasBadClient words before after → IsCause 14
     -- 15: a word is no volume's name, or the view of the volume can't be changed so
-    view_refused : HasRefusal tells words before after → IsCause 15
+    view_refused : HasRefusal tells read words before after → IsCause 15
     -- 15 too: the volume that is to be served isn't configured
-    unknown_volume : HasUnknownVolume words before → IsCause 15
+    unknown_volume : HasUnknownVolume read words → IsCause 15
     -- 5 too: the label or the view of a volume whose view is to be changed is damaged
-    damaged_view : AskFor words changes_view → HasDamagedView tells before after → IsCause 5
+    damaged_view : AskFor words changes_view → HasDamagedView tells read before after → IsCause 5
     -- 5, 6 and 12 too: the image of a volume whose view is to be changed is another as it is handed
     -- out again, which a bay that tells its images never does
     image_again : AskFor words changes_view → (t : Trouble) → trouble_status t ≢ 4

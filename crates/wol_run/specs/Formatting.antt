@@ -1,5 +1,5 @@
 -- What a run of `format` leaves of the bay and prints, and its exit status.
-use Rattle.std.specs.Prelude.{◌≡◌, ℕ, ◌<◌, ◌⊎◌, List, length, codes, Option, Result, Ok, Err, OnOk, IsErrOf}
+use Rattle.std.specs.Prelude.{◌≡◌, ℕ, ◌<◌, ◌⊎◌, List, length, codes, Option, None, Some, Result, Ok, Err, OnOk, IsErrOf}
 use Rattle.std.specs.List.{flat_map}
 use Rattle.wol_disk.specs.Disk.{Rose}
 use Rattle.wol_bay.specs.Bay.{BayState}
@@ -19,7 +19,7 @@ use Rattle.report.specs.declared.trouble.Trouble.TheVariants as trouble
 use Rattle.report.specs.Faults.{fault_text}
 use Rattle.report.specs.Names.{printed_names}
 use Rattle.report.specs.Summaries.{format_text}
-use Rattle.wol_run.specs.Settings.{HasConfig, IsFaultLine}
+use Rattle.wol_run.specs.Settings.{IsFaultLine}
 use Rattle.wol_run.specs.Tops.{EndsWith}
 
 -- the lines of formatted volumes: one for each, with the number of blocks of its image
@@ -53,21 +53,16 @@ pub record Formats (config : Config) (result : Result (Unit {0}) RackFault)
   pub calm : ((n : ℕ) (part : PartName) → IsErrOf result (Failed n part) → ⊥)
       → new.faults ≡ old.faults
 
--- Status 0: the configuration was had, all volumes are formatted, and the text is a line for each.
-pub record IsWhole (left : Option (List ℕ)) (old new : BayState) (text : List ℕ)
-    (status : ℕ) : Type 0 where
-  pub config : Config
-  pub has : HasConfig left config
+-- Status 0: all volumes are formatted, and the text is a line for each.
+pub record IsWhole (config : Config) (old new : BayState) (text : List ℕ) (status : ℕ) :
+    Type 0 where
   pub formats : Formats config (Ok tt) old new
   pub lines_ : text ≡ format_lines config
   pub done : status ≡ 0
 
--- Status 4: the configuration was had, a part of a volume failed, and the text is the line that
--- names it.
-pub record IsPartFault (left : Option (List ℕ)) (old new : BayState) (text : List ℕ)
-    (status : ℕ) : Type 0 where
-  pub config : Config
-  pub has : HasConfig left config
+-- Status 4: a part of a volume failed, and the text is the line that names it.
+pub record IsPartFault (config : Config) (old new : BayState) (text : List ℕ) (status : ℕ) :
+    Type 0 where
   pub volume : ℕ
   pub part : PartName
   pub known : volume < length config.volumes.items
@@ -76,12 +71,9 @@ pub record IsPartFault (left : Option (List ℕ)) (old new : BayState) (text : L
       (fault.Volume volume (trouble_of volume part))
   pub failed : status ≡ 4
 
--- Status 9: the configuration was had, and there was no memory to go on, or to say what the format
--- came to.
-pub record IsOutOfMemory (left : Option (List ℕ)) (old new : BayState) (text : List ℕ)
-    (status : ℕ) : Type 0 where
-  pub config : Config
-  pub has : HasConfig left config
+-- Status 9: there was no memory to go on, or to say what the format came to.
+pub record IsOutOfMemory (config : Config) (old new : BayState) (text : List ℕ) (status : ℕ) :
+    Type 0 where
   pub result : Result (Unit {0}) RackFault
   pub formats : Formats config result old new
   pub line_ : text ≡ codes "fault 9 memory\n"
@@ -101,12 +93,19 @@ pub record IsNotBegun (left : Option (List ℕ)) (faults faults' : ℕ) (old new
   pub untouched : IsUntouched left faults faults' old new text wanted
   pub ends : EndsWith text wanted status printed printed'
 
+-- what a format comes to, by the configuration that was read; none: it wasn't had
+abbrev pub FormatsFor : (read : Option Config) → (left : Option (List ℕ)) → (faults faults' : ℕ)
+    → (old new : BayState) → (text : List ℕ) → (status : ℕ) → Type 0
+FormatsFor (Some config) left faults faults' old new text status =
+    IsWhole config old new text status ⊎ IsPartFault config old new text status
+    ⊎ IsOutOfMemory config old new text status
+FormatsFor None left faults faults' old new text status =
+    IsUntouched left faults faults' old new text status
+
 -- a run of `format`: one of these texts was printed whole, or a front of it to a sink that failed
-pub record RunsFormat (left : Option (List ℕ)) (faults faults' : ℕ) (bay bay' : BayState)
-    (status : ℕ) (printed new : Option (List ℕ)) : Type 0 where
+pub record RunsFormat (read : Option Config) (left : Option (List ℕ)) (faults faults' : ℕ)
+    (bay bay' : BayState) (status : ℕ) (printed new : Option (List ℕ)) : Type 0 where
   pub text : List ℕ
   pub wanted : ℕ
-  pub allowed : IsWhole left bay bay' text wanted ⊎ IsPartFault left bay bay' text wanted
-      ⊎ IsOutOfMemory left bay bay' text wanted
-      ⊎ IsUntouched left faults faults' bay bay' text wanted
+  pub allowed : FormatsFor read left faults faults' bay bay' text wanted
   pub ends : EndsWith text wanted status printed new

@@ -16,7 +16,6 @@ use Rattle.rack_parts.specs.declared.rack.ImageRest.{ImageRest}
 use Rattle.rack_parts.specs.declared.volume_fault.VolumeFault.{VolumeFault}
 use Rattle.replay.specs.NotOpened.{LeavesViews}
 use Rattle.wol_run.specs.Formatting.{IsUntouched}
-use Rattle.wol_run.specs.Settings.{HasConfig}
 use Rattle.wol_run.specs.Tops.{EndsWith}
 
 -- the status of the first volume that isn't in order
@@ -43,38 +42,43 @@ pub record AreTold {D : Type 0} (tells : Bool) (state : D → State) (asked : As
   -- images of names that aren't configured are as they were
   pub others : IsTold (KeepsOthers config) old.told new.told
 
--- the configuration was had, and this was told of some first volumes
+-- this was told of some first volumes
 pub record HasLooked {D : Type 0} (tells : Bool) (state : D → State) (asked : Asked)
-    (left : Option (List ℕ)) (old new : BayState) : Type 0 where
-  pub config : Config
-  pub has : HasConfig left config
+    (config : Config) (old new : BayState) : Type 0 where
   pub told : List Telling
   pub are : AreTold tells state asked config old new told
 
--- Status 0, 4, 5, 6 or 12: the configuration was had, and the text is the lines of all volumes.
-pub record IsLook {D : Type 0} (tells : Bool) (state : D → State) (asked : Asked)
-    (left : Option (List ℕ)) (old new : BayState) (text : List ℕ) (status : ℕ) : Type 0 where
-  pub looked : HasLooked tells state asked left old new
-  pub all : length looked.told ≡ length looked.config.volumes.items
+-- Status 0, 4, 5, 6 or 12: the text is the lines of all volumes.
+pub record IsLook {D : Type 0} (tells : Bool) (state : D → State) (asked : Asked) (config : Config)
+    (old new : BayState) (text : List ℕ) (status : ℕ) : Type 0 where
+  pub looked : HasLooked tells state asked config old new
+  pub all : length looked.told ≡ length config.volumes.items
   pub lines_ : text ≡ text_of looked.told
   pub done : status ≡ status_of_first (first_trouble looked.told)
 
--- Status 9: the configuration was had, and behind the lines of some first volumes there was no
--- memory.
+-- Status 9: behind the lines of some first volumes there was no memory.
 pub record IsCutLook {D : Type 0} (tells : Bool) (state : D → State) (asked : Asked)
-    (left : Option (List ℕ)) (old new : BayState) (text : List ℕ) (status : ℕ) : Type 0 where
-  pub looked : HasLooked tells state asked left old new
+    (config : Config) (old new : BayState) (text : List ℕ) (status : ℕ) : Type 0 where
+  pub looked : HasLooked tells state asked config old new
   pub lines_ : text ≡ text_of looked.told ++ codes "fault 9 memory\n"
   pub memory : status ≡ 9
+
+-- what a look comes to, by the configuration that was read; none: it wasn't had
+abbrev pub LooksFor : {D : Type 0} → (tells : Bool) → (D → State) → Asked → (read : Option Config)
+    → (left : Option (List ℕ)) → (faults faults' : ℕ) → (old new : BayState) → (text : List ℕ)
+    → (status : ℕ) → Type 0
+LooksFor tells state asked (Some config) left faults faults' old new text status =
+    IsLook tells state asked config old new text status
+    ⊎ IsCutLook tells state asked config old new text status
+LooksFor tells state asked None left faults faults' old new text status =
+    IsUntouched left faults faults' old new text status
 
 -- a run of `check` or `dump`: one of these texts was printed whole, or a front of it to a sink that
 -- failed
 pub record RunsLook {D : Type 0} (tells : Bool) (state : D → State) (asked : Asked)
-    (left : Option (List ℕ)) (faults faults' : ℕ) (bay bay' : BayState) (status : ℕ)
-    (printed new : Option (List ℕ)) : Type 0 where
+    (read : Option Config) (left : Option (List ℕ)) (faults faults' : ℕ) (bay bay' : BayState)
+    (status : ℕ) (printed new : Option (List ℕ)) : Type 0 where
   pub text : List ℕ
   pub wanted : ℕ
-  pub allowed : IsLook tells state asked left bay bay' text wanted
-      ⊎ IsCutLook tells state asked left bay bay' text wanted
-      ⊎ IsUntouched left faults faults' bay bay' text wanted
+  pub allowed : LooksFor tells state asked read left faults faults' bay bay' text wanted
   pub ends : EndsWith text wanted status printed new

@@ -1,6 +1,6 @@
 -- What replaying a trace on the volumes of the configuration leaves and prints, and its exit
 -- status.
-use Rattle.std.specs.Prelude.{◌≡◌, ◌≤◌, ℕ, ◌⊎◌, ⊤, Bool, true, List, [], codes, Option, Result, Ok, Err}
+use Rattle.std.specs.Prelude.{◌≡◌, ◌≤◌, ℕ, ◌⊎◌, ⊤, Bool, true, List, [], codes, Option, None, Some, Result, Ok, Err}
 use Rattle.wol_disk.specs.Disk.{State}
 use Rattle.wol_bay.specs.Bay.{BayState}
 use Rattle.wol_config.specs.declared.config.Config.{Config}
@@ -22,7 +22,6 @@ use Rattle.window_desks.specs.declared.request.Reclaim.{Reclaim}
 use Rattle.window_desks.specs.declared.request.Reclaim.TheVariants as reclaim
 use Rattle.window_desks.specs.declared.request.Sharing.TheVariants.{WherePays}
 use Rattle.wol_run.specs.Formatting.{IsUntouched}
-use Rattle.wol_run.specs.Settings.{HasConfig}
 use Rattle.wol_run.specs.Tops.{EndsWith}
 
 -- lines of a source that is seen as the bytes that are left of it, or of a seed
@@ -78,11 +77,9 @@ EndsReplay config (Err (stop.Fault f)) status printed new =
     EndsWith (fault_text (printed_names config.volumes.items) f) (status_of f) status printed new
     ⊎ EndsWith (codes "fault 9 memory\n") 9 status printed new
 
--- the configuration was had, and a command came to this result with it, behind which it ended so
-pub record IsRunOver (left : Option (List ℕ)) (sink' status : ℕ) (printed' : Option (List ℕ)) :
+-- a command came to this result with the configuration, behind which it ended so
+pub record IsRunOver (config : Config) (sink' status : ℕ) (printed' : Option (List ℕ)) :
     Type 0 where
-  pub config : Config
-  pub has : HasConfig left config
   pub result : Result (Unit {0}) Stop
   -- the sink's count of faults then, which ends no lower
   pub sink_then : ℕ
@@ -90,26 +87,24 @@ pub record IsRunOver (left : Option (List ℕ)) (sink' status : ℕ) (printed' :
   pub printed_then : Option (List ℕ)
   pub ends : EndsReplay config result status printed_then printed'
 
--- the configuration was had, and these lines were replayed on its volumes
+-- these lines were replayed on the volumes of the configuration
 pub record IsReplay {D : Type 0} (tells : Bool) (state : D → State) (options : Serving)
-    (start : GivenLines) (left left_of_trace : Option (List ℕ)) (old new : BayState)
+    (config : Config) (start : GivenLines) (left_of_trace : Option (List ℕ)) (old new : BayState)
     (sink sink' status : ℕ) (printed printed' : Option (List ℕ)) : Type 0 where
-  pub over : IsRunOver left sink' status printed'
+  pub over : IsRunOver config sink' status printed'
   pub now : GivenLines
   pub rest : HasLeft now left_of_trace
   -- images of names that aren't configured are as they were
-  pub others : IsTold (KeepsOthers over.config) old.told new.told
-  pub replayed : Replayed tells state (λ bytes. bytes) over.config options start now old new sink
+  pub others : IsTold (KeepsOthers config) old.told new.told
+  pub replayed : Replayed tells state (λ bytes. bytes) config options start now old new sink
       over.sink_then printed over.printed_then over.result
 
--- the configuration was had, and this is kept of it and of the lines that were given
-pub record KeepsReplayed (left left_of_trace : Option (List ℕ))
-    (Keeps : Config → GivenLines → Type 0) : Type 0 where
-  pub config : Config
-  pub has : HasConfig left config
+-- this is kept of the lines that were given
+pub record KeepsReplayed (left_of_trace : Option (List ℕ)) (Keeps : GivenLines → Type 0) :
+    Type 0 where
   pub now : GivenLines
   pub rest : HasLeft now left_of_trace
-  pub keeps : Keeps config now
+  pub keeps : Keeps now
 
 -- the configuration wasn't had: the text says why, and the bay and the trace are as they were
 pub record IsUnreplayed (start : GivenLines) (left left_of_trace : Option (List ℕ))
@@ -121,22 +116,28 @@ pub record IsUnreplayed (start : GivenLines) (left left_of_trace : Option (List 
   pub rest : HasLeft start left_of_trace
   pub ends : EndsWith text wanted status printed printed'
 
--- a run of `replay` or `soak`, by the bytes of the configuration, its count of faults, the bytes
--- that are left of the trace, the bay, the sink's count of faults, the status, and what the sink
--- took
+-- a run of `replay` or `soak`, by the configuration that was read (none: it wasn't had), the bytes
+-- of its source and their count of faults, the bytes that are left of the trace, the bay, the
+-- sink's count of faults, the status, and what the sink took
 abbrev pub RunsReplay : {D : Type 0} → (tells : Bool) → (D → State) → (options : Serving)
-    → (start : GivenLines) → (left : Option (List ℕ)) → (faults faults' : ℕ)
-    → (left_of_trace : Option (List ℕ)) → (old new : BayState) → (sink sink' status : ℕ)
-    → (printed printed' : Option (List ℕ)) → Type 0
-RunsReplay tells state options start left faults faults' left_of_trace old new sink sink' status
-    printed printed' =
-    IsReplay tells state options start left left_of_trace old new sink sink' status printed printed'
-    ⊎ IsUnreplayed start left left_of_trace faults faults' old new status printed printed'
+    → (read : Option Config) → (start : GivenLines) → (left : Option (List ℕ))
+    → (faults faults' : ℕ) → (left_of_trace : Option (List ℕ)) → (old new : BayState)
+    → (sink sink' status : ℕ) → (printed printed' : Option (List ℕ)) → Type 0
+RunsReplay tells state options (Some config) start left faults faults' left_of_trace old new sink
+    sink' status printed printed' =
+    IsReplay tells state options config start left_of_trace old new sink sink' status printed
+    printed'
+RunsReplay tells state options None start left faults faults' left_of_trace old new sink sink'
+    status printed printed' =
+    IsUnreplayed start left left_of_trace faults faults' old new status printed printed'
 
 -- what is kept of such a run, unless the configuration wasn't had
-abbrev pub RunsKept : (Keeps : Config → GivenLines → Type 0) → (start : GivenLines)
-    → (left : Option (List ℕ)) → (faults faults' : ℕ) → (left_of_trace : Option (List ℕ))
-    → (old new : BayState) → (status : ℕ) → (printed printed' : Option (List ℕ)) → Type 0
-RunsKept Keeps start left faults faults' left_of_trace old new status printed printed' =
-    KeepsReplayed left left_of_trace Keeps
-    ⊎ IsUnreplayed start left left_of_trace faults faults' old new status printed printed'
+abbrev pub RunsKept : (Keeps : Config → GivenLines → Type 0) → (read : Option Config)
+    → (start : GivenLines) → (left : Option (List ℕ)) → (faults faults' : ℕ)
+    → (left_of_trace : Option (List ℕ)) → (old new : BayState) → (status : ℕ)
+    → (printed printed' : Option (List ℕ)) → Type 0
+RunsKept Keeps (Some config) start left faults faults' left_of_trace old new status printed
+    printed' =
+    KeepsReplayed left_of_trace (Keeps config)
+RunsKept Keeps None start left faults faults' left_of_trace old new status printed printed' =
+    IsUnreplayed start left left_of_trace faults faults' old new status printed printed'

@@ -1,6 +1,6 @@
 -- What a run of the program promises, by its words, by what was outside before and after, and by
 -- its status. Of what doesn't tell its bytes nothing is said.
-use Rattle.std.specs.Prelude.{◌≡◌, ◌<◌, ◌⊎◌, ℕ, Bool, true, List, Some, IfSome, codes}
+use Rattle.std.specs.Prelude.{◌≡◌, ◌<◌, ◌⊎◌, ℕ, Bool, true, List, Option, Some, IfSome, codes}
 use Rattle.wol_disk.specs.Disk.{State}
 use Rattle.solo.specs.Volume.{target_of}
 use Rattle.solo.specs.declared.volume.Volume.{Volume}
@@ -30,19 +30,19 @@ use Rattle.wol_run.specs.Generating.{RunsGen}
 use Rattle.wol_run.specs.Inspecting.{RunsLook}
 use Rattle.wol_run.specs.Outside.{LeavesUnused, NothingFailed, Outside}
 use Rattle.wol_run.specs.Replaying.{GivenLines, RunsKept, RunsReplay, lines_of, options_as, trace_of}
-use Rattle.nbd_serving.specs.Wires.{wire}
-use Rattle.wol_run.specs.Serving.{RunsServing}
-use Rattle.wol_run.specs.Settings.{HasNoConfig, IsConfigured}
+use Rattle.wol_run.specs.Serving.{RunsServing, wire}
+use Rattle.wol_run.specs.Settings.{HasConfig, HasNoConfig, IsConfigured}
 use Rattle.wol_run.specs.Tops.{EndsWith, IsDoneOrMemory, IsRunnable, RunsSolo}
 use Rattle.wol_run.specs.Viewing.{RunsViewChange}
 
--- ---- What each command does, of what is outside
+-- ---- What each command does, of what is outside, by the configuration that was read
 
-module _ {D : Type 0} (tells : Bool) (state : D → State) (before after : Outside) (status : ℕ) where
+module _ {D : Type 0} (tells : Bool) (state : D → State) (read : Option Config)
+    (before after : Outside) (status : ℕ) where
   -- this is kept of lines that were replayed
   abbrev pub IsKeptOf : (start : GivenLines) → (Config → GivenLines → Type 0) → Type 0
   IsKeptOf start Keeps =
-      RunsKept Keeps start before.config.bytes before.config.faults after.config.faults
+      RunsKept Keeps read start before.config.bytes before.config.faults after.config.faults
       after.trace.bytes before.bay after.bay status before.sink.bytes after.sink.bytes
 
   -- the headline of lines that were replayed so
@@ -60,7 +60,7 @@ module _ {D : Type 0} (tells : Bool) (state : D → State) (before after : Outsi
   -- lines were replayed so
   abbrev pub IsReplayOf : Serving × GivenLines → Type 0
   IsReplayOf (how, start) =
-      RunsReplay tells state how start before.config.bytes
+      RunsReplay tells state how read start before.config.bytes
       before.config.faults after.config.faults after.trace.bytes
       before.bay after.bay before.sink.faults after.sink.faults status
       before.sink.bytes after.sink.bytes
@@ -68,13 +68,13 @@ module _ {D : Type 0} (tells : Bool) (state : D → State) (before after : Outsi
   -- the volumes were looked at
   abbrev pub IsLookFor : Asked → Type 0
   IsLookFor what =
-      RunsLook tells state what before.config.bytes before.config.faults after.config.faults
+      RunsLook tells state what read before.config.bytes before.config.faults after.config.faults
       before.bay after.bay status before.sink.bytes after.sink.bytes
 
   -- a view was to be changed so
   abbrev pub IsViewChangeOf : Verb × Named → Type 0
   IsViewChangeOf (verb, named) =
-      RunsViewChange tells state verb named before.config.bytes
+      RunsViewChange tells state verb named read before.config.bytes
       before.config.faults after.config.faults
       before.bay after.bay before.sink.faults after.sink.faults status
       before.sink.bytes after.sink.bytes
@@ -82,29 +82,30 @@ module _ {D : Type 0} (tells : Bool) (state : D → State) (before after : Outsi
   -- the volumes were cleaned
   abbrev pub IsCleaningOf : Type 0
   IsCleaningOf =
-      RunsCleaning tells state before.config.bytes before.config.faults after.config.faults
+      RunsCleaning tells state read before.config.bytes before.config.faults after.config.faults
       before.bay after.bay before.sink.faults after.sink.faults status
       before.sink.bytes after.sink.bytes
 
   -- the volume of this name was served to a client, at once or behind a handshake
   abbrev pub IsServingOf : Beginning × List ℕ → Type 0
   IsServingOf (begins, name) =
-      RunsServing tells state begins name before.config.bytes before.config.faults
+      RunsServing tells state begins name read before.config.bytes before.config.faults
       after.config.faults
       before.bay after.bay
       (wire before.trace.bytes before.trace.faults before.sink.bytes before.sink.faults)
       (wire after.trace.bytes after.trace.faults after.sink.bytes after.sink.faults) status
 
 -- the images were made anew
-abbrev pub IsFormat : (before after : Outside) → (status : ℕ) → Type 0
-IsFormat before after status =
-    RunsFormat before.config.bytes before.config.faults after.config.faults
+abbrev pub IsFormat : (read : Option Config) → (before after : Outside) → (status : ℕ) → Type 0
+IsFormat read before after status =
+    RunsFormat read before.config.bytes before.config.faults after.config.faults
     before.bay after.bay status before.sink.bytes after.sink.bytes
 
 -- lines of a seed were printed
-abbrev pub IsListingOf : (before after : Outside) → (status : ℕ) → Generated → Type 0
-IsListingOf before after status what =
-    RunsGen what before.config.bytes before.config.faults after.config.faults status
+abbrev pub IsListingOf : (read : Option Config) → (before after : Outside) → (status : ℕ)
+    → Generated → Type 0
+IsListingOf read before after status what =
+    RunsGen what read before.config.bytes before.config.faults after.config.faults status
     before.sink.bytes after.sink.bytes
 
 -- the lines of one volume were run on an image of its own
@@ -115,43 +116,48 @@ IsSoloOf before after status volume =
     before.sink.bytes after.sink.bytes
 
 -- the policies were compared on the trace
-abbrev pub IsComparisonOf : (before after : Outside) → (status : ℕ) → Type 0
-IsComparisonOf before after status =
-    RunsWhatIf (trace_of before.trace.bytes) before.config.bytes
+abbrev pub IsComparisonOf : (read : Option Config) → (before after : Outside) → (status : ℕ)
+    → Type 0
+IsComparisonOf read before after status =
+    RunsWhatIf read (trace_of before.trace.bytes) before.config.bytes
     before.config.faults after.config.faults after.trace.bytes
     before.sink.faults after.sink.faults status before.sink.bytes after.sink.bytes
 
-module _ {D : Type 0} (tells : Bool) (state : D → State) (before after : Outside) (status : ℕ) where
+module _ {D : Type 0} (tells : Bool) (state : D → State) (read : Option Config)
+    (before after : Outside) (status : ℕ) where
   -- what a command does: a row for each
   abbrev pub Does : Command → Type 0
   -- solo: the lines of one volume were run on an image of its own
   Does (Solo volume) = IsSoloOf before after status volume
   -- format: each image is as it was, has no label or is whole; at status 0 all recover to zeros
-  Does Format = IsFormat before after status
+  Does Format = IsFormat read before after status
   -- replay, soak: how many requests were answered, what was printed, what the images recover to,
   -- and what the policy and the disks did
   Does (Replay options) =
-      IsReplayOf tells state before after status (options_as options, trace_of before.trace.bytes)
+      IsReplayOf tells state read before after status
+      (options_as options, trace_of before.trace.bytes)
   Does (Soak what options) =
-      IsReplayOf tells state before after status (options_as options, lines_of what)
+      IsReplayOf tells state read before after status (options_as options, lines_of what)
   -- check, dump: a line or more for each volume, by what its image and the others say as they read,
   -- or by its first fault
-  Does Check = IsLookFor tells state before after status asked.Check
-  Does Dump = IsLookFor tells state before after status asked.Dump
+  Does Check = IsLookFor tells state read before after status asked.Check
+  Does Dump = IsLookFor tells state read before after status asked.Dump
   -- gen: the first lines of the seed
-  Does (Gen what) = IsListingOf before after status what
+  Does (Gen what) = IsListingOf read before after status what
   -- whatif: what each policy would use for the trace, or why no further line came
-  Does WhatIf = IsComparisonOf before after status
+  Does WhatIf = IsComparisonOf read before after status
   -- view-add, view-remove: the new view, what the images recover to, or why nothing changed
-  Does (ViewAdd names) = IsViewChangeOf tells state before after status (Add, named_by names)
-  Does (ViewRemove names) = IsViewChangeOf tells state before after status (Remove, named_by names)
+  Does (ViewAdd names) =
+      IsViewChangeOf tells state read before after status (Add, named_by names)
+  Does (ViewRemove names) =
+      IsViewChangeOf tells state read before after status (Remove, named_by names)
   -- clean: a line for each volume, with what its cleaning came to, or why it was the last; each
   -- image recovers to what it recovered to before
-  Does Clean = IsCleaningOf tells state before after status
+  Does Clean = IsCleaningOf tells state read before after status
   -- nbd: a session of requests and their replies, and what the images recover to after it
-  Does (Nbd name) = IsServingOf tells state before after status (AtOnce, served_by name)
+  Does (Nbd name) = IsServingOf tells state read before after status (AtOnce, served_by name)
   -- serve: the same behind a handshake on the volume, of which nothing is told before it is open
-  Does (Serve name) = IsServingOf tells state before after status (Handshake, served_by name)
+  Does (Serve name) = IsServingOf tells state read before after status (Handshake, served_by name)
 
 -- ---- What a run needs
 
@@ -205,26 +211,30 @@ ComesToItsEnd command status =
 
 pub record Run {D : Type 0} (tells : Bool) (state : D → State) (words : List (List ℕ))
     (before after : Outside) (status : ℕ) : Type 0 where
+  -- the configuration that was read, of which all that follows speaks; none where it wasn't had
+  pub read : Option Config
+  -- it is what its bytes say; where these aren't told, it is some valid one
+  pub is_read : IfSome read (HasConfig before.config.bytes)
   -- replay, soak, where disks tell what they hold: each answered read has the mark of every block's
   -- last acknowledged write, and wherever the disks stop, images recover to the acknowledged writes
   -- and at most what was in flight
   pub headline : (command : Command) → IsCommand words command
       → IfSome (replayed_by command before.trace.bytes)
-      (IsHeadlineOf tells state before after status)
+      (IsHeadlineOf tells state read before after status)
   -- replay, soak, where disks tell: writes were placed and records reclaimed by the rules; at
   -- status 0 a summary counts that and the disks' modelled time and energy
   pub account : (command : Command) → IsCommand words command
       → IfSome (replayed_by command before.trace.bytes)
-      (IsAccountOf tells state before after status)
+      (IsAccountOf tells state read before after status)
   -- the command does what its row says
   pub does : (command : Command) → IsCommand words command
-      → Does tells state before after status command
+      → Does tells state read before after status command
   -- where the words are no command, that is told, unless the output or memory failed
   pub refused : NoCommand words
       → EndsWith (codes "fault 1 words\n") 1 status before.sink.bytes after.sink.bytes
       ⊎ EndsWith (codes "fault 9 memory\n") 9 status before.sink.bytes after.sink.bytes
   -- the status is one of 0 to 12, 14 and 15; each but 9, out of memory, has its cause
-  pub cause : IsCause tells state words before after status
+  pub cause : IsCause tells state read words before after status
   -- the status is 7 where the output failed (the count of its faults ends at its last value)
   pub sink : before.sink.faults < after.sink.faults → status ≡ 7
   -- a configuration that is needed and isn't valid is told, unless input, output or memory failed

@@ -24,7 +24,7 @@ use Rattle.nbd_serving.specs.Wires.{Wire, status_of as status_of_answer, unagree
 use Rattle.nbd_serving.specs.declared.serving.Beginning.{Beginning}
 use Rattle.nbd_serving.specs.declared.serving.Beginning.TheVariants as beginning
 use Rattle.nbd_serving.specs.declared.stop.Stop.{Stop}
-use Rattle.wol_run.specs.Settings.{HasConfig, IsUnread}
+use Rattle.wol_run.specs.Settings.{IsUnread}
 use Rattle.wol_run.specs.Tops.{EndsWith, IsDoneOrMemory}
 
 -- how a command serves a client, and the volume of which name; none of another command
@@ -33,12 +33,16 @@ served_as (Nbd name) = Some (beginning.AtOnce, served_by name)
 served_as (Serve name) = Some (beginning.Handshake, served_by name)
 served_as command = None
 
--- the configuration was had, and the volume of this name was to be served
+-- a client's source and sink
+abbrev pub wire : (left : Option (List ℕ)) → (source_faults : ℕ) → (taken : Option (List ℕ))
+    → (sink_faults : ℕ) → Wire
+wire left source_faults taken sink_faults =
+    record { left = left; source_faults = source_faults; taken = taken; sink_faults = sink_faults }
+
+-- the volume of this name was to be served
 pub record IsServing {D : Type 0} (tells : Bool) (state : D → State) (begins : Beginning)
-    (name : List ℕ) (left : Option (List ℕ)) (old new : BayState) (wire_ wire' : Wire)
-    (status : ℕ) : Type 0 where
-  pub config : Config
-  pub has : HasConfig left config
+    (name : List ℕ) (config : Config) (old new : BayState) (wire_ wire' : Wire) (status : ℕ) :
+    Type 0 where
   pub result : Result Ended Stop
   -- sound images stay sound, and images of names that aren't configured are as they were
   pub sound : IsTrue tells → IsTold (KeepsAllSound config) old.told new.told
@@ -61,14 +65,15 @@ pub record HasNoWords (old new : BayState) (wire_ wire' : Wire) (status : ℕ) :
   pub source : (wire'.left ≡ wire_.left) × (wire'.source_faults ≡ wire_.source_faults)
   pub ends : EndsWith (codes "fault 9 memory\n") 9 status wire_.taken wire'.taken
 
--- a run of `nbd` or `serve`, by the bytes of the configuration, its count of faults, the bay, the
--- client's source and sink, and the status
+-- a run of `nbd` or `serve`, by the configuration that was read (none: it wasn't had), the bytes of
+-- its source and their count of faults, the bay, the client's source and sink, and the status
 abbrev pub RunsServing : {D : Type 0} → (tells : Bool) → (D → State) → (begins : Beginning)
-    → (name : List ℕ) → (left : Option (List ℕ)) → (faults faults' : ℕ) → (old new : BayState)
-    → (wire_ wire' : Wire) → (status : ℕ) → Type 0
-RunsServing tells state begins name left faults faults' old new wire_ wire' status =
-    IsServing tells state begins name left old new wire_ wire' status
-    ⊎ IsUnserved left faults faults' old new wire_ wire' status
+    → (name : List ℕ) → (read : Option Config) → (left : Option (List ℕ)) → (faults faults' : ℕ)
+    → (old new : BayState) → (wire_ wire' : Wire) → (status : ℕ) → Type 0
+RunsServing tells state begins name (Some config) left faults faults' old new wire_ wire' status =
+    IsServing tells state begins name config old new wire_ wire' status
+RunsServing tells state begins name None left faults faults' old new wire_ wire' status =
+    IsUnserved left faults faults' old new wire_ wire' status
     ⊎ HasNoWords old new wire_ wire' status
 
 -- the client ended the session, or its bytes are none, or no volume has the name; or there was no

@@ -1,5 +1,5 @@
 -- The configuration that a source of bytes has.
-use Rattle.std.specs.Prelude.{◌≡◌, ◌≢◌, ℕ, ◌<◌, ◌≤◌, ◌⊎◌, ⊤, List, [], ◌++◌, length, Option, None, Some}
+use Rattle.std.specs.Prelude.{◌≡◌, ◌≢◌, ℕ, ◌<◌, ◌≤◌, ◌⊎◌, ⊤, List, [], ◌++◌, length, Option, None, Some, IfSome}
 use Rattle.toml.specs.Data.{Members}
 use Rattle.wol_disk.specs.Disk.{Rose}
 use Rattle.wol_config.specs.declared.config.Config.{Config}
@@ -25,6 +25,12 @@ abbrev pub HasConfig : (left : Option (List ℕ)) → Config → Type 0
 HasConfig None config = IsValid config
 HasConfig (Some bytes) config =
     (document : Members) × IsDocument bytes document × IsConfigOf document config
+
+-- The configuration that was read of a source, or none where it wasn't had, and this is so of it.
+pub record OfRead (left : Option (List ℕ)) (Is : Option Config → Type 0) : Type 0 where
+  pub read : Option Config
+  pub has : IfSome read (HasConfig left)
+  pub is : Is read
 
 -- a source that tells, and has a configuration
 pub record IsConfigured (left : Option (List ℕ)) : Type 0 where

@@ -23,7 +23,6 @@ use Rattle.view_commands.specs.declared.order.Verb.{Verb}
 use Rattle.view_commands.specs.declared.order.Verb.TheVariants.{Add, Remove}
 use Rattle.view_commands.specs.declared.order.ViewRefusal.{ViewRefusal}
 use Rattle.wol_run.specs.Formatting.{IsNotBegun}
-use Rattle.wol_run.specs.Settings.{HasConfig}
 use Rattle.wol_run.specs.Tops.{EndsWith}
 
 -- the change of a view that a command makes; none of another command
@@ -68,12 +67,10 @@ EndsChange config order (Err (stop.Fault f)) status printed new =
     EndsWith (fault_text (printed_names config.volumes.items) f) (status_of f) status printed new
     ⊎ EndsWith (codes "fault 9 memory\n") 9 status printed new
 
--- the configuration was had, and the view of one of its volumes was to be changed
+-- the view of one of the configuration's volumes was to be changed
 pub record IsViewChange {D : Type 0} (tells : Bool) (state : D → State) (verb : Verb)
-    (named : Named) (left : Option (List ℕ)) (old new : BayState) (sink sink' status : ℕ)
+    (named : Named) (config : Config) (old new : BayState) (sink sink' status : ℕ)
     (printed printed' : Option (List ℕ)) : Type 0 where
-  pub config : Config
-  pub has : HasConfig left config
   pub order : Order
   pub is_order : IsOrder verb named order
   pub result : Result (Unit {0}) Stop
@@ -90,12 +87,16 @@ pub record IsViewChange {D : Type 0} (tells : Bool) (state : D → State) (verb 
       result
   pub ends : EndsChange config order result status printed_then printed'
 
--- a run of `view-add` or `view-remove`, by the bytes of the configuration, its count of faults, the
--- bay, the sink's count of faults, the status, and what the sink took
+-- a run of `view-add` or `view-remove`, by the configuration that was read (none: it wasn't had),
+-- the bytes of its source and their count of faults, the bay, the sink's count of faults, the
+-- status, and what the sink took
 abbrev pub RunsViewChange : {D : Type 0} → (tells : Bool) → (D → State) → Verb → Named
-    → (left : Option (List ℕ)) → (faults faults' : ℕ) → (old new : BayState)
-    → (sink sink' status : ℕ) → (printed printed' : Option (List ℕ)) → Type 0
-RunsViewChange tells state verb named left faults faults' old new sink sink' status printed
+    → (read : Option Config) → (left : Option (List ℕ)) → (faults faults' : ℕ)
+    → (old new : BayState) → (sink sink' status : ℕ) → (printed printed' : Option (List ℕ))
+    → Type 0
+RunsViewChange tells state verb named (Some config) left faults faults' old new sink sink' status
+    printed printed' =
+    IsViewChange tells state verb named config old new sink sink' status printed printed'
+RunsViewChange tells state verb named None left faults faults' old new sink sink' status printed
     printed' =
-    IsViewChange tells state verb named left old new sink sink' status printed printed'
-    ⊎ IsNotBegun left faults faults' old new status printed printed'
+    IsNotBegun left faults faults' old new status printed printed'

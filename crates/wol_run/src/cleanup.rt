@@ -2,6 +2,7 @@
 ghost use Rattle.solo.specs.Images.{NoneOut};
 ghost use Rattle.wol_run.specs.Cleaning.{RunsCleaning};
 ghost use Rattle.wol_run.specs.Completing.{HaveVersionsToClean, IsUnhindered};
+ghost use Rattle.wol_run.specs.Settings.{OfRead};
 ghost use Rattle.wol_run.specs.Tops.{IsDoneOrMemory, TellsSink};
 
 use crate::settings::config_of;
@@ -28,9 +29,10 @@ pub fn clean<R: Wait, C: Source, K: Sink, B: Bay>(
 ) -> u8
     requires home { NoneOut (B.state bay.old) }
     ensures home { NoneOut (B.state bay.new) }
-    ensures content { RunsCleaning B.Part.tells B.Part.state (C.left source.old)
-        (C.faults source.old) (C.faults source.new) (B.state bay.old) (B.state bay.new)
-        (K.faults out.old) (K.faults out.new) result (K.taken out.old) (K.taken out.new) }
+    ensures content { OfRead (C.left source.old) (λ read. RunsCleaning B.Part.tells B.Part.state
+        read (C.left source.old) (C.faults source.old) (C.faults source.new) (B.state bay.old)
+        (B.state bay.new) (K.faults out.old) (K.faults out.new) result (K.taken out.old)
+        (K.taken out.new)) }
     ensures complete { (free : IsUnhindered B.Part.tells (C.left source.old) (C.faults source.old)
         (C.faults source.new) (B.state bay.old) (B.state bay.new) (K.faults out.old)
         (K.faults out.new)) → HaveVersionsToClean (C.left source.old) free.images.entry

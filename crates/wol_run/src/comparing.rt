@@ -7,7 +7,7 @@ ghost use Rattle.wol_disk.specs.Disk.{Rose};
 ghost use Rattle.wol_run.specs.Comparing.{IsComparison, RunsWhatIf};
 ghost use Rattle.wol_run.specs.Completing.{IsGoodTrace};
 ghost use Rattle.wol_run.specs.Replaying.{HasLeft, HasSource, seen, trace_of};
-ghost use Rattle.wol_run.specs.Settings.{HasConfig, IsConfigured};
+ghost use Rattle.wol_run.specs.Settings.{IsConfigured, OfRead};
 ghost use Rattle.wol_run.specs.Tops.{IsDoneOrMemory, TellsSink};
 
 use crate::settings::config_of;
@@ -30,9 +30,10 @@ pub fn compare<C: Source, S: Source, K: Sink>(
     trace: &mut S,
     out: &mut K,
 ) -> u8
-    ensures content { RunsWhatIf (trace_of (S.left trace.old)) (C.left source.old)
-        (C.faults source.old) (C.faults source.new) (S.left trace.new) (K.faults out.old)
-        (K.faults out.new) result (K.taken out.old) (K.taken out.new) }
+    ensures content { OfRead (C.left source.old) (λ read. RunsWhatIf read
+        (trace_of (S.left trace.old)) (C.left source.old) (C.faults source.old)
+        (C.faults source.new) (S.left trace.new) (K.faults out.old) (K.faults out.new) result
+        (K.taken out.old) (K.taken out.new)) }
     ensures source { result ≡ 8 → Rose (C.faults source.old) (C.faults source.new)
         ⊎ Rose (S.faults trace.old) (S.faults trace.new) }
     ensures complete { (lines : _) → IsGoodTrace (S.left trace.old) lines
@@ -61,9 +62,9 @@ fn compare_lines<S: Source, K: Sink>(
     requires valid { IsValid config.now }
     requires none { lines.given ≡ 0 }
     requires live { lines.live ≡ true }
-    ensures content { (left : _) → HasConfig left config.now
-        → IsComparison (seen S.left (Given.Trace lines)) left (S.left result.1.source)
-        (K.faults out.old) (K.faults out.new) result.0 (K.taken out.old) (K.taken out.new) }
+    ensures content { IsComparison config.now (seen S.left (Given.Trace lines))
+        (S.left result.1.source) (K.faults out.old) (K.faults out.new) result.0 (K.taken out.old)
+        (K.taken out.new) }
     ensures source { result.0 ≡ 8 → Rose (S.faults lines.source) (S.faults result.1.source) }
     ensures complete { MayCompare S.left (Given.Trace lines) (Given.Trace result.1)
         (K.faults out.old) (K.faults out.new) (S.faults lines.source) (S.faults result.1.source)
@@ -89,10 +90,9 @@ fn compare_given<S: Source, K: Sink>(
 ) -> u8
     requires valid { IsValid config.now }
     requires new { IsNew given.old }
-    ensures content { (left rest : _) → HasConfig left config.now
-        → HasLeft (seen S.left given.new) rest
-        → IsComparison (seen S.left given.old) left rest (K.faults out.old) (K.faults out.new)
-        result (K.taken out.old) (K.taken out.new) }
+    ensures content { (rest : _) → HasLeft (seen S.left given.new) rest
+        → IsComparison config.now (seen S.left given.old) rest (K.faults out.old)
+        (K.faults out.new) result (K.taken out.old) (K.taken out.new) }
     ensures source { result ≡ 8 → Rose (faults_of S.faults given.old)
         (faults_of S.faults given.new) }
     ensures complete { MayCompare S.left given.old given.new (K.faults out.old) (K.faults out.new)

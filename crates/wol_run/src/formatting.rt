@@ -6,6 +6,7 @@ ghost use Rattle.wol_config.specs.Configs.{IsValid};
 ghost use Rattle.wol_model.specs.Heads.{IsShape};
 ghost use Rattle.wol_model.specs.Images.{image_size};
 ghost use Rattle.wol_run.specs.Formatting.{RunsFormat, fault_of, format_lines, trouble_of};
+ghost use Rattle.wol_run.specs.Settings.{OfRead};
 ghost use Rattle.wol_run.specs.Tops.{TellsSink};
 
 use crate::settings::config_of;
@@ -31,8 +32,9 @@ pub fn format<C: Source, K: Sink, B: Bay>(
 ) -> u8
     requires home { NoneOut (B.state bay.old) }
     ensures home { NoneOut (B.state bay.new) }
-    ensures content { RunsFormat (C.left source.old) (C.faults source.old) (C.faults source.new)
-        (B.state bay.old) (B.state bay.new) result (K.taken out.old) (K.taken out.new) }
+    ensures content { OfRead (C.left source.old) (λ read. RunsFormat read (C.left source.old)
+        (C.faults source.old) (C.faults source.new) (B.state bay.old) (B.state bay.new) result
+        (K.taken out.old) (K.taken out.new)) }
     ensures sink { TellsSink (K.faults out.old) (K.faults out.new) result }
 {
     let config = match config_of(alloc, source) {

@@ -3,6 +3,7 @@ ghost use Rattle.solo.specs.Images.{NoneOut};
 ghost use Rattle.std.specs.Prelude.{◌≡◌};
 ghost use Rattle.wol_run.specs.Completing.{IsUnhindered};
 ghost use Rattle.wol_run.specs.Inspecting.{RunsLook, status_of_first};
+ghost use Rattle.wol_run.specs.Settings.{OfRead};
 ghost use Rattle.wol_run.specs.Tops.{IsDoneOrMemory, TellsSink};
 
 use crate::settings::config_of;
@@ -32,9 +33,9 @@ where
     B::Part: Send,
     requires home { NoneOut (B.state bay.old) }
     ensures home { NoneOut (B.state bay.new) }
-    ensures content { RunsLook B.Part.tells B.Part.state asked (C.left source.old)
-        (C.faults source.old) (C.faults source.new) (B.state bay.old) (B.state bay.new) result
-        (K.taken out.old) (K.taken out.new) }
+    ensures content { OfRead (C.left source.old) (λ read. RunsLook B.Part.tells B.Part.state asked
+        read (C.left source.old) (C.faults source.old) (C.faults source.new) (B.state bay.old)
+        (B.state bay.new) result (K.taken out.old) (K.taken out.new)) }
     ensures complete { IsUnhindered B.Part.tells (C.left source.old) (C.faults source.old)
         (C.faults source.new) (B.state bay.old) (B.state bay.new) (K.faults out.old)
         (K.faults out.new) → IsDoneOrMemory result }

@@ -2,6 +2,7 @@
 ghost use Rattle.std.specs.Prelude.{◌<◌, ◌≤◌, ◌^◌};
 ghost use Rattle.wol_config.specs.Configs.{IsValid};
 ghost use Rattle.wol_run.specs.Generating.{Prints, RunsGen};
+ghost use Rattle.wol_run.specs.Settings.{OfRead};
 ghost use Rattle.wol_run.specs.Tops.{TellsSink};
 
 use crate::settings::config_of;
@@ -26,8 +27,8 @@ pub fn generate<C: Source, K: Sink>(
     out: &mut K,
 ) -> u8
     requires few { asked.lines ≤ 2 ^ 31 }
-    ensures content { RunsGen asked (C.left source.old) (C.faults source.old) (C.faults source.new)
-        result (K.taken out.old) (K.taken out.new) }
+    ensures content { OfRead (C.left source.old) (λ read. RunsGen asked read (C.left source.old)
+        (C.faults source.old) (C.faults source.new) result (K.taken out.old) (K.taken out.new)) }
     ensures sink { TellsSink (K.faults out.old) (K.faults out.new) result }
 {
     let config = match config_of(alloc, source) {

@@ -8,7 +8,7 @@ ghost use Rattle.wol_disk.specs.Disk.{Rose};
 ghost use Rattle.wol_run.specs.Commands.{IsCount};
 ghost use Rattle.wol_run.specs.Completing.{HaveVersions, IsGoodTrace, IsUnhindered, seed_lines};
 ghost use Rattle.wol_run.specs.Replaying.{HasLeft, HasSource, IsReplay, RunsReplay, lines_of, options_as, reclaim_of, seen, trace_of};
-ghost use Rattle.wol_run.specs.Settings.{HasConfig};
+ghost use Rattle.wol_run.specs.Settings.{OfRead};
 ghost use Rattle.wol_run.specs.Tops.{IsDoneOrMemory, TellsSink};
 
 use crate::settings::config_of;
@@ -46,10 +46,11 @@ where
     requires options { IsCount options.workers }
     requires home { NoneOut (B.state bay.old) }
     ensures home { NoneOut (B.state bay.new) }
-    ensures content { RunsReplay B.Part.tells B.Part.state (options_as options)
-        (trace_of (S.left trace.old)) (C.left source.old) (C.faults source.old)
-        (C.faults source.new) (S.left trace.new) (B.state bay.old) (B.state bay.new)
-        (K.faults out.old) (K.faults out.new) result (K.taken out.old) (K.taken out.new) }
+    ensures content { OfRead (C.left source.old) (λ read. RunsReplay B.Part.tells B.Part.state
+        (options_as options) read (trace_of (S.left trace.old)) (C.left source.old)
+        (C.faults source.old) (C.faults source.new) (S.left trace.new) (B.state bay.old)
+        (B.state bay.new) (K.faults out.old) (K.faults out.new) result (K.taken out.old)
+        (K.taken out.new)) }
     ensures source { result ≡ 8 → Rose (C.faults source.old) (C.faults source.new)
         ⊎ Rose (S.faults trace.old) (S.faults trace.new) }
     ensures complete { (lines : _)
@@ -87,10 +88,10 @@ where
     requires options { IsCount options.workers }
     requires home { NoneOut (B.state bay.old) }
     ensures home { NoneOut (B.state bay.new) }
-    ensures content { (rest : _) → RunsReplay B.Part.tells B.Part.state (options_as options)
-        (lines_of asked) (C.left source.old) (C.faults source.old) (C.faults source.new) rest
-        (B.state bay.old) (B.state bay.new) (K.faults out.old) (K.faults out.new) result
-        (K.taken out.old) (K.taken out.new) }
+    ensures content { (rest : _) → OfRead (C.left source.old) (λ read. RunsReplay B.Part.tells
+        B.Part.state (options_as options) read (lines_of asked) (C.left source.old)
+        (C.faults source.old) (C.faults source.new) rest (B.state bay.old) (B.state bay.new)
+        (K.faults out.old) (K.faults out.new) result (K.taken out.old) (K.taken out.new)) }
     ensures source { result ≡ 8 → Rose (C.faults source.old) (C.faults source.new) }
     ensures complete { (free : IsUnhindered B.Part.tells (C.left source.old) (C.faults source.old)
         (C.faults source.new) (B.state bay.old) (B.state bay.new) (K.faults out.old)
@@ -128,10 +129,10 @@ where
     requires options { IsCount options.workers }
     requires home { NoneOut (B.state bay.old) }
     ensures home { NoneOut (B.state bay.new) }
-    ensures content { (left : _) → HasConfig left config.now
-        → IsReplay B.Part.tells B.Part.state (options_as options) (seen S.left (Given.Trace lines))
-        left (S.left result.1.source) (B.state bay.old) (B.state bay.new) (K.faults out.old)
-        (K.faults out.new) result.0 (K.taken out.old) (K.taken out.new) }
+    ensures content { IsReplay B.Part.tells B.Part.state (options_as options) config.now
+        (seen S.left (Given.Trace lines)) (S.left result.1.source) (B.state bay.old)
+        (B.state bay.new) (K.faults out.old) (K.faults out.new) result.0 (K.taken out.old)
+        (K.taken out.new) }
     ensures source { result.0 ≡ 8 → Rose (S.faults lines.source) (S.faults result.1.source) }
     ensures complete { MayComplete B.Part.tells S.left config.now (Given.Trace lines)
         (Given.Trace result.1) (B.state bay.old) (B.state bay.new) (K.faults out.old)
@@ -166,11 +167,10 @@ where
     requires options { IsCount options.workers }
     requires home { NoneOut (B.state bay.old) }
     ensures home { NoneOut (B.state bay.new) }
-    ensures content { (left rest : _) → HasConfig left config.now
-        → HasLeft (seen S.left given.new) rest
-        → IsReplay B.Part.tells B.Part.state (options_as options) (seen S.left given.old) left rest
-        (B.state bay.old) (B.state bay.new) (K.faults out.old) (K.faults out.new) result
-        (K.taken out.old) (K.taken out.new) }
+    ensures content { (rest : _) → HasLeft (seen S.left given.new) rest
+        → IsReplay B.Part.tells B.Part.state (options_as options) config.now
+        (seen S.left given.old) rest (B.state bay.old) (B.state bay.new) (K.faults out.old)
+        (K.faults out.new) result (K.taken out.old) (K.taken out.new) }
     ensures source { result ≡ 8 → Rose (faults_of S.faults given.old)
         (faults_of S.faults given.new) }
     ensures complete { MayComplete B.Part.tells S.left config.now given.old given.new

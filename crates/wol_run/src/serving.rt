@@ -4,8 +4,8 @@ ghost use Rattle.solo.specs.Images.{NoneOut};
 ghost use Rattle.std.specs.Prelude.{◌≡◌, ◌<◌};
 ghost use Rattle.wol_disk.specs.Disk.{Rose};
 ghost use Rattle.wol_run.specs.Completing.{IsUnhindered};
-ghost use Rattle.nbd_serving.specs.Wires.{wire};
-ghost use Rattle.wol_run.specs.Serving.{EndsAtClient, RunsServing};
+ghost use Rattle.wol_run.specs.Serving.{EndsAtClient, RunsServing, wire};
+ghost use Rattle.wol_run.specs.Settings.{OfRead};
 
 use crate::settings::config_of;
 use command_words::ServedName;
@@ -34,11 +34,12 @@ pub fn serve<R: Wait, C: Source, S: Source, K: Sink, B: Bay>(
 ) -> u8
     requires home { NoneOut (B.state bay.old) }
     ensures home { NoneOut (B.state bay.new) }
-    ensures content { RunsServing B.Part.tells B.Part.state beginning (served_by name.entry)
-        (C.left source.old) (C.faults source.old) (C.faults source.new)
-        (B.state bay.old) (B.state bay.new)
+    ensures content { OfRead (C.left source.old) (λ read. RunsServing B.Part.tells B.Part.state
+        beginning (served_by name.entry) read (C.left source.old) (C.faults source.old)
+        (C.faults source.new) (B.state bay.old) (B.state bay.new)
         (wire (S.left input.old) (S.faults input.old) (K.taken out.old) (K.faults out.old))
-        (wire (S.left input.new) (S.faults input.new) (K.taken out.new) (K.faults out.new)) result }
+        (wire (S.left input.new) (S.faults input.new) (K.taken out.new) (K.faults out.new))
+        result) }
     ensures complete { IsUnhindered B.Part.tells (C.left source.old) (C.faults source.old)
         (C.faults source.new) (B.state bay.old) (B.state bay.new) (K.faults out.old)
         (K.faults out.new) → ¬ Rose (S.faults input.old) (S.faults input.new)

@@ -4,6 +4,7 @@ ghost use Rattle.solo.specs.Images.{NoneOut};
 ghost use Rattle.std.specs.Prelude.{◌≡◌, ◌⊎◌, codes};
 ghost use Rattle.view_commands.specs.Orders.{refusal_text};
 ghost use Rattle.wol_run.specs.Completing.{IsUnhindered};
+ghost use Rattle.wol_run.specs.Settings.{OfRead};
 ghost use Rattle.wol_run.specs.Tops.{EndsWith, IsDoneOrMemory, TellsSink};
 ghost use Rattle.wol_run.specs.Viewing.{RunsViewChange};
 
@@ -33,10 +34,10 @@ pub fn change_view<R: Wait, C: Source, K: Sink, B: Bay>(
 ) -> u8
     requires home { NoneOut (B.state bay.old) }
     ensures home { NoneOut (B.state bay.new) }
-    ensures content { RunsViewChange B.Part.tells B.Part.state verb (named_by names.entry)
-        (C.left source.old) (C.faults source.old) (C.faults source.new) (B.state bay.old)
-        (B.state bay.new) (K.faults out.old) (K.faults out.new) result (K.taken out.old)
-        (K.taken out.new) }
+    ensures content { OfRead (C.left source.old) (λ read. RunsViewChange B.Part.tells B.Part.state
+        verb (named_by names.entry) read (C.left source.old) (C.faults source.old)
+        (C.faults source.new) (B.state bay.old) (B.state bay.new) (K.faults out.old)
+        (K.faults out.new) result (K.taken out.old) (K.taken out.new)) }
     ensures complete { IsUnhindered B.Part.tells (C.left source.old) (C.faults source.old)
         (C.faults source.new) (B.state bay.old) (B.state bay.new) (K.faults out.old)
         (K.faults out.new) → IsDoneOrMemory result ⊎ (result ≡ 15) }

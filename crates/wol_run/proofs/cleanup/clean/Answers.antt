@@ -1,4 +1,4 @@
-use Rattle.std.proofs.Common.{Err, arith, inl, inr, refl, subst}
+use Rattle.std.proofs.Common.{None, Some, Err, arith, inl, refl, subst}
 use Rattle.report.specs.Names.{printed_names}
 use Rattle.wol_run.proofs.Cleaned.{as_run, is_cleaning, may_clean, sink_said}
 use Rattle.wol_run.proofs.Completing.{complete_unread, replay_memory, replay_not_sink, rose_from, rose_later, told_memory}
@@ -13,19 +13,19 @@ pub tell_fault-requires-in-Err-Fault : goal.tell_fault-requires-in-Err-Fault
 tell_fault-requires-in-Err-Fault g c = record { told = λ same. subst CanEnd same (sink_said _ _ _ _ _ _ _ _ _ _ (rw c.in-Err-Fault.field-0-is at c.in-Err-Fault.ensures.cleans)).1 }
 
 pub returns-in-Err-clause-content : goal.returns-in-Err-clause-content
-returns-in-Err-clause-content g c = inr (not_begun _ _ _ _ _ _ _ _ c.in-Err.fault c.in-Err.ensures.err refl c.tell_fault.ensures.content)
+returns-in-Err-clause-content g c = record { read = None; has = tt; is = not_begun _ _ _ _ _ _ _ _ c.in-Err.fault c.in-Err.ensures.err refl c.tell_fault.ensures.content }
 
 pub returns-in-Ok-clean_volumes-clause-content : goal.returns-in-Ok-clean_volumes-clause-content
 returns-in-Ok-clean_volumes-clause-content g c =
-    inl (is_cleaning _ _ c.in-Ok.config _ _ _ _ _ _ _ _ _ _ (record { bay = c.in-Ok-clean_volumes.ensures.leaves; views = c.in-Ok-clean_volumes.ensures.views }) c.in-Ok-clean_volumes.ensures.others c.in-Ok-clean_volumes.ensures.cleans (no_greater _) (refl, refl) _ c.in-Ok.ensures.ok)
+    record { read = Some c.in-Ok.config; has = c.in-Ok.ensures.ok; is = is_cleaning _ _ c.in-Ok.config _ _ _ _ _ _ _ _ _ _ c.in-Ok-clean_volumes.ensures.leaves c.in-Ok-clean_volumes.ensures.others c.in-Ok-clean_volumes.ensures.cleans (no_greater _) (refl, refl) }
 
 pub returns-in-Err-Sink-clause-content : goal.returns-in-Err-Sink-clause-content
 returns-in-Err-Sink-clause-content g c =
-    inl (is_cleaning _ _ c.in-Ok.config _ _ _ _ _ _ _ _ _ _ (record { bay = c.in-Err-Sink.ensures.leaves; views = c.in-Err-Sink.ensures.views }) c.in-Err-Sink.ensures.others (rw c.in-Err-Sink.field-0-is at c.in-Err-Sink.ensures.cleans) (no_greater _) (refl, refl) _ c.in-Ok.ensures.ok)
+    record { read = Some c.in-Ok.config; has = c.in-Ok.ensures.ok; is = is_cleaning _ _ c.in-Ok.config _ _ _ _ _ _ _ _ _ _ c.in-Err-Sink.ensures.leaves c.in-Err-Sink.ensures.others (rw c.in-Err-Sink.field-0-is at c.in-Err-Sink.ensures.cleans) (no_greater _) (refl, refl) }
 
 pub returns-clause-content : goal.returns-clause-content
 returns-clause-content g c =
-    inl (is_cleaning _ _ c.in-Ok.config _ _ _ _ _ _ _ _ _ _ (record { bay = c.in-Err-Fault.ensures.leaves; views = c.in-Err-Fault.ensures.views }) c.in-Err-Fault.ensures.others (rw c.in-Err-Fault.field-0-is at c.in-Err-Fault.ensures.cleans) c.tell_fault-in-Err-Fault.ensures.sink.later (rw c.deref.ensures.value at c.tell_fault-in-Err-Fault.ensures.content) _ c.in-Ok.ensures.ok)
+    record { read = Some c.in-Ok.config; has = c.in-Ok.ensures.ok; is = is_cleaning _ _ c.in-Ok.config _ _ _ _ _ _ _ _ _ _ c.in-Err-Fault.ensures.leaves c.in-Err-Fault.ensures.others (rw c.in-Err-Fault.field-0-is at c.in-Err-Fault.ensures.cleans) c.tell_fault-in-Err-Fault.ensures.sink.later (rw c.deref.ensures.value at c.tell_fault-in-Err-Fault.ensures.content) }
 
 -- ---- It comes to its end
 

@@ -1,15 +1,15 @@
-use Rattle.std.proofs.Common.{◌≡◌, inl, inr, refl, rules}
+use Rattle.std.proofs.Common.{◌≡◌, None, Some, inr, refl, rules}
 use Rattle.wol_run.proofs.Compared.{uncompared}
 use Rattle.wol_run.proofs.Completing.{complete_unread, may_compare}
 use Rattle.wol_run.proofs.comparing.compare.Goals as goal
 
 pub returns-in-Err-clause-content : goal.returns-in-Err-clause-content
-returns-in-Err-clause-content g c = uncompared _ _ _ _ _ _ _ _ _ _ c.in-Err.fault c.in-Err.ensures.err refl c.tell_fault.ensures.content
+returns-in-Err-clause-content g c = record { read = None; has = tt; is = uncompared _ _ _ _ _ _ _ _ c.in-Err.fault c.in-Err.ensures.err refl c.tell_fault.ensures.content }
 
 pub returns-clause-content : goal.returns-clause-content
 returns-clause-content g c =
     let same : c.compare_lines-status.result.1.source.now ≡ c.trace-1.given.0 = search rules in
-    inl (rw (c.new-lines.ensures, same) at (c.compare_lines-status.ensures.content _ c.in-Ok.ensures.ok))
+    record { read = Some c.in-Ok.config; has = c.in-Ok.ensures.ok; is = rw (c.new-lines.ensures, same) at c.compare_lines-status.ensures.content }
 
 pub returns-clause-source : goal.returns-clause-source
 returns-clause-source g c eight =

@@ -1,19 +1,22 @@
-use Rattle.std.proofs.Common.{arith, inl, inr, refl, ◌∙◌}
+use Rattle.std.proofs.Common.{None, Some, arith, inl, inr, refl, ◌∙◌}
 use Rattle.wol_run.proofs.Completing.{complete_unread, look_not_sink, look_whole_done, may_look, rose_from}
 use Rattle.wol_run.proofs.LookEndings.{look_cut, look_failed, look_untouched, look_whole}
 use Rattle.wol_run.proofs.inspecting.inspect.Goals as goal
 
 pub returns-in-Err-clause-content : goal.returns-in-Err-clause-content
-returns-in-Err-clause-content g c = look_untouched _ _ _ _ _ _ _ _ _ _ _ c.in-Err.fault c.in-Err.ensures.err refl c.tell_fault.ensures.content
+returns-in-Err-clause-content g c = record { read = None; has = tt; is = look_untouched _ _ _ _ _ _ _ _ _ _ _ c.in-Err.fault c.in-Err.ensures.err refl c.tell_fault.ensures.content }
 
 pub returns-in-Ok-inspect-clause-content : goal.returns-in-Ok-inspect-clause-content
-returns-in-Ok-inspect-clause-content g c = look_whole _ _ _ _ _ _ _ _ _ _ _ c.in-Ok.config c.in-Ok.ensures.ok (record { bay = record { left = c.in-Ok-inspect.ensures.left; sound = c.in-Ok-inspect.ensures.sound }; views = c.in-Ok-inspect.ensures.views }) c.in-Ok-inspect.ensures.others c.in-Ok-inspect.first _ _ c.in-Ok-inspect.ensures.content c.status_of_first.ensures
+returns-in-Ok-inspect-clause-content g c =
+    record { read = Some c.in-Ok.config; has = c.in-Ok.ensures.ok; is = look_whole _ _ _ _ _ _ _ _ _ _ _ c.in-Ok.config (record { left = c.in-Ok-inspect.ensures.left; sound = c.in-Ok-inspect.ensures.sound }) c.in-Ok-inspect.ensures.others c.in-Ok-inspect.first _ _ c.in-Ok-inspect.ensures.content c.status_of_first.ensures }
 
 pub returns-in-Err-Sink-clause-content : goal.returns-in-Err-Sink-clause-content
-returns-in-Err-Sink-clause-content g c = look_failed _ _ _ _ _ _ _ _ _ _ _ c.in-Ok.config c.in-Ok.ensures.ok (record { bay = record { left = c.in-Err-Sink.ensures.left; sound = c.in-Err-Sink.ensures.sound }; views = c.in-Err-Sink.ensures.views }) c.in-Err-Sink.ensures.others _ _ (rw c.in-Err-Sink.field-0-is at c.in-Err-Sink.ensures.content) refl
+returns-in-Err-Sink-clause-content g c =
+    record { read = Some c.in-Ok.config; has = c.in-Ok.ensures.ok; is = look_failed _ _ _ _ _ _ _ _ _ _ _ c.in-Ok.config (record { left = c.in-Err-Sink.ensures.left; sound = c.in-Err-Sink.ensures.sound }) c.in-Err-Sink.ensures.others _ _ (rw c.in-Err-Sink.field-0-is at c.in-Err-Sink.ensures.content) refl }
 
 pub returns-clause-content : goal.returns-clause-content
-returns-clause-content g c = look_cut _ _ _ _ _ _ _ _ _ _ _ c.in-Ok.config c.in-Ok.ensures.ok (record { bay = record { left = c.in-Err-Memory.ensures.left; sound = c.in-Err-Memory.ensures.sound }; views = c.in-Err-Memory.ensures.views }) c.in-Err-Memory.ensures.others _ _ _ (rw c.in-Err-Memory.field-0-is at c.in-Err-Memory.ensures.content) c.end_with.ensures.content
+returns-clause-content g c =
+    record { read = Some c.in-Ok.config; has = c.in-Ok.ensures.ok; is = look_cut _ _ _ _ _ _ _ _ _ _ _ c.in-Ok.config (record { left = c.in-Err-Memory.ensures.left; sound = c.in-Err-Memory.ensures.sound }) c.in-Err-Memory.ensures.others _ _ _ (rw c.in-Err-Memory.field-0-is at c.in-Err-Memory.ensures.content) c.end_with.ensures.content }
 
 pub returns-in-Err-clause-complete : goal.returns-in-Err-clause-complete
 returns-in-Err-clause-complete g c free =

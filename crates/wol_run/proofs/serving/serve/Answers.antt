@@ -1,22 +1,24 @@
-use Rattle.std.proofs.Common.{arith, inl, inr, refl}
+use Rattle.std.proofs.Common.{None, Some, arith, inl, refl}
 use Rattle.wol_run.proofs.Completing.{may_look}
 use Rattle.wol_run.proofs.Served.{ends_at_client, seven_of_sink, sink_told, unserved_complete, unserved_not_sink}
 use Rattle.wol_run.proofs.serving.serve.Goals as goal
 
 pub returns-in-Err-clause-content : goal.returns-in-Err-clause-content
-returns-in-Err-clause-content g c = inr (inl (record { fault = c.in-Err.fault; cause = c.in-Err.ensures.err; told = c.status.ensures; bay = refl; unused = refl }))
+returns-in-Err-clause-content g c = record { read = None; has = tt; is = inl (record { fault = c.in-Err.fault; cause = c.in-Err.ensures.err; told = c.status.ensures; bay = refl; unused = refl }) }
 
 pub returns-clause-content : goal.returns-clause-content
 returns-clause-content g c =
-    inl (record {
-      config = c.in-Ok.config;
+    record {
+      read = Some c.in-Ok.config;
       has = c.in-Ok.ensures.ok;
-      result = c.serve_volume-answer.result;
-      sound = c.serve_volume-answer.ensures.sound;
-      others = c.serve_volume-answer.ensures.others;
-      serves = c.serve_volume-answer.ensures.content;
-      done = c.status_of.ensures;
-    })
+      is = record {
+        result = c.serve_volume-answer.result;
+        sound = c.serve_volume-answer.ensures.sound;
+        others = c.serve_volume-answer.ensures.others;
+        serves = c.serve_volume-answer.ensures.content;
+        done = c.status_of.ensures;
+      };
+    }
 
 pub returns-in-Err-clause-complete : goal.returns-in-Err-clause-complete
 returns-in-Err-clause-complete g c free input = inl (unserved_complete _ _ _ c.status.result c.in-Err.fault c.in-Err.ensures.err c.status.ensures free.configured free.source)

@@ -1,4 +1,4 @@
-use Rattle.std.proofs.Common.{Err, inl, inr, refl, ap, subst, arith}
+use Rattle.std.proofs.Common.{None, Err, inl, inr, refl, ap, subst, arith}
 use Rattle.command_words.specs.Commands.{IsCommand}
 use Rattle.wol_run.proofs.Asked.{in_range, range_of_gen, range_of_solo}
 use Rattle.wol_run.proofs.CommandsTold.{check_promise, clean_promise, comparison_promise, dump_promise, format_promise, gen_promise, memory_promise, nbd_promise, replay_promise, serve_promise, soak_promise, solo_done_promise, solo_fault_promise, view_add_promise, view_remove_promise}
@@ -84,7 +84,7 @@ returns-in-Err-clause-promise g c =
 
 pub returns-in-Err-NotACommand-clause-promise : goal.returns-in-Err-NotACommand-clause-promise
 returns-in-Err-NotACommand-clause-promise g c =
-    of_none _ _ _ _ _ _ (c.in-Err-NotACommand.ensures.refused (ap Err c.in-Err-NotACommand.field-0-is)) c.end_with.ensures.content
+    of_none _ _ _ _ _ _ None tt (c.in-Err-NotACommand.ensures.refused (ap Err c.in-Err-NotACommand.field-0-is)) c.end_with.ensures.content
     (λ seven. elim (c.end_with.ensures.cause seven) [
       | inl other ↦ absurd (omega (arith, other))
       | inr rose ↦ rose

@@ -1,4 +1,4 @@
-use Rattle.std.proofs.Common.{arith, inl, inr, refl, subst}
+use Rattle.std.proofs.Common.{None, Some, arith, inl, refl, subst}
 use Rattle.report.specs.Names.{printed_names}
 use Rattle.wol_run.proofs.Completing.{complete_unread, may_look, rose_from, rose_later, told_memory}
 use Rattle.wol_run.proofs.ReplayFaults.{CanEnd}
@@ -13,25 +13,33 @@ pub tell_fault-requires-in-Err-Fault : goal.tell_fault-requires-in-Err-Fault
 tell_fault-requires-in-Err-Fault g c = record { told = λ same. subst CanEnd same (sink_said _ _ _ _ _ _ _ _ _ _ _ (rw c.in-Err-Fault.field-0-is at c.in-Err-Fault.ensures.content)).1 }
 
 pub returns-in-Err-clause-content : goal.returns-in-Err-clause-content
-returns-in-Err-clause-content g c = inr (not_begun _ _ _ _ _ _ _ _ c.in-Err.fault c.in-Err.ensures.err refl c.tell_fault.ensures.content)
+returns-in-Err-clause-content g c = record { read = None; has = tt; is = not_begun _ _ _ _ _ _ _ _ c.in-Err.fault c.in-Err.ensures.err refl c.tell_fault.ensures.content }
 
 pub returns-in-Ok-change_view-clause-content : goal.returns-in-Ok-change_view-clause-content
 returns-in-Ok-change_view-clause-content g c =
-    inl (is_view_change _ _ c.in-Ok.config _ _ _ _ _ _ _ _ _ _ _ c.in-Ok-change_view.ensures.leaves.left c.in-Ok-change_view.ensures.leaves.sound c.in-Ok-change_view.ensures.others c.in-Ok-change_view.ensures.content (no_greater _) (refl, refl) _ c.in-Ok.ensures.ok _ (record { verb_is = refl; volume = refl; logger = refl }))
+    record { read = Some c.in-Ok.config; has = c.in-Ok.ensures.ok; is = is_view_change _ _ c.in-Ok.config _ _ _ _ _ _ _ _ _ _ _ c.in-Ok-change_view.ensures.leaves.left c.in-Ok-change_view.ensures.leaves.sound c.in-Ok-change_view.ensures.others c.in-Ok-change_view.ensures.content (no_greater _) (refl, refl) _ (record { verb_is = refl; volume = refl; logger = refl }) }
 
 pub returns-in-Err-Sink-clause-content : goal.returns-in-Err-Sink-clause-content
 returns-in-Err-Sink-clause-content g c =
-    inl (is_view_change _ _ c.in-Ok.config _ _ _ _ _ _ _ _ _ _ _ c.in-Err-Sink.ensures.leaves.left c.in-Err-Sink.ensures.leaves.sound c.in-Err-Sink.ensures.others (rw c.in-Err-Sink.field-0-is at c.in-Err-Sink.ensures.content) (no_greater _) (refl, refl) _ c.in-Ok.ensures.ok _ (record { verb_is = refl; volume = refl; logger = refl }))
+    record { read = Some c.in-Ok.config; has = c.in-Ok.ensures.ok; is = is_view_change _ _ c.in-Ok.config _ _ _ _ _ _ _ _ _ _ _ c.in-Err-Sink.ensures.leaves.left c.in-Err-Sink.ensures.leaves.sound c.in-Err-Sink.ensures.others (rw c.in-Err-Sink.field-0-is at c.in-Err-Sink.ensures.content) (no_greater _) (refl, refl) _ (record { verb_is = refl; volume = refl; logger = refl }) }
 
 pub returns-in-Err-Refused-clause-content : goal.returns-in-Err-Refused-clause-content
 returns-in-Err-Refused-clause-content g c =
-    inl (is_view_change _ _ c.in-Ok.config _ _ _ _ _ _ _ _ _ _ _ c.in-Err-Refused.ensures.leaves.left c.in-Err-Refused.ensures.leaves.sound c.in-Err-Refused.ensures.others (rw c.in-Err-Refused.field-0-is at c.in-Err-Refused.ensures.content) c.tell_refusal.ensures.sink.later c.tell_refusal.ensures.content _ c.in-Ok.ensures.ok _
-    (record { verb_is = refl; volume = refl; logger = refl }))
+    record {
+      read = Some c.in-Ok.config;
+      has = c.in-Ok.ensures.ok;
+      is = is_view_change _ _ c.in-Ok.config _ _ _ _ _ _ _ _ _ _ _ c.in-Err-Refused.ensures.leaves.left c.in-Err-Refused.ensures.leaves.sound c.in-Err-Refused.ensures.others (rw c.in-Err-Refused.field-0-is at c.in-Err-Refused.ensures.content) c.tell_refusal.ensures.sink.later c.tell_refusal.ensures.content _
+          (record { verb_is = refl; volume = refl; logger = refl });
+    }
 
 pub returns-clause-content : goal.returns-clause-content
 returns-clause-content g c =
-    inl (is_view_change _ _ c.in-Ok.config _ _ _ _ _ _ _ _ _ _ _ c.in-Err-Fault.ensures.leaves.left c.in-Err-Fault.ensures.leaves.sound c.in-Err-Fault.ensures.others (rw c.in-Err-Fault.field-0-is at c.in-Err-Fault.ensures.content) c.tell_fault-in-Err-Fault.ensures.sink.later (rw c.deref.ensures.value at c.tell_fault-in-Err-Fault.ensures.content) _ c.in-Ok.ensures.ok _
-    (record { verb_is = refl; volume = refl; logger = refl }))
+    record {
+      read = Some c.in-Ok.config;
+      has = c.in-Ok.ensures.ok;
+      is = is_view_change _ _ c.in-Ok.config _ _ _ _ _ _ _ _ _ _ _ c.in-Err-Fault.ensures.leaves.left c.in-Err-Fault.ensures.leaves.sound c.in-Err-Fault.ensures.others (rw c.in-Err-Fault.field-0-is at c.in-Err-Fault.ensures.content) c.tell_fault-in-Err-Fault.ensures.sink.later (rw c.deref.ensures.value at c.tell_fault-in-Err-Fault.ensures.content) _
+          (record { verb_is = refl; volume = refl; logger = refl });
+    }
 
 -- ---- It comes to its end
 
