@@ -25,7 +25,7 @@ use Rattle.rack.specs.Racks.{IsStation, IsUnused, base_of_station}
 use Rattle.rack_parts.specs.declared.rack.ImageRest.{ImageRest}
 use Rattle.rack_parts.specs.declared.rack.Rack.{Rack}
 use Rattle.rack_parts.specs.declared.volume_fault.VolumeFault.{VolumeFault}
-use Rattle.open_rack.specs.Sessions.{OpensAndCloses}
+use Rattle.open_rack.specs.Sessions.{LeavesRecordsIn, OpensAndCloses}
 use Rattle.open_rack.proofs.Since.{all_at, unmapped}
 use Rattle.spin_model.specs.Spindles.{SpindleView}
 use Rattle.replay.proofs.MarksLeft.{told_through}

@@ -6,9 +6,7 @@ use Rattle.wol_disk.specs.Disk.{Rose, State}
 use Rattle.wol_io.specs.Streams.{AppendsFront}
 use Rattle.wol_bay.specs.Bay.{BayState, Told}
 use Rattle.wol_model.specs.History.{worker}
-use Rattle.wol_model.specs.Images.{Images}
-use Rattle.wol_model.specs.Index.{AreRising, Listed, is_covered, listed_in}
-use Rattle.wol_model.specs.Recovered.{extents_of}
+use Rattle.wol_model.specs.Index.{AreRising, is_covered, listed_in}
 use Rattle.wol_promise.specs.Manager.{Base}
 use Rattle.wol_promise.specs.Ruled.{Noted}
 use Rattle.wol_config.specs.declared.config.Config.{Config}
@@ -21,14 +19,14 @@ use Rattle.manager.specs.declared.part.Part.{Part}
 use Rattle.report.specs.declared.fault.Fault.TheVariants.{Memory, Volume}
 use Rattle.troubles.specs.Troubles.{trouble_of}
 use Rattle.volume_images.specs.Left.{IsTold}
-use Rattle.volume_images.specs.Volumes.{AreLeft, images_read}
-use Rattle.rack.specs.Closes.{AreListedOf, HasFaultyPart, segments_out}
+use Rattle.volume_images.specs.Volumes.{images_read}
+use Rattle.rack.specs.Closes.{HasFaultyPart}
 use Rattle.rack.specs.Opens.{RefusesVolume}
 use Rattle.rack.specs.Owners.{IsBegun, images_taken}
 use Rattle.rack_parts.specs.declared.rack.ImageRest.{ImageRest}
 use Rattle.rack_parts.specs.declared.volume_fault.VolumeFault.{VolumeFault}
 use Rattle.open_rack.specs.NotOpened.{IsFirstClosed}
-use Rattle.open_rack.specs.Sessions.{KeepsArrays, LeavesRecords}
+use Rattle.open_rack.specs.Sessions.{KeepsArrays, LeavesRecords, LeavesRecordsIn}
 use Rattle.inspection.specs.Runs as look
 use Rattle.replay.specs.declared.stop.Stop.{Stop}
 use Rattle.replay.specs.declared.stop.Stop.TheVariants as stop

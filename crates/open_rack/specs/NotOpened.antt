@@ -11,9 +11,9 @@ use Rattle.volume_images.specs.Left.{IsTold}
 use Rattle.report.specs.declared.fault.Fault.{Fault}
 use Rattle.report.specs.declared.fault.Fault.TheVariants.{Volume}
 use Rattle.troubles.specs.Troubles.{trouble_of}
-use Rattle.rack.specs.Closes.{CameBackFaulty}
-use Rattle.rack.specs.Opens.{KeepsAllSound, KeepsViews, LeavesAll, RefusesVolume, WereThere}
-use Rattle.rack.specs.Owners.{IsBegun, images_taken}
+use Rattle.rack.specs.Closes.{CameBackFaulty, is_kept_home}
+use Rattle.rack.specs.Opens.{KeepsAllSound, LeavesAll, RefusesVolume, WereThere, KeepsViews}
+use Rattle.rack.specs.Owners.{WasOpened}
 use Rattle.rack.specs.Racks.{NamesVolumes}
 use Rattle.rack.specs.Rests.{IsImageOut, image_here}
 use Rattle.rack_parts.specs.declared.rack.ImageRest.{ImageRest}

@@ -1,5 +1,5 @@
 -- The lines of a trace, and what they ask of the one volume of a run.
-use Rattle.std.specs.Prelude.{◌≡◌, ℕ, ◌+◌, ◌≤◌, Bool, true, false, List, [], ◌∷◌, ◌++◌, length, map, count_by, Option, None, Some, is_none, Result, Ok, ⊤}
+use Rattle.std.specs.Prelude.{◌≡◌, ℕ, ◌+◌, List, [], ◌∷◌, ◌++◌, length, map, count_by, Option, None, Some, is_none, Result, Ok, ⊤, ◌≤◌}
 use Rattle.std.specs.Io.KnownBytes.{prepend_known}
 use Rattle.wol_model.specs.Trace as model
 use Rattle.wol_model.specs.Trace.{Target, TraceLine, is_skipped, pieces, read_count, requests, requests_of, write_count}

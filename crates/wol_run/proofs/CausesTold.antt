@@ -85,7 +85,7 @@ use Rattle.wol_run.specs.Outside.{Outside}
 use Rattle.wol_run.specs.Comparing.{IsComparison}
 use Rattle.wol_run.specs.Replaying.{EndsReplay, GivenLines, HasLeft, IsReplay, trace_of}
 use Rattle.wol_run.specs.Run.{IsCleaningOf, IsComparisonOf, IsFormat, IsListingOf, IsLookFor, IsReplayOf, IsServingOf, IsViewChangeOf}
-use Rattle.wol_run.specs.Serving.{HasBadBytes, served_as, wire}
+use Rattle.wol_run.specs.Serving.{HasBadBytes, served_as}
 use Rattle.wol_run.specs.Settings.{IsFaultLine, line_of_fault}
 use Rattle.wol_run.specs.Tops.{EndsWith, HasBadLine, HasMoreLines}
 use Rattle.wol_run.specs.Viewing.{EndsChange, IsViewChange, RefusesChange, view_change_by}

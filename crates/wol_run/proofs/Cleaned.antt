@@ -58,7 +58,7 @@ as_run r (inr memory) = inr memory
 
 -- a cleaning over a configuration that was had, and its end
 pub is_cleaning : {D : Type 0} (tells : Bool) (state : D → State) (config : Config) (old new : BayState) (sink sink' after : ℕ) (printed then printed' : Option (List ℕ)) (status : ℕ) (result : Result (Unit {0}) Stop)
-    → LeavesBay tells state config old new → IsTold (KeepsOthers config) old.told new.told → CleansBay tells state config old new sink sink' printed then result → sink' ≤ after → EndsReplay config result status then printed'
+    → LeavesViews tells state config old new → IsTold (KeepsOthers config) old.told new.told → CleansBay tells state config old new sink sink' printed then result → sink' ≤ after → EndsReplay config result status then printed'
     → IsCleaning tells state config old new sink after status printed printed'
 is_cleaning tells state config old new sink sink' after printed then printed' status result leaves others cleans later ends = record {
   over = record { result = result; sink_then = sink'; later = later; printed_then = then; ends = ends };

@@ -306,7 +306,14 @@ told_memory names f status printed new is whole (inr ends) = elim (wanted_or_sin
 pub earlier_calm : {S : Type 0} (tells : Bool) (left : S → Option (List ℕ)) (config : Config) (start now : Given S) (old new : BayState) (sink sink' later source source' : ℕ) → sink' ≤ later
     → MayComplete tells left config start now old new sink later source source' → MayComplete tells left config start now old new sink sink' source source'
 earlier_calm tells left config start now old new sink sink' later source source' on is = record {
-  opens = record is.opens { sink_calm = λ rose. is.sink_calm (rose_later sink sink' later rose on) };
+  opens = record {
+    telling = is.telling;
+    entry = is.entry;
+    entry_is = is.entry_is;
+    sound = is.sound;
+    bay_calm = is.bay_calm;
+    sink_calm = λ rose. is.sink_calm (rose_later sink sink' later rose on);
+  };
   gives = is.gives;
   versions = is.versions;
 }

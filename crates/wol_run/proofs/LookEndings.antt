@@ -42,7 +42,7 @@ module _ {D : Type 0} (tells : Bool) (state : D → State) (asked : Asked) (left
     ends = ends;
   }
 
-  module _ (config : Config) (leaves : LeavesBay tells state config old new) (others : IsTold (KeepsOthers config) old.told new.told) where
+  module _ (config : Config) (leaves : LeavesViews tells state config old new) (others : IsTold (KeepsOthers config) old.told new.told) where
     module _ (told : List Telling) (are : AreTold tells state asked config old new told) where
       abbrev looked : HasLooked tells state asked config old new
       looked = record { told = told; are = are }

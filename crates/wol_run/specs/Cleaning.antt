@@ -15,8 +15,9 @@ pub record IsCleaning {D : Type 0} (tells : Bool) (state : D → State) (config 
     (old new : BayState) (sink sink' status : ℕ) (printed printed' : Option (List ℕ)) :
     Type 0 where
   pub over : IsRunOver config sink' status printed'
-  -- each image that is left recovers to what an image at entry did, and sound images stay sound
-  pub leaves : LeavesBay tells state config old new
+  -- each image that is left recovers to what an image at entry did, no label or view was changed,
+  -- and sound images stay sound
+  pub leaves : LeavesViews tells state config old new
   -- images of names that aren't configured are as they were
   pub others : IsTold (KeepsOthers config) old.told new.told
   pub cleans : CleansBay tells state config old new sink over.sink_then printed over.printed_then

@@ -30,8 +30,9 @@ use Rattle.wol_run.specs.Generating.{RunsGen}
 use Rattle.wol_run.specs.Inspecting.{RunsLook}
 use Rattle.wol_run.specs.Outside.{LeavesUnused, NothingFailed, Outside}
 use Rattle.wol_run.specs.Replaying.{GivenLines, RunsKept, RunsReplay, lines_of, options_as, trace_of}
-use Rattle.wol_run.specs.Serving.{RunsServing, wire}
+use Rattle.wol_run.specs.Serving.{RunsServing}
 use Rattle.wol_run.specs.Settings.{HasConfig, HasNoConfig, IsConfigured}
+use Rattle.nbd_serving.specs.Wires.{wire}
 use Rattle.wol_run.specs.Tops.{EndsWith, IsDoneOrMemory, IsRunnable, RunsSolo}
 use Rattle.wol_run.specs.Viewing.{RunsViewChange}
 

@@ -33,12 +33,6 @@ served_as (Nbd name) = Some (beginning.AtOnce, served_by name)
 served_as (Serve name) = Some (beginning.Handshake, served_by name)
 served_as command = None
 
--- a client's source and sink
-abbrev pub wire : (left : Option (List ℕ)) → (source_faults : ℕ) → (taken : Option (List ℕ))
-    → (sink_faults : ℕ) → Wire
-wire left source_faults taken sink_faults =
-    record { left = left; source_faults = source_faults; taken = taken; sink_faults = sink_faults }
-
 -- the volume of this name was to be served
 pub record IsServing {D : Type 0} (tells : Bool) (state : D → State) (begins : Beginning)
     (name : List ℕ) (config : Config) (old new : BayState) (wire_ wire' : Wire) (status : ℕ) :

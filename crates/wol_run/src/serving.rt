@@ -4,8 +4,9 @@ ghost use Rattle.solo.specs.Images.{NoneOut};
 ghost use Rattle.std.specs.Prelude.{◌≡◌, ◌<◌};
 ghost use Rattle.wol_disk.specs.Disk.{Rose};
 ghost use Rattle.wol_run.specs.Completing.{IsUnhindered};
-ghost use Rattle.wol_run.specs.Serving.{EndsAtClient, RunsServing, wire};
+ghost use Rattle.wol_run.specs.Serving.{EndsAtClient, RunsServing};
 ghost use Rattle.wol_run.specs.Settings.{OfRead};
+ghost use Rattle.nbd_serving.specs.Wires.{wire};
 
 use crate::settings::config_of;
 use command_words::ServedName;

@@ -27,5 +27,5 @@ returns c =
     let n : 128 - (128 - c.args.chunk.count) ≡ c.args.chunk.count = omega (arith, c.requires.count.1) in
     let all : (2 ^ 128 - 1) / 2 ^ (128 - c.args.chunk.count) ≡ 2 ^ c.args.chunk.count - 1 = ones_shr 128 (128 - c.args.chunk.count) (omega arith) ∙ ap (λ k. 2 ^ k - 1) n in
     subst (λ (n : ℕ). (eqb c.moved-live.result n ≡ true) ↔ BecomesTidy (listed_in c.args.index.now.entries) c.args.chunk.lbn c.args.chunk.count) (sym all)
-    (becomes c.args.index.now.entries c.in-Some-find.ensures.index c.args.chunk.lbn c.args.chunk.count c.requires.0 c.requires.1 c.in-Some.newest c.in-Some.ensures c.in-Some-find.record c.in-Some-find.ensures.value
+    (becomes c.args.index.now.entries c.in-Some-find.ensures.index c.args.chunk.lbn c.args.chunk.count c.requires.count.0 c.requires.count.1 c.in-Some.newest c.in-Some.ensures c.in-Some-find.record c.in-Some-find.ensures.value
     c.live.result c.live.ensures c.moved-live.result (omega arith) c.moved-live.ensures)

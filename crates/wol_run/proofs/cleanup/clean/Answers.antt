@@ -17,15 +17,15 @@ returns-in-Err-clause-content g c = record { read = None; has = tt; is = not_beg
 
 pub returns-in-Ok-clean_volumes-clause-content : goal.returns-in-Ok-clean_volumes-clause-content
 returns-in-Ok-clean_volumes-clause-content g c =
-    record { read = Some c.in-Ok.config; has = c.in-Ok.ensures.ok; is = is_cleaning _ _ c.in-Ok.config _ _ _ _ _ _ _ _ _ _ c.in-Ok-clean_volumes.ensures.leaves c.in-Ok-clean_volumes.ensures.others c.in-Ok-clean_volumes.ensures.cleans (no_greater _) (refl, refl) }
+    record { read = Some c.in-Ok.config; has = c.in-Ok.ensures.ok; is = is_cleaning _ _ c.in-Ok.config _ _ _ _ _ _ _ _ _ _ (record { bay = c.in-Ok-clean_volumes.ensures.leaves; views = c.in-Ok-clean_volumes.ensures.views }) c.in-Ok-clean_volumes.ensures.others c.in-Ok-clean_volumes.ensures.cleans (no_greater _) (refl, refl) }
 
 pub returns-in-Err-Sink-clause-content : goal.returns-in-Err-Sink-clause-content
 returns-in-Err-Sink-clause-content g c =
-    record { read = Some c.in-Ok.config; has = c.in-Ok.ensures.ok; is = is_cleaning _ _ c.in-Ok.config _ _ _ _ _ _ _ _ _ _ c.in-Err-Sink.ensures.leaves c.in-Err-Sink.ensures.others (rw c.in-Err-Sink.field-0-is at c.in-Err-Sink.ensures.cleans) (no_greater _) (refl, refl) }
+    record { read = Some c.in-Ok.config; has = c.in-Ok.ensures.ok; is = is_cleaning _ _ c.in-Ok.config _ _ _ _ _ _ _ _ _ _ (record { bay = c.in-Err-Sink.ensures.leaves; views = c.in-Err-Sink.ensures.views }) c.in-Err-Sink.ensures.others (rw c.in-Err-Sink.field-0-is at c.in-Err-Sink.ensures.cleans) (no_greater _) (refl, refl) }
 
 pub returns-clause-content : goal.returns-clause-content
 returns-clause-content g c =
-    record { read = Some c.in-Ok.config; has = c.in-Ok.ensures.ok; is = is_cleaning _ _ c.in-Ok.config _ _ _ _ _ _ _ _ _ _ c.in-Err-Fault.ensures.leaves c.in-Err-Fault.ensures.others (rw c.in-Err-Fault.field-0-is at c.in-Err-Fault.ensures.cleans) c.tell_fault-in-Err-Fault.ensures.sink.later (rw c.deref.ensures.value at c.tell_fault-in-Err-Fault.ensures.content) }
+    record { read = Some c.in-Ok.config; has = c.in-Ok.ensures.ok; is = is_cleaning _ _ c.in-Ok.config _ _ _ _ _ _ _ _ _ _ (record { bay = c.in-Err-Fault.ensures.leaves; views = c.in-Err-Fault.ensures.views }) c.in-Err-Fault.ensures.others (rw c.in-Err-Fault.field-0-is at c.in-Err-Fault.ensures.cleans) c.tell_fault-in-Err-Fault.ensures.sink.later (rw c.deref.ensures.value at c.tell_fault-in-Err-Fault.ensures.content) }
 
 -- ---- It comes to its end
 
