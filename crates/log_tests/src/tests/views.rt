@@ -83,29 +83,20 @@ fn free_segment(rt: &impl Abort, alloc: Global, token: &Awake) -> Result<(), Fai
     Ok(())
 }
 
-#[test]
-fn what_was_stored_is_loaded(rt: HostRuntime) -> Result<(), Fail> {
-    let mut spindle = Spindle::new(rt.alloc(), 3, 100);
-    let token = spindle.need();
-    let done = store_and_load(&rt, rt.alloc(), &token);
-    spindle.done(token);
-    done
+// All of them in one turn of the disk.
+fn store_load_and_free(rt: &impl Abort, alloc: Global, token: &Awake) -> Result<(), Fail>
+    requires { token_volume token.now ≡ 3 }
+{
+    store_and_load(rt, alloc, token)?;
+    load_damaged(rt, alloc, token)?;
+    free_segment(rt, alloc, token)
 }
 
 #[test]
-fn the_first_damaged_block_is_told(rt: HostRuntime) -> Result<(), Fail> {
+fn views_and_free_segments_are_stored_and_loaded(rt: HostRuntime) -> Result<(), Fail> {
     let mut spindle = Spindle::new(rt.alloc(), 3, 100);
     let token = spindle.need();
-    let done = load_damaged(&rt, rt.alloc(), &token);
-    spindle.done(token);
-    done
-}
-
-#[test]
-fn a_part_of_zeros_becomes_a_free_segment(rt: HostRuntime) -> Result<(), Fail> {
-    let mut spindle = Spindle::new(rt.alloc(), 3, 100);
-    let token = spindle.need();
-    let done = free_segment(&rt, rt.alloc(), &token);
+    let done = store_load_and_free(&rt, rt.alloc(), &token);
     spindle.done(token);
     done
 }

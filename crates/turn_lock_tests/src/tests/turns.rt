@@ -115,11 +115,9 @@ fn ten_turns<R: Wait>(
     lock: &TurnLock<Desk>,
     pass: &mut Pass<Desk>,
 )
-    requires own { IsPassOf lock.now pass.old }
-    requires free { IsFree pass.old }
+    requires pass { IsPassOf lock.now pass.old × IsFree pass.old }
     requires counter { (lock_id lock.now).base.counter.id ≡ lock_id counter.now }
-    ensures own { IsPassOf lock.entry.now pass.new }
-    ensures free { IsFree pass.new }
+    ensures { IsPassOf lock.entry.now pass.new × IsFree pass.new }
 {
     for _ in 0..10 {
         work_once(rt, counter, lock, pass);
