@@ -1,5 +1,5 @@
 -- A line more of those that are given, and what comes after the last.
-use Rattle.replay.proofs.Basics.{◌≡◌, ◌<◌, ◌+◌, ◌^◌, ℕ, false, List, [], ◌∷◌, ◌++◌, length, map, Option, Some, refl, sym, ap, ◌∙◌, arith}
+use Rattle.replay.proofs.Basics.{◌≡◌, ◌<◌, ◌+◌, ◌-◌, ◌^◌, ℕ, false, List, [], ◌∷◌, ◌++◌, length, map, Option, Some, refl, sym, ap, ◌∙◌, arith}
 use Rattle.replay.proofs.Basics.{length-append, list_any, range_with_len, Keeps}
 use Rattle.replay.proofs.Terms.{Target, TraceLine, is_feed, Reading, IsDone, RefusesLine, pending, TraceFault, Generator, line, Given}
 use Rattle.replay.proofs.Terms.{HasGiven, HasGivenAll, Refuses, RefusesTrace}
@@ -60,7 +60,10 @@ module _ {S : Type 0} (left : S → Option (List ℕ)) (targets : List Target) w
 
   pub made_all : (start : Given S) (g : Generator) (n : ℕ) (ls : List (Option TraceLine)) → HasGiven left targets start (Generated g n) ls → g.given ≡ n → HasGivenAll left targets start (Generated g n) ls
   made_all (Trace s) g n ls has end = absurd has
-  made_all (Generated s m) g n ls (same, at, are) end = (end ∙ same, are)
+  made_all (Generated s m) g n ls (same, at, are) end =
+      let reached : g.given ≡ s.given + length ls = ap (λ (r : Generator). r.given) at in
+      let count : length ls ≡ m - s.given = omega (arith, reached, end, same) in
+      (end ∙ same, are ∙ ap (λ (k : ℕ). map (λ (i : ℕ). Some (line targets s.seed i)) (range_with_len s.given k)) count)
 
   pub none_given : (start : Given S) → HasGiven left targets start start []
   none_given (Trace s) = (has_none (pending left s), omega arith)

@@ -1,5 +1,5 @@
 -- The lines that come of a trace or of a seed.
-use Rattle.std.specs.Prelude.{⊤, ◌≡◌, ◌≤◌, ◌+◌, ◌^◌, ℕ, true, false, List, [], ◌∷◌, length, map, Option, Some, Err}
+use Rattle.std.specs.Prelude.{⊤, ◌≡◌, ◌≤◌, ◌+◌, ◌-◌, ◌^◌, ℕ, true, false, List, [], ◌∷◌, length, map, Option, Some, Err}
 use Rattle.std.specs.List.{list_any, range_with_len}
 use Rattle.std.specs.Io.KnownBytes.{IsAtEnd, prepend_known}
 use Rattle.wol_disk.specs.Disk.{Rose}
@@ -54,7 +54,7 @@ module _ {S : Type 0} (left : S → Option (List ℕ)) (targets : List Target) w
       (m ≡ n) × (h ≡ record g { given = g.given + length ls })
       × (ls ≡ map (λ k. Some (line targets g.seed k)) (range_with_len g.given (length ls)))
 
-  -- these are all that come
+  -- these are all that come: all lines of the trace, or those up to the last one that is asked for
   abbrev pub HasGivenAll : (start now : Given S) → List (Option TraceLine) → Type 0
   HasGivenAll (Trace r) (Trace q) ls =
       HasLines (pending left r) ls [] × (q.held ≡ []) × IsAtEnd (left q.source)
@@ -62,7 +62,7 @@ module _ {S : Type 0} (left : S → Option (List ℕ)) (targets : List Target) w
   HasGivenAll (Generated g n) (Trace q) ls = ⊥
   HasGivenAll (Generated g n) (Generated h m) ls =
       (h.given ≡ n)
-      × (ls ≡ map (λ k. Some (line targets g.seed k)) (range_with_len g.given (length ls)))
+      × (ls ≡ map (λ k. Some (line targets g.seed k)) (range_with_len g.given (n - g.given)))
 
 -- what behind these lines of a trace is the cause of a fault: a bad line; more than 2^32 lines; of
 -- a source that failed no whole line is held back
