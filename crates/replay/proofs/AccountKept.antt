@@ -4,7 +4,7 @@ use Rattle.replay.proofs.Terms.{State, BayState, Told, TraceLine, joined_lines, 
 use Rattle.replay.proofs.Terms.{answers_in, view_at, LeavesImages, Replayed, Replays, status_in, ServedWindow, IsSummaryOf, PrintsRun}
 use Rattle.replay.proofs.Terms.{Given, Options, Stop}
 use Rattle.replay.specs.Account.{Account, EndsWithSummary, KeepsAccount}
-use Rattle.replay.proofs.HeadlineKept.{closed_yet, no_memory_yet}
+use Rattle.replay.proofs.HeadlineKept.{closed_yet, no_memory_yet, to_the_end}
 use Rattle.replay.proofs.Statuses.{not_success}
 use Rattle.replay.specs.Replays as replays
 use Rattle.replay.specs.Summed as summed
@@ -46,6 +46,7 @@ module _ {S T : Type 0} (tells : Bool) (left : S → Option (List ℕ)) (config 
       (λ entry exit first leaves. record {
         lines = r.run;
         given = (r.more, r.given);
+        all = λ is. to_the_end left config start now r.run r.last old.faults new.faults sink sink' result r.ends is;
         windows = r.earlier ++ r.last;
         are = r.windows_;
         awake = r.awake;

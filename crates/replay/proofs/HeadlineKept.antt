@@ -56,7 +56,7 @@ one_flying None w is = absurd (cc is)
 one_flying (Some ws) w is = refl
 
 -- at status 0 the trace was run to its end
-to_the_end : {S T : Type 0} (left : S → Option (List ℕ)) (config : Config) (start now : Given S) (run : List (Option TraceLine)) (last : List ServedWindow) (bay bay' sink sink' : ℕ) (result : Result T Stop)
+pub to_the_end : {S T : Type 0} (left : S → Option (List ℕ)) (config : Config) (start now : Given S) (run : List (Option TraceLine)) (last : List ServedWindow) (bay bay' sink sink' : ℕ) (result : Result T Stop)
     → ended.EndsFor left config start now run last bay bay' sink sink' result → status_in result ≡ 0 → HasGivenAll left (targets_of config) start now run
 to_the_end left config start now run last bay bay' sink sink' (Ok done) (ended.whole _ _ all) is = all
 to_the_end left config start now run last bay bay' sink sink' (Err stop.Sink) ends is = absurd (cc is)

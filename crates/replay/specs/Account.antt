@@ -25,7 +25,7 @@ use Rattle.rack.specs.PoolUses.{ArePools, PassesEmpty, TakesFew}
 use Rattle.trace_gen.specs.Generated.{targets_of}
 use Rattle.window_desks.specs.declared.request.Reclaim.{Reclaim}
 use Rattle.window_desks.specs.declared.request.Reclaim.TheVariants as reclaim
-use Rattle.replay.specs.Givens.{HasGiven}
+use Rattle.replay.specs.Givens.{HasGiven, HasGivenAll}
 use Rattle.replay.specs.Headlined.{HasNotBegun}
 use Rattle.replay.specs.Histories.{History, IsHistory, answers_in, is_broken, is_broken_at, view_at}
 use Rattle.replay.specs.Leaves.{records_in}
@@ -76,6 +76,8 @@ pub record Account {S : Type 0} (left : S → Option (List ℕ)) (config : Confi
   pub lines : List (Option TraceLine)
   pub given : (more : List (Option TraceLine))
       × HasGiven left (targets_of config) start now (lines ++ more)
+  -- at status 0 these are all that come
+  pub all : status ≡ 0 → HasGivenAll left (targets_of config) start now lines
   pub windows : List ServedWindow
   pub are : AreWindowsOf config lines windows
   -- which disks were awake as each window began

@@ -35,6 +35,7 @@ module _ {D S T : Type 0} (tells : Bool) (state : D → State) (left : S → Opt
       (λ entry exit a. record {
         lines = a.lines;
         given = a.given;
+        all = λ zero_is. a.all (of_success config result status then taken' ends zero_is);
         windows = a.windows;
         are = a.are;
         awake = a.awake;
