@@ -48,7 +48,9 @@ AreAllOpen config entry = (k : ℕ) (v : VolumeConf) → slice_get config.volume
     → WasAccepted config entry k v
 
 -- A call of a disk of volume v failed: the bay's count rose, and a part of the volume came back with
--- a fault, its home or a segment of a logger in the view with which it was opened.
+-- a fault, its home or a segment of a logger in the view with which it was opened. Of such a
+-- segment a crash leaves only what says that it is the volume's or free, so it may be a free one
+-- that another volume failed to claim.
 pub record HasFailed (config : Config) (entry exit : Told) (faults faults' v : ℕ) : Type 0 where
   pub rose : Rose faults faults'
   pub base : Base
@@ -68,7 +70,7 @@ pub record MeetsHeadline {S : Type 0} (left : S → Option (List ℕ)) (config :
       × HasGiven left (targets_of config) start now (lines ++ more)
   pub answers : List Answered
   pub asked : requests_in answers ≡ requests (most_of config) (targets_of config) lines
-  -- at status 0 that is the whole trace, and each request was answered
+  -- at status 0 these are all that come, and each request was answered
   pub done : status ≡ 0 → HasGivenAll left (targets_of config) start now lines
       × ((v : ℕ) → answered_count answers v ≡ length (of_volume v (requests_in answers)))
   -- of these the headline holds; a home of which a call failed came back with a fault

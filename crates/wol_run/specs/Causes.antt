@@ -76,8 +76,8 @@ replayed_by (Replay options) trace = Some (options_as options, trace_of trace)
 replayed_by (Soak asked options) trace = Some (options_as options, lines_of asked)
 replayed_by command trace = None
 
--- A volume had no version left for a write: its writes that went to logs, fewer than are asked of
--- it, took all versions from the next one at opening on.
+-- A volume had no version left for a write: the next one at opening, and a number below that of the
+-- writes that some first lines ask of it, come to 2^63 or more.
 pub record HasNoVersion (tells : Bool) (read : Option Config) (words : List (List ℕ))
     (before after : Outside) : Type 0 where
   pub config : Config
