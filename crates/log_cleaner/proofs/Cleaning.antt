@@ -23,10 +23,10 @@ use Rattle.redirect_map.specs.Index.{IsEntry, IsIndex}
 use Rattle.manager.specs.Stands.{IsInVolume, IsReady}
 use Rattle.manager.specs.declared.manager.Manager.{Manager}
 use Rattle.manager.proofs.RunSources.{same_version}
-use Rattle.log_cleaner.specs.Chunks.{AreNext, AreTidyBelow, AreUntidyBehind, BecomesTidy, HasLive, IsAhead, IsChunk, IsNext, IsTidy, IsTidyBehind, IsUppermost, KeepsJust, KeepsNone, NoneHomed, end_of, is_copied, is_within}
+use Rattle.log_cleaner.specs.Chunks.{AreNext, AreTidyBelow, AreUntidyBehind, BecomesTidy, HasLive, IsAhead, IsChunk, IsNext, IsTidy, IsTidyBehind, IsUppermost, KeepsJust, KeepsNone, NoneGoes, NoneGoesBehind, NoneHomed, end_of, is_copied, is_within}
 use Rattle.log_cleaner.specs.Cleans.{CanClean, HasCleaned, IsChunkOf, IsLeftUntidy, IsOfUntidy, TellsCleaned, copied_blocks, covered_in}
 use Rattle.log_cleaner.specs.Copies.{AreCopies}
-use Rattle.log_cleaner.specs.Steps.{AreCopiesAt, AreCoveredIn, HasBroken, HasCopied, HasRewritten, IsCopyAt, IsRefused, KeepsTidy, NoneGoes, Rewrites, Settles, TidiesAll, ended, is_broken, rewritten, written_of}
+use Rattle.log_cleaner.specs.Steps.{AreCopiesAt, AreCoveredIn, HasBroken, HasCopied, HasRewritten, IsCopyAt, IsRefused, KeepsTidy, Rewrites, Settles, TidiesAll, ended, is_broken, rewritten, written_of}
 use Rattle.log_cleaner.specs.Underway.{AreChunks, CleansBy, EndsBy, HasCleanedSome}
 use Rattle.log_cleaner.specs.declared.answer.Cleaned.{Cleaned}
 use Rattle.log_cleaner.specs.declared.answer.CleanFault.{CleanFault}
@@ -166,7 +166,7 @@ pub record Between {D : Type 0} (tells : Bool) (state : D → State) (most : ℕ
   -- and what was live there is
   pub live : (v x : ℕ) → from ≤ x → HasLive (listed_in old.index.entries) v x ↔ HasLive (listed_in now.index.entries) v x
   -- nothing may go once all was given up
-  pub quiet : settled ≡ true → (copies ≡ [] → ⊥) → NoneGoes (listed_in now.index.entries)
+  pub quiet : settled ≡ true → NoneGoesBehind (listed_in now.index.entries) copies
 
 pub between_none : {D : Type 0} (tells : Bool) (state : D → State) (most : ℕ) (m : Manager D) → CanClean m → Between tells state most m m 0 0 true []
 between_none tells state most m can = record {
@@ -587,6 +587,9 @@ module _ {D : Type 0} (tells : Bool) (state : D → State) (most : ℕ) (old now
         behind_later : AllByRecursion (λ (w : Write). w.first < i.lbn) copies
         behind_later = all_map (λ (w : Write). w.first < from) (λ (w : Write). w.first < i.lbn) (λ w lt. omega (arith, lt, met.low)) copies b.behind
 
+    quiet_since : settled ≡ true → new.index.entries ≡ now.index.entries → NoneGoesBehind (listed_in new.index.entries) copies
+    quiet_since yes_ same = subst (λ (es : List Indexed). NoneGoesBehind (listed_in es) copies) (sym same) (b.quiet yes_)
+
     pub between_copied : AreStill (listed_in now.index.entries) copies items → (k : ℕ) → 1 ≤ k → (t : HasRewritten tells state (take k items) now new) → Between tells state most old new (copied + count_of (take k items)) (end_of from (take k items)) false (copies ++ t.writes)
     between_copied still k one t = record {
       done = record {
@@ -624,6 +627,7 @@ module _ {D : Type 0} (tells : Bool) (state : D → State) (most : ℕ) (old now
       b.count,
       λ wrong. absurd (let no_ : true ≡ false = wrong in cc),
       λ full. (let e = r.copied.next in let n = r.next in omega (arith, e, n), empty_since old now new b.done.copied.goes_on r.empty, left_untidy yes_ r.entries, r.room),
+      quiet_since yes_ r.entries,
     )
 
     -- none was written, and all was given up before, or a call of a disk failed
@@ -639,10 +643,12 @@ module _ {D : Type 0} (tells : Bool) (state : D → State) (most : ℕ) (old now
       record { chunks = b.done.chunks; copied = subst (HasCopied tells state old new) (append-nil copies) (copied_then tells state old now new copies [] can b.done.copied f.0); untouched = λ none. f.2 ∙ b.done.untouched none },
       f.1,
       left_untidy (so refl) f.2,
+      quiet_since (so refl) f.2,
     )
     ends_by still (Err NoMemory) none so f = let left = left_untidy (so refl) f.1 in subst (λ (ws : List Write). EndsBy tells state most old new ws NoMemory) (sym (append-nil copies)) (
       record { chunks = b.done.chunks; copied = subst (HasCopied tells state old new) (append-nil copies) (copied_then tells state old now new copies [] can b.done.copied f.0); untouched = λ none. f.1 ∙ b.done.untouched none },
       (i.lbn, left.before, left.behind),
+      quiet_since (so refl) f.1,
     )
 
 -- all are tidy where no block is covered from here on
@@ -653,6 +659,7 @@ ends_clean tells state most old now copied from copies b ready index bare = (
   b.count,
   λ is. record { each = each; only = only },
   λ wrong. absurd (let no_ : false ≡ true = wrong in cc),
+  b.quiet refl,
 )
   where
     same_cover : (x : ℕ) → covered_in now x ≡ covered_in old x
@@ -713,14 +720,15 @@ module _ {D : Type 0} (tells : Bool) (state : D → State) (most : ℕ) (old new
         λ is. all.3 (sym same_full ∙ is),
         d.untouched,
         d.copied.calm,
+        all.4,
       )
 
   pub cleaned_err : (fault : CleanFault) → CleansBy tells state most old new copies (Err fault) → (has : HasCleaned tells state most old new (Err fault)) × (copies ≡ has.copies)
   cleaned_err (DiskFault p) all = let d = all.1 in whole (Err (DiskFault p)) all.0 d.copied (d.down, d.rose, d.leaves)
   cleaned_err VersionsSpent all = let d = all.0 in
-      whole (Err VersionsSpent) d.chunks d.copied.copied (d.copied.goes_on, leaves_copies tells state old new copies can.up d.copied.keeps, all.1, sym d.copied.next ∙ all.1, all.2, d.untouched, d.copied.calm)
-  cleaned_err NoMemory all = let d = all.0 in whole (Err NoMemory) d.chunks d.copied.copied (d.copied.goes_on, leaves_copies tells state old new copies can.up d.copied.keeps, d.untouched, all.1, d.copied.calm)
+      whole (Err VersionsSpent) d.chunks d.copied.copied (d.copied.goes_on, leaves_copies tells state old new copies can.up d.copied.keeps, all.1, sym d.copied.next ∙ all.1, all.2, d.untouched, d.copied.calm, all.3)
+  cleaned_err NoMemory all = let d = all.0 in whole (Err NoMemory) d.chunks d.copied.copied (d.copied.goes_on, leaves_copies tells state old new copies can.up d.copied.keeps, d.untouched, all.1, d.copied.calm, all.2)
 
 pub cleaned_none : {D : Type 0} (tells : Bool) (state : D → State) (most : ℕ) (m : Manager D) → CanClean m → (has : HasCleaned tells state most m m (Err NoMemory)) × ([] ≡ has.copies)
 cleaned_none tells state most m can = cleaned_err tells state most m m can [] NoMemory
-    (record { chunks = chunks_none (covered_in m) (listed_in m.index.entries) most m.next; copied = copied_none tells state m can; untouched = λ none. refl }, (0, (λ x lt is. absurd (omega (arith, lt))), tt))
+    (record { chunks = chunks_none (covered_in m) (listed_in m.index.entries) most m.next; copied = copied_none tells state m can; untouched = λ none. refl }, (0, (λ x lt is. absurd (omega (arith, lt))), tt), (λ some. absurd (some refl)))

@@ -4,7 +4,7 @@ use Rattle.std.specs.List.{AllByRecursion, list_any}
 use Rattle.wol_disk.specs.Disk.{Block}
 use Rattle.log_segment.specs.declared.item.Item.{Item}
 use Rattle.wol_model.specs.Blocks.{Write}
-use Rattle.wol_model.specs.Index.{Listed, cover_of, is_homed, is_live}
+use Rattle.wol_model.specs.Index.{Listed, cover_of, goes, is_homed, is_live}
 
 -- ---- Chunks
 
@@ -68,6 +68,16 @@ abbrev pub AreTidyBelow : (covered : ℕ → Bool) → (most from : ℕ) → Lis
 AreTidyBelow covered most from es = (b : ℕ) → b < from → covered b ≡ true
     → (first : ℕ) × (count : ℕ) × IsChunk covered most first count × (first ≤ b)
     × (b < first + count) × IsTidy es first count
+
+-- ---- What may go
+
+-- nothing may go
+abbrev pub NoneGoes : List Listed → Type 0
+NoneGoes es = AllByRecursion (λ e. (b : ℕ) → goes es e b ≡ false) es
+
+-- where these copies were made nothing may go any more
+abbrev pub NoneGoesBehind : List Listed → (copies : List Write) → Type 0
+NoneGoesBehind es copies = (copies ≡ [] → ⊥) → NoneGoes es
 
 -- ---- Live blocks, and what is tidy once all was given up that may go
 

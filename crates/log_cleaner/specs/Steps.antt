@@ -4,7 +4,7 @@ use Rattle.std.specs.List.{AllByRecursion}
 use Rattle.wol_disk.specs.Disk.{State, Block}
 use Rattle.wol_model.specs.Blocks.{Write}
 use Rattle.wol_model.specs.History.{Broke}
-use Rattle.wol_model.specs.Index.{Indexed, Listed, goes, is_live, listed_in}
+use Rattle.wol_model.specs.Index.{Indexed, Listed, is_live, listed_in}
 use Rattle.spin_model.specs.Spun.{state_of}
 use Rattle.wol_model.specs.Placing.{Log}
 use Rattle.wol_promise.specs.Policy.{Look}
@@ -25,7 +25,7 @@ use Rattle.manager.specs.declared.part.WriteRefusal.{WriteRefusal}
 use Rattle.manager.specs.declared.part.WriteRefusal.TheVariants as refused
 use Rattle.manager.specs.declared.part.StepFault.{StepFault}
 use Rattle.manager.specs.declared.part.StepFault.TheVariants as step
-use Rattle.log_cleaner.specs.Chunks.{HasLive, IsTidy, IsUppermost, is_within}
+use Rattle.log_cleaner.specs.Chunks.{HasLive, IsTidy, IsUppermost, NoneGoes, is_within}
 use Rattle.log_cleaner.specs.Copies.{AreCopies, KeepsCopies, LeavesEntry, array_of}
 use Rattle.log_cleaner.specs.Cleans.{FindsAllEmpty, GoesOn, NoneHasRoom, RoseSince, StaysCalm, covered_in}
 use Rattle.log_cleaner.specs.declared.answer.CleanFault.{CleanFault}
@@ -112,10 +112,6 @@ TidiesUp first count old new = (version : ℕ)
 -- each chunk is tidy then whose uppermost record keeps just its blocks
 abbrev pub TidiesAll : {D : Type 0} → (old new : Manager D) → Type 0
 TidiesAll old new = (first count : ℕ) → 1 ≤ count → TidiesUp first count old new
-
--- nothing may go
-abbrev pub NoneGoes : List Listed → Type 0
-NoneGoes es = AllByRecursion (λ e. (b : ℕ) → goes es e b ≡ false) es
 
 -- giving up all that may go
 abbrev pub GivesAll : {D : Type 0} → (tells : Bool) → (D → State) → (old new : Manager D)

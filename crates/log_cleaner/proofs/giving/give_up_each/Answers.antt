@@ -4,7 +4,8 @@ use Rattle.reclaimer.specs.Steps.{HasGivenUp}
 use Rattle.reclaimer.specs.declared.answers.Gone.{Gone}
 use Rattle.manager.specs.declared.manager.Manager.{Manager}
 use Rattle.wol_model.specs.Index.{listed_in}
-use Rattle.log_cleaner.specs.Steps.{HasCopied, KeepsTidy, NoneGoes, TidiesAll}
+use Rattle.log_cleaner.specs.Chunks.{NoneGoes}
+use Rattle.log_cleaner.specs.Steps.{HasCopied, KeepsTidy, TidiesAll}
 use Rattle.log_cleaner.proofs.Stepping.{copied_none, copied_then, gave_failing, gave_more, gave_then, gives_all_failing, lanes_within, lowers_of, none_left, tidies_up, tidy_none, tidy_then}
 use Rattle.log_cleaner.proofs.giving.give_up_each.Goals as goal
 
