@@ -10,7 +10,8 @@ pub struct Cleaned {
     pub after: u64,
     /// How many blocks were written again.
     pub copied: u64,
-    /// Whether a chunk was left as it was, since no logger of the view had room for it. Cleaning stopped there.
+    /// Whether a chunk was left as it was, since no logger of the view had room for it. Cleaning stopped there. Where
+    /// chunks were copied before it, all that may go was given up first; where none was, nothing was.
     pub full: bool,
 }
 

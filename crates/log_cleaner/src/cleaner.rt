@@ -95,9 +95,9 @@ fn next_width(index: &Index, gathered: &Gathered, written: usize, width: usize) 
     }
 }
 
-// Writes the chunks again that aren't tidy when their turn comes, in order, as far as there is room, and gives up what may go at
-// the end, and before a chunk that is tidy only then. Where a chunk can't be written segments are given up, and all that may go
-// where that wasn't enough. Tells how many blocks were copied, and whether room was missing.
+// Writes the chunks again that aren't tidy when their turn comes, in order, as far as there is room, and gives up what may go
+// behind those: at the end, before a chunk that is tidy only then, and where one can't be written, segments first, and all that
+// may go where that wasn't enough. Tells how many blocks were copied, and whether room was missing.
 fn clean_all<R: Wait, D: Disk>(
     rt: &R,
     m: &mut Manager<D>,
@@ -161,9 +161,10 @@ fn clean_all<R: Wait, D: Disk>(
 /// after each `most` blocks from its start. A chunk is tidy where one record keeps just its blocks and no other record
 /// keeps any of them. That is asked when its turn comes: once a chunk was copied, of the records without what may go. For
 /// each in order its blocks are read and written again to a log, those behind it with it that the segment has room for, as
-/// one group. What may go is given up once they are written; before that where the next one is tidy only then, and where
-/// one can't be written: first segments in which no record has a live block, each by one write of its head, then records
-/// one by one. Segments in which no record is left go to their pools.
+/// one group. Once a chunk was copied what may go is given up: when all are written; before that where the next one is tidy
+/// only then, and where one can't be written: first segments in which no record has a live block, each by one write of its
+/// head, then records one by one. Segments in which no record is left go to their pools. Where the first one can't be
+/// written nothing is given up, even if that would make room.
 ///
 /// `done` becomes the copies, in order, also those before a refusal; only contracts read them.
 ///
