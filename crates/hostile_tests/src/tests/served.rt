@@ -1,5 +1,5 @@
 // A volume that is served to a client, at once or behind a handshake, while a disk, the client or its replies stop. Each session clears
-// a buffer of 32 MiB, so there is one of each kind.
+// a buffer of 32 MiB, so there is one of each kind, and each has a test of its own where a client fails.
 use super::calls::{Failing, Stream};
 use super::rows::{Row, keeping};
 use super::stops::{Case, Look, Remains, found, left_by, prepared, stopped, try_row};
@@ -341,7 +341,14 @@ fn a_session_whose_disks_stop_keeps_what_was_answered(rt: HostRuntime) -> Result
 
 #[test]
 fn a_client_that_fails_has_what_was_answered(rt: HostRuntime) -> Result<(), Fail> {
-    try_sessions(&rt, rt.alloc(), &[AT_ONCE, SHAKEN], Fault::Stream)
+    try_sessions(&rt, rt.alloc(), &[AT_ONCE], Fault::Stream)
+}
+
+#[test]
+fn a_client_that_fails_behind_a_handshake_has_what_was_answered(
+    rt: HostRuntime,
+) -> Result<(), Fail> {
+    try_sessions(&rt, rt.alloc(), &[SHAKEN], Fault::Stream)
 }
 
 #[test]
