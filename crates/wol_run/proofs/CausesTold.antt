@@ -1,7 +1,7 @@
 -- Why each command ended with its status.
 use Rattle.std.proofs.Common.{◌≡◌, ◌≢◌, ◌⊎◌, inl, inr, ℕ, zero, suc, ◌<◌, Bool, true, false, List, [], ◌∷◌, Option, None, Some, Result, Ok, Err, refl, sym, ap, subst, ◌∙◌, true≢false, arith}
 use Rattle.rack.specs.Closes.{is_kept_home, part_named}
-use Rattle.std.specs.Prelude.{IfSome, IsTrue, codes, not, slice_get}
+use Rattle.std.specs.Prelude.{IfSome, IsTrue, not, slice_get}
 use Rattle.std.specs.Io.KnownBytes.{IsAtEnd}
 use Rattle.std.proofs.lemmas.Option.{same_Some}
 use Rattle.wol_disk.specs.Disk.{Rose, State}
@@ -87,7 +87,7 @@ use Rattle.wol_run.specs.Replaying.{EndsReplay, GivenLines, HasLeft, IsReplay, t
 use Rattle.wol_run.specs.Run.{IsCleaningOf, IsComparisonOf, IsFormat, IsListingOf, IsLookFor, IsReplayOf, IsServingOf, IsViewChangeOf}
 use Rattle.wol_run.specs.Serving.{HasBadBytes, served_as}
 use Rattle.wol_run.specs.Settings.{IsFaultLine, line_of_fault}
-use Rattle.wol_run.specs.Tops.{EndsWith, HasBadLine, HasMoreLines}
+use Rattle.wol_run.specs.Tops.{EndsWith, HasBadLine, HasMoreLines, TellsNoMemory}
 use Rattle.wol_run.specs.Viewing.{EndsChange, IsViewChange, RefusesChange, view_change_by}
 use Rattle.wol_run.proofs.Asked.{of_asked, uses_alike}
 use Rattle.wol_run.proofs.FormatEndings.{ends_format}
@@ -184,7 +184,7 @@ module _ {D : Type 0} (tells : Bool) (state : D → State) (read : Option Config
     ]
 
     -- the status is that of the fault, or the sink or memory failed
-    told_cause : (names : List (List ℕ)) (f : Fault) (mid : Option (List ℕ)) → EndsWith (fault_text names f) (status_of f) status mid after.sink.bytes ⊎ EndsWith (codes "fault 9 memory\n") 9 status mid after.sink.bytes
+    told_cause : (names : List (List ℕ)) (f : Fault) (mid : Option (List ℕ)) → EndsWith (fault_text names f) (status_of f) status mid after.sink.bytes ⊎ TellsNoMemory status mid after.sink.bytes
         → (status ≡ status_of f → Cause status) → Cause status
     told_cause names f mid (inl ends) cause = ended_cause _ (status_of f) mid ends cause
     told_cause names f mid (inr ends) cause = ended_cause _ 9 mid ends memory_cause

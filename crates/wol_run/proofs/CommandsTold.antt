@@ -1,6 +1,5 @@
 -- What a run promises, command by command.
 use Rattle.std.proofs.Common.{◌≡◌, ◌⊎◌, inl, inr, ℕ, ◌<◌, Bool, true, false, List, Option, None, Err, Ok, refl, sym, ◌∙◌, true≢false}
-use Rattle.std.specs.Prelude.{codes}
 use Rattle.std.specs.Io.KnownBytes.{IsAtEnd}
 use Rattle.wol_disk.specs.Disk.{Rose, State}
 use Rattle.solo.proofs.Imaging.{not_made}
@@ -31,7 +30,7 @@ use Rattle.wol_run.specs.Replaying.{lines_of, options_as, trace_of}
 use Rattle.wol_run.specs.Run.{Does, IsCleaningOf, IsComparisonOf, IsFormat, IsListingOf, IsLookFor, IsReplayOf, IsServingOf, IsViewChangeOf, Run}
 use Rattle.wol_run.specs.Serving.{EndsAtClient}
 use Rattle.wol_run.specs.Settings.{IsConfigured, OfRead}
-use Rattle.wol_run.specs.Tops.{EndsWith, HasCause, IsDoneOrMemory, TellsFault, TellsStatus}
+use Rattle.wol_run.specs.Tops.{HasCause, IsDoneOrMemory, TellsFault, TellsNoMemory, TellsStatus}
 use Rattle.wol_run.proofs.Asked.{of_asked, uses_alike}
 use Rattle.wol_run.proofs.CausesTold.{clean_cause, comparison_cause, format_cause, gen_cause, look_cause, replay_cause, serving_cause, view_cause}
 use Rattle.wol_run.proofs.Compared.{uncompared}
@@ -178,7 +177,7 @@ solo_done_promise tells state words before after calm own is config end x run = 
     (λ order still. inl (inl refl))
 
 -- there was no memory to read the words, and the sink alone was used
-module _ {D : Type 0} (tells : Bool) (state : D → State) (words : List (List ℕ)) (before : Outside) (sink : Stream) (status : ℕ) (ends : EndsWith (codes "fault 9 memory\n") 9 status before.sink.bytes sink.bytes) where
+module _ {D : Type 0} (tells : Bool) (state : D → State) (words : List (List ℕ)) (before : Outside) (sink : Stream) (status : ℕ) (ends : TellsNoMemory status before.sink.bytes sink.bytes) where
   abbrev after : Outside
   after = record before { sink = sink }
 

@@ -1,6 +1,5 @@
 -- What a comparison of the policies ended with, and what became of the sink.
 use Rattle.std.proofs.Common.{◌≡◌, ◌≤◌, ◌⊎◌, inl, inr, ℕ, List, Option, Result, Ok, Err, refl, subst}
-use Rattle.std.specs.Prelude.{codes}
 use Rattle.wol_disk.specs.Disk.{Rose}
 use Rattle.wol_model.specs.Trace.{TraceLine}
 use Rattle.wol_config.specs.declared.config.Config.{Config}
@@ -17,7 +16,8 @@ use Rattle.comparison.specs.Compares as behind
 use Rattle.wol_run.specs.Comparing.{IsComparison, IsUncompared}
 use Rattle.wol_run.specs.Replaying.{EndsReplay, GivenLines, HasLeft, HasSource, seen}
 use Rattle.wol_run.specs.Settings.{IsUnread, line_of_fault}
-use Rattle.wol_run.specs.Tops.{EndsWith}
+use Rattle.wol_run.specs.Statuses.{no_memory_text}
+use Rattle.wol_run.specs.Tops.{EndsWith, TellsNoMemory}
 use Rattle.wol_run.proofs.ReplayEnds.{NoLine, same_fault}
 use Rattle.wol_run.proofs.ReplayFaults.{CanEnd, trace_can}
 use Rattle.wol_run.proofs.SeenLines.{all_seen, given_seen, refuses_seen, still_given}
@@ -100,7 +100,7 @@ is_comparison left config start now sink sink' after printed then printed' statu
 
 -- the configuration wasn't had
 pub uncompared : (start : GivenLines) (left rest : Option (List ℕ)) (faults faults' status : ℕ) (printed printed' : Option (List ℕ)) → (e : Fault) → IsUnread e left faults faults' → HasLeft start rest
-    → EndsWith (line_of_fault e) (status_of e) status printed printed' ⊎ EndsWith (codes "fault 9 memory\n") 9 status printed printed' → IsUncompared start left rest faults faults' status printed printed'
+    → EndsWith (line_of_fault e) (status_of e) status printed printed' ⊎ TellsNoMemory status printed printed' → IsUncompared start left rest faults faults' status printed printed'
 uncompared start left rest faults faults' status printed printed' e cause kept (inl ends) = record {
   text = line_of_fault e;
   wanted = status_of e;
@@ -109,7 +109,7 @@ uncompared start left rest faults faults' status printed printed' e cause kept (
   ends = ends;
 }
 uncompared start left rest faults faults' status printed printed' e cause kept (inr ends) = record {
-  text = codes "fault 9 memory\n";
+  text = no_memory_text;
   wanted = 9;
   line_ = line_of_memory left faults faults';
   rest = kept;

@@ -1,7 +1,7 @@
 -- Where nothing stands in the way, a run comes to its end, or there is no memory.
 use Rattle.std.proofs.Common.{◌≡◌, ◌≢◌, ◌⊎◌, inl, inr, ℕ, ◌+◌, ◌-◌, ◌≤◌, Bool, cond, List, [], ◌∷◌, ◌++◌, length, map, Option, None, Some, Result, Ok, Err, refl, sym, ap, subst, ◌∙◌, append_assoc, append-nil, length-append, true≢false, arith}
 use Rattle.std.specs.Bool.{⊤}
-use Rattle.std.specs.Prelude.{◌==◌, IsOk, codes}
+use Rattle.std.specs.Prelude.{◌==◌, IsOk}
 use Rattle.std.specs.List.{count_by, range_with_len}
 use Rattle.std.proofs.lemmas.List.{length-map, map-append}
 use Rattle.wol_promise.proofs.Woken.{range_joined}
@@ -38,7 +38,7 @@ use Rattle.inspection.specs.declared.calls.Stop.TheVariants as look_stop
 use Rattle.wol_run.specs.Completing.{HasSoundImages, HasVersions, HaveVersions, IsGoodTrace, seed_lines}
 use Rattle.wol_run.specs.Inspecting.{status_of_first}
 use Rattle.wol_run.specs.Settings.{HasConfig, IsConfigured, IsUnread, line_of_fault}
-use Rattle.wol_run.specs.Tops.{EndsWith, IsDoneOrMemory}
+use Rattle.wol_run.specs.Tops.{EndsWith, IsDoneOrMemory, TellsNoMemory}
 use Rattle.wol_run.proofs.Complete.{no_both}
 use Rattle.wol_run.proofs.Unread.{ends_unread, line_unread, wanted_or_sink}
 use Rattle.wol_config.specs.Configs.{most_of}
@@ -58,7 +58,7 @@ rose_from a b c on (inr most) = inr most
 
 -- where there is a configuration and its source didn't fail, it isn't had for want of memory alone
 pub complete_unread : (left : Option (List ℕ)) (faults faults' status : ℕ) (printed new : Option (List ℕ)) (e : Fault) → IsUnread e left faults faults' → IsConfigured left → ¬ Rose faults faults' → (status ≡ 7 → ⊥)
-    → EndsWith (line_of_fault e) (status_of e) status printed new ⊎ EndsWith (codes "fault 9 memory\n") 9 status printed new → IsDoneOrMemory status
+    → EndsWith (line_of_fault e) (status_of e) status printed new ⊎ TellsNoMemory status printed new → IsDoneOrMemory status
 complete_unread left faults faults' status printed new e cause is calm whole (inr ends) = elim (wanted_or_sink _ 9 status printed new ends) [
   | inl nine ↦ inr nine
   | inr seven ↦ absurd (whole seven)
@@ -292,7 +292,7 @@ replay_memory {T = T} r e f err is done = elim (for_memory r done) [
 
 -- the line of want of memory
 pub told_memory : (names : List (List ℕ)) (f : Fault) (status : ℕ) (printed new : Option (List ℕ)) → f ≡ fault.Memory → (status ≡ 7 → ⊥)
-    → EndsWith (fault_text names f) (status_of f) status printed new ⊎ EndsWith (codes "fault 9 memory\n") 9 status printed new → IsDoneOrMemory status
+    → EndsWith (fault_text names f) (status_of f) status printed new ⊎ TellsNoMemory status printed new → IsDoneOrMemory status
 told_memory names f status printed new is whole (inl ends) = elim (wanted_or_sink _ (status_of f) status printed new ends) [
   | inl same ↦ inr (same ∙ ap status_of is)
   | inr seven ↦ absurd (whole seven)

@@ -1,6 +1,5 @@
 -- What is told at the end of a run of `format`.
 use Rattle.std.proofs.Common.{◌≡◌, ◌⊎◌, inl, inr, ℕ, ◌<◌, List, length, Option, None, Some, Result, Ok, Err, refl, ◌∙◌}
-use Rattle.std.specs.Prelude.{codes}
 use Rattle.wol_disk.specs.Disk.{Rose}
 use Rattle.wol_bay.specs.Bay.{BayState}
 use Rattle.wol_config.specs.declared.config.Config.{Config}
@@ -14,7 +13,8 @@ use Rattle.report.specs.Faults.{fault_text, status_of}
 use Rattle.report.specs.Names.{printed_names}
 use Rattle.wol_run.specs.Formatting.{Formats, FormatsFor, RunsFormat, fault_of, format_lines, trouble_of}
 use Rattle.wol_run.specs.Settings.{HasNoConfig, IsUnread, line_of_fault}
-use Rattle.wol_run.specs.Tops.{EndsWith}
+use Rattle.wol_run.specs.Statuses.{no_memory_text}
+use Rattle.wol_run.specs.Tops.{EndsWith, TellsNoMemory}
 use Rattle.wol_run.proofs.Unread.{ends_unread, line_of_memory, line_unread, memory_line, wanted_or_sink}
 
 -- ---- Endings
@@ -28,7 +28,7 @@ status_four volume (part.Segment index) = refl
 module _ (left : Option (List ℕ)) (faults faults' : ℕ) (old new : BayState) (status : ℕ) (printed now : Option (List ℕ)) where
   -- the configuration wasn't had
   pub told_untouched : (e : Fault) → IsUnread e left faults faults' → new ≡ old
-      → EndsWith (line_of_fault e) (status_of e) status printed now ⊎ EndsWith (codes "fault 9 memory\n") 9 status printed now → RunsFormat None left faults faults' old new status printed now
+      → EndsWith (line_of_fault e) (status_of e) status printed now ⊎ TellsNoMemory status printed now → RunsFormat None left faults faults' old new status printed now
   told_untouched e cause same (inl ends) = record {
     text = line_of_fault e;
     wanted = status_of e;
@@ -36,7 +36,7 @@ module _ (left : Option (List ℕ)) (faults faults' : ℕ) (old new : BayState) 
     ends = ends;
   }
   told_untouched e cause same (inr ends) = record {
-    text = codes "fault 9 memory\n";
+    text = no_memory_text;
     wanted = 9;
     allowed = record { line_ = line_of_memory left faults faults'; bay = same };
     ends = ends;
@@ -53,9 +53,9 @@ module _ (left : Option (List ℕ)) (faults faults' : ℕ) (old new : BayState) 
     }
 
     -- there was no memory
-    pub told_memory : (result : Result (Unit {0}) RackFault) → Formats config result old new → EndsWith (codes "fault 9 memory\n") 9 status printed now → RunsFormat (Some config) left faults faults' old new status printed now
+    pub told_memory : (result : Result (Unit {0}) RackFault) → Formats config result old new → TellsNoMemory status printed now → RunsFormat (Some config) left faults faults' old new status printed now
     told_memory result formats ends = record {
-      text = codes "fault 9 memory\n";
+      text = no_memory_text;
       wanted = 9;
       allowed = inr (inr (record { result = result; formats = formats; line_ = refl; memory = refl }));
       ends = ends;
@@ -63,7 +63,7 @@ module _ (left : Option (List ℕ)) (faults faults' : ℕ) (old new : BayState) 
 
     -- a format that wasn't done
     pub told_stopped : (e : RackFault) → Formats config (Err e) old new → ((n : ℕ) (p : PartName) → e ≡ Failed n p → n < length config.volumes.items)
-        → EndsWith (fault_text (printed_names config.volumes.items) (fault_of e)) (status_of (fault_of e)) status printed now ⊎ EndsWith (codes "fault 9 memory\n") 9 status printed now
+        → EndsWith (fault_text (printed_names config.volumes.items) (fault_of e)) (status_of (fault_of e)) status printed now ⊎ TellsNoMemory status printed now
         → RunsFormat (Some config) left faults faults' old new status printed now
     told_stopped e formats known (inr ends) = told_memory (Err e) formats ends
     told_stopped NoMemory formats known (inl ends) = told_memory (Err NoMemory) formats (rw (memory_line (printed_names config.volumes.items)) at ends)

@@ -1,6 +1,5 @@
 -- What is told at the end of a run of `gen`.
 use Rattle.std.proofs.Common.{◌≡◌, ◌⊎◌, inl, inr, ℕ, ◌≤◌, List, ◌++◌, Option, None, Some, refl, ◌∙◌}
-use Rattle.std.specs.Prelude.{codes}
 use Rattle.std.specs.Io.KnownBytes.{Appends}
 use Rattle.wol_io.specs.Streams.{AppendsFront}
 use Rattle.wol_io.proofs.Appending.{appends_both, front_last}
@@ -12,12 +11,13 @@ use Rattle.command_words.specs.declared.command.Generated.{Generated}
 use Rattle.wol_run.specs.Generating.{ListsFor, RunsGen, first_lines}
 use Rattle.wol_run.specs.Settings.{HasNoConfig, IsUnread, line_of_fault}
 use Rattle.wol_run.proofs.Unread.{ends_unread, line_of_memory, line_unread, wanted_or_sink}
-use Rattle.wol_run.specs.Tops.{EndsWith}
+use Rattle.wol_run.specs.Statuses.{no_memory_text}
+use Rattle.wol_run.specs.Tops.{EndsWith, TellsNoMemory}
 
 module _ (asked : Generated) (left : Option (List ℕ)) (faults faults' : ℕ) where
   -- the configuration wasn't had
   pub told_unread : (status : ℕ) (printed new : Option (List ℕ)) (e : Fault) → IsUnread e left faults faults'
-      → EndsWith (line_of_fault e) (status_of e) status printed new ⊎ EndsWith (codes "fault 9 memory\n") 9 status printed new → RunsGen asked None left faults faults' status printed new
+      → EndsWith (line_of_fault e) (status_of e) status printed new ⊎ TellsNoMemory status printed new → RunsGen asked None left faults faults' status printed new
   told_unread status printed new e cause (inl ends) = record {
     text = line_of_fault e;
     wanted = status_of e;
@@ -25,7 +25,7 @@ module _ (asked : Generated) (left : Option (List ℕ)) (faults faults' : ℕ) w
     ends = ends;
   }
   told_unread status printed new e cause (inr ends) = record {
-    text = codes "fault 9 memory\n";
+    text = no_memory_text;
     wanted = 9;
     allowed = line_of_memory left faults faults';
     ends = ends;
@@ -50,17 +50,17 @@ module _ (asked : Generated) (left : Option (List ℕ)) (faults faults' : ℕ) w
 
     -- there was no memory behind some first lines
     pub told_cut : (status : ℕ) (printed mid new : Option (List ℕ)) (some : ℕ) → some ≤ asked.lines → Appends printed mid (first_lines config asked.seed some)
-        → EndsWith (codes "fault 9 memory\n") 9 status mid new → RunsGen asked (Some config) left faults faults' status printed new
+        → TellsNoMemory status mid new → RunsGen asked (Some config) left faults faults' status printed new
     told_cut status printed mid new some first appends ends = record {
-      text = first_lines config asked.seed some ++ codes "fault 9 memory\n";
+      text = first_lines config asked.seed some ++ no_memory_text;
       wanted = 9;
       allowed = inr (record { some = some; first = first; lines_ = refl; memory = refl });
       ends = both ends;
     }
       where
-        both : EndsWith (codes "fault 9 memory\n") 9 status mid new → EndsWith (first_lines config asked.seed some ++ codes "fault 9 memory\n") 9 status printed new
-        both (inl (is, more)) = inl (is, appends_both printed mid new (first_lines config asked.seed some) (codes "fault 9 memory\n") appends more)
-        both (inr (is, more)) = inr (is, front_last printed mid new (first_lines config asked.seed some) (codes "fault 9 memory\n") appends more)
+        both : TellsNoMemory status mid new → EndsWith (first_lines config asked.seed some ++ no_memory_text) 9 status printed new
+        both (inl (is, more)) = inl (is, appends_both printed mid new (first_lines config asked.seed some) no_memory_text appends more)
+        both (inr (is, more)) = inr (is, front_last printed mid new (first_lines config asked.seed some) no_memory_text appends more)
 
 -- ---- What the statuses come of
 

@@ -1,6 +1,5 @@
 -- What is told at the end of a run of `check` or `dump`.
 use Rattle.std.proofs.Common.{◌≡◌, ◌⊎◌, inl, inr, ℕ, Bool, List, ◌++◌, length, Option, None, Some, Result, Ok, Err, refl, ap, ◌∙◌}
-use Rattle.std.specs.Prelude.{codes}
 use Rattle.std.specs.Io.KnownBytes.{Appends}
 use Rattle.wol_disk.specs.Disk.{State}
 use Rattle.wol_bay.specs.Bay.{BayState}
@@ -20,7 +19,8 @@ use Rattle.volume_images.specs.Left.{IsTold}
 use Rattle.rack.specs.Opens.{KeepsOthers}
 use Rattle.wol_run.specs.Inspecting.{AreTold, HasLooked, IsCutLook, RunsLook, status_of_first}
 use Rattle.wol_run.specs.Settings.{IsUnread, line_of_fault}
-use Rattle.wol_run.specs.Tops.{EndsWith}
+use Rattle.wol_run.specs.Statuses.{no_memory_text}
+use Rattle.wol_run.specs.Tops.{EndsWith, TellsNoMemory}
 use Rattle.wol_run.proofs.Unread.{line_of_memory, line_unread}
 
 -- ---- Endings
@@ -28,7 +28,7 @@ use Rattle.wol_run.proofs.Unread.{line_of_memory, line_unread}
 module _ {D : Type 0} (tells : Bool) (state : D → State) (asked : Asked) (left : Option (List ℕ)) (faults faults' : ℕ) (old new : BayState) (status : ℕ) (printed now : Option (List ℕ)) where
   -- the configuration wasn't had
   pub look_untouched : (e : Fault) → IsUnread e left faults faults' → new ≡ old
-      → EndsWith (line_of_fault e) (status_of e) status printed now ⊎ EndsWith (codes "fault 9 memory\n") 9 status printed now → RunsLook tells state asked None left faults faults' old new status printed now
+      → EndsWith (line_of_fault e) (status_of e) status printed now ⊎ TellsNoMemory status printed now → RunsLook tells state asked None left faults faults' old new status printed now
   look_untouched e cause same (inl ends) = record {
     text = line_of_fault e;
     wanted = status_of e;
@@ -36,7 +36,7 @@ module _ {D : Type 0} (tells : Bool) (state : D → State) (asked : Asked) (left
     ends = ends;
   }
   look_untouched e cause same (inr ends) = record {
-    text = codes "fault 9 memory\n";
+    text = no_memory_text;
     wanted = 9;
     allowed = record { line_ = line_of_memory left faults faults'; bay = same };
     ends = ends;
@@ -56,24 +56,24 @@ module _ {D : Type 0} (tells : Bool) (state : D → State) (asked : Asked) (left
         ends = inl (same ∙ ap status_of_first is, more);
       }
 
-      cut_look : IsCutLook tells state asked config old new (text_of told ++ codes "fault 9 memory\n") 9
+      cut_look : IsCutLook tells state asked config old new (text_of told ++ no_memory_text) 9
       cut_look = record { looked = looked; lines_ = refl; memory = refl }
 
       look_stopped : AppendsFront printed now (text_of told) → status ≡ 7 → RunsLook tells state asked (Some config) left faults faults' old new status printed now
       look_stopped front seven = record {
-        text = text_of told ++ codes "fault 9 memory\n";
+        text = text_of told ++ no_memory_text;
         wanted = 9;
         allowed = inr cut_look;
-        ends = inr (seven, front_longer printed now (text_of told) (codes "fault 9 memory\n") front);
+        ends = inr (seven, front_longer printed now (text_of told) no_memory_text front);
       }
 
-      then_memory : (mid : Option (List ℕ)) → Appends printed mid (text_of told) → EndsWith (codes "fault 9 memory\n") 9 status mid now → EndsWith (text_of told ++ codes "fault 9 memory\n") 9 status printed now
-      then_memory mid first (inl (nine, more)) = inl (nine, appends_both printed mid now (text_of told) (codes "fault 9 memory\n") first more)
-      then_memory mid first (inr (seven, front)) = inr (seven, front_last printed mid now (text_of told) (codes "fault 9 memory\n") first front)
+      then_memory : (mid : Option (List ℕ)) → Appends printed mid (text_of told) → TellsNoMemory status mid now → EndsWith (text_of told ++ no_memory_text) 9 status printed now
+      then_memory mid first (inl (nine, more)) = inl (nine, appends_both printed mid now (text_of told) no_memory_text first more)
+      then_memory mid first (inr (seven, front)) = inr (seven, front_last printed mid now (text_of told) no_memory_text first front)
 
-      look_memory : (mid : Option (List ℕ)) → Appends printed mid (text_of told) → EndsWith (codes "fault 9 memory\n") 9 status mid now → RunsLook tells state asked (Some config) left faults faults' old new status printed now
+      look_memory : (mid : Option (List ℕ)) → Appends printed mid (text_of told) → TellsNoMemory status mid now → RunsLook tells state asked (Some config) left faults faults' old new status printed now
       look_memory mid first ends = record {
-        text = text_of told ++ codes "fault 9 memory\n";
+        text = text_of told ++ no_memory_text;
         wanted = 9;
         allowed = inr cut_look;
         ends = then_memory mid first ends;
@@ -92,6 +92,6 @@ module _ {D : Type 0} (tells : Bool) (state : D → State) (asked : Asked) (left
     look_failed sink sink' i seven = look_stopped i.told (are_told (Err Sink) sink sink' now i) i.prints.1 seven
 
     -- there was no memory
-    pub look_cut : (sink sink' : ℕ) (mid : Option (List ℕ)) → Inspects tells state config asked old new (Err Memory) sink sink' printed mid → EndsWith (codes "fault 9 memory\n") 9 status mid now
+    pub look_cut : (sink sink' : ℕ) (mid : Option (List ℕ)) → Inspects tells state config asked old new (Err Memory) sink sink' printed mid → TellsNoMemory status mid now
         → RunsLook tells state asked (Some config) left faults faults' old new status printed now
     look_cut sink sink' mid i ends = look_memory i.told (are_told (Err Memory) sink sink' mid i) mid i.prints.1 ends

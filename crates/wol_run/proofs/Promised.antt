@@ -26,7 +26,7 @@ use Rattle.wol_run.specs.Replaying.{GivenLines, lines_of, options_as, trace_of}
 use Rattle.wol_run.specs.Run.{ComesToItsEnd, Does, IsAccountOf, IsHeadlineOf, IsLookFor, IsReplayOf, IsServingOf, IsUnconfigured, IsViewChangeOf, ReadsInOrder, Run}
 use Rattle.wol_run.specs.Settings.{HasConfig, HasNoConfig, IsFaultLine, line_of_fault}
 use Rattle.report.specs.Faults.{status_of}
-use Rattle.wol_run.specs.Tops.{EndsWith, RunsSolo}
+use Rattle.wol_run.specs.Tops.{EndsWith, RunsSolo, TellsNoMemory}
 use Rattle.wol_run.proofs.AccountTold.{account_kept}
 use Rattle.wol_run.proofs.Asked.{IsAlike, of_asked}
 use Rattle.wol_run.proofs.CausesTold.{at_status}
@@ -161,7 +161,7 @@ module _ {D : Type 0} (tells : Bool) (state : D → State) (words : List (List �
   }
 
   pub promise : ((command : Command) → IsCommand words command → Did command)
-      → (NoCommand words → EndsWith (codes "fault 1 words\n") 1 status before.sink.bytes after.sink.bytes ⊎ EndsWith (codes "fault 9 memory\n") 9 status before.sink.bytes after.sink.bytes)
+      → (NoCommand words → EndsWith (codes "fault 1 words\n") 1 status before.sink.bytes after.sink.bytes ⊎ TellsNoMemory status before.sink.bytes after.sink.bytes)
       → IsCause tells state read words before after status → (before.sink.faults < after.sink.faults → status ≡ 7) → LeavesUnused words before after → ((command : Command) → IsCommand words command → Completes command)
       → Run tells state words before after status
   promise does refused cause sink unused complete = record {
@@ -196,7 +196,7 @@ module _ {D : Type 0} (tells : Bool) (state : D → State) (words : List (List �
       ]) sink unused (λ command is. absurd (none command is))
 
   -- there was no memory to read them
-  pub of_unread_words : ((command : Command) → Did command) → EndsWith (codes "fault 9 memory\n") 9 status before.sink.bytes after.sink.bytes → (status ≡ 7 → Rose before.sink.faults after.sink.faults)
+  pub of_unread_words : ((command : Command) → Did command) → TellsNoMemory status before.sink.bytes after.sink.bytes → (status ≡ 7 → Rose before.sink.faults after.sink.faults)
       → (before.sink.faults < after.sink.faults → status ≡ 7) → LeavesUnused words before after → Run tells state words before after status
   of_unread_words does ends rose sink unused = promise (λ command is. does command) (λ _. inr ends)
       (elim (wanted_or_sink _ 9 status _ _ ends) [

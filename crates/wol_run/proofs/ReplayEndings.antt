@@ -1,6 +1,5 @@
 -- What the statuses of a replay come of.
 use Rattle.std.proofs.Common.{◌≡◌, ◌≢◌, ◌⊎◌, inl, inr, ℕ, Bool, List, [], Option, None, Some, Result, Ok, Err, refl, sym, ap, subst, ◌∙◌, arith}
-use Rattle.std.specs.Prelude.{codes}
 use Rattle.std.specs.Io.KnownBytes.{IsAtEnd}
 use Rattle.wol_disk.specs.Disk.{Rose, State}
 use Rattle.wol_bay.specs.Bay.{BayState}
@@ -27,14 +26,15 @@ use Rattle.troubles.specs.Troubles.{trouble_of}
 use Rattle.command_words.specs.declared.command.Generated.{Generated}
 use Rattle.wol_run.specs.Replaying.{EndsReplay, GivenLines, HasLeft, IsReplay, IsUnreplayed, RunsReplay, lines_of, trace_of}
 use Rattle.wol_run.specs.Settings.{HasNoConfig, IsUnread, line_of_fault}
-use Rattle.wol_run.specs.Tops.{EndsWith, HasBadLine, HasMoreLines}
+use Rattle.wol_run.specs.Statuses.{no_memory_text}
+use Rattle.wol_run.specs.Tops.{EndsWith, HasBadLine, HasMoreLines, TellsNoMemory}
 use Rattle.wol_run.proofs.ReplayFaults.{CanEnd, IsOfWindow, not_ten, not_three}
 use Rattle.wol_run.proofs.Unread.{ends_unread, line_of_memory, line_unread, wanted_or_sink}
 use Rattle.wol_run.proofs.ReplayEnds.{NoLine, can_end, ended_by}
 
 -- the line of a fault has its status, or 7, or 9
 pub told_status : (names : List (List ℕ)) (f : Fault) (status k : ℕ) (printed new : Option (List ℕ)) → k ≢ 7 → k ≢ 9
-    → EndsWith (fault_text names f) (status_of f) status printed new ⊎ EndsWith (codes "fault 9 memory\n") 9 status printed new → status ≡ k → status_of f ≡ k
+    → EndsWith (fault_text names f) (status_of f) status printed new ⊎ TellsNoMemory status printed new → status ≡ k → status_of f ≡ k
 told_status names f status k printed new no_seven no_nine (inl ends) is_k = elim (wanted_or_sink _ (status_of f) status printed new ends) [
   | inl is ↦ sym is ∙ is_k
   | inr seven ↦ absurd (no_seven (sym is_k ∙ seven))
@@ -76,7 +76,7 @@ ends_status config (Err (stop.Fault f)) status printed new (inr ends) = elim (wa
 
 -- the configuration wasn't had
 pub unreplayed : (start : GivenLines) (left : Option (List ℕ)) (faults faults' : ℕ) (rest : Option (List ℕ)) (bay : BayState) (status : ℕ) (printed printed' : Option (List ℕ)) (e : Fault)
-    → IsUnread e left faults faults' → HasLeft start rest → EndsWith (line_of_fault e) (status_of e) status printed printed' ⊎ EndsWith (codes "fault 9 memory\n") 9 status printed printed'
+    → IsUnread e left faults faults' → HasLeft start rest → EndsWith (line_of_fault e) (status_of e) status printed printed' ⊎ TellsNoMemory status printed printed'
     → IsUnreplayed start left rest faults faults' bay bay status printed printed'
 unreplayed start left faults faults' rest bay status printed printed' e cause same (inl ends) = record {
   text = line_of_fault e;
@@ -86,7 +86,7 @@ unreplayed start left faults faults' rest bay status printed printed' e cause sa
   ends = ends;
 }
 unreplayed start left faults faults' rest bay status printed printed' e cause same (inr ends) = record {
-  text = codes "fault 9 memory\n";
+  text = no_memory_text;
   wanted = 9;
   untouched = record { line_ = line_of_memory left faults faults'; bay = refl };
   rest = same;

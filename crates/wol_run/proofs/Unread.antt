@@ -12,10 +12,11 @@ use Rattle.report.specs.Words.{line_of}
 use Rattle.wol_bay.specs.Bay.{BayState}
 use Rattle.wol_run.specs.Formatting.{IsNotBegun}
 use Rattle.wol_run.specs.Settings.{HasNoConfig, IsFaultLine, IsUnread, line_of_fault}
-use Rattle.wol_run.specs.Tops.{EndsWith}
+use Rattle.wol_run.specs.Statuses.{no_memory_text}
+use Rattle.wol_run.specs.Tops.{EndsWith, TellsNoMemory}
 
 -- the line of want of memory, whatever volumes there are
-pub memory_line : (names : List (List ℕ)) → fault_text names fault.Memory ≡ codes "fault 9 memory\n"
+pub memory_line : (names : List (List ℕ)) → fault_text names fault.Memory ≡ no_memory_text
 unfolding fault_text cause_text
 memory_line names = ap (λ (status : List ℕ). line_of (codes "fault" ∷ status ∷ codes "memory" ∷ [])) (decimal_digit 9 (lit< tt))
 
@@ -47,7 +48,7 @@ unread_status (fault.Versions volume) left faults faults' cause = absurd cause
 pub line_unread : (e : Fault) (left : Option (List ℕ)) (faults faults' : ℕ) → IsUnread e left faults faults' → IsFaultLine left faults faults' (line_of_fault e) (status_of e)
 line_unread e left faults faults' cause = record { fault = e; cause = cause; line_ = refl; told = refl }
 
-pub line_of_memory : (left : Option (List ℕ)) (faults faults' : ℕ) → IsFaultLine left faults faults' (codes "fault 9 memory\n") 9
+pub line_of_memory : (left : Option (List ℕ)) (faults faults' : ℕ) → IsFaultLine left faults faults' no_memory_text 9
 line_of_memory left faults faults' = record { fault = fault.Memory; cause = tt; line_ = sym (memory_line (printed_names [])); told = refl }
 
 -- what its status comes of
@@ -61,7 +62,7 @@ ends_unread left faults faults' text wanted line = elim (unread_status line.faul
 
 -- a command that uses the bay wasn't begun
 pub not_begun : (left : Option (List ℕ)) (faults faults' : ℕ) (old new : BayState) (status : ℕ) (printed printed' : Option (List ℕ)) → (e : Fault) → IsUnread e left faults faults' → new ≡ old
-    → EndsWith (line_of_fault e) (status_of e) status printed printed' ⊎ EndsWith (codes "fault 9 memory\n") 9 status printed printed' → IsNotBegun left faults faults' old new status printed printed'
+    → EndsWith (line_of_fault e) (status_of e) status printed printed' ⊎ TellsNoMemory status printed printed' → IsNotBegun left faults faults' old new status printed printed'
 not_begun left faults faults' old new status printed printed' e cause same (inl ends) = record {
   text = line_of_fault e;
   wanted = status_of e;
@@ -69,7 +70,7 @@ not_begun left faults faults' old new status printed printed' e cause same (inl 
   ends = ends;
 }
 not_begun left faults faults' old new status printed printed' e cause same (inr ends) = record {
-  text = codes "fault 9 memory\n";
+  text = no_memory_text;
   wanted = 9;
   untouched = record { line_ = line_of_memory left faults faults'; bay = same };
   ends = ends;

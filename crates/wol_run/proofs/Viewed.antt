@@ -1,7 +1,7 @@
 -- What a change of a view ended with, and what became of the sink.
 use Rattle.std.proofs.Common.{◌≡◌, ◌≤◌, ◌⊎◌, inl, inr, ℕ, Bool, List, Option, Result, Ok, Err, refl, sym, subst, true≢false}
 use Rattle.std.specs.Bool.{⊤}
-use Rattle.std.specs.Prelude.{IsTrue, codes}
+use Rattle.std.specs.Prelude.{IsTrue}
 use Rattle.wol_disk.specs.Disk.{Rose, State}
 use Rattle.wol_bay.specs.Bay.{BayState}
 use Rattle.wol_config.specs.declared.config.Config.{Config}
@@ -15,7 +15,7 @@ use Rattle.view_commands.specs.Runs.{ChangesOpen, ChangesView, Completes, FailsF
 use Rattle.view_commands.specs.declared.order.Order.{Order}
 use Rattle.view_commands.specs.declared.order.Stop.{Stop}
 use Rattle.view_commands.specs.declared.order.Stop.TheVariants as stop
-use Rattle.wol_run.specs.Tops.{EndsWith, IsDoneOrMemory}
+use Rattle.wol_run.specs.Tops.{EndsWith, IsDoneOrMemory, TellsNoMemory}
 use Rattle.wol_run.specs.Viewing.{EndsChange, IsOrder, IsViewChange}
 use Rattle.wol_run.proofs.ReplayFaults.{CanEnd}
 use Rattle.wol_run.proofs.Unread.{wanted_or_sink}
@@ -93,7 +93,7 @@ change_memory e f is done = subst (λ (x : Stop). IsForMemory (Err x)) is (for_m
 
 -- the line of a refusal, where the sink didn't fail
 pub told_refusal : (text : List ℕ) (status : ℕ) (printed new : Option (List ℕ)) → (status ≡ 7 → ⊥)
-    → EndsWith text 15 status printed new ⊎ EndsWith (codes "fault 9 memory\n") 9 status printed new → IsDoneOrMemory status ⊎ (status ≡ 15)
+    → EndsWith text 15 status printed new ⊎ TellsNoMemory status printed new → IsDoneOrMemory status ⊎ (status ≡ 15)
 told_refusal text status printed new whole (inl ends) = elim (wanted_or_sink _ 15 status printed new ends) [
   | inl same ↦ inr same
   | inr seven ↦ absurd (whole seven)

@@ -1,5 +1,5 @@
 -- What a run of `format` leaves of the bay and prints, and its exit status.
-use Rattle.std.specs.Prelude.{◌≡◌, ℕ, ◌<◌, ◌⊎◌, List, length, codes, Option, None, Some, Result, Ok, Err, OnOk, IsErrOf}
+use Rattle.std.specs.Prelude.{◌≡◌, ℕ, ◌<◌, ◌⊎◌, List, length, Option, None, Some, Result, Ok, Err, OnOk, IsErrOf}
 use Rattle.std.specs.List.{flat_map}
 use Rattle.wol_disk.specs.Disk.{Rose}
 use Rattle.wol_bay.specs.Bay.{BayState}
@@ -20,6 +20,7 @@ use Rattle.report.specs.Faults.{fault_text}
 use Rattle.report.specs.Names.{printed_names}
 use Rattle.report.specs.Summaries.{format_text}
 use Rattle.wol_run.specs.Settings.{IsFaultLine}
+use Rattle.wol_run.specs.Statuses.{no_memory_text}
 use Rattle.wol_run.specs.Tops.{EndsWith}
 
 -- the lines of formatted volumes: one for each, with the number of blocks of its image
@@ -76,7 +77,7 @@ pub record IsOutOfMemory (config : Config) (old new : BayState) (text : List ℕ
     Type 0 where
   pub result : Result (Unit {0}) RackFault
   pub formats : Formats config result old new
-  pub line_ : text ≡ codes "fault 9 memory\n"
+  pub line_ : text ≡ no_memory_text
   pub memory : status ≡ 9
 
 -- Status 2, 8 or 9: the configuration wasn't had, the text says why, and the bay is as it was.

@@ -1,5 +1,5 @@
 -- What a run of `gen` prints, and its exit status.
-use Rattle.std.specs.Prelude.{◌≡◌, ℕ, ◌≤◌, ◌⊎◌, List, ◌++◌, codes, Option, None, Some, Result, Ok, Err}
+use Rattle.std.specs.Prelude.{◌≡◌, ℕ, ◌≤◌, ◌⊎◌, List, ◌++◌, Option, None, Some, Result, Ok, Err}
 use Rattle.std.specs.Io.KnownBytes.{Appends}
 use Rattle.wol_disk.specs.Disk.{Rose}
 use Rattle.wol_io.specs.Streams.{AppendsFront}
@@ -9,6 +9,7 @@ use Rattle.command_words.specs.declared.command.Generated.{Generated}
 use Rattle.inspection.specs.declared.calls.Stop.{Stop}
 use Rattle.inspection.specs.declared.calls.Stop.TheVariants.{Sink, Memory}
 use Rattle.wol_run.specs.Settings.{IsFaultLine}
+use Rattle.wol_run.specs.Statuses.{no_memory_text}
 use Rattle.wol_run.specs.Tops.{EndsWith}
 
 -- the first lines of a seed on the volumes of a configuration, as they are written
@@ -38,7 +39,7 @@ pub record IsCutShort (asked : Generated) (config : Config) (text : List ℕ) (s
     Type 0 where
   pub some : ℕ
   pub first : some ≤ asked.lines
-  pub lines_ : text ≡ first_lines config asked.seed some ++ codes "fault 9 memory\n"
+  pub lines_ : text ≡ first_lines config asked.seed some ++ no_memory_text
   pub memory : status ≡ 9
 
 -- what a listing comes to, by the configuration that was read; none: it wasn't had

@@ -1,5 +1,5 @@
 -- What looking at the volumes of the configuration prints, and its exit status.
-use Rattle.std.specs.Prelude.{◌≡◌, ◌≢◌, ℕ, ◌≤◌, ◌⊎◌, Bool, List, [], ◌++◌, length, codes, Option, None, Some, slice_get, IfSome, IsTrue}
+use Rattle.std.specs.Prelude.{◌≡◌, ◌≢◌, ℕ, ◌≤◌, ◌⊎◌, Bool, List, [], ◌++◌, length, Option, None, Some, slice_get, IfSome, IsTrue}
 use Rattle.wol_disk.specs.Disk.{State}
 use Rattle.wol_bay.specs.Bay.{BayState}
 use Rattle.wol_config.specs.declared.config.Config.{Config}
@@ -16,6 +16,7 @@ use Rattle.rack_parts.specs.declared.rack.ImageRest.{ImageRest}
 use Rattle.rack_parts.specs.declared.volume_fault.VolumeFault.{VolumeFault}
 use Rattle.replay.specs.NotOpened.{LeavesViews}
 use Rattle.wol_run.specs.Formatting.{IsUntouched}
+use Rattle.wol_run.specs.Statuses.{no_memory_text}
 use Rattle.wol_run.specs.Tops.{EndsWith}
 
 -- the status of the first volume that isn't in order
@@ -60,7 +61,7 @@ pub record IsLook {D : Type 0} (tells : Bool) (state : D → State) (asked : Ask
 pub record IsCutLook {D : Type 0} (tells : Bool) (state : D → State) (asked : Asked)
     (config : Config) (old new : BayState) (text : List ℕ) (status : ℕ) : Type 0 where
   pub looked : HasLooked tells state asked config old new
-  pub lines_ : text ≡ text_of looked.told ++ codes "fault 9 memory\n"
+  pub lines_ : text ≡ text_of looked.told ++ no_memory_text
   pub memory : status ≡ 9
 
 -- what a look comes to, by the configuration that was read; none: it wasn't had

@@ -1,6 +1,6 @@
 -- What replaying a trace on the volumes of the configuration leaves and prints, and its exit
 -- status.
-use Rattle.std.specs.Prelude.{◌≡◌, ◌≤◌, ℕ, ◌⊎◌, ⊤, Bool, true, List, [], codes, Option, None, Some, Result, Ok, Err}
+use Rattle.std.specs.Prelude.{◌≡◌, ◌≤◌, ℕ, ◌⊎◌, ⊤, Bool, true, List, [], Option, None, Some, Result, Ok, Err}
 use Rattle.wol_disk.specs.Disk.{State}
 use Rattle.wol_bay.specs.Bay.{BayState}
 use Rattle.wol_config.specs.declared.config.Config.{Config}
@@ -22,7 +22,7 @@ use Rattle.window_desks.specs.declared.request.Reclaim.{Reclaim}
 use Rattle.window_desks.specs.declared.request.Reclaim.TheVariants as reclaim
 use Rattle.window_desks.specs.declared.request.Sharing.TheVariants.{WherePays}
 use Rattle.wol_run.specs.Formatting.{IsUntouched}
-use Rattle.wol_run.specs.Tops.{EndsWith}
+use Rattle.wol_run.specs.Tops.{EndsWith, TellsNoMemory}
 
 -- lines of a source that is seen as the bytes that are left of it, or of a seed
 abbrev pub GivenLines : Type 0
@@ -75,7 +75,7 @@ EndsReplay config (Ok done) status printed new = (status ≡ 0) × (new ≡ prin
 EndsReplay config (Err stop.Sink) status printed new = (status ≡ 7) × (new ≡ printed)
 EndsReplay config (Err (stop.Fault f)) status printed new =
     EndsWith (fault_text (printed_names config.volumes.items) f) (status_of f) status printed new
-    ⊎ EndsWith (codes "fault 9 memory\n") 9 status printed new
+    ⊎ TellsNoMemory status printed new
 
 -- a command came to this result with the configuration, behind which it ended so
 pub record IsRunOver (config : Config) (sink' status : ℕ) (printed' : Option (List ℕ)) :

@@ -33,7 +33,7 @@ use Rattle.wol_run.specs.Replaying.{GivenLines, RunsKept, RunsReplay, lines_of, 
 use Rattle.wol_run.specs.Serving.{RunsServing}
 use Rattle.wol_run.specs.Settings.{HasConfig, HasNoConfig, IsConfigured}
 use Rattle.nbd_serving.specs.Wires.{wire}
-use Rattle.wol_run.specs.Tops.{EndsWith, IsDoneOrMemory, IsRunnable, RunsSolo}
+use Rattle.wol_run.specs.Tops.{EndsWith, IsDoneOrMemory, IsRunnable, RunsSolo, TellsNoMemory}
 use Rattle.wol_run.specs.Viewing.{RunsViewChange}
 
 -- ---- What each command does, of what is outside, by the configuration that was read
@@ -233,7 +233,7 @@ pub record Run {D : Type 0} (tells : Bool) (state : D → State) (words : List (
   -- where the words are no command, that is told, unless the output or memory failed
   pub refused : NoCommand words
       → EndsWith (codes "fault 1 words\n") 1 status before.sink.bytes after.sink.bytes
-      ⊎ EndsWith (codes "fault 9 memory\n") 9 status before.sink.bytes after.sink.bytes
+      ⊎ TellsNoMemory status before.sink.bytes after.sink.bytes
   -- the status is one of 0 to 12, 14 and 15; each but 9, out of memory, has its cause
   pub cause : IsCause tells state read words before after status
   -- the status is 7 where the output failed (the count of its faults ends at its last value)

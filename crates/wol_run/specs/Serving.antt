@@ -1,5 +1,5 @@
 -- What serving a volume of the configuration to a client comes to, and its exit status.
-use Rattle.std.specs.Prelude.{◌≡◌, ◌≢◌, ℕ, ◌⊎◌, ◌≤◌, ◌++◌, Bool, IsTrue, List, [], length, codes, Option, None, Some, Result, Ok}
+use Rattle.std.specs.Prelude.{◌≡◌, ◌≢◌, ℕ, ◌⊎◌, ◌≤◌, ◌++◌, Bool, IsTrue, List, [], length, Option, None, Some, Result, Ok}
 use Rattle.std.specs.Io.KnownBytes.{Consumes, IsAtEnd}
 use Rattle.wol_disk.specs.Disk.{State}
 use Rattle.wol_bay.specs.Bay.{BayState}
@@ -25,7 +25,7 @@ use Rattle.nbd_serving.specs.declared.serving.Beginning.{Beginning}
 use Rattle.nbd_serving.specs.declared.serving.Beginning.TheVariants as beginning
 use Rattle.nbd_serving.specs.declared.stop.Stop.{Stop}
 use Rattle.wol_run.specs.Settings.{IsUnread}
-use Rattle.wol_run.specs.Tops.{EndsWith, IsDoneOrMemory}
+use Rattle.wol_run.specs.Tops.{IsDoneOrMemory, TellsNoMemory}
 
 -- how a command serves a client, and the volume of which name; none of another command
 abbrev pub served_as : Command → Option (Beginning × List ℕ)
@@ -57,7 +57,7 @@ pub record IsUnserved (left : Option (List ℕ)) (faults faults' : ℕ) (old new
 pub record HasNoWords (old new : BayState) (wire_ wire' : Wire) (status : ℕ) : Type 0 where
   pub bay : new ≡ old
   pub source : (wire'.left ≡ wire_.left) × (wire'.source_faults ≡ wire_.source_faults)
-  pub ends : EndsWith (codes "fault 9 memory\n") 9 status wire_.taken wire'.taken
+  pub ends : TellsNoMemory status wire_.taken wire'.taken
 
 -- a run of `nbd` or `serve`, by the configuration that was read (none: it wasn't had), the bytes of
 -- its source and their count of faults, the bay, the client's source and sink, and the status

@@ -27,6 +27,10 @@ why_text bad.Quote = codes " quote\n"
 abbrev pub bad_line_text : (line : ℕ) → BadLine → List ℕ
 bad_line_text line why = codes "fault 3 line " ++ (decimal line ++ why_text why)
 
+-- the line of want of memory
+abbrev pub no_memory_text : List ℕ
+no_memory_text = codes "fault 9 memory\n"
+
 -- the line of a fault; a failed sink has none
 abbrev pub fault_text : Fault → List ℕ
 fault_text (fault.BadLine line why) = bad_line_text line why
@@ -34,7 +38,7 @@ fault_text fault.Bay = codes "fault 4 solo disk bay\n"
 fault_text fault.Disk = codes "fault 4 solo disk home\n"
 fault_text fault.Sink = []
 fault_text fault.Source = codes "fault 8 trace\n"
-fault_text fault.NoMemory = codes "fault 9 memory\n"
+fault_text fault.NoMemory = no_memory_text
 fault_text fault.Spent = codes "fault 10 lines\n"
 
 -- a fault whose line is always the same

@@ -11,13 +11,17 @@ use Rattle.solo.specs.declared.fault.Fault.{Fault}
 use Rattle.solo.specs.declared.fault.Fault.TheVariants as fault
 use Rattle.solo.specs.Images.{BeginsBlank, LeavesBy, PartCameBackFaulty, Stores}
 use Rattle.solo.specs.Runs.{EndsBy, Prints}
-use Rattle.wol_run.specs.Statuses.{bad_line_text, fault_text, status_of}
+use Rattle.wol_run.specs.Statuses.{bad_line_text, fault_text, no_memory_text, status_of}
 
 -- a text was written at the end, or a front of it to a sink that failed
 abbrev pub EndsWith : (text : List ℕ) → (wanted status : ℕ) → (printed new : Option (List ℕ))
     → Type 0
 EndsWith text wanted status printed new =
     ((status ≡ wanted) × Appends printed new text) ⊎ ((status ≡ 7) × AppendsFront printed new text)
+
+-- the line of want of memory was written so, at status 9
+abbrev pub TellsNoMemory : (status : ℕ) → (printed new : Option (List ℕ)) → Type 0
+TellsNoMemory status printed new = EndsWith no_memory_text 9 status printed new
 
 -- Status 7 is that of a sink that failed: its count of faults rose, which never falls, and a count
 -- that ends above where it began is told so.
@@ -31,13 +35,12 @@ pub record TellsSink (before after status : ℕ) : Type 0 where
 abbrev pub TellsFault : Fault → (status : ℕ) → (printed new : Option (List ℕ)) → Type 0
 TellsFault (fault.BadLine line why) status printed new =
     EndsWith (bad_line_text line why) 3 status printed new
-    ⊎ EndsWith (fault_text fault.NoMemory) 9 status printed new
+    ⊎ TellsNoMemory status printed new
 TellsFault fault.Bay status printed new = EndsWith (fault_text fault.Bay) 4 status printed new
 TellsFault fault.Disk status printed new = EndsWith (fault_text fault.Disk) 4 status printed new
 TellsFault fault.Sink status printed new = EndsWith (fault_text fault.Sink) 7 status printed new
 TellsFault fault.Source status printed new = EndsWith (fault_text fault.Source) 8 status printed new
-TellsFault fault.NoMemory status printed new =
-    EndsWith (fault_text fault.NoMemory) 9 status printed new
+TellsFault fault.NoMemory status printed new = TellsNoMemory status printed new
 TellsFault fault.Spent status printed new = EndsWith (fault_text fault.Spent) 10 status printed new
 
 -- the status that is told of a fault

@@ -1,5 +1,5 @@
 -- What changing a view prints and leaves, and its exit status.
-use Rattle.std.specs.Prelude.{◌≡◌, ◌≤◌, ℕ, ◌⊎◌, Bool, IsTrue, List, codes, Option, None, Some, Result, Ok, Err}
+use Rattle.std.specs.Prelude.{◌≡◌, ◌≤◌, ℕ, ◌⊎◌, Bool, IsTrue, List, Option, None, Some, Result, Ok, Err}
 use Rattle.wol_disk.specs.Disk.{State}
 use Rattle.wol_bay.specs.Bay.{BayState, Told}
 use Rattle.wol_config.specs.declared.config.Config.{Config}
@@ -23,7 +23,7 @@ use Rattle.view_commands.specs.declared.order.Verb.{Verb}
 use Rattle.view_commands.specs.declared.order.Verb.TheVariants.{Add, Remove}
 use Rattle.view_commands.specs.declared.order.ViewRefusal.{ViewRefusal}
 use Rattle.wol_run.specs.Formatting.{IsNotBegun}
-use Rattle.wol_run.specs.Tops.{EndsWith}
+use Rattle.wol_run.specs.Tops.{EndsWith, TellsNoMemory}
 
 -- the change of a view that a command makes; none of another command
 abbrev pub view_change_by : Command → Option (Verb × Named)
@@ -62,10 +62,10 @@ EndsChange config order (Ok done) status printed new = (status ≡ 0) × (new �
 EndsChange config order (Err stop.Sink) status printed new = (status ≡ 7) × (new ≡ printed)
 EndsChange config order (Err (stop.Refused r)) status printed new =
     EndsWith (refusal_text order r) 15 status printed new
-    ⊎ EndsWith (codes "fault 9 memory\n") 9 status printed new
+    ⊎ TellsNoMemory status printed new
 EndsChange config order (Err (stop.Fault f)) status printed new =
     EndsWith (fault_text (printed_names config.volumes.items) f) (status_of f) status printed new
-    ⊎ EndsWith (codes "fault 9 memory\n") 9 status printed new
+    ⊎ TellsNoMemory status printed new
 
 -- the view of one of the configuration's volumes was to be changed
 pub record IsViewChange {D : Type 0} (tells : Bool) (state : D → State) (verb : Verb)

@@ -1,9 +1,9 @@
 // The last text of a run, and its status.
 ghost use Rattle.report.specs.Faults.{fault_text, status_of as status_of_report};
 ghost use Rattle.report.specs.Names.{printed_names};
-ghost use Rattle.std.specs.Prelude.{◌≡◌, ◌≢◌, ◌≤◌, ◌<◌, ◌⊎◌, codes};
+ghost use Rattle.std.specs.Prelude.{◌≡◌, ◌≢◌, ◌≤◌, ◌<◌, ◌⊎◌};
 ghost use Rattle.wol_disk.specs.Disk.{Rose};
-ghost use Rattle.wol_run.specs.Tops.{EndsWith, TellsFault, TellsSink, TellsStatus};
+ghost use Rattle.wol_run.specs.Tops.{EndsWith, TellsFault, TellsNoMemory, TellsSink, TellsStatus};
 
 use crate::status::{bad_line_text, fault_text, status_of};
 use msr_trace::BadLine;
@@ -70,7 +70,7 @@ pub fn tell_fault<K: Sink>(
     requires told { fault.now ≢ ReportFault.Config ConfigFault.NoMemory }
     ensures content { EndsWith (fault_text (printed_names volumes.now) fault.now)
         (status_of_report fault.now) result (K.taken out.old) (K.taken out.new)
-        ⊎ EndsWith (codes "fault 9 memory\n") 9 result (K.taken out.old) (K.taken out.new) }
+        ⊎ TellsNoMemory result (K.taken out.old) (K.taken out.new) }
     ensures sink { TellsSink (K.faults out.old) (K.faults out.new) result }
 {
     let mut text = Vec::new(alloc);

@@ -1,11 +1,11 @@
 // The view of a volume of the configuration, changed.
 ghost use Rattle.command_words.specs.Values.{named_by};
 ghost use Rattle.solo.specs.Images.{NoneOut};
-ghost use Rattle.std.specs.Prelude.{◌≡◌, ◌⊎◌, codes};
+ghost use Rattle.std.specs.Prelude.{◌≡◌, ◌⊎◌};
 ghost use Rattle.view_commands.specs.Orders.{refusal_text};
 ghost use Rattle.wol_run.specs.Completing.{IsUnhindered};
 ghost use Rattle.wol_run.specs.Settings.{OfRead};
-ghost use Rattle.wol_run.specs.Tops.{EndsWith, IsDoneOrMemory, TellsSink};
+ghost use Rattle.wol_run.specs.Tops.{EndsWith, IsDoneOrMemory, TellsNoMemory, TellsSink};
 ghost use Rattle.wol_run.specs.Viewing.{RunsViewChange};
 
 use crate::settings::config_of;
@@ -64,7 +64,7 @@ pub fn change_view<R: Wait, C: Source, K: Sink, B: Bay>(
 fn tell_refusal<K: Sink>(alloc: Global, out: &mut K, order: &Order<'_>, refusal: ViewRefusal) -> u8
     ensures content { EndsWith (refusal_text order.now refusal) 15 result (K.taken out.old)
         (K.taken out.new)
-        ⊎ EndsWith (codes "fault 9 memory\n") 9 result (K.taken out.old) (K.taken out.new) }
+        ⊎ TellsNoMemory result (K.taken out.old) (K.taken out.new) }
     ensures sink { TellsSink (K.faults out.old) (K.faults out.new) result }
 {
     let mut text = Vec::new(alloc);
