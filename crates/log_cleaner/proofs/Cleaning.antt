@@ -23,8 +23,8 @@ use Rattle.redirect_map.specs.Index.{IsEntry, IsIndex}
 use Rattle.manager.specs.Stands.{IsInVolume, IsReady}
 use Rattle.manager.specs.declared.manager.Manager.{Manager}
 use Rattle.manager.proofs.RunSources.{same_version}
-use Rattle.log_cleaner.specs.Chunks.{AreNext, AreTidyBelow, AreUntidyBehind, BecomesTidy, HasLive, IsAhead, IsChunk, IsNext, IsTidy, IsTidyBehind, IsUppermost, KeepsJust, KeepsNone, NoneGoes, NoneGoesBehind, NoneHomed, end_of, is_copied, is_within}
-use Rattle.log_cleaner.specs.Cleans.{CanClean, HasCleaned, IsChunkOf, IsLeftUntidy, IsOfUntidy, TellsCleaned, copied_blocks, covered_in}
+use Rattle.log_cleaner.specs.Chunks.{AreNext, AreTidyBelow, AreUntidyBehind, BecomesTidy, HasLive, IsAhead, IsChunk, IsNext, IsTidy, IsTidyBehind, IsUppermost, KeepsJust, KeepsNone, NoneGoes, NoneHomed, end_of, is_copied, is_within}
+use Rattle.log_cleaner.specs.Cleans.{CanClean, HasCleaned, HasSettled, IsChunkOf, IsLeftUntidy, IsListedIn, IsOfUntidy, TellsCleaned, copied_blocks, covered_in}
 use Rattle.log_cleaner.specs.Copies.{AreCopies}
 use Rattle.log_cleaner.specs.Steps.{AreCopiesAt, AreCoveredIn, HasBroken, HasCopied, HasRewritten, IsCopyAt, IsRefused, KeepsTidy, Rewrites, Settles, TidiesAll, ended, is_broken, rewritten, written_of}
 use Rattle.log_cleaner.specs.Underway.{AreChunks, CleansBy, EndsBy, HasCleanedSome}
@@ -35,7 +35,7 @@ use Rattle.log_cleaner.proofs.Chunking.{IsCutAt, chunk_at, cut_behind, cut_next,
 use Rattle.log_cleaner.proofs.Copying.{leaves_copies}
 use Rattle.log_cleaner.proofs.Stepping.{broken_then, copied_none, copied_then, empty_since}
 use Rattle.log_cleaner.proofs.Together.{copied_count, listing_below}
-use Rattle.log_cleaner.proofs.Lists.{each_is_member}
+use Rattle.log_cleaner.proofs.Lists.{all_both, each_is_member}
 use Rattle.log_cleaner.proofs.Lives.{IsTop, listing_live, listing_lived, live_of, one_live, same_listed, top_of}
 use Rattle.log_cleaner.proofs.Tidying.{both_ways, clash, covers, goes_of_newer, listing_newest, listing_tidy, listing_unhomed, listing_upper, member_unmap, not_so, tidy_of_upper, upper_of_tidy, within_first}
 
@@ -149,6 +149,10 @@ blocks_more copies w = let e = sum_by-append (λ (v : Write). length v.blocks) c
 abbrev pub AreUpperBelow : (covered : ℕ → Bool) → (most from : ℕ) → List Listed → Type 0
 AreUpperBelow covered most from es = (b : ℕ) → b < from → covered b ≡ true → (first : ℕ) × (count : ℕ) × IsChunk covered most first count × (first ≤ b) × (b < first + count) × ((version : ℕ) × IsUppermost es version first count)
 
+-- the record of the write is the uppermost that keeps just its blocks
+abbrev pub IsUpperCopy : List Listed → Write → Type 0
+IsUpperCopy es w = (version : ℕ) × (w.version ≡ Some version) × IsUppermost es version w.first (length w.blocks)
+
 -- covered blocks as they were at the beginning, between chunks
 pub record Between {D : Type 0} (tells : Bool) (state : D → State) (most : ℕ) (old now : Manager D) (copied from : ℕ) (settled : Bool) (copies : List Write) : Type 0 where
   pub done : HasCleanedSome tells state most old now copies
@@ -166,7 +170,9 @@ pub record Between {D : Type 0} (tells : Bool) (state : D → State) (most : ℕ
   -- and what was live there is
   pub live : (v x : ℕ) → from ≤ x → HasLive (listed_in old.index.entries) v x ↔ HasLive (listed_in now.index.entries) v x
   -- nothing may go once all was given up
-  pub quiet : settled ≡ true → NoneGoesBehind (listed_in now.index.entries) copies
+  pub quiet : settled ≡ true → (copies ≡ [] → ⊥) → NoneGoes (listed_in now.index.entries)
+  -- the copies are among the records
+  pub listed : AllByRecursion (IsUpperCopy (listed_in now.index.entries)) copies
 
 pub between_none : {D : Type 0} (tells : Bool) (state : D → State) (most : ℕ) (m : Manager D) → CanClean m → Between tells state most m m 0 0 true []
 between_none tells state most m can = record {
@@ -182,7 +188,12 @@ between_none tells state most m can = record {
   stays = λ f c some le t. t;
   live = λ v x le. (λ h. h, λ h. h);
   quiet = λ yes_ some. absurd (some refl);
+  listed = tt;
 }
+
+-- what was copied is listed, and nothing may go behind it
+has_settled : (es : List Listed) (copies : List Write) → AllByRecursion (IsUpperCopy es) copies → ((copies ≡ [] → ⊥) → NoneGoes es) → HasSettled es copies
+has_settled es copies listed quiet = record { listed = all_map (IsUpperCopy es) (IsListedIn es) (λ w x. (x.0, x.1, x.2.one)) copies listed; none_goes = quiet }
 
 -- ---- Giving up what may go
 
@@ -206,6 +217,7 @@ module _ {D : Type 0} (tells : Bool) (state : D → State) (most : ℕ) (old now
     stays = λ f c least le t. subst (λ (es : List Indexed). IsTidy (listed_in es) f c) (sym entries) (b.stays f c least le t);
     live = λ v x le. subst (λ (es : List Indexed). HasLive (listed_in old.index.entries) v x ↔ HasLive (listed_in es) v x) (sym entries) (b.live v x le);
     quiet = λ yes_ some. subst (λ (es : List Indexed). NoneGoes (listed_in es)) (sym entries) (b.quiet yes_ some);
+    listed = subst (λ (es : List Indexed). AllByRecursion (IsUpperCopy (listed_in es)) copies) (sym entries) b.listed;
   }
 
   module _ (b : Between tells state most old now copied from false copies) where
@@ -227,6 +239,8 @@ module _ {D : Type 0} (tells : Bool) (state : D → State) (most : ℕ) (old now
       stays = λ f c least le t. s.1.tidy f c least (b.stays f c least le t);
       live = λ v x le. let o = b.live v x le in let k = s.1.live v x in (λ h. k.0 (o.0 h), λ h. o.1 (k.1 h));
       quiet = λ yes_ some. (s.2 yes_).1;
+      listed = all_both (IsChunkOf (covered_in old) most) (IsUpperCopy (listed_in now.index.entries)) (IsUpperCopy (listed_in new.index.entries))
+          (λ w chunk x. (x.0, x.1, s.1.upper x.0 w.first (length w.blocks) chunk.some x.2)) copies b.done.chunks.chunks b.listed;
     }
 
     -- a call of a disk failed
@@ -247,6 +261,7 @@ record Upto (covered : ℕ → Bool) (olds : List Listed) (most next from : ℕ)
   behind : AllByRecursion (λ (w : Write). w.first < from) copies
   stays : (f c : ℕ) → 1 ≤ c → from ≤ f → IsTidy olds f c → IsTidy es f c
   live : (v x : ℕ) → from ≤ x → HasLive olds v x ↔ HasLive es v x
+  listed : AllByRecursion (IsUpperCopy es) copies
 
 module _ (covered : ℕ → Bool) (most from : ℕ) (i : Item) (n : IsAhead covered most from i) where
   next_here : covered i.lbn ≡ true
@@ -300,8 +315,8 @@ still_front es copies (suc k) (i ∷ items) are = (are.0, fewer k items are.1)
 
 -- a chunk more
 upto_more : (covered : ℕ → Bool) (olds : List Listed) (most next from : ℕ) (l : Look) (lane : ℕ) (copies : List Write) → Upto covered olds most next from l.listed copies → NoneHomed l.listed → AllByRecursion (λ (e : Listed). e.version < l.next) l.listed
-    → (i : Item) → IsNext covered olds most from i → ((copies ≡ [] → ⊥) → BecomesTidy olds i.lbn i.count → ⊥) → i.lbn + i.count ≤ 2 ^ 32 → (w : Write) → IsCopyAt i.lbn i.count (next + length copies) w → Upto covered olds most next (i.lbn + i.count) (listing l lane w) (copies ++ w ∷ [])
-upto_more covered olds most next from l lane copies u unhomed below i n still size w is = record {
+    → l.next ≡ next + length copies → (i : Item) → IsNext covered olds most from i → ((copies ≡ [] → ⊥) → BecomesTidy olds i.lbn i.count → ⊥) → i.lbn + i.count ≤ 2 ^ 32 → (w : Write) → IsCopyAt i.lbn i.count (next + length copies) w → Upto covered olds most next (i.lbn + i.count) (listing l lane w) (copies ++ w ∷ [])
+upto_more covered olds most next from l lane copies u unhomed below version i n still size w is = record {
   chunks = chunks_more covered olds most next i.lbn i.count copies (w ∷ []) u.chunks chunk n.untidy (λ some t. still some (becomes_behind olds copies i.lbn i.count (none_copied covered most from i.lbn i.count n.ahead.low chunk copies u.chunks.chunks u.behind) t)) behind_later (omega arith) (is, tt);
   few = let f = u.few in let e = blocks_more copies w in let c = is.count_is in let low = n.ahead.low in omega (arith, f, e, c, low);
   within = size;
@@ -314,6 +329,15 @@ upto_more covered olds most next from l lane copies u unhomed below i n still si
   stays = λ f c least le x. others_tidy l lane i.lbn i.count (next + length copies) w unhomed is f c (λ y inside. Rattle.log_cleaner.proofs.Tidying.not_so (is_within i.lbn i.count y) (λ at.
       let v = inside_of f c y inside in let k = inside_of i.lbn i.count y at in let a = v.0 in let h = k.1 in omega (arith, a, h, le))) (u.stays f c least (let low = n.ahead.low in omega (arith, le, low)) x);
   live = λ v x le. let o = u.live v x (let low = n.ahead.low in omega (arith, le, low)) in (λ h. listing_live l lane w unhomed v x (outside x le) (o.0 h), λ h. o.1 (listing_lived l lane w unhomed v x (outside x le) h));
+  listed = all_push (IsUpperCopy (listing l lane w)) copies w
+      (all_both (λ (v : Write). IsChunkOf covered most v × (v.first < from)) (IsUpperCopy l.listed) (IsUpperCopy (listing l lane w)) (λ v at x. (
+        x.0,
+        x.1,
+        others_upper l lane i.lbn i.count (next + length copies) w unhomed is x.0 v.first (length v.blocks)
+            (λ y inside. apart_from v.first at.1 v.first (length v.blocks) at.0 (omega arith) (let some = at.0.some in omega (arith, some)) y inside) x.2,
+      )) copies
+      (all_both (IsChunkOf covered most) (λ (v : Write). v.first < from) (λ (v : Write). IsChunkOf covered most v × (v.first < from)) (λ v at less. (at, less)) copies u.chunks.chunks u.behind) u.listed)
+      (l.next, is.version_is ∙ ap (λ (n : ℕ). Some n) (sym version), listing_newest l lane w unhomed below);
 }
   where
     outside : (x : ℕ) → i.lbn + i.count ≤ x → is_within w.first (length w.blocks) x ≡ false
@@ -332,15 +356,15 @@ upto_more covered olds most next from l lane copies u unhomed below i n still si
 
 -- chunks more
 upto_all : (covered : ℕ → Bool) (olds : List Listed) (most next lane : ℕ) (items : List Item) (ws : List Write) (from : ℕ) (l : Look) (copies : List Write) → Upto covered olds most next from l.listed copies → NoneHomed l.listed
-    → AllByRecursion (λ (e : Listed). e.version < l.next) l.listed → AreNext covered olds most from items → AreStill olds copies items → AllByRecursion (λ (i : Item). i.lbn + i.count ≤ 2 ^ 32) items → AreCopiesAt (next + length copies) items ws
+    → AllByRecursion (λ (e : Listed). e.version < l.next) l.listed → l.next ≡ next + length copies → AreNext covered olds most from items → AreStill olds copies items → AllByRecursion (λ (i : Item). i.lbn + i.count ≤ 2 ^ 32) items → AreCopiesAt (next + length copies) items ws
     → Upto covered olds most next (end_of from items) (placed_all (Log lane) l ws).listed (copies ++ ws)
-upto_all covered olds most next lane [] [] from l copies u unhomed below are still sizes at = subst (Upto covered olds most next from l.listed) (sym (append-nil copies)) u
-upto_all covered olds most next lane [] (w ∷ ws) from l copies u unhomed below are still sizes at = absurd at
-upto_all covered olds most next lane (i ∷ items) [] from l copies u unhomed below are still sizes at = absurd at
-upto_all covered olds most next lane (i ∷ items) (w ∷ ws) from l copies u unhomed below are still sizes at =
+upto_all covered olds most next lane [] [] from l copies u unhomed below version are still sizes at = subst (Upto covered olds most next from l.listed) (sym (append-nil copies)) u
+upto_all covered olds most next lane [] (w ∷ ws) from l copies u unhomed below version are still sizes at = absurd at
+upto_all covered olds most next lane (i ∷ items) [] from l copies u unhomed below version are still sizes at = absurd at
+upto_all covered olds most next lane (i ∷ items) (w ∷ ws) from l copies u unhomed below version are still sizes at =
     subst (Upto covered olds most next (end_of (i.lbn + i.count) items) (placed_all (Log lane) (placed (Log lane) l w) ws).listed) (append_assoc copies (w ∷ []) ws)
-    (upto_all covered olds most next lane items ws (i.lbn + i.count) (placed (Log lane) l w) (copies ++ w ∷ []) (upto_more covered olds most next from l lane copies u unhomed below i are.0 still.0 sizes.0 w at.0)
-    (listing_unhomed l lane w unhomed) (listing_below lane l w unhomed below) are.1 (still_rest olds (copies ++ w ∷ []) items still.1) sizes.1
+    (upto_all covered olds most next lane items ws (i.lbn + i.count) (placed (Log lane) l w) (copies ++ w ∷ []) (upto_more covered olds most next from l lane copies u unhomed below version i are.0 still.0 sizes.0 w at.0)
+    (listing_unhomed l lane w unhomed) (listing_below lane l w unhomed below) (let e = length-append copies (w ∷ []) in let f : l.next + 1 ≡ next + length (copies ++ w ∷ []) = omega (arith, e, version) in f) are.1 (still_rest olds (copies ++ w ∷ []) items still.1) sizes.1
     (subst (λ (v : ℕ). AreCopiesAt v items ws) (let e = length-append copies (w ∷ []) in let f : next + length copies + 1 ≡ next + length (copies ++ w ∷ []) = omega (arith, e) in f) at.1))
 
 -- the first ones of them end with the last one
@@ -440,6 +464,7 @@ module _ {D : Type 0} (tells : Bool) (state : D → State) (most : ℕ) (old now
     stays = λ f c least le. b.stays f c least (omega (arith, le, met.low));
     live = λ v x le. b.live v x (omega (arith, le, met.low));
     quiet = b.quiet;
+    listed = b.listed;
   }
     where
       ahead : IsAhead (covered_in old) most from i
@@ -544,7 +569,7 @@ module _ {D : Type 0} (tells : Bool) (state : D → State) (most : ℕ) (old now
     were_next = next_since (covered_in now) (covered_in old) (listed_in now.index.entries) (listed_in old.index.entries) most from same_cover b.stays from (omega arith) items are_next
 
     now_upto : Upto (covered_in old) (listed_in old.index.entries) most old.next from (listed_in now.index.entries) copies
-    now_upto = record { chunks = b.done.chunks; few = (let c = b.count in let f = b.few in omega (arith, c, f)); within = b.within; upper = b.upper; cut = b.cut; behind = b.behind; stays = b.stays; live = b.live }
+    now_upto = record { chunks = b.done.chunks; few = (let c = b.count in let f = b.few in omega (arith, c, f)); within = b.within; upper = b.upper; cut = b.cut; behind = b.behind; stays = b.stays; live = b.live; listed = b.listed }
 
     now_below : AllByRecursion (λ (e : Listed). e.version < now.next) (listed_in now.index.entries)
     now_below = all_mapped (λ (e : Listed). e.version < now.next) (λ (e : Indexed). e.listed) now.index.entries ready.below
@@ -566,6 +591,7 @@ module _ {D : Type 0} (tells : Bool) (state : D → State) (most : ℕ) (old now
         (subst (λ (es : List Listed). Upto (covered_in old) (listed_in old.index.entries) most old.next from es copies) (sym listed) now_upto)
         (subst NoneHomed (sym listed) b.done.copied.goes_on.can.unhomed)
         (subst (λ (n : ℕ). AllByRecursion (λ (e : Listed). e.version < n) l.listed) (sym next) (subst (AllByRecursion (λ (e : Listed). e.version < now.next)) (sym listed) now_below))
+        (next ∙ next_is)
         (next_front (covered_in old) (listed_in old.index.entries) most k from items were_next)
         (still_front (listed_in old.index.entries) copies k items (were_still still))
         (next_sizes state now ready (listed_in now.index.entries) most from (take k items) (next_front (covered_in now) (listed_in now.index.entries) most k from items are_next))
@@ -587,8 +613,8 @@ module _ {D : Type 0} (tells : Bool) (state : D → State) (most : ℕ) (old now
         behind_later : AllByRecursion (λ (w : Write). w.first < i.lbn) copies
         behind_later = all_map (λ (w : Write). w.first < from) (λ (w : Write). w.first < i.lbn) (λ w lt. omega (arith, lt, met.low)) copies b.behind
 
-    quiet_since : settled ≡ true → new.index.entries ≡ now.index.entries → NoneGoesBehind (listed_in new.index.entries) copies
-    quiet_since yes_ same = subst (λ (es : List Indexed). NoneGoesBehind (listed_in es) copies) (sym same) (b.quiet yes_)
+    settled_since : settled ≡ true → new.index.entries ≡ now.index.entries → HasSettled (listed_in new.index.entries) copies
+    settled_since yes_ same = subst (λ (es : List Indexed). HasSettled (listed_in es) copies) (sym same) (has_settled (listed_in now.index.entries) copies b.listed (b.quiet yes_))
 
     pub between_copied : AreStill (listed_in now.index.entries) copies items → (k : ℕ) → 1 ≤ k → (t : HasRewritten tells state (take k items) now new) → Between tells state most old new (copied + count_of (take k items)) (end_of from (take k items)) false (copies ++ t.writes)
     between_copied still k one t = record {
@@ -608,6 +634,7 @@ module _ {D : Type 0} (tells : Bool) (state : D → State) (most : ℕ) (old now
       stays = λ f c least le x. subst (λ (es : List Listed). IsTidy es f c) (sym t.listed_is) (u.stays f c least le x);
       live = λ v x le. subst (λ (es : List Listed). HasLive (listed_in old.index.entries) v x ↔ HasLive es v x) (sym t.listed_is) (u.live v x le);
       quiet = λ wrong. absurd (let no_ : false ≡ true = wrong in cc);
+      listed = subst (λ (es : List Listed). AllByRecursion (IsUpperCopy es) (copies ++ t.writes)) (sym t.listed_is) u.listed;
     }
       where
         u : Upto (covered_in old) (listed_in old.index.entries) most old.next (end_of from (take k items)) (placed_all (Log t.lane) t.look t.writes).listed (copies ++ t.writes)
@@ -627,7 +654,7 @@ module _ {D : Type 0} (tells : Bool) (state : D → State) (most : ℕ) (old now
       b.count,
       λ wrong. absurd (let no_ : true ≡ false = wrong in cc),
       λ full. (let e = r.copied.next in let n = r.next in omega (arith, e, n), empty_since old now new b.done.copied.goes_on r.empty, left_untidy yes_ r.entries, r.room),
-      quiet_since yes_ r.entries,
+      settled_since yes_ r.entries,
     )
 
     -- none was written, and all was given up before, or a call of a disk failed
@@ -643,12 +670,12 @@ module _ {D : Type 0} (tells : Bool) (state : D → State) (most : ℕ) (old now
       record { chunks = b.done.chunks; copied = subst (HasCopied tells state old new) (append-nil copies) (copied_then tells state old now new copies [] can b.done.copied f.0); untouched = λ none. f.2 ∙ b.done.untouched none },
       f.1,
       left_untidy (so refl) f.2,
-      quiet_since (so refl) f.2,
+      settled_since (so refl) f.2,
     )
     ends_by still (Err NoMemory) none so f = let left = left_untidy (so refl) f.1 in subst (λ (ws : List Write). EndsBy tells state most old new ws NoMemory) (sym (append-nil copies)) (
       record { chunks = b.done.chunks; copied = subst (HasCopied tells state old new) (append-nil copies) (copied_then tells state old now new copies [] can b.done.copied f.0); untouched = λ none. f.1 ∙ b.done.untouched none },
       (i.lbn, left.before, left.behind),
-      quiet_since (so refl) f.1,
+      settled_since (so refl) f.1,
     )
 
 -- all are tidy where no block is covered from here on
@@ -659,7 +686,7 @@ ends_clean tells state most old now copied from copies b ready index bare = (
   b.count,
   λ is. record { each = each; only = only },
   λ wrong. absurd (let no_ : false ≡ true = wrong in cc),
-  b.quiet refl,
+  has_settled (listed_in now.index.entries) copies b.listed (b.quiet refl),
 )
   where
     same_cover : (x : ℕ) → covered_in now x ≡ covered_in old x
@@ -731,4 +758,4 @@ module _ {D : Type 0} (tells : Bool) (state : D → State) (most : ℕ) (old new
 
 pub cleaned_none : {D : Type 0} (tells : Bool) (state : D → State) (most : ℕ) (m : Manager D) → CanClean m → (has : HasCleaned tells state most m m (Err NoMemory)) × ([] ≡ has.copies)
 cleaned_none tells state most m can = cleaned_err tells state most m m can [] NoMemory
-    (record { chunks = chunks_none (covered_in m) (listed_in m.index.entries) most m.next; copied = copied_none tells state m can; untouched = λ none. refl }, (0, (λ x lt is. absurd (omega (arith, lt))), tt), (λ some. absurd (some refl)))
+    (record { chunks = chunks_none (covered_in m) (listed_in m.index.entries) most m.next; copied = copied_none tells state m can; untouched = λ none. refl }, (0, (λ x lt is. absurd (omega (arith, lt))), tt), has_settled (listed_in m.index.entries) [] tt (λ some. absurd (some refl)))

@@ -75,10 +75,6 @@ AreTidyBelow covered most from es = (b : ℕ) → b < from → covered b ≡ tru
 abbrev pub NoneGoes : List Listed → Type 0
 NoneGoes es = AllByRecursion (λ e. (b : ℕ) → goes es e b ≡ false) es
 
--- where these copies were made nothing may go any more
-abbrev pub NoneGoesBehind : List Listed → (copies : List Write) → Type 0
-NoneGoesBehind es copies = (copies ≡ [] → ⊥) → NoneGoes es
-
 -- ---- Live blocks, and what is tidy once all was given up that may go
 
 -- the record of this version has this block as a live one

@@ -19,7 +19,7 @@ use Rattle.manager.specs.Reading.{needs_of}
 use Rattle.manager.specs.Stands.{IsSameManager}
 use Rattle.manager.specs.declared.manager.Manager.{Manager}
 use Rattle.manager.specs.declared.part.Part.{Part}
-use Rattle.log_cleaner.specs.Chunks.{AreTidyBelow, AreUntidyBehind, IsChunk, IsClean, IsTidy, NoneGoesBehind, NoneHomed}
+use Rattle.log_cleaner.specs.Chunks.{AreTidyBelow, AreUntidyBehind, IsChunk, IsClean, IsOneOf, IsTidy, NoneGoes, NoneHomed}
 use Rattle.log_cleaner.specs.Copies.{AreCopies, LeavesEntry, wrote}
 use Rattle.log_cleaner.specs.declared.answer.Cleaned.{Cleaned}
 use Rattle.log_cleaner.specs.declared.answer.CleanFault.{CleanFault}
@@ -89,6 +89,16 @@ FindsAllEmpty {D} old new = (k : ℕ) (o n : Lane D) → slice_get old.lanes.ite
 abbrev pub NoneHasRoom : {D : Type 0} → (count : ℕ) → Manager D → Type 0
 NoneHasRoom {D} count m = AllByRecursion (λ (l : Lane D). HasNoRoom count (held_in l)) m.lanes.items
 
+-- the record of the write is there, and keeps just its blocks
+abbrev pub IsListedIn : List Listed → Write → Type 0
+IsListedIn es w =
+    (version : ℕ) × (w.version ≡ Some version) × IsOneOf es version w.first (length w.blocks)
+
+-- Each of these copies is among the records; and where there are some, all was given up that may go.
+pub record HasSettled (es : List Listed) (copies : List Write) : Type 0 where
+  pub listed : AllByRecursion (IsListedIn es) copies
+  pub none_goes : (copies ≡ [] → ⊥) → NoneGoes es
+
 -- how many blocks were copied
 abbrev pub copied_blocks : List Write → ℕ
 copied_blocks copies = sum_by (λ (w : Write). length w.blocks) copies
@@ -126,7 +136,7 @@ Untouched old new copies = copies ≡ [] → new.index.entries ≡ old.index.ent
 
 -- What an answer says. Where it isn't full the records are one for each chunk; where it is, no
 -- segment had room for the next, and no pool had one. But at a fault of a disk no call of one
--- failed, and where something was copied all was given up that may go.
+-- failed, the copies are among the records, and behind them nothing may go.
 abbrev pub TellsCleaned : {D : Type 0} → (tells : Bool) → (D → State) → (most : ℕ)
     → (old new : Manager D) → List Write → Result Cleaned CleanFault → Type 0
 TellsCleaned tells state most old new copies (Ok c) =
@@ -137,7 +147,7 @@ TellsCleaned tells state most old new copies (Ok c) =
     × (c.full ≡ true → (new.next < 2 ^ 63) × FindsAllEmpty old new
     × (left : IsLeftUntidy (covered_in old) most (listed_in new.index.entries) copies)
     × NoneHasRoom left.count new) × Untouched old new copies × StaysCalm state old new
-    × NoneGoesBehind (listed_in new.index.entries) copies
+    × HasSettled (listed_in new.index.entries) copies
 TellsCleaned tells state most old new copies (Err (DiskFault p)) =
     (new.down ≡ Some p) × RoseSince state old new p × LeavesEntry tells state old new (Broke copies)
 TellsCleaned tells state most old new copies (Err VersionsSpent) =
@@ -145,11 +155,11 @@ TellsCleaned tells state most old new copies (Err VersionsSpent) =
     × (old.next + length copies ≡ 2 ^ 63)
     × IsLeftUntidy (covered_in old) most (listed_in new.index.entries) copies
     × Untouched old new copies × StaysCalm state old new
-    × NoneGoesBehind (listed_in new.index.entries) copies
+    × HasSettled (listed_in new.index.entries) copies
 TellsCleaned tells state most old new copies (Err NoMemory) =
     GoesOn old new × LeavesEntry tells state old new (wrote copies) × Untouched old new copies
     × TidiesBefore (covered_in old) most (listed_in new.index.entries) copies
-    × StaysCalm state old new × NoneGoesBehind (listed_in new.index.entries) copies
+    × StaysCalm state old new × HasSettled (listed_in new.index.entries) copies
 
 -- What was copied are chunks that weren't tidy, neither at the beginning nor behind the copies before
 -- them, in order, under the next versions; after a fault of a disk they may be in flight.

@@ -5,8 +5,8 @@ use Rattle.wol_disk.specs.Disk.{State}
 use Rattle.wol_model.specs.Blocks.{Write}
 use Rattle.wol_model.specs.Index.{Listed, AreRising, listed_in}
 use Rattle.manager.specs.declared.manager.Manager.{Manager}
-use Rattle.log_cleaner.specs.Chunks.{AreUntidyBehind, IsClean, NoneGoesBehind}
-use Rattle.log_cleaner.specs.Cleans.{FindsAllEmpty, NoneHasRoom, TidiesBefore, IsChunkOf, IsLeftUntidy, IsOfUntidy, copied_blocks, covered_in}
+use Rattle.log_cleaner.specs.Chunks.{AreUntidyBehind, IsClean}
+use Rattle.log_cleaner.specs.Cleans.{FindsAllEmpty, HasSettled, NoneHasRoom, TidiesBefore, IsChunkOf, IsLeftUntidy, IsOfUntidy, copied_blocks, covered_in}
 use Rattle.log_cleaner.specs.Steps.{HasBroken, HasCopied}
 use Rattle.log_cleaner.specs.declared.answer.CleanFault.{CleanFault}
 use Rattle.log_cleaner.specs.declared.answer.CleanFault.TheVariants.{DiskFault, VersionsSpent, NoMemory}
@@ -38,13 +38,13 @@ EndsBy tells state most old new copies (DiskFault p) =
 EndsBy tells state most old new copies VersionsSpent =
     HasCleanedSome tells state most old new copies × (new.next ≡ 2 ^ 63)
     × IsLeftUntidy (covered_in old) most (listed_in new.index.entries) copies
-    × NoneGoesBehind (listed_in new.index.entries) copies
+    × HasSettled (listed_in new.index.entries) copies
 EndsBy tells state most old new copies NoMemory =
     HasCleanedSome tells state most old new copies
     × TidiesBefore (covered_in old) most (listed_in new.index.entries) copies
-    × NoneGoesBehind (listed_in new.index.entries) copies
+    × HasSettled (listed_in new.index.entries) copies
 
--- all chunks are tidy, or no log had room for the next; behind copies nothing may go
+-- all chunks are tidy, or no log had room for the next
 abbrev pub CleansBy : {D : Type 0} → (tells : Bool) → (D → State) → (most : ℕ)
     → (old new : Manager D) → List Write → Result (ℕ × Bool) CleanFault → Type 0
 CleansBy tells state most old new copies (Ok r) =
@@ -53,5 +53,5 @@ CleansBy tells state most old new copies (Ok r) =
     × (r.1 ≡ true → (new.next < 2 ^ 63) × FindsAllEmpty old new
     × (left : IsLeftUntidy (covered_in old) most (listed_in new.index.entries) copies)
     × NoneHasRoom left.count new)
-    × NoneGoesBehind (listed_in new.index.entries) copies
+    × HasSettled (listed_in new.index.entries) copies
 CleansBy tells state most old new copies (Err fault) = EndsBy tells state most old new copies fault
