@@ -204,7 +204,7 @@ module _ {D : Type 0} (tells : Bool) (state : D → State) (old new : Manager D)
       → (IsTrue tells → StopsWithin tells state old new Always) → GivesSome tells state old new (Err fault)
   segment_broken T (step.DiskFault p) told broke dropped stops = record {
     down = told.1;
-    rose = (old, goes_none old can, calm_none state old, rose_of state old new p told.2);
+    rose = (old, goes_none old can, calm_none state old, rose_of state old new p told.2, lane_pools old.lanes.items new.lanes.items lane index (false ≡ true) (inr (λ is. false≢true is)) dropped.lanes);
     leaves = λ b notes n client note k. broke b notes n tt note k;
     copied = copies_plain tells state old new can.up (λ t. (None, lane_fewer old.lanes.items new.lanes.items lane index (false ≡ true) (inr (λ is. false≢true is)) dropped.lanes, λ b notes k. stops t b notes tt k));
   }

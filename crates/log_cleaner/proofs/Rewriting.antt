@@ -140,7 +140,7 @@ module _ {D : Type 0} (tells : Bool) (state : D → State) (old new : Manager D)
       → (IsTrue tells → (b : ManagerBase) (notes : List Noted) → Keeps tells state old b notes → Stops state old new None b notes []) → HasBroken tells state old new p []
   read_broken p down rose leaves stops = record {
     down = down;
-    rose = (old, goes_none old can, calm_none state old, rose_of state old new p rose);
+    rose = (old, goes_none old can, calm_none state old, rose_of state old new p rose, read_pools);
     leaves = leaves_broken tells state old new [] [] can.up leaves;
     copied = copies_plain tells state old new can.up (λ told. (None, fewer_read state old.lanes.items new.lanes.items read.lanes, stops told));
   }
@@ -537,7 +537,13 @@ module _ {D : Type 0} (tells : Bool) (state : D → State) (old mid new : Manage
       are = are_copies;
       broken = record {
         down = t.fault.0;
-        rose = (mid, read.goes_on, read.calm, t.fault.1);
+        rose = (
+          mid,
+          read.goes_on,
+          read.calm,
+          t.fault.1,
+          write_pools tells state mid new read.goes_on.can ready i.lbn first some_first covered_first (Err (refused.DiskFault (part.Segment logger index))) (answered_first (Err (refused.DiskFault (part.Segment logger index))) t.answered),
+        );
         leaves = Rattle.log_cleaner.proofs.Copying.leaves_then tells state old mid new [] ws can.up are_logged read.keeps (leaves_broken tells state mid new ws (passed_in new.rooms.items) read.goes_on.can.up t.run.stands);
         copied = copies_after_read tells state old mid new ws read are_logged are_same (stops_of (Err (refused.DiskFault (part.Segment logger index))) t);
       };

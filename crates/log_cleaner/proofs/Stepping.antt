@@ -142,7 +142,7 @@ module _ {D : Type 0} (tells : Bool) (state : D → State) where
   pub broken_then : (old mid new : Manager D) (p : Part) (cs fs : List Write) → CanClean old → HasCopied tells state old mid cs → HasBroken tells state mid new p fs → HasBroken tells state old new p (cs ++ fs)
   broken_then old mid new p cs fs can first second = record {
     down = second.down;
-    rose = (second.rose.0, goes_then old mid second.rose.0 first.goes_on second.rose.1, calm_then state old mid second.rose.0 first.goes_on second.rose.1 first.calm second.rose.2, second.rose.3);
+    rose = (second.rose.0, goes_then old mid second.rose.0 first.goes_on second.rose.1, calm_then state old mid second.rose.0 first.goes_on second.rose.1 first.calm second.rose.2, second.rose.3, second.rose.4);
     leaves = leaves_then tells state old mid new cs fs can.up second.copied.logged first.keeps second.leaves;
     copied = copies_then tells state old mid new cs fs first.keeps first.copied second.copied;
   }
@@ -312,7 +312,7 @@ module _ {D : Type 0} (tells : Bool) (state : D → State) (old new : Manager D)
       → HasDropped {T = T} version e old new (Err (step.DiskFault p)) → (IsTrue tells → StopsWithin tells state old new Always) → HasBroken tells state old new p []
   gave_broken {T} version e p told broke dropped stops = record {
     down = told.1;
-    rose = (old, goes_none old can, calm_none state old, rose_of state old new p told.2);
+    rose = (old, goes_none old can, calm_none state old, rose_of state old new p told.2, drop_pools old new version e {T = T} (Err (step.DiskFault p)) can dropped);
     leaves = λ b notes n client note k. broke b notes n tt note k;
     copied = copies_plain tells state old new can.up (λ t. (None, drop_fewer old new version e {T = T} (Err (step.DiskFault p)) can dropped, λ b notes k. stops t b notes tt k));
   }

@@ -40,6 +40,11 @@ pub record CanClean {D : Type 0} (m : Manager D) : Type 0 where
   pub unhomed : NoneHomed (listed_in m.index.entries)
   pub awake : AllAwake m
 
+-- the pass of each lane's pool has gained entries at most
+abbrev pub PassesGoOn : {D : Type 0} → (old new : Manager D) → Type 0
+PassesGoOn {D} old new = (k : ℕ) (o n : Lane D) → slice_get old.lanes.items k ≡ Some o
+    → slice_get new.lanes.items k ≡ Some n → Begins (pass_mine (pool_of o)) (pass_mine (pool_of n))
+
 -- Between calls of a cleaning: it can be cleaned still, the same blocks are covered, home wasn't
 -- woken, and the passes of its pools have gained entries at most.
 pub record GoesOn {D : Type 0} (old new : Manager D) : Type 0 where
@@ -50,9 +55,7 @@ pub record GoesOn {D : Type 0} (old new : Manager D) : Type 0 where
   pub home_up : new.home_up ≡ old.home_up
   pub home_needs : needs_of new.spindle ≡ needs_of old.spindle
   pub lanes : length new.lanes.items ≡ length old.lanes.items
-  pub pools : (k : ℕ) (o n : Lane D) → slice_get old.lanes.items k ≡ Some o
-      → slice_get new.lanes.items k ≡ Some n
-      → Begins (pass_mine (pool_of o)) (pass_mine (pool_of n))
+  pub pools : PassesGoOn old new
 
 -- a copy is of a chunk of the covered blocks
 abbrev pub IsChunkOf : (covered : ℕ → Bool) → (most : ℕ) → Write → Type 0
@@ -125,10 +128,11 @@ pub record StaysCalm {D : Type 0} (state : D → State) (old new : Manager D) : 
       → slice_get new.lanes.items k ≡ Some n → (segment : HeldSegment D)
       → Contains (held_in o) segment → HasKept segment.index o n → HoldsCalm state segment n
 
--- A part's count rose in a call of the cleaning, and no call failed before it.
+-- A part's count rose in a call of the cleaning, and no call failed before it: `mid` is the manager
+-- before that call, and the passes of its pools begin those at the end.
 abbrev pub RoseSince : {D : Type 0} → (D → State) → (old new : Manager D) → Part → Type 0
 RoseSince {D} state old new p = (mid : Manager D) × GoesOn old mid × StaysCalm state old mid
-    × PartRoseOrClaimed state mid new p
+    × PartRoseOrClaimed state mid new p × PassesGoOn mid new
 
 -- where nothing was copied the records are as they were
 abbrev pub Untouched : {D : Type 0} → (old new : Manager D) → List Write → Type 0
