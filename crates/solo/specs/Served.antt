@@ -1,5 +1,5 @@
 -- What requests leave of a disk and of a sink.
-use Rattle.std.specs.Prelude.{◌≡◌, ℕ, ◌≤◌, ⊤, List, [], ◌∷◌, ◌++◌, Option, None, Some, option_map, Result, IsErrOf, MatchResult}
+use Rattle.std.specs.Prelude.{◌≡◌, ℕ, ◌≤◌, ⊤, List, [], ◌∷◌, ◌++◌, Option, None, Some, option_map, Result, MatchResult}
 use Rattle.std.specs.Io.KnownBytes.{Appends}
 use Rattle.wol_disk.specs.Disk.{Block, IsImageOf, Rose, Values, only, reads}
 use Rattle.wol_io.specs.Streams.{AppendsFront}
@@ -74,24 +74,11 @@ abbrev pub Serves : {T : Type 0} → (array : Option (List Block)) → List Requ
 Serves array rs result old new values =
     MatchResult result (λ _. Answered array rs old new) (λ e. LeftBy e array rs old new values)
 
--- a count of faults never falls, and it rose where this fault is answered
-pub record Counts {T : Type 0} (e : Fault) (result : Result T Fault)
-    (before now : ℕ) : Type 0 where
-  pub cause : IsErrOf result e → Rose before now
+-- a count of faults never falls: it rose where a call is answered so, and is else as before
+pub record Counts (failed : Type 0) (before now : ℕ) : Type 0 where
+  pub cause : failed → Rose before now
+  pub calm : ¬ failed → now ≡ before
   pub later : before ≤ now
-
--- the count of a sink that isn't the fault is as before
-abbrev pub CalmBut : Fault → (before now : ℕ) → Type 0
-CalmBut fault.Sink before now = ⊤
-CalmBut fault.Disk before now = now ≡ before
-CalmBut fault.NoMemory before now = now ≡ before
-CalmBut fault.Bay before now = now ≡ before
-CalmBut (fault.BadLine line why) before now = now ≡ before
-CalmBut fault.Spent before now = now ≡ before
-CalmBut fault.Source before now = now ≡ before
-
-abbrev pub IsCalm : {T : Type 0} → Result T Fault → (before now : ℕ) → Type 0
-IsCalm result before now = MatchResult result (λ _. now ≡ before) (λ e. CalmBut e before now)
 
 -- the only refusal is that of the disk
 abbrev pub IsOnlyDisk : {T : Type 0} → Result T Fault → Type 0

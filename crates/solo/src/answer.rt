@@ -1,8 +1,8 @@
 // One request: blocks of the disk are read and printed, or written and synced.
 ghost use Rattle.solo.specs.Requests.{request_of};
-ghost use Rattle.solo.specs.Served.{Counts, IsCalm, IsOnlyDisk, IsSettled, LeavesCutOf, Serves, content_of, content_after};
+ghost use Rattle.solo.specs.Served.{Counts, IsOnlyDisk, IsSettled, LeavesCutOf, Serves, content_of, content_after};
 ghost use Rattle.solo.specs.Texts.{read_text};
-ghost use Rattle.std.specs.Prelude.{◌≡◌, ◌+◌, ◌≤◌, ◌^◌, [], ◌∷◌, length, option_map, string_bytes, IfOk, OnOk};
+ghost use Rattle.std.specs.Prelude.{◌≡◌, ◌+◌, ◌≤◌, ◌^◌, [], ◌∷◌, length, option_map, string_bytes, IfOk, OnOk, IsErrOf};
 
 use crate::fault::Fault;
 use crate::request::Request;
@@ -33,7 +33,8 @@ fn write_blocks<D: Disk>(part: &mut D, blocks: &mut [Block], request: &Request) 
     ensures settled { OnOk result (IsSettled (D.state part.new).values) }
     ensures values { OnOk result (content_of (D.state part.new).values
         ≡ content_after (request_of request.now ∷ []) (content_of (D.state part.old).values)) }
-    ensures disk { Counts Fault.Disk result (D.state part.old).faults (D.state part.new).faults }
+    ensures disk { Counts (IsErrOf result Fault.Disk) (D.state part.old).faults
+        (D.state part.new).faults }
     ensures images { LeavesCutOf (content_of (D.state part.old).values) []
         (request_of request.now ∷ []) (D.state part.new).values }
     ensures only { IsOnlyDisk result }
@@ -66,9 +67,9 @@ pub fn serve<D: Disk, K: Sink>(
         ≡ content_after (request_of request.now ∷ []) (content_of (D.state part.old).values)) }
     ensures content { Serves (content_of (D.state part.old).values) (request_of request.now ∷ [])
         result (K.taken out.old) (K.taken out.new) (D.state part.new).values }
-    ensures disk { Counts Fault.Disk result (D.state part.old).faults (D.state part.new).faults }
-    ensures sink { Counts Fault.Sink result (K.faults out.old) (K.faults out.new) }
-    ensures calm { IsCalm result (K.faults out.old) (K.faults out.new) }
+    ensures disk { Counts (IsErrOf result Fault.Disk) (D.state part.old).faults
+        (D.state part.new).faults }
+    ensures sink { Counts (IsErrOf result Fault.Sink) (K.faults out.old) (K.faults out.new) }
 {
     match request.kind {
         Kind::Read => {

@@ -2,14 +2,13 @@
 ghost use Rattle.solo.specs.Faults.{fault_of_bay};
 ghost use Rattle.solo.specs.Images.{IsOnePart, NoneOut, PartCameBackFaulty, RunsInBay, RunsOnFirst};
 ghost use Rattle.solo.specs.Runs.{Runs};
-ghost use Rattle.solo.specs.Served.{Counts, IsCalm, IsSettled, content_of};
+ghost use Rattle.solo.specs.Served.{Counts, IsSettled, content_of};
 ghost use Rattle.solo.specs.Summed.{SumsUp};
 ghost use Rattle.solo.specs.Texts.{summary_text};
 ghost use Rattle.solo.specs.Volume.{IsVolume, target_of};
 ghost use Rattle.std.specs.Io.KnownBytes.{IsAtEnd};
-ghost use Rattle.std.specs.Prelude.{◌≡◌, ◌≢◌, [], OnOk, IfOk, IsErrOf, string_bytes};
+ghost use Rattle.std.specs.Prelude.{◌≡◌, ◌≢◌, [], OnOk, IfOk, IsErrOf, string_bytes, ◌⊎◌};
 ghost use Rattle.wol_bay.specs.Parts.{faulty_places, sizes_of};
-ghost use Rattle.wol_disk.specs.Disk.{Rose};
 
 use crate::fault::Fault;
 use crate::tally::Tally;
@@ -39,8 +38,7 @@ fn summary_of(alloc: Global, tally: &Tally) -> Result<String, AllocError>
 // Prints the last line.
 fn sum_up<K: Sink>(alloc: Global, out: &mut K, tally: &Tally) -> Result<(), Fault>
     ensures content { SumsUp result (K.taken out.old) (K.taken out.new) (summary_text tally.now) }
-    ensures sink { Counts Fault.Sink result (K.faults out.old) (K.faults out.new) }
-    ensures calm { IsCalm result (K.faults out.old) (K.faults out.new) }
+    ensures sink { Counts (IsErrOf result Fault.Sink) (K.faults out.old) (K.faults out.new) }
 {
     let Ok(text) = summary_of(alloc, tally) else {
         return Err(Fault::NoMemory);
@@ -68,10 +66,10 @@ fn run_on<S: Source, D: Disk, K: Sink, G: Gate>(
         (content_of (D.state part.old).values) result (K.taken out.old) (K.taken out.new)
         (D.state part.new).values }
     ensures end { OnOk result (IsAtEnd (S.left trace.new)) }
-    ensures source { Counts Fault.Source result (S.faults trace.old) (S.faults trace.new) }
-    ensures disk { Counts Fault.Disk result (D.state part.old).faults (D.state part.new).faults }
-    ensures sink { Counts Fault.Sink result (K.faults out.old) (K.faults out.new) }
-    ensures calm { IsCalm result (K.faults out.old) (K.faults out.new) }
+    ensures source { Counts (IsErrOf result Fault.Source) (S.faults trace.old) (S.faults trace.new) }
+    ensures disk { Counts (IsErrOf result Fault.Disk) (D.state part.old).faults
+        (D.state part.new).faults }
+    ensures sink { Counts (IsErrOf result Fault.Sink) (K.faults out.old) (K.faults out.new) }
 {
     let zeros: Block = [0; 512];
     let Ok(mut blocks) = vec![in alloc; zeros; 128] else {
@@ -98,10 +96,10 @@ fn run_parts<S: Source, D: Disk, K: Sink, G: Gate>(
     ensures content { RunsOnFirst D.state (target_of volume.now) (S.left trace.old)
         (S.left trace.new) parts.old parts.new result (K.taken out.old) (K.taken out.new) }
     ensures end { OnOk result (IsAtEnd (S.left trace.new)) }
-    ensures source { Counts Fault.Source result (S.faults trace.old) (S.faults trace.new) }
+    ensures source { Counts (IsErrOf result Fault.Source) (S.faults trace.old) (S.faults trace.new) }
     ensures disk { IsErrOf result Fault.Disk → faulty_places D.state parts.new ≢ [] }
-    ensures sink { Counts Fault.Sink result (K.faults out.old) (K.faults out.new) }
-    ensures calm { IsCalm result (K.faults out.old) (K.faults out.new) }
+    ensures disk_calm { ¬ IsErrOf result Fault.Disk → faulty_places D.state parts.new ≡ [] }
+    ensures sink { Counts (IsErrOf result Fault.Sink) (K.faults out.old) (K.faults out.new) }
 {
     run_on(alloc, volume, trace, &mut parts[0], out, gate)
 }
@@ -121,14 +119,12 @@ pub fn run<S: Source, K: Sink, B: Bay, G: Gate>(
     ensures content { RunsInBay (target_of volume.now) (S.left trace.old) (S.left trace.new)
         (B.state bay.old).told (B.state bay.new).told result (K.taken out.old) (K.taken out.new) }
     ensures end { OnOk result (IsAtEnd (S.left trace.new)) }
-    ensures source { Counts Fault.Source result (S.faults trace.old) (S.faults trace.new) }
-    ensures disk { IsErrOf result Fault.Disk
-        → Rose (B.state bay.old).faults (B.state bay.new).faults }
+    ensures source { Counts (IsErrOf result Fault.Source) (S.faults trace.old) (S.faults trace.new) }
     ensures faulty { IsErrOf result Fault.Disk
         → PartCameBackFaulty (B.state bay.old).told (B.state bay.new).told }
-    ensures bay { Counts Fault.Bay result (B.state bay.old).faults (B.state bay.new).faults }
-    ensures sink { Counts Fault.Sink result (K.faults out.old) (K.faults out.new) }
-    ensures calm { IsCalm result (K.faults out.old) (K.faults out.new) }
+    ensures bay { Counts (IsErrOf result Fault.Bay ⊎ IsErrOf result Fault.Disk)
+        (B.state bay.old).faults (B.state bay.new).faults }
+    ensures sink { Counts (IsErrOf result Fault.Sink) (K.faults out.old) (K.faults out.new) }
 {
     let mut parts = match bay.create("solo", &[volume.blocks]) {
         Ok(parts) => parts,

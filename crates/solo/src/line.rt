@@ -1,8 +1,8 @@
 // One line of the trace: its pieces, one after another.
 ghost use Rattle.msr_trace.specs.Lines.{Fits, trace_line};
 ghost use Rattle.solo.specs.Requests.{line_requests};
-ghost use Rattle.solo.specs.Served.{Counts, IsCalm, IsSettled, Serves, content_of, content_after};
-ghost use Rattle.std.specs.Prelude.{◌≡◌, ◌+◌, ◌≤◌, ◌<◌, ◌^◌, length, IfOk, OnOk};
+ghost use Rattle.solo.specs.Served.{Counts, IsSettled, Serves, content_of, content_after};
+ghost use Rattle.std.specs.Prelude.{◌≡◌, ◌+◌, ◌≤◌, ◌<◌, ◌^◌, length, IfOk, OnOk, IsErrOf};
 
 use crate::answer::serve;
 use crate::fault::Fault;
@@ -45,9 +45,9 @@ pub fn run_line<D: Disk, K: Sink, G: Gate>(
     ensures content { Serves (content_of (D.state part.old).values)
         (line_requests (D.state part.old).size number (trace_line line.now)) result
         (K.taken out.old) (K.taken out.new) (D.state part.new).values }
-    ensures disk { Counts Fault.Disk result (D.state part.old).faults (D.state part.new).faults }
-    ensures sink { Counts Fault.Sink result (K.faults out.old) (K.faults out.new) }
-    ensures calm { IsCalm result (K.faults out.old) (K.faults out.new) }
+    ensures disk { Counts (IsErrOf result Fault.Disk) (D.state part.old).faults
+        (D.state part.new).faults }
+    ensures sink { Counts (IsErrOf result Fault.Sink) (K.faults out.old) (K.faults out.new) }
 {
     let home = part.blocks();
     let mut count = 0;

@@ -1,10 +1,10 @@
 // One line of the trace: whether it belongs to the volume, and what is counted of it.
 ghost use Rattle.msr_trace.specs.Lines.{Fits, trace_line};
 ghost use Rattle.solo.specs.Requests.{requests_at, tally_with};
-ghost use Rattle.solo.specs.Served.{Counts, IsCalm, IsSettled, Serves, content_of, content_after};
+ghost use Rattle.solo.specs.Served.{Counts, IsSettled, Serves, content_of, content_after};
 ghost use Rattle.solo.specs.Volume.{IsVolume, target_of};
 ghost use Rattle.wol_model.specs.Trace.{is_write};
-ghost use Rattle.std.specs.Prelude.{◌≡◌, ◌+◌, ◌≤◌, ◌<◌, ◌^◌, length, option_map, if◌then◌else◌, IfSome, OnOk};
+ghost use Rattle.std.specs.Prelude.{◌≡◌, ◌+◌, ◌≤◌, ◌<◌, ◌^◌, length, option_map, if◌then◌else◌, IfSome, OnOk, IsErrOf};
 
 use crate::fault::Fault;
 use crate::line::run_line;
@@ -51,9 +51,9 @@ pub fn take_line<D: Disk, K: Sink, G: Gate>(
     ensures content { Serves (content_of (D.state part.old).values)
         (requests_at (target_of volume.now) number (option_map trace_line line)) result
         (K.taken out.old) (K.taken out.new) (D.state part.new).values }
-    ensures disk { Counts Fault.Disk result (D.state part.old).faults (D.state part.new).faults }
-    ensures sink { Counts Fault.Sink result (K.faults out.old) (K.faults out.new) }
-    ensures calm { IsCalm result (K.faults out.old) (K.faults out.new) }
+    ensures disk { Counts (IsErrOf result Fault.Disk) (D.state part.old).faults
+        (D.state part.new).faults }
+    ensures sink { Counts (IsErrOf result Fault.Sink) (K.faults out.old) (K.faults out.new) }
 {
     tally.lines += 1;
     let Some(line) = line else {

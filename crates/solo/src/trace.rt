@@ -2,10 +2,10 @@
 ghost use Rattle.msr_trace.specs.Reading.{pending};
 ghost use Rattle.solo.specs.Faults.{fault_of};
 ghost use Rattle.solo.specs.Runs.{Runs};
-ghost use Rattle.solo.specs.Served.{Counts, IsCalm, IsSettled, content_of};
+ghost use Rattle.solo.specs.Served.{Counts, IsSettled, content_of};
 ghost use Rattle.solo.specs.Volume.{IsVolume, target_of};
 ghost use Rattle.std.specs.Io.KnownBytes.{IsAtEnd};
-ghost use Rattle.std.specs.Prelude.{◌≡◌, true, length, OnOk};
+ghost use Rattle.std.specs.Prelude.{◌≡◌, true, length, OnOk, IsErrOf};
 
 use crate::fault::Fault;
 use crate::step::take_line;
@@ -38,11 +38,11 @@ pub fn run_lines<S: Source, D: Disk, K: Sink, G: Gate>(
         (K.taken out.new) (D.state part.new).values }
     ensures end { OnOk result (IsAtEnd (S.left lines.new.source)) }
     ensures same_borrow { S.borrow lines.new.source ≡ S.borrow lines.old.source }
-    ensures source { Counts Fault.Source result (S.faults lines.old.source)
+    ensures source { Counts (IsErrOf result Fault.Source) (S.faults lines.old.source)
         (S.faults lines.new.source) }
-    ensures disk { Counts Fault.Disk result (D.state part.old).faults (D.state part.new).faults }
-    ensures sink { Counts Fault.Sink result (K.faults out.old) (K.faults out.new) }
-    ensures calm { IsCalm result (K.faults out.old) (K.faults out.new) }
+    ensures disk { Counts (IsErrOf result Fault.Disk) (D.state part.old).faults
+        (D.state part.new).faults }
+    ensures sink { Counts (IsErrOf result Fault.Sink) (K.faults out.old) (K.faults out.new) }
 {
     let mut tally = Tally {
         lines: 0,

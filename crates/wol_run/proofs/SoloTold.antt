@@ -4,7 +4,6 @@ use Rattle.wol_disk.specs.Disk.{Rose, State}
 use Rattle.wol_bay.specs.Bay.{Told}
 use Rattle.wol_model.specs.Trace.{Target}
 use Rattle.solo.specs.Images.{RunsInBay}
-use Rattle.solo.specs.Served.{CalmBut}
 use Rattle.solo.specs.Volume.{target_of}
 use Rattle.solo.specs.declared.fault.Fault.{Fault}
 use Rattle.solo.specs.declared.fault.Fault.TheVariants as fault
@@ -62,12 +61,12 @@ module _ (T : Type 0) (target : Target) (trace left : Option (List ℕ)) (told t
 later_seven : (a b c status : ℕ) → b ≡ a → (b < c → status ≡ 7) → a < c → status ≡ 7
 later_seven a b c status same calm less = calm (omega (arith, same, less))
 
-pub solo_calm : (e : Fault) (a b c status : ℕ) (mid new : Option (List ℕ)) → CalmBut e a b → TellsFault e status mid new → (b < c → status ≡ 7) → a < c → status ≡ 7
+pub solo_calm : (e : Fault) (a b c status : ℕ) (mid new : Option (List ℕ)) → (¬ (e ≡ fault.Sink) → b ≡ a) → TellsFault e status mid new → (b < c → status ≡ 7) → a < c → status ≡ 7
 solo_calm fault.Sink a b c status mid new same (inl (seven, more)) calm less = seven
 solo_calm fault.Sink a b c status mid new same (inr (seven, more)) calm less = seven
-solo_calm fault.Disk a b c status mid new same tells calm less = later_seven a b c status same calm less
-solo_calm fault.NoMemory a b c status mid new same tells calm less = later_seven a b c status same calm less
-solo_calm fault.Bay a b c status mid new same tells calm less = later_seven a b c status same calm less
-solo_calm (fault.BadLine line why) a b c status mid new same tells calm less = later_seven a b c status same calm less
-solo_calm fault.Spent a b c status mid new same tells calm less = later_seven a b c status same calm less
-solo_calm fault.Source a b c status mid new same tells calm less = later_seven a b c status same calm less
+solo_calm fault.Disk a b c status mid new same tells calm less = later_seven a b c status (same (λ is. cc is)) calm less
+solo_calm fault.NoMemory a b c status mid new same tells calm less = later_seven a b c status (same (λ is. cc is)) calm less
+solo_calm fault.Bay a b c status mid new same tells calm less = later_seven a b c status (same (λ is. cc is)) calm less
+solo_calm (fault.BadLine line why) a b c status mid new same tells calm less = later_seven a b c status (same (λ is. cc is)) calm less
+solo_calm fault.Spent a b c status mid new same tells calm less = later_seven a b c status (same (λ is. cc is)) calm less
+solo_calm fault.Source a b c status mid new same tells calm less = later_seven a b c status (same (λ is. cc is)) calm less

@@ -20,7 +20,8 @@ loop-piece-init g c = record {
   room = c.requires.room;
   disk_later = search rules;
   later = search rules;
-  calm = refl;
+  disk_calm = refl;
+  sink_calm = refl;
 }
 
 pub overflow_add-earlier : goal.overflow_add-earlier
@@ -62,7 +63,8 @@ loop-piece-preserved g c =
       room = search rules;
       disk_later = search rules;
       later = search rules;
-      calm = search rules;
+      disk_calm = search rules;
+      sink_calm = search rules;
     }
 
 pub returns-clause-few : goal.returns-clause-few

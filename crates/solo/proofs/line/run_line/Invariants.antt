@@ -19,5 +19,6 @@ invariant-loop-piece g l = record {
   room : length l.blocks ≡ 128;
   disk_later : (g.D.Disk.state l.initial.part).faults ≤ (g.D.Disk.state l.part).faults;
   later : g.K.Sink.faults l.initial.out ≤ g.K.Sink.faults l.out;
-  calm : g.K.Sink.faults l.out ≡ g.K.Sink.faults l.initial.out;
+  disk_calm : (g.D.Disk.state l.part).faults ≡ (g.D.Disk.state l.initial.part).faults;
+  sink_calm : g.K.Sink.faults l.out ≡ g.K.Sink.faults l.initial.out;
 }

@@ -22,7 +22,9 @@ loop-init g c = record {
   source_later = search rules;
   disk_later = search rules;
   later = search rules;
-  calm = refl;
+  source_calm = refl;
+  disk_calm = refl;
+  sink_calm = refl;
 }
 
 pub returns-in-Ok-None-clause-content : goal.returns-in-Ok-None-clause-content
@@ -65,5 +67,7 @@ loop-preserved g c =
       source_later = search rules;
       disk_later = search rules;
       later = search rules;
-      calm = search rules;
+      source_calm = search rules;
+      disk_calm = search rules;
+      sink_calm = search rules;
     }

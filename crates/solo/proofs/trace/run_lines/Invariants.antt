@@ -20,5 +20,7 @@ invariant-loop g l = record {
   source_later : g.S.Source.faults l.initial.lines.source ≤ g.S.Source.faults l.lines.source;
   disk_later : (g.D.Disk.state l.initial.part).faults ≤ (g.D.Disk.state l.part).faults;
   later : g.K.Sink.faults l.initial.out ≤ g.K.Sink.faults l.out;
-  calm : g.K.Sink.faults l.out ≡ g.K.Sink.faults l.initial.out;
+  source_calm : g.S.Source.faults l.lines.source ≡ g.S.Source.faults l.initial.lines.source;
+  disk_calm : (g.D.Disk.state l.part).faults ≡ (g.D.Disk.state l.initial.part).faults;
+  sink_calm : g.K.Sink.faults l.out ≡ g.K.Sink.faults l.initial.out;
 }

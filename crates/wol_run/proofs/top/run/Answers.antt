@@ -64,20 +64,20 @@ returns-in-Serve-clause-promise g c =
 
 -- the lines of one volume were run to their end
 pub returns-in-Ok-run-clause-promise : goal.returns-in-Ok-run-clause-promise
-returns-in-Ok-run-clause-promise g c = solo_done_promise _ _ _ _ _ (λ less. absurd (let same = c.in-Ok-run.ensures.calm in omega (arith, same, less))) c.in-Solo.volume (subst (IsCommand _) c.in-Solo.is c.in-Ok.ensures.ok) refl c.in-Ok-run.ensures.end (tt {0}) c.in-Ok-run.ensures.content
+returns-in-Ok-run-clause-promise g c = solo_done_promise _ _ _ _ _ (λ less. absurd (let same = c.in-Ok-run.ensures.sink.calm (λ is. cc is) in omega (arith, same, less))) c.in-Solo.volume (subst (IsCommand _) c.in-Solo.is c.in-Ok.ensures.ok) refl c.in-Ok-run.ensures.end (tt {0}) c.in-Ok-run.ensures.content
 
 -- .. or a fault ended them
 pub returns-in-Err-clause-promise : goal.returns-in-Err-clause-promise
 returns-in-Err-clause-promise g c =
     let e = c.in-Err.fault in
     let bay = g.B.Bay.state c.args.bay.now in
-    let cause = has_cause e bay.told (g.B.Bay.state c.run.new.bay).told bay.faults (g.B.Bay.state c.run.new.bay).faults (g.S.Source.faults c.args.trace.now) (g.S.Source.faults c.run.new.trace) (λ is. (c.in-Err.ensures.disk (ap Err is), c.in-Err.ensures.faulty (ap Err is))) (λ is. c.in-Err.ensures.bay.cause (ap Err is)) (λ is. c.in-Err.ensures.source.cause (ap Err is)) in
+    let cause = has_cause e bay.told (g.B.Bay.state c.run.new.bay).told bay.faults (g.B.Bay.state c.run.new.bay).faults (g.S.Source.faults c.args.trace.now) (g.S.Source.faults c.run.new.trace) (λ is. (c.in-Err.ensures.bay.cause (inr (ap Err is)), c.in-Err.ensures.faulty (ap Err is))) (λ is. c.in-Err.ensures.bay.cause (inl (ap Err is))) (λ is. c.in-Err.ensures.source.cause (ap Err is)) in
     solo_fault_promise _ _ _ _ _ _
     (λ seven. elim (c.tell.ensures.cause seven) [
       | inl is ↦ rose_later _ _ _ (c.in-Err.ensures.sink.cause (ap Err is)) c.tell.ensures.later
       | inr rose ↦ rose_from _ _ _ c.in-Err.ensures.sink.later rose
     ])
-    (solo_calm e _ _ _ c.tell.result _ _ c.in-Err.ensures.calm c.tell.ensures.content c.tell.ensures.calm)
+    (solo_calm e _ _ _ c.tell.result _ _ (λ no. c.in-Err.ensures.sink.calm (λ is. no (cc is))) c.tell.ensures.content c.tell.ensures.calm)
     c.in-Solo.volume (subst (IsCommand _) c.in-Solo.is c.in-Ok.ensures.ok) refl (Unit {0}) e _ c.tell.ensures.status c.tell.ensures.content cause c.in-Err.ensures.content
 
 -- ---- They are none
