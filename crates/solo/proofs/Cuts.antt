@@ -1,5 +1,5 @@
 -- What a stop leaves of a disk, one request after another.
-use Rattle.std.proofs.Common.{◌≡◌, List, [], ◌∷◌, ◌++◌, take, Option, None, Some, Result, refl, sym, ap, subst, ◌∙◌, append_assoc, append-nil, arith, map}
+use Rattle.std.proofs.Common.{◌≡◌, List, [], ◌∷◌, ◌++◌, take, Option, None, Some, Result, Ok, Err, refl, sym, ap, subst, ◌∙◌, append_assoc, append-nil, arith, map}
 use Rattle.std.specs.Prelude.{option_map, OnOk, OnErr}
 use Rattle.std.specs.List.{range_with_len}
 use Rattle.wol_disk.specs.Disk.{AddsSomeOf, Block, Values, added, put, reads, settled}
@@ -25,7 +25,8 @@ cut_later a earlier ws flight image (torn w is home blend) =
 -- after other requests
 pub cuts_after : (array : Option (List Block)) (rs answered flight : List Request) (values : Option (List (Values Block))) → LeavesCutOf (content_after rs array) answered flight values → LeavesCutOf array (rs ++ answered) flight values
 cuts_after None rs answered flight values left = tt
-cuts_after (Some a) rs answered flight values left = λ image is.
+cuts_after (Some a) rs answered flight None left = absurd left
+cuts_after (Some a) rs answered flight (Some vs) left = λ image is.
     rw (payloads_append rs answered) (cut_later a (payloads 0 rs) (payloads 0 answered) (payloads 0 flight) image (left image is))
 
 -- a disk on which all is synced
@@ -37,7 +38,7 @@ settled_cuts (Some vs) flight one = λ image is.
 -- .. after requests
 pub answered_cuts : (array : Option (List Block)) (rs : List Request) (values : Option (List (Values Block))) → IsSettled values → content_of values ≡ content_after rs array → LeavesCutOf array rs [] values
 answered_cuts None rs values one is = tt
-answered_cuts (Some a) rs None one is = λ image of. absurd of
+answered_cuts (Some a) rs None one is = absurd (cc is)
 answered_cuts (Some a) rs (Some vs) one is = λ image of.
     let now : image ≡ reads vs = settled_only (Some vs) (reads vs) image one of in
     let then : reads vs ≡ after a (payloads 0 rs) = cc is in
@@ -50,8 +51,10 @@ one_payload r is on = rw (is, on) refl
 pub write_cuts : {T E : Type 0} (result : Result T E) (r : Request) (blocks : List Block) (old mid : Option (List (Values Block))) → IsSettled old → r.kind ≡ kind.Write → r.volume ≡ 0 → blocks ≡ map (payload_block r.line) (range_with_len r.first r.count)
     → OnOk result (mid ≡ option_map (added r.first blocks) old) → OnErr result (AddsSomeOf r.first blocks old mid) → LeavesCutOf (content_of old) [] (r ∷ []) mid
 write_cuts result r blocks None mid one is on filled ok err = tt
-write_cuts result r blocks (Some vs) mid one is on filled ok err = λ image of.
-    let (d, was, blend) = after_write result r.first blocks (Some vs) mid image ok err of in
+write_cuts (Ok x) r blocks (Some vs) None one is on filled ok err = absurd (cc ok)
+write_cuts (Err e) r blocks (Some vs) None one is on filled ok err = absurd err
+write_cuts result r blocks (Some vs) (Some ws) one is on filled ok err = λ image of.
+    let (d, was, blend) = after_write result r.first blocks (Some vs) (Some ws) image ok err of in
     let before : d ≡ reads vs = settled_only (Some vs) (reads vs) d one was in
     let put_is : put r.first blocks d ≡ after (reads vs) (payload r ∷ []) = rw (before, filled) (sym (after_put (reads vs) (payload r))) in
     torn (payload r) (one_payload r is on) refl (rw (after_none (reads vs)) (rw (put_is, before) at blend))
@@ -59,4 +62,7 @@ write_cuts result r blocks (Some vs) mid one is on filled ok err = λ image of.
 pub sync_cuts : {T E : Type 0} (result : Result T E) (array : Option (List Block)) (answered flight : List Request) (old new : Option (List (Values Block))) → OnOk result (new ≡ option_map settled old) → OnErr result (new ≡ old)
     → LeavesCutOf array answered flight old → LeavesCutOf array answered flight new
 sync_cuts result None answered flight old new ok err left = tt
-sync_cuts result (Some a) answered flight old new ok err left = λ image is. left image (after_sync result old new image ok err is)
+sync_cuts result (Some a) answered flight None new ok err left = absurd left
+sync_cuts (Ok x) (Some a) answered flight (Some vs) None ok err left = absurd (cc ok)
+sync_cuts (Err e) (Some a) answered flight (Some vs) None ok err left = absurd (cc err)
+sync_cuts result (Some a) answered flight (Some vs) (Some ws) ok err left = λ image is. left image (after_sync result (Some vs) (Some ws) image ok err is)

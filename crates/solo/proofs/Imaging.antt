@@ -1,7 +1,7 @@
 -- The image of a run: it goes out blank and comes back as the run left it.
-use Rattle.std.proofs.Common.{◌≡◌, inl, inr, ℕ, Bool, true, false, cond, List, [], ◌∷◌, ◌++◌, Option, None, Some, Result, Ok, Err, refl, sym, ap, ◌∙◌, append-nil, length, take, drop, arith}
+use Rattle.std.proofs.Common.{◌≡◌, inl, inr, ℕ, ◌+◌, Bool, true, false, cond, List, [], ◌∷◌, ◌++◌, Option, None, Some, Result, Ok, Err, refl, sym, ap, ◌∙◌, append-nil, length, take, drop, arith}
 use Rattle.std.proofs.lemmas.List.{drop_all, length-map, take_all}
-use Rattle.std.specs.Prelude.{◌≢◌, codes, nat_lt, option_map, IfSome}
+use Rattle.std.specs.Prelude.{◌≢◌, codes, nat_lt, option_map, IfSome, IsSome}
 use Rattle.wol_disk.specs.Disk.{Block, State, Values, only, reads}
 use Rattle.wol_disk.specs.Zeros.{zeros}
 use Rattle.wol_disk.proofs.Images.{reads_only}
@@ -10,17 +10,17 @@ use Rattle.wol_bay.specs.Parts.{AreBlank, IsBlank, blocks_of, faulty_from, fault
 use Rattle.wol_bay.specs.declared.fault.BayFault.{BayFault}
 use Rattle.wol_bay.specs.declared.fault.BayFault.TheVariants as bay
 use Rattle.wol_io.proofs.Appending.{keeps_same}
-use Rattle.wol_model.specs.Trace.{Target}
+use Rattle.wol_model.specs.Trace.{Request, Target, TraceLine}
 use Rattle.solo.specs.declared.fault.Fault.{Fault}
 use Rattle.solo.specs.declared.fault.Fault.TheVariants as fault
 use Rattle.solo.specs.declared.tally.Tally.{Tally}
 use Rattle.solo.specs.Faults.{fault_of_bay}
 use Rattle.solo.specs.Images.{BeginsBlank, IsOnePart, LeavesImages, PartCameBackFaulty, RunsInBay, RunsOnFirst, Stores, LeavesBy}
-use Rattle.solo.specs.Runs.{Ends, EndsBy, Runs, RunsWhole, StopsBy}
-use Rattle.solo.specs.Served.{IsSettled, LeavesCutOf, content_of}
+use Rattle.solo.specs.Requests.{asked_of, requests_at}
+use Rattle.solo.specs.Runs.{AnsweredAll, Ends, EndsBy, Runs, RunsWhole, StopsBy, StopsIn}
+use Rattle.solo.specs.Served.{IsSettled, LeavesCutOf, LeftBy, content_after, content_of}
 use Rattle.solo.specs.Summed.{SumsUp}
 use Rattle.solo.specs.Texts.{summary_text}
-use Rattle.solo.proofs.Running.{none_run}
 
 -- ---- The last line
 
@@ -29,7 +29,7 @@ pub summed : {T : Type 0} (target : Target) (trace left : Option (List ℕ)) (ar
     → RunsWhole target trace array tally old mid values → SumsUp result mid new (summary_text tally) → Ends target trace left array result old new values
 summed target trace left array tally (Ok x) old mid new values whole sums = (tally, mid, whole, sums)
 summed target trace left array tally (Err fault.Sink) old mid new values whole sums = inr (tally, mid, whole, sums)
-summed target trace left array tally (Err fault.NoMemory) old mid new values whole sums = inr (tally, mid, whole, sums)
+summed target trace left array tally (Err fault.NoMemory) old mid new values whole sums = inr (inr (tally, mid, whole, sums))
 summed target trace left array tally (Err fault.Bay) old mid new values whole sums = absurd sums
 summed target trace left array tally (Err fault.Disk) old mid new values whole sums = absurd sums
 summed target trace left array tally (Err (fault.BadLine line why)) old mid new values whole sums = absurd sums
@@ -41,7 +41,7 @@ pub stopped : (e : Fault) (target : Target) (trace left : Option (List ℕ)) (ar
 stopped fault.Bay target trace left array old new values stops = absurd stops
 stopped fault.Sink target trace left array old new values stops = inl stops
 stopped fault.Disk target trace left array old new values stops = stops
-stopped fault.NoMemory target trace left array old new values stops = inl stops
+stopped fault.NoMemory target trace left array old new values stops = inr (inl stops)
 stopped (fault.BadLine line why) target trace left array old new values stops = stops
 stopped fault.Spent target trace left array old new values stops = stops
 stopped fault.Source target trace left array old new values stops = stops
@@ -60,11 +60,56 @@ came_stored : (values : Option (List (Values Block))) → joined values (Some []
 came_stored None = refl
 came_stored (Some vs) = ap Some (append-nil vs)
 
-stores : (told mid new : Option Told) (sizes places : List ℕ) (values : Option (List (Values Block))) → mid ≡ option_map (sent_out (codes "solo") sizes) told
+stores : (told mid new : Option Told) (sizes places : List ℕ) (values : Option (List (Values Block))) → IfSome told (λ _. IsSome values) → mid ≡ option_map (sent_out (codes "solo") sizes) told
     → new ≡ option_map (came_back (codes "solo") (joined values (Some [])) places) mid → Stores told new values
-stores None mid new sizes places values sent back = tt
-stores (Some t) mid new sizes places values sent back =
-    rw (back, sent) (ap (λ (vs : Option (List (Values Block))). stored (codes "solo") vs (without (codes "solo") t.images)) (came_stored values))
+stores None mid new sizes places values some sent back = tt
+stores (Some t) mid new sizes places None some sent back = absurd (cc some)
+stores (Some t) mid new sizes places (Some vs) some sent back =
+    rw (back, sent) (ap (λ (blocks : Option (List (Values Block))). stored (codes "solo") blocks (without (codes "solo") t.images)) (came_stored (Some vs)))
+
+-- where the array was told, so are the values that a stop leaves
+cut_told : (array : Option (List Block)) (answered flight : List Request) (values : Option (List (Values Block))) → LeavesCutOf array answered flight values → IfSome array (λ _. IsSome values)
+cut_told None answered flight values cuts = tt
+cut_told (Some a) answered flight None cuts = absurd cuts
+cut_told (Some a) answered flight (Some vs) cuts = refl
+
+left_told : (e : Fault) (array : Option (List Block)) (rs : List Request) (old new : Option (List ℕ)) (values : Option (List (Values Block))) → LeftBy e array rs old new values → IfSome array (λ _. IsSome values)
+left_told fault.Disk array rs old new values (first, r, next, answered, cuts) = cut_told array first (r ∷ []) values cuts
+left_told fault.NoMemory array rs old new values (first, r, next, is, answered, cuts) = cut_told array first [] values cuts
+left_told fault.Sink array rs old new values (first, r, next, is, cuts, mid, answered, front) = cut_told array first [] values cuts
+left_told fault.Bay array rs old new values left = absurd left
+left_told (fault.BadLine line why) array rs old new values left = absurd left
+left_told fault.Spent array rs old new values left = absurd left
+left_told fault.Source array rs old new values left = absurd left
+
+module _ (target : Target) (trace left : Option (List ℕ)) (array : Option (List Block)) (old new : Option (List ℕ)) (values : Option (List (Values Block))) where
+  all_told : (lines : List (Option TraceLine)) → AnsweredAll target lines array old new values → IfSome array (λ _. IsSome values)
+  all_told lines (answered, cuts) = cut_told array (asked_of target lines) [] values cuts
+
+  line_told : (e : Fault) → StopsIn e target trace left array old new values → IfSome array (λ _. IsSome values)
+  line_told e (lines, last, held, taken, mid, answered, stops) =
+      after (asked_of target lines) array (left_told e (content_after (asked_of target lines) array) (requests_at target (length lines + 1) last) mid new values stops) where
+        after : (rs : List Request) (was : Option (List Block)) → IfSome (content_after rs was) (λ _. IsSome values) → IfSome was (λ _. IsSome values)
+        after rs None some = tt
+        after rs (Some a) some = some
+
+  stop_told : (e : Fault) → StopsBy e target trace left array old new values → IfSome array (λ _. IsSome values)
+  stop_told (fault.BadLine line why) (lines, more, has, number, held, taken, all) = all_told lines all
+  stop_told fault.Spent (lines, next, more, has, number, held, taken, all) = all_told lines all
+  stop_told fault.Source (lines, held, cut, taken, all) = all_told lines all
+  stop_told fault.Disk stops = line_told fault.Disk stops
+  stop_told fault.Sink stops = line_told fault.Sink stops
+  stop_told fault.NoMemory (inl (lines, held, taken, all)) = all_told lines all
+  stop_told fault.NoMemory (inr stops) = line_told fault.NoMemory stops
+  stop_told fault.Bay stops = absurd stops
+
+  run_told : (ran : Result Tally Fault) → Runs target trace left array ran old new values → IfSome array (λ _. IsSome values)
+  run_told (Ok tally) (lines, has, few, counted, all) = all_told lines all
+  run_told (Err e) stops = stop_told e stops
+
+begun_told : (target : Target) (told : Option Told) (array : Option (List Block)) (values : Option (List (Values Block))) → BeginsBlank target told array → IfSome array (λ _. IsSome values) → IfSome told (λ _. IsSome values)
+begun_told target None array values begins some = tt
+begun_told target (Some t) array values begins some = rw begins at some
 
 abbrev RanInBay : Target → (trace left : Option (List ℕ)) → (told new : Option Told) → Result Tally Fault → (old out : Option (List ℕ)) → Type 0
 RanInBay target trace left told new ran old out =
@@ -90,7 +135,10 @@ module _ {D : Type 0} (state : D → State) where
   ran_in_bay target trace left told mid new sizes places (part ∷ []) [] ran old out blank same sent back runs = absurd runs
   ran_in_bay target trace left told mid new sizes places (part ∷ []) (part' ∷ next ∷ parts') ran old out blank same sent back runs = absurd (cc same)
   ran_in_bay target trace left told mid new sizes places (part ∷ []) (part' ∷ []) ran old out blank same sent back runs =
-      (content_of (state part).values, blank_begins target told (state part) blank.0, (state part').values, stores told mid new sizes places (state part').values sent back, runs)
+      let begins : BeginsBlank target told (content_of (state part).values) = blank_begins target told (state part) blank.0 in
+      let values = (state part').values in
+      let some : IfSome told (λ _. IsSome values) = begun_told target told (content_of (state part).values) values begins (run_told target trace left (content_of (state part).values) old out values ran runs) in
+      (content_of (state part).values, begins, values, stores told mid new sizes places values some sent back, runs)
 
 -- ---- The part's fault
 
@@ -159,21 +207,17 @@ written_back {D} state n parts lent parts' is count same =
 
 -- ---- The image wasn't made
 
-no_cuts : (array : Option (List Block)) → LeavesCutOf array [] [] None
-no_cuts None = tt
-no_cuts (Some a) = λ image is. absurd is
-
 ends_early : (e : BayFault) (target : Target) (trace : Option (List ℕ)) (array : Option (List Block)) (old : Option (List ℕ)) → EndsBy (fault_of_bay e) target trace trace array old old None
-ends_early bay.NoMemory target trace array old = inl (none_run target trace array old None (no_cuts array))
-ends_early bay.Absent target trace array old = keeps_same old
-ends_early bay.Failed target trace array old = keeps_same old
-ends_early (bay.WrongLength bytes) target trace array old = keeps_same old
+ends_early bay.NoMemory target trace array old = inl (refl, refl, keeps_same old)
+ends_early bay.Absent target trace array old = (refl, refl, keeps_same old)
+ends_early bay.Failed target trace array old = (refl, refl, keeps_same old)
+ends_early (bay.WrongLength bytes) target trace array old = (refl, refl, keeps_same old)
 
 not_there : (e : BayFault) (old new : Option Told) → new ≡ old → LeavesBy (fault_of_bay e) old new None
-not_there bay.NoMemory old new same = inl same
-not_there bay.Absent old new same = same
-not_there bay.Failed old new same = same
-not_there (bay.WrongLength bytes) old new same = same
+not_there bay.NoMemory old new same = inl (same, refl)
+not_there bay.Absent old new same = (same, refl)
+not_there bay.Failed old new same = (same, refl)
+not_there (bay.WrongLength bytes) old new same = (same, refl)
 
 pub not_made : (T : Type 0) (e : BayFault) (target : Target) (trace : Option (List ℕ)) (told new : Option Told) (old : Option (List ℕ)) → new ≡ told → RunsInBay {T = T} target trace trace told new (Err (fault_of_bay e)) old old
 not_made T e target trace None new old same = (None, tt, None, not_there e None new same, ends_early e target trace None old)

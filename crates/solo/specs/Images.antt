@@ -19,19 +19,24 @@ abbrev pub BeginsBlank : Target → Option Told → (array : Option (List Block)
 BeginsBlank target told array = IfSome told (λ t. array ≡ Some (zeros target.home))
 
 -- the image `solo` is in the bay with these values, in place of one that was there, and the others
--- are as they were
+-- are as they were; where the bay tells, so does the image
 abbrev pub Stores : (old new : Option Told) → (values : Option (List (Values Block))) → Type 0
 Stores None new values = ⊤
 Stores (Some old) None values = ⊥
-Stores (Some old) (Some new) values =
-    new.images ≡ stored (codes "solo") values (without (codes "solo") old.images)
+Stores (Some old) (Some new) None = ⊥
+Stores (Some old) (Some new) (Some vs) =
+    new.images ≡ stored (codes "solo") (Some vs) (without (codes "solo") old.images)
+
+-- the image wasn't made: the bay is as it was, and there are no values
+abbrev pub WasNotMade : (old new : Option Told) → (values : Option (List (Values Block))) → Type 0
+WasNotMade old new values = (new ≡ old) × (values ≡ None)
 
 -- what a fault leaves of the images: all as it was where the image wasn't made, which want of
 -- memory may also come of
 abbrev pub LeavesBy : Fault → (old new : Option Told) → (values : Option (List (Values Block)))
     → Type 0
-LeavesBy fault.Bay old new values = new ≡ old
-LeavesBy fault.NoMemory old new values = (new ≡ old) ⊎ Stores old new values
+LeavesBy fault.Bay old new values = WasNotMade old new values
+LeavesBy fault.NoMemory old new values = WasNotMade old new values ⊎ Stores old new values
 LeavesBy fault.Disk old new values = Stores old new values
 LeavesBy fault.Sink old new values = Stores old new values
 LeavesBy fault.Source old new values = Stores old new values

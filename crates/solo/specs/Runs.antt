@@ -1,5 +1,5 @@
 -- What the run of a trace leaves, by how it ended.
-use Rattle.std.specs.Prelude.{◌≡◌, ℕ, ◌+◌, ◌^◌, ◌≤◌, ◌⊎◌, List, [], ◌∷◌, ◌++◌, length, false, Option, Result, MatchResult, Err}
+use Rattle.std.specs.Prelude.{◌≡◌, ℕ, ◌+◌, ◌^◌, ◌≤◌, ◌⊎◌, List, [], ◌∷◌, ◌++◌, length, false, Option, None, Result, MatchResult, Err}
 use Rattle.std.specs.List.{list_any}
 use Rattle.std.specs.Io.KnownBytes.{Appends, Keeps}
 use Rattle.wol_disk.specs.Disk.{Block, Values}
@@ -107,17 +107,23 @@ abbrev pub PrintsReads : Target → (trace : Option (List ℕ)) → (array : Opt
 PrintsReads target trace array old new values =
     PrintsSo (λ mid now text. Keeps mid now) target trace array old new values
 
+-- no image was made: nothing of the trace was taken, and nothing was printed
+abbrev pub DoesNothing : (trace left : Option (List ℕ)) → (old new : Option (List ℕ))
+    → (values : Option (List (Values Block))) → Type 0
+DoesNothing trace left old new values = (values ≡ None) × (left ≡ trace) × Keeps old new
+
 -- how a run ended that wasn't done: without an image, in the trace, or at the last line
 abbrev pub EndsBy : Fault → Target → (trace left : Option (List ℕ)) → (array : Option (List Block))
     → (old new : Option (List ℕ)) → (values : Option (List (Values Block))) → Type 0
-EndsBy fault.Bay target trace left array old new values = Keeps old new
+EndsBy fault.Bay target trace left array old new values = DoesNothing trace left old new values
 EndsBy fault.Sink target trace left array old new values =
     StopsBy fault.Sink target trace left array old new values
     ⊎ PrintsFront target trace array old new values
 EndsBy fault.Disk target trace left array old new values =
     StopsBy fault.Disk target trace left array old new values
 EndsBy fault.NoMemory target trace left array old new values =
-    StopsBy fault.NoMemory target trace left array old new values
+    DoesNothing trace left old new values
+    ⊎ StopsBy fault.NoMemory target trace left array old new values
     ⊎ PrintsReads target trace array old new values
 EndsBy (fault.BadLine line why) target trace left array old new values =
     StopsBy (fault.BadLine line why) target trace left array old new values

@@ -23,12 +23,13 @@ content_after rs array = option_map (λ a. after a (payloads 0 rs)) array
 abbrev pub IsSettled : Option (List (Values Block)) → Type 0
 IsSettled values = values ≡ option_map only (content_of values)
 
--- a stop leaves the array after the answered writes, and maybe some blocks of the write in flight
+-- A stop leaves the array after the answered writes, and maybe some blocks of the write in flight:
+-- where the array was told, a disk is there that tells its blocks.
 abbrev pub LeavesCutOf : (array : Option (List Block)) → (answered flight : List Request)
     → (values : Option (List (Values Block))) → Type 0
 LeavesCutOf None answered flight values = ⊤
-LeavesCutOf (Some a) answered flight values =
-    (image : List Block) → IsImageOf values image
+LeavesCutOf (Some a) answered flight None = ⊥
+LeavesCutOf (Some a) answered flight (Some vs) = (image : List Block) → IsImageOf (Some vs) image
     → IsCut a (payloads 0 answered) (payloads 0 flight) image
 
 -- the sink took the lines of the reads

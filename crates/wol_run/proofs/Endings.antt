@@ -25,7 +25,7 @@ has_cause (fault.BadLine line why) told told' bay bay' source source' disk image
 -- a bad line was met, and then there was no memory for its text
 no_memory_instead : (line : ℕ) (why : BadLine) (target : Target) (trace left : Option (List ℕ)) (array : Option (List Block)) (old new : Option (List ℕ)) (values : Option (List (Values Block)))
     → EndsBy (fault.BadLine line why) target trace left array old new values → EndsBy fault.NoMemory target trace left array old new values
-no_memory_instead line why target trace left array old new values (lines, more, has, number, held, taken, answered) = inl (inl (lines, held, taken, answered))
+no_memory_instead line why target trace left array old new values (lines, more, has, number, held, taken, answered) = inr (inl (inl (lines, held, taken, answered)))
 
 module _ (target : Target) (trace left : Option (List ℕ)) (told told' : Option Told) (bay bay' source source' status : ℕ) (old mid new : Option (List ℕ)) where
   pub told_fault : (T : Type 0) (e : Fault) → HasCause e told told' bay bay' source source' → TellsFault e status mid new → RunsInBay {T = T} target trace left told told' (Err e) old mid → RunsSolo target trace left told told' bay bay' source source' status old new
