@@ -4,7 +4,8 @@ use Rattle.std.specs.Prelude.{IsTrue}
 use Rattle.turn_lock.specs.Histories.{Entry, own, Begins}
 use Rattle.turn_lock.specs.LockIds.{LockId}
 use Rattle.turn_lock.specs.Passes.{pass_mine}
-use Rattle.wol_model.specs.History.{Kept, worker}
+use Rattle.wol_model.specs.Blocks.{Write}
+use Rattle.wol_model.specs.History.{Broke, Kept, worker}
 use Rattle.wol_promise.specs.Manager.{Base}
 use Rattle.wol_promise.specs.Policy.{Look}
 use Rattle.wol_promise.specs.Ruled.{AreRuled, IsStep, Noted, last_look}
@@ -22,7 +23,8 @@ use Rattle.nbd_station.specs.Pieces.{IsTurnAt, Pieces, pieces_of}
 use Rattle.nbd_station.specs.Turns.{MakesTurn, write_refusal}
 use Rattle.nbd_station.proofs.Alone.{AreOf, all_begins, own_all}
 use Rattle.nbd_station.proofs.Law.{IsWorkerOf, step}
-use Rattle.nbd_serving.specs.Entries.{AddsEntry, LackedMemory}
+use Rattle.nbd_serving.specs.Entries.{AddsEntry, BreaksAt, LackedMemory}
+use Rattle.nbd_serving.proofs.Flights.{kept_breaks, read_breaks, wrote_breaks, not_read_breaks, not_written_breaks}
 
 -- the entry of one turn, behind these
 record IsOneTurn {D : Type 0} (tells : Bool) (t : Turn) (p q : ManagerPass D) : Type 0 where
@@ -30,18 +32,44 @@ record IsOneTurn {D : Type 0} (tells : Bool) (t : Turn) (p q : ManagerPass D) : 
   note : Noted
   turned : HasTurned tells p q before note
   stays : note.entry.operation ≡ Kept → Stays (LackedMemory t) (last_look (began p).look (notes_of before)) note
+  breaks : (flight : List Write) → note.entry.operation ≡ Broke flight → BreaksAt (began p).owner (notes_of before) note flight
 
 one_turn : {D : Type 0} (tells : Bool) (t : Turn) (p q : ManagerPass D) → MakesTurn tells t p q → IsOneTurn tells t p q
-one_turn tells Looked p q h = record { before = h.before; note = h.note; turned = h.turned; stays = λ kept. inl h.same }
-one_turn tells (NotLooked r) p q (part, h, is) = record { before = h.before; note = h.note; turned = h.turned; stays = λ kept. inl h.same }
-one_turn tells (Read at blocks) p q (sources, h) = record { before = h.before; note = h.note; turned = h.turned; stays = λ kept. inl (h.stays kept) }
-one_turn tells (NotRead at count r) p q (why, open_, h, long, is) = record { before = h.before; note = h.note; turned = h.turned; stays = λ kept. inl (h.stays kept) }
+one_turn tells Looked p q h = record {
+  before = h.before;
+  note = h.note;
+  turned = h.turned;
+  stays = λ kept. inl h.same;
+  breaks = kept_breaks (began p).owner (notes_of h.before) h.note h.kept;
+}
+one_turn tells (NotLooked r) p q (part, h, is) = record {
+  before = h.before;
+  note = h.note;
+  turned = h.turned;
+  stays = λ kept. inl h.same;
+  breaks = kept_breaks (began p).owner (notes_of h.before) h.note h.kept;
+}
+one_turn tells (Read at blocks) p q (sources, h) = record {
+  before = h.before;
+  note = h.note;
+  turned = h.turned;
+  stays = λ kept. inl (h.stays kept);
+  breaks = read_breaks (began p).owner (notes_of h.before) h.note at blocks h.entry.operation;
+}
+one_turn tells (NotRead at count r) p q (why, open_, h, long, is) = record {
+  before = h.before;
+  note = h.note;
+  turned = h.turned;
+  stays = λ kept. inl (h.stays kept);
+  breaks = not_read_breaks tells at open_ why p q h;
+}
 one_turn tells (Wrote at blocks) p q (place, drained, h) = record {
   before = h.before;
   note = h.note;
   turned = h.turned;
   stays = λ kept. stays_so (causes.LackedMemory (home_write at blocks) (outcome.Wrote place drained)) (LackedMemory (Wrote at blocks))
       (λ w lacked. absurd (let no : outcome.Wrote place drained ≡ outcome.NoWrite refused_write.NoMemory = lacked.1 in cc)) (last_look (began p).look (notes_of h.before)) h.note (h.stays kept);
+  breaks = wrote_breaks (began p).owner (notes_of h.before) h.note (h.entry.write ∷ []) h.entry.operation;
 }
 one_turn tells (NotWrote at blocks r) p q (why, h, is) = record {
   before = h.before;
@@ -50,6 +78,7 @@ one_turn tells (NotWrote at blocks r) p q (why, h, is) = record {
   stays = λ kept. stays_so (causes.LackedMemory (home_write at blocks) (outcome.NoWrite why)) (LackedMemory (NotWrote at blocks r))
       (λ w lacked. let out : outcome.NoWrite why ≡ outcome.NoWrite refused_write.NoMemory = lacked.1 in let wanting : why ≡ refused_write.NoMemory = cc out in (at, blocks, ap (NotWrote at blocks) (is ∙ ap write_refusal wanting), lacked.0))
       (last_look (began p).look (notes_of h.before)) h.note (h.stays kept);
+  breaks = not_written_breaks tells at blocks why p q h;
 }
 
 ruled_last : (l : Look) (notes : List Noted) (n : Noted) → AreRuled l (notes ++ n ∷ []) → IsTrue n.ruled → IsStep n n.entry.pass n.entry.operation (last_look l notes) n.look
@@ -100,6 +129,11 @@ module _ {D : Type 0} (tells : Bool) (lock : LockId ManagerBase) (es : List Entr
     pieces_at : (r : ManagerPass D) → IsWorkerOf lock es r → pieces_of (began r).look (noted r) ≡ pieces_of (base_in lock).look (noted r)
     pieces_at r is = ap (λ (l : LockId ManagerBase). pieces_of l.base.volume.began.look (noted r)) is.own_lock
 
+    breaks_then : (flight : List Write) → n.entry.operation ≡ Broke flight → BreaksAt (base_in lock).owner (noted p) n flight
+    breaks_then flight is =
+        subst (λ (xs : List Entry). BreaksAt (base_in lock).owner (notes_of xs) n flight) before_is
+        (subst (λ (l : LockId ManagerBase). BreaksAt l.base.volume.began.owner (notes_of one.before) n flight) fits.own_lock (one.breaks flight is))
+
     adds_at : IsTurnAt (IsTrue tells) (base_in lock).array t (pieces_of (began p).look (noted p)) (pieces_of (began q).look (noted q)) → AddsEntry (IsTrue tells) (base_in lock) t (noted p) (noted q)
     adds_at turn = record {
       note = n;
@@ -107,6 +141,7 @@ module _ {D : Type 0} (tells : Bool) (lock : LockId ManagerBase) (es : List Entr
       pass = pass_is;
       step = ruled;
       stays = λ kept. subst (λ (l : Look). Stays (LackedMemory t) l n) look_before (one.stays kept);
+      breaks = breaks_then;
       is_turn = subst (λ (x : Pieces). IsTurnAt (IsTrue tells) (base_in lock).array t x (pieces_of (base_in lock).look (noted q))) (pieces_at p fits)
           (subst (λ (x : Pieces). IsTurnAt (IsTrue tells) (base_in lock).array t (pieces_of (began p).look (noted p)) x) (pieces_at q fits_then) turn);
     }

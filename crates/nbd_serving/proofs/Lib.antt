@@ -1,4 +1,5 @@
 pub mod Begun
+pub mod Flights
 pub mod Entries
 pub mod Placed
 pub mod Recovered

@@ -9,11 +9,12 @@ use Rattle.wol_bay.specs.Bay.{BayState, Told}
 use Rattle.wol_config.specs.declared.config.Config.{Config}
 use Rattle.wol_config.specs.declared.config.VolumeConf.{VolumeConf}
 use Rattle.wol_model.specs.Blocks.{Write, after}
-use Rattle.wol_model.specs.History.{IsCut, worker, helper, keeper, writes, flight_of}
+use Rattle.wol_model.specs.History.{IsCut, worker, helper, keeper, writes, flight_of, in_flight}
 use Rattle.wol_model.specs.Images.{Images, all_segments, recovered_from}
 use Rattle.wol_model.specs.Recovered.{extents_of}
 use Rattle.wol_model.proofs.Overlay.{after_none}
 use Rattle.wol_promise.specs.Manager.{Base}
+use Rattle.wol_promise.specs.Policy.{PartName}
 use Rattle.wol_promise.specs.Ruled.{Noted, entries_of, last_look}
 use Rattle.turn_lock.specs.Histories.{Entry, own}
 use Rattle.turn_lock.specs.LockIds.{LockId}
@@ -25,7 +26,8 @@ use Rattle.manager.proofs.Lanes.{get_set, get_other}
 use Rattle.spin_model.specs.Spindles.{SpindleView}
 use Rattle.volume_images.specs.Left.{IsTold}
 use Rattle.volume_images.specs.Volumes.{AreLeft, images_read, shape_in, shapes_of}
-use Rattle.rack.specs.Closes.{AreLeftOfParts, AreListedOf, HasFaultyPart, IsClosedVolume, RecoversTo, recovered_out, segments_out}
+use Rattle.rack.specs.Closes.{AreLeftOfParts, AreListedOf, HasFaultyPart, IsClosedVolume, RecoversTo, part_named, recovered_out, segments_out}
+use Rattle.request_turns.specs.Entries.{IsFlightAt}
 use Rattle.rack.specs.Opens.{BeganWith, WereThere, HasFaulty}
 use Rattle.rack.specs.Owners.{IsBegun, images_taken}
 use Rattle.rack.specs.PoolUses.{ArePools, HadLogger, PassesEmpty}
@@ -48,13 +50,14 @@ use Rattle.open_rack.proofs.AllOut.{accepted_all, recovered_all, taken_all}
 use Rattle.nbd_session.specs.Sessions.{IsSession}
 use Rattle.nbd_session.specs.declared.session.Ended.{Ended}
 use Rattle.nbd_session.specs.declared.session.NbdFault.{NbdFault}
-use Rattle.nbd_session.proofs.Along.{session_along}
+use Rattle.nbd_session.proofs.Along.{session_along, session_keeps}
 use Rattle.nbd_station.specs.Pieces.{pieces_of}
 use Rattle.nbd_station.specs.Turns.{MakesTurn}
 use Rattle.nbd_station.proofs.Alone.{AreOf, all_of, own_all}
 use Rattle.nbd_station.proofs.Law.{IsWorkerOf}
 use Rattle.nbd_serving.specs.Entries.{AddsEntry}
 use Rattle.nbd_serving.proofs.Entries.{adds, noted}
+use Rattle.nbd_serving.proofs.Flights.{IsOnWay, none_on_way, on_way_more}
 use Rattle.nbd_serving.specs.Racks.{ServesStation}
 use Rattle.nbd_serving.specs.Runs.{LeavesOthers, LeavesServed, ServesOpen}
 use Rattle.nbd_serving.specs.Volumes.{AreKept, IsKept, IsOpen}
@@ -347,6 +350,17 @@ module _ {D : Type 0} (tells : Bool) (state : D → State) (config : Config) (di
         (subst (λ (ns : List Noted). IsSession (AddsEntry (IsTrue tells) base) serves.conf.home (most_of config) ns (noted serves.pass) wire.left wire'.left wire.taken wire'.taken answer) (ap notes_of fresh.0.mine)
         (session_along (MakesTurn tells) (AddsEntry (IsTrue tells) base) noted (IsWorkerOf lock es) (adds tells lock es alone) serves.conf.home (most_of config) s.worker serves.pass wire.left wire'.left wire.taken wire'.taken answer serves.session fits).1)
 
+    -- what was in flight was on its way to the part that is down in the end
+    on_way : IsOnWay base notes
+    on_way = session_keeps (AddsEntry (IsTrue tells) base) serves.conf.home (most_of config) (λ xs ys. IsOnWay base xs → IsOnWay base ys) (λ xs is. is) (λ xs ys zs first second is. second (first is)) (on_way_more (IsTrue tells) base)
+        [] notes wire.left wire'.left wire.taken wire'.taken answer session_is (none_on_way base)
+
+    way_to : IsSome (flight_of (entries_of notes)) → (name : PartName) → (last_look base.look notes).down ≡ Some name → IsFlightAt (part_named volume name) (in_flight (entries_of notes))
+    way_to broken name down =
+        let (was, is, way) = on_way broken in
+        subst (λ (x : PartName). IsFlightAt (part_named volume x) (in_flight (entries_of notes))) (same_Some was name (sym is ∙ down))
+        (subst (λ (v : ℕ). IsFlightAt (part_named v was) (in_flight (entries_of notes))) (is_station.id ∙ serves.is_station.id) way)
+
     served_left : (entry mid : Told) → Leaves entry mid → LeavesServed config volume (pieces_of base.look notes) entry mid
     served_left entry mid is images left =
         subst (λ (v : ℕ). IsCut (recovered_from (shapes_of config) (images_read config entry) v) (pieces_of base.look notes).stand (unwrap_or (pieces_of base.look notes).flight []) (recovered_from (shapes_of config) images v)) serves.is_station.id
@@ -395,6 +409,7 @@ module _ {D : Type 0} (tells : Bool) (state : D → State) (config : Config) (di
           let (part, down, told) = closed.faulty (flight_some (flight_of (entries_of notes)) broken) in (
             part,
             down,
+            way_to broken part down,
             faulty_since tells config volume base.view part old.told session.bay.told new.told session.opened.faulty
                 (subst (λ (n : ℕ). IsTold (HasFaultyPart tells config n base.view part) session.bay.told new.told) serves.is_station.id told),
           )

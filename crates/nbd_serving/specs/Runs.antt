@@ -7,7 +7,7 @@ use Rattle.wol_bay.specs.Bay.{BayState, Told}
 use Rattle.wol_config.specs.Documents.{names_of, number_named}
 use Rattle.wol_config.specs.declared.config.Config.{Config}
 use Rattle.wol_config.specs.declared.config.VolumeConf.{VolumeConf}
-use Rattle.wol_model.specs.History.{IsCut, flight_of}
+use Rattle.wol_model.specs.History.{IsCut, flight_of, in_flight}
 use Rattle.wol_model.specs.Images.{Images, recovered_from}
 use Rattle.wol_promise.specs.Manager.{Base}
 use Rattle.wol_promise.specs.Ruled.{Noted, entries_of, last_look}
@@ -16,9 +16,10 @@ use Rattle.report.specs.declared.fault.Fault.TheVariants.{Memory, Volume}
 use Rattle.troubles.specs.Troubles.{trouble_of}
 use Rattle.volume_images.specs.Left.{IsTold}
 use Rattle.volume_images.specs.Volumes.{AreLeft, images_read, shapes_of}
-use Rattle.rack.specs.Closes.{HasFaultyPart}
+use Rattle.rack.specs.Closes.{HasFaultyPart, part_named}
 use Rattle.rack.specs.PoolUses.{ArePools, PassesEmpty}
 use Rattle.rack_parts.specs.declared.volume_fault.VolumeFault.{VolumeFault}
+use Rattle.request_turns.specs.Entries.{IsFlightAt}
 use Rattle.open_rack.specs.NotOpened.{IsFirstClosed, LeavesViews}
 use Rattle.nbd_handshake.specs.declared.ending.Shaken.TheVariants.{Agreed, Unagreed as NotAgreed}
 use Rattle.nbd_handshake.specs.declared.ending.Unagreed.{Unagreed}
@@ -73,11 +74,13 @@ pub record ServesOpen (tells : Bool) (config : Config) (volume : ℕ) (old new :
   pub are_pools : IsTrue tells
       → IsTold (λ entry left. ArePools config entry pools) old.told new.told
   pub passed : PassesEmpty pools base notes
-  -- a call of a disk that failed is counted, and the part of this volume that is down in the end
-  -- came back with a fault
+  -- a call of a disk that failed is counted, the part of this volume that is down in the end came
+  -- back with a fault, and what was in flight was on its way home, where that is its home, and else
+  -- to some log
   pub cause : IsSome (flight_of (entries_of notes)) → Rose old.faults new.faults
   pub faulty : IsSome (flight_of (entries_of notes))
       → (name : PartName) × ((last_look base.look notes).down ≡ Some name)
+      × IsFlightAt (part_named volume name) (in_flight (entries_of notes))
       × IsTold (HasFaultyPart tells config volume base.view name) old.told new.told
   pub images : IsTrue tells
       → IsTold (LeavesServed config volume (pieces_of base.look notes)) old.told new.told

@@ -52,7 +52,7 @@ RefusesRead refusal.NoMemory old new = ⊥
 RefusesRead refusal.Broke old new = IsUp old × BreaksWith [] old new
 
 -- a write of this piece was: its cause is the first that applies. In flight was nothing or the
--- piece, under its version where it went to a log
+-- piece, with a version or without
 abbrev pub RefusesWrite : Write → Refusal → (old new : Pieces) → Type 0
 RefusesWrite w refusal.Down old new = IsSome old.flight × (new ≡ old)
 RefusesWrite w refusal.VersionsSpent old new = IsUp old × (old.next ≡ 2 ^ 63) × (new ≡ old)
