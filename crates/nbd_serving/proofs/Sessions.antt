@@ -30,7 +30,7 @@ use Rattle.rack.specs.Closes.{AreLeftOfParts, AreListedOf, HasFaultyPart, IsClos
 use Rattle.request_turns.specs.Entries.{IsFlightAt}
 use Rattle.rack.specs.Opens.{BeganWith, WereThere, HasFaulty}
 use Rattle.rack.specs.Owners.{IsBegun, images_taken}
-use Rattle.rack.specs.PoolUses.{ArePools, HadLogger, PassesEmpty}
+use Rattle.rack.specs.PoolUses.{ArePools, HadLogger, PassesEmpty, TakesFew}
 use Rattle.rack.specs.Racks.{IsStation, IsUnused, base_of_station}
 use Rattle.rack.specs.Rests.{IsImageOut, image_here}
 use Rattle.rack_parts.specs.declared.rack.ImageRest.{ImageRest}
@@ -120,16 +120,21 @@ module _ {D : Type 0} (tells : Bool) (state : D → State) (config : Config) (di
   abbrev pools : (k : ℕ) → List Entry
   pools = session.closed.pools.pools
 
-  both_at : (w : Station D) (place : ℕ) → slice_get after_.stations.items place ≡ Some w → (c : IsClosedVolume tells config after_.rest.images.items session.bay new w) × PassesEmpty pools (base_of_station w).volume.began (notes_of c.entries)
+  -- how it used the pools
+  record UsesPools (b : Base) (ns : List Noted) : Type 0 where
+    passed : PassesEmpty pools b ns
+    taken : TakesFew pools b ns
+
+  both_at : (w : Station D) (place : ℕ) → slice_get after_.stations.items place ≡ Some w → (c : IsClosedVolume tells config after_.rest.images.items session.bay new w) × UsesPools (base_of_station w).volume.began (notes_of c.entries)
   both_at w place there =
-      passing tells config after_.rest.images.items session.bay new (λ (b : Base) (ns : List Noted). PassesEmpty pools b ns) after_.stations.items session.closed.stations session.closed.pools.passed place w there
+      passing tells config after_.rest.images.items session.bay new UsesPools after_.stations.items session.closed.stations (λ n d within. record { passed = session.closed.pools.passed n d within; taken = session.closed.pools.taken n d within }) place w there
 
   pub closed_at : (w : Station D) (place : ℕ) → slice_get after_.stations.items place ≡ Some w → IsClosedVolume tells config after_.rest.images.items session.bay new w
   closed_at w place there = (both_at w place there).0
 
-  passed_at : (w : Station D) (place : ℕ) (there : slice_get after_.stations.items place ≡ Some w) → PassesEmpty pools (base_of_station w).volume.began (notes_of (closed_at w place there).entries)
+  used_at : (w : Station D) (place : ℕ) (there : slice_get after_.stations.items place ≡ Some w) → UsesPools (base_of_station w).volume.began (notes_of (closed_at w place there).entries)
   unfolding closed_at
-  passed_at w place there = (both_at w place there).1
+  used_at w place there = (both_at w place there).1
 
   -- what opening and closing say of images at entry and of what is left
   record Leaves (entry mid : Told) : Type 0 where
@@ -403,7 +408,8 @@ module _ {D : Type 0} (tells : Bool) (state : D → State) (config : Config) (di
       faults = serves.faults;
       pools = pools;
       are_pools = through (λ entry left. ArePools config entry pools) pools_at;
-      passed = passed_at t serves.place there_now;
+      passed = (used_at t serves.place there_now).passed;
+      taken = (used_at t serves.place there_now).taken;
       cause = λ broken. rose_before old.faults session.bay.faults new.faults session.sooner (closed.cause (flight_some (flight_of (entries_of notes)) broken));
       faulty = λ broken. (
           let (part, down, told) = closed.faulty (flight_some (flight_of (entries_of notes)) broken) in (

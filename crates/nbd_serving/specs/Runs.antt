@@ -17,7 +17,7 @@ use Rattle.troubles.specs.Troubles.{trouble_of}
 use Rattle.volume_images.specs.Left.{IsTold}
 use Rattle.volume_images.specs.Volumes.{AreLeft, images_read, shapes_of}
 use Rattle.rack.specs.Closes.{HasFaultyPart, part_named}
-use Rattle.rack.specs.PoolUses.{ArePools, PassesEmpty}
+use Rattle.rack.specs.PoolUses.{ArePools, PassesEmpty, TakesFew}
 use Rattle.rack_parts.specs.declared.volume_fault.VolumeFault.{VolumeFault}
 use Rattle.request_turns.specs.Entries.{IsFlightAt}
 use Rattle.open_rack.specs.NotOpened.{IsFirstClosed, LeavesViews}
@@ -74,6 +74,8 @@ pub record ServesOpen (tells : Bool) (config : Config) (volume : ℕ) (old new :
   pub are_pools : IsTrue tells
       → IsTold (λ entry left. ArePools config entry pools) old.told new.told
   pub passed : PassesEmpty pools base notes
+  -- and of all pools together it took no more segments than it wrote to logs, where no call failed
+  pub taken : TakesFew pools base notes
   -- a call of a disk that failed is counted, the part of this volume that is down in the end came
   -- back with a fault, and what was in flight was on its way home, where that is its home, and else
   -- to some log
