@@ -190,6 +190,7 @@ module _ {D : Type 0} (tells : Bool) (state : D → State) (config : Config) (ol
           opened = has_station q;
           are_opened = all.are_opened;
           left = λ images left v there. all.each images left v;
+          logs = λ k v conf or. all.logs k (inr (kept_home config r.rest.images.items t were k v conf or));
           there = λ images left v was. there_left state config q t y stays both.1 images left v was;
         }
 

@@ -105,7 +105,8 @@ pub record OpensAndCloses {D : Type 0} (tells : Bool) (state : D → State) (con
   pub complete : IsTrue tells → IfSome old.told
       (λ t. AreSound (shapes_of config) (images_read config t) → (Rose old.faults new.faults → ⊥)
       → (k : ℕ) → k < length (shapes_of config) → slice_get before.faults.items k ≡ Some None)
-  -- whatever was written, a volume that wasn't opened recovers to what it might have
+  -- whatever was written, a volume that wasn't opened recovers to what it might have, and its logs
+  -- stay
   pub left_unopened : IsTrue tells → IsTold (LeavesUnopened config after) old.told new.told
   -- where nothing was written, each open volume recovers to what the images before recovered to,
   -- and each volume to what it might have

@@ -1,5 +1,5 @@
 -- The rack of all volumes, against what was taken out for it.
-use Rattle.rack.proofs.Basics.{◌≡◌, ⊎_elim, ℕ, ◌+◌, ◌<◌, ◌≤◌, Bool, List, [], ◌++◌, length, Option, None, Some, option_map, IfSome, refl, sym, ap, ◌∙◌, subst, arith, inl, map, true, false}
+use Rattle.rack.proofs.Basics.{◌≡◌, ⊎_elim, ℕ, ◌+◌, ◌<◌, ◌≤◌, Bool, List, [], ◌++◌, length, Option, None, Some, option_map, IfSome, refl, sym, ap, ◌∙◌, subst, arith, inl, inr, map, true, false}
 use Rattle.rack.proofs.Basics.{is_some, slice_get, All, slice_range, Contains, IsTrue, slice_index_or, cases_lt, length-map, get_or_past, All-nil, none-some, same_Some, slice_get_within}
 use Rattle.rack.proofs.Basics.{get_or_from_slice_get, slice_get-map, slice_get-get_or, option_map_or, ◌≢◌, zero, suc, ◌∷◌, option_and_then, IsSome, false≢true, eq-eqb}
 use Rattle.rack.proofs.Terms.{State, Block, IsImageOf, reads, image_reads, Told, BayState, at_name, IsHome, Image, outs, Shape, IsValid, Config, VolumeConf, lock_id, pass_seen, pass_mine}
@@ -874,6 +874,7 @@ module _ {D : Type 0} (tells : Bool) (state : D → State) (config : Config) (va
             opened = has_station r;
             are_opened = both.0.are_opened;
             left = λ images left v there. both.0.each images left v;
+            logs = λ k v at or. both.0.logs k (inr (kept_home config r.rest.images.items old both.2 k v at or));
             there = λ images left v all. there_left state config r old new kept both.1 images left v all;
           })
 

@@ -19,6 +19,8 @@ use Rattle.rack_closing.proofs.SameRecovered.{SegmentsKeep, keeping}
 use Rattle.rack_closing.proofs.SoundBefore.{sound_before}
 use Rattle.rack_closing.proofs.Cases.{by_option, none_or, some_or}
 use Rattle.rack_closing.specs.Opens.{KeepsViews}
+use Rattle.rack_closing.specs.Owners.{IsSegmentOf, KeepsLog, blocks_of_segment}
+use Rattle.rack_closing.proofs.KeptLogs.{log_may, logs_stay, owned_not_idle}
 use Rattle.rack.specs.declared.images.Images.{Images as Asked}
 use Rattle.rack.proofs.Asking.{refuses_later, told_then}
 use Rattle.rack.proofs.ImagesSent.{names_alike, none_named}
@@ -63,6 +65,7 @@ module _ {D : Type 0} (tells : Bool) (state : D → State) (config : Config) (b 
     opened = no_one;
     are_opened = λ v is. none_opened v is;
     left = λ images left v there. (images, left_less config old new less images left, record { but = refl; all = λ or. refl });
+    logs = λ v conf at or. logs_stay config v old new less;
     there = λ images left v all. all images (left_less config old new less images left);
   }
 
@@ -388,6 +391,25 @@ module _ {D : Type 0} (tells : Bool) (state : D → State) (config : Config) (b 
                 },
               )
 
+          -- each segment of a volume is as it might have been before, since none was freed
+          back_logs : (v k i : ℕ) (logger : VolumeConf) (entry : Image) (blocks : List Block) → slice_get config.volumes.items k ≡ Some logger → at_name logger.name t.images ≡ Some entry → image_of images k ≡ Some blocks → i < logger.segments
+              → IsSegmentOf (length (shapes_of config)) v (blocks_of_segment (shape_in config logger) entry i) → KeepsLog v (blocks_of_segment (shape_in config logger) entry i) (segment_of (shape_in config logger) blocks i)
+          back_logs v k i logger entry blocks found was here lt own = go (not_taken k) refl
+            where
+              go : (o : Bool) → not_taken k ≡ o → KeepsLog v (blocks_of_segment (shape_in config logger) entry i) (segment_of (shape_in config logger) blocks i)
+              go true e = log_may config v t images k i logger entry blocks (still k logger found e) was here
+              go false e =
+                  let kept_ = kept k logger found e in
+                  let same : kept_.now ≡ blocks = same_Some kept_.now blocks (sym kept_.is ∙ here) in
+                  let image : kept_.entered.image ≡ entry = same_Some kept_.entered.image entry (sym kept_.entered.there ∙ was) in
+                  let segment = kept_.segments i lt in
+                  let had : IsImage (blocks_of_segment (shape_in config logger) entry i) segment.0 = subst (λ (x : Image). IsImage (blocks_of_segment (shape_in config logger) x i) segment.0) image segment.1 in
+                  ⊎_elim
+                  (λ (as_was : segment_of (shape_in config logger) kept_.now i ≡ segment.0).
+                  inl (subst (IsImage (blocks_of_segment (shape_in config logger) entry i)) (sym as_was ∙ ap (λ (c : List Block). segment_of (shape_in config logger) c i) same) had))
+                  (λ idle. absurd (owned_not_idle (length (shapes_of config)) v segment.0 (own segment.0 had) idle.1))
+                  segment.2
+
           back_sound : ((was : Images) → AreLeft config t was → AreSound (shapes_of config) was) → AreSound (shapes_of config) images
           back_sound all =
               sound_before KeepsFront KeepsSegment (shapes_of config) images before.0 (left.count ∙ sym before.1.left.count) each keeps_front keeps_extents (keeps_sound (shapes_of config))
@@ -415,6 +437,7 @@ module _ {D : Type 0} (tells : Bool) (state : D → State) (config : Config) (b 
           opened = no_one;
           are_opened = λ v is_open. none_opened v is_open;
           left = λ images left v there. back_recovers telling (tell_all telling) sound t t1 t2 is stayed given images left v;
+          logs = λ v conf at or images left k i logger before blocks found was here lt own. back_logs telling (tell_all telling) sound t t1 t2 is stayed given images left v k i logger before blocks found was here lt own;
           there = λ images left v all. back_there telling (tell_all telling) sound t t1 t2 is stayed given images left v all;
         })
 

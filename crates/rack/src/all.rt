@@ -130,7 +130,8 @@ pub fn open_all<R: Wait, B: Bay>(
         → (Rose (B.state bay.old).faults (B.state bay.new).faults → ⊥)
         → (k : ℕ) → k < length (shapes_of config.now) → slice_get r.faults.items k ≡ Some None)) }
     ensures home { OnErr result (outs (B.state bay.new) ≡ outs (B.state bay.old)) }
-    // each image left in the bay recovers to what one at entry did, also after a stop within
+    // each image left in the bay recovers to what one at entry did, also after a stop within, and the logs of a volume whose image
+    // isn't there stay
     ensures left { OnErr result (IsTrue B.Part.tells
         → IsTold (LeavesAll B.Part.tells B.Part.state config.now (B.state bay.old)
         (B.state bay.new)) (B.state bay.old).told (B.state bay.new).told) }

@@ -19,6 +19,7 @@ pub mod SoundBefore
 pub mod FinalImages
 pub mod VolumesClosed
 pub mod LeftVolumes
+pub mod KeptLogs
 pub mod SoundClosed
 pub mod SoundVolumes
 pub mod OwnedSegments

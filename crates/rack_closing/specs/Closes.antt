@@ -44,7 +44,7 @@ use Rattle.volume_images.specs.Volumes.{shape_in, shapes_of, images_read, AreLef
 use Rattle.rack_parts.specs.Rests.{image_here, pool_pass, spindle_pass, IsImageOut, IsSegmentHere}
 use Rattle.rack_parts.specs.Racks.{KeepToViews, base_of_station}
 use Rattle.rack_parts.specs.Closing.{IsAccessBut}
-use Rattle.rack_closing.specs.Owners.{recovered_but, RecoversSame, WasOpened}
+use Rattle.rack_closing.specs.Owners.{recovered_but, KeepsLogs, RecoversSame, WasOpened}
 use Rattle.rack_closing.specs.PoolUses.{PassesEmpty, TakesFew}
 use Rattle.rack_parts.specs.declared.rack.ImageRest.{ImageRest}
 use Rattle.rack_parts.specs.declared.rack.Rack.{Rack}
@@ -394,12 +394,17 @@ pub record LeavesVolumes {D : Type 0} (config : Config) (r : Rack D) (entry new 
   pub each : (images : Images) → AreLeft config new images → (v : ℕ)
       → (before : Images) × AreLeft config entry before
       × RecoversSame config (is_kept_home r.rest.images.items) (has_station r v) images before v
+  -- and the logs of one that wasn't opened stay
+  pub logs : (v : ℕ) → (has_station r v ≡ false) ⊎ (image_here r.rest.images.items v ≡ None)
+      → KeepsLogs config v entry new
 
 -- Whatever was written, whatever images a crash leaves: a volume without a station recovers to what
--- images that a crash might have left at entry recover to.
-abbrev pub LeavesUnopened : {D : Type 0} → Config → Rack D → (entry new : Told) → Type 0
-LeavesUnopened {D} config r entry new =
-    (images : Images) → AreLeft config new images → (v : ℕ)
-    → ((s : Station D) → Contains r.stations.items s → v ≢ s.id)
-    → (before : Images) × AreLeft config entry before
-    × (recovered_from (shapes_of config) images v ≡ recovered_from (shapes_of config) before v)
+-- images that a crash might have left at entry recover to, and its logs stay.
+pub record LeavesUnopened {D : Type 0} (config : Config) (r : Rack D) (entry new : Told) :
+    Type 0 where
+  pub recovers : (images : Images) → AreLeft config new images → (v : ℕ)
+      → ((s : Station D) → Contains r.stations.items s → v ≢ s.id)
+      → (before : Images) × AreLeft config entry before
+      × (recovered_from (shapes_of config) images v ≡ recovered_from (shapes_of config) before v)
+  pub logs : (v : ℕ) → ((s : Station D) → Contains r.stations.items s → v ≢ s.id)
+      → KeepsLogs config v entry new

@@ -33,7 +33,7 @@ use Rattle.volume_images.specs.Left.{IsTold}
 use Rattle.volume_images.specs.Volumes.{images_read, shape_in, shapes_of, MayLeave, AreLeft}
 use Rattle.rack_parts.specs.Rests.{image_here, segment_here, held_here, IsImageOut, IsSegmentHere}
 use Rattle.rack_parts.specs.Racks.{base_of_station}
-use Rattle.rack_closing.specs.Owners.{images_taken, BeganInPlace, IsBegun, IsOpeningOf, RecoversSame, WasOpened}
+use Rattle.rack_closing.specs.Owners.{images_taken, BeganInPlace, IsBegun, IsOpeningOf, KeepsLogs, RecoversSame, WasOpened}
 use Rattle.rack_closing.specs.PoolUses.{HadSegments}
 use Rattle.volume_images.specs.declared.opening.ImageRefusal.{ImageRefusal}
 use Rattle.volume_images.specs.declared.opening.ImageRefusal.TheVariants as image_refusal
@@ -291,6 +291,9 @@ pub record LeavesAll {D : Type 0} (tells : Bool) (state : D → State) (config :
       → IsThere (shapes_of config) images v
       → (before : Images) × AreLeft config old before
       × RecoversSame config refused (opened v) images before v
+  -- of a volume whose image isn't there, or can't be opened, the logs on other images stay
+  pub logs : (k : ℕ) (v : VolumeConf) → slice_get config.volumes.items k ≡ Some v
+      → (refused k ≡ true) ⊎ (WasAccepted config old k v → ⊥) → KeepsLogs config k old new
   -- an image that was there, whatever a crash had left, is there
   pub there : (images : Images) → AreLeft config new images → (v : ℕ)
       → ((before : Images) → AreLeft config old before → IsThere (shapes_of config) before v)

@@ -1,14 +1,14 @@
 -- What the images of a configuration say of one volume as they read: which segments it owns, and
 -- what it recovers to.
-use Rattle.std.specs.Prelude.{false, true, ◌≡◌, ◌⊎◌, ◌<◌, ◌-◌, ℕ, Bool, List, ◌∷◌, length, map, Option, None, Some, is_some, not, slice_get, Contains, All}
+use Rattle.std.specs.Prelude.{false, true, ◌≡◌, ◌⊎◌, ◌<◌, ◌+◌, ◌-◌, ℕ, Bool, List, ◌∷◌, length, map, Option, None, Some, is_some, not, slice_get, slice_range, Contains, All}
 use Rattle.std.specs.List.{AllByRecursion}
-use Rattle.wol_disk.specs.Disk.{Block, State}
-use Rattle.wol_model.specs.Heads.{Shape, owned_block}
+use Rattle.wol_disk.specs.Disk.{Block, State, Values, IsImage}
+use Rattle.wol_model.specs.Heads.{Shape, Owned as OwnedHead, owned_block}
 use Rattle.wol_model.specs.Index.{Indexed}
 use Rattle.wol_model.specs.Images.{Images, image_of, home_of, home_in, segment_of, segments_of, all_segments, accepted, recovered_from}
 use Rattle.wol_model.specs.Log.{Record, IsLog}
 use Rattle.wol_model.specs.Recovered.{recovered}
-use Rattle.wol_bay.specs.Bay.{Told, at_name}
+use Rattle.wol_bay.specs.Bay.{Image, Told, at_name}
 use Rattle.wol_config.specs.declared.config.Config.{Config}
 use Rattle.wol_config.specs.declared.config.VolumeConf.{VolumeConf}
 use Rattle.wol_promise.specs.Manager.{Base}
@@ -17,12 +17,13 @@ use Rattle.log_layout.specs.Values.{shape_of}
 use Rattle.logger_view.specs.Stored.{HasView}
 use Rattle.spin_model.specs.Spun.{state_of}
 use Rattle.manager.specs.declared.base.ManagerBase.{ManagerBase}
+use Rattle.manager_recovery.specs.Left.{HasNothing}
 use Rattle.manager_recovery.specs.Opened.{StandsInOwned}
 use Rattle.manager_recovery.specs.Opening.{AreInOrder}
 use Rattle.manager_recovery.specs.Owned.{IsListedOf, Owned, all_owned, read_of, records_in, writes_in, heads_in, AreIntact, HaveNoTwins}
 use Rattle.manager_recovery.specs.declared.opening.Opening.{Opening}
-use Rattle.volume_images.specs.Accepted.{head_place}
-use Rattle.volume_images.specs.Volumes.{shapes_of, images_read, MayLeave}
+use Rattle.volume_images.specs.Accepted.{HasHead, head_place}
+use Rattle.volume_images.specs.Volumes.{shape_in, shapes_of, images_read, AreLeft, MayLeave}
 use Rattle.rack_parts.specs.Rests.{image_here}
 use Rattle.rack_parts.specs.declared.rack.ImageRest.{ImageRest}
 use Rattle.wol_config.specs.Configs.{most_of}
@@ -59,6 +60,37 @@ HadRefused config out old new =
     (k : ℕ) (v : VolumeConf) → slice_get config.volumes.items k ≡ Some v → image_here out k ≡ None
     → (c : Option (List Block)) → MayLeave (at_name v.name new.images) c
     → MayLeave (at_name v.name old.images) c
+
+-- ---- The logs of a volume that wasn't opened
+
+-- the blocks of a segment of an image
+abbrev pub blocks_of_segment : Shape → Image → (index : ℕ) → List (Values Block)
+blocks_of_segment s image i = slice_range image.blocks (head_place s i) (head_place s (i + 1))
+
+-- they are a segment of volume v: each image of them says so
+abbrev pub IsSegmentOf : (volumes v : ℕ) → List (Values Block) → Type 0
+IsSegmentOf volumes v before = (c : List Block) → IsImage before c → HasHead volumes c (OwnedHead v)
+
+-- it is left as it might have been before; or it might have been a log of records of the volume
+-- none of which keeps a block
+abbrev pub KeepsLog : (v : ℕ) → (before : List (Values Block)) → (left : List Block) → Type 0
+KeepsLog v before left = IsImage before left
+    ⊎ ((was : List Block) × (rs : List Record) × IsImage before was × HasNothing v rs was)
+
+-- Whatever images a crash leaves, each segment of volume v stays, block for block, but for logs that
+-- have nothing: also where the volume's own image isn't there.
+abbrev pub KeepsLogs : Config → (v : ℕ) → (old new : Told) → Type 0
+KeepsLogs config v old new =
+    (images : Images) → AreLeft config new images
+    → (k i : ℕ) (logger : VolumeConf) (before : Image) (blocks : List Block)
+    → slice_get config.volumes.items k ≡ Some logger
+    → at_name logger.name old.images ≡ Some before
+    → image_of images k ≡ Some blocks → i < logger.segments
+    → IsSegmentOf (length (shapes_of config)) v (blocks_of_segment (shape_in config logger) before i)
+    → KeepsLog v (blocks_of_segment (shape_in config logger) before i)
+    (segment_of (shape_in config logger) blocks i)
+
+-- ---- What a volume owns
 
 -- a segment of these images
 pub record IsSegmentIn (shapes : List Shape) (images : Images) (o : Owned) : Type 0 where

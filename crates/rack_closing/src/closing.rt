@@ -45,7 +45,7 @@ pub fn close_all<B: Bay>(rack: Rack<B::Part>, bay: &mut B, config: &Config) -> V
         → All (λ s. IsQuiet s) rack.stations.items
         → IsTold (λ old new. HadRefused config.now rack.rest.images.items entry old
         → LeavesVolumes config.now rack entry new) (B.state bay.old).told (B.state bay.new).told }
-    // of those that weren't opened, whatever was written to others, and also where a call of a disk failed
+    // of those that weren't opened, and of their logs, whatever was written to others, and also where a call of a disk failed
     ensures unopened { (entry : Told) → IsTrue B.Part.tells
         → BeganWith B.Part.state config.now entry rack
         → WereThere config.now rack.rest.images.items entry

@@ -6,7 +6,7 @@
 //! the pools, `Closes` what closing promises, and `Laws` the laws. Of `proofs/`: `SameRecovered`, `KeptImages` and
 //! `SoundBefore` say of any two choices of images when they recover to the same and when the one is sound as the
 //! other; `LeftVolumes` and `SoundClosed` come to them from the parts that went back. `ViewsLeft` says of labels and
-//! views that they stay.
+//! views that they stay, and `KeptLogs` of the logs of volumes that weren't opened.
 #![tactic(auto)]
 
 mod closing;

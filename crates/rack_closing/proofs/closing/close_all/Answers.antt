@@ -16,6 +16,7 @@ use Rattle.rack_closing.proofs.StationParts.{IsEnding, ending_of, lists_ended, n
 use Rattle.rack_closing.proofs.VolumesClosed.{made_by_manager, none_made, spindle_stays, volumes_closed, told_end}
 use Rattle.rack_closing.proofs.LeftVolumes.{fault_through, listed_through, left_kept, left_parts, over, closed_recovers, station_opened, volume_recovers}
 use Rattle.rack_closing.proofs.FinalImages.{left_quiet}
+use Rattle.rack_closing.proofs.KeptLogs.{logs_closed, unopened_closed}
 use Rattle.rack_closing.proofs.SoundClosed.{left_sound}
 use Rattle.rack_closing.proofs.closing.close_all.Goals as goal
 
@@ -103,9 +104,16 @@ returns g c =
           (λ o n back images left. all_member (λ s. Rattle.rack_closing.specs.Closes.recovered_out config rack.rest.images.items images s.id ≡ Rattle.rack_closing.specs.Closes.recovered_out config rack.rest.images.items (Rattle.volume_images.specs.Volumes.images_read config entry) s.id) rack.stations.items
           (λ s has. left_quiet (record { ending = e; told = told; given = back; left = left }) entry began quiet s has));
       volumes = λ entry told began there quiet. given (λ o n. HadRefused config rack.rest.images.items entry o → LeavesVolumes config rack entry n)
-          (λ o n back had. record { are_opened = station_opened e entry began; each = λ images left v. volume_recovers (record { ending = e; told = told; given = back; left = left }) entry began there had quiet v });
+          (λ o n back had. record {
+            are_opened = station_opened e entry began;
+            each = λ images left v. volume_recovers (record { ending = e; told = told; given = back; left = left }) entry began there had quiet v;
+            logs = λ v or images left. (let o = over (record { ending = e; told = told; given = back; left = left }) entry began there had in logs_closed o v (unopened_closed o v or));
+          });
       unopened = λ entry told began there. given (λ o n. HadRefused config rack.rest.images.items entry o → LeavesUnopened config rack entry n)
-          (λ o n back had images left v others. closed_recovers (over (record { ending = e; told = told; given = back; left = left }) entry began there had) v others);
+          (λ o n back had. record {
+            recovers = λ images left v others. closed_recovers (over (record { ending = e; told = told; given = back; left = left }) entry began there had) v others;
+            logs = λ v others images left. logs_closed (over (record { ending = e; told = told; given = back; left = left }) entry began there had) v others;
+          });
       sound = λ entry told began there. given (λ o n. HadRefused config rack.rest.images.items entry o → KeepsAllSound config entry n)
           (λ o n back had all images left. left_sound (record { ending = e; told = told; given = back; left = left }) entry began there had all);
       kept = λ told. given (HadRefused config rack.rest.images.items) (left_kept e);
