@@ -87,6 +87,7 @@ module _ {D : Type 0} (tells : Bool) (state : D → State) (config : Config) (di
       refused = is_kept_home out;
       cause = λ k v conf home. absurd (not_home k v conf home);
       kept = λ k v conf or. let none = kept_home config out t there k v conf or in let no : false ≡ true = sym (ap is_some none) ∙ outs k (within k v conf) in absurd (cc no);
+      logs = λ k v conf or. let none = kept_home config out t there k v conf or in let no : false ≡ true = sym (ap is_some none) ∙ outs k (within k v conf) in absurd (cc no);
       opened = λ v. false;
       are_opened = λ v no. absurd (cc no);
       left = λ images left_ v is_there. (images_read config t, read_left t there, same_but t there images left_.count v (kept images left_ v (slice_get_within (shapes_of config) v is_there.0 is_there.2)));

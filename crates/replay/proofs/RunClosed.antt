@@ -63,6 +63,7 @@ module _ {D : Type 0} (tells : Bool) (state : D → State) (config : Config) (en
         opened = has_station r;
         are_opened = all.0.are_opened;
         left = λ images left v is_there. all.0.each images left v;
+        logs = λ k v conf or. all.0.logs k (inr (kept_home config r.rest.images.items e there k v conf or));
         there = λ images left v was. there_left state config r e n (λ k v conf none c may. kept k v conf none c (stays k v conf none c may)) all.1 images left v was;
       }
 

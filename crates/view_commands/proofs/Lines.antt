@@ -9,6 +9,7 @@ use Rattle.report.specs.declared.fault.Fault.TheVariants.{Memory, Volume}
 use Rattle.troubles.specs.Troubles.{trouble_of}
 use Rattle.volume_images.specs.Left.{IsTold}
 use Rattle.rack.specs.Opens.{KeepsAllSound, LeavesAll}
+use Rattle.rack_closing.proofs.KeptLogs.{logs_stay}
 use Rattle.inspection.specs.Runs.{MayComplete}
 use Rattle.view_change.specs.declared.answers.Change.{Change}
 use Rattle.view_commands.specs.Orders.{AreNamed, change_of}
@@ -100,6 +101,7 @@ leaves_same tells state config b b' (Some t) = record {
   opened = λ v. false;
   are_opened = λ v no. absurd (cc no);
   left = λ images is v there. (images, is, record { but = refl; all = λ or. refl });
+  logs = λ k v at or. logs_stay config k t t (λ name c may. may);
 }
 
 pub sound_same : (config : Config) (o : Option Told) → IsTold (KeepsAllSound config) o o

@@ -70,6 +70,7 @@ leaves_all tells state config b b' entry left arrays_are all_there accepted = re
   refused = λ k. false;
   cause = λ k v at no. absurd (cc no);
   kept = λ k v at or. absurd (elim or [ inl bad ↦ cc bad | inr never ↦ never (accepted k v at) ]);
+  logs = λ k v at or. absurd (elim or [ inl bad ↦ cc bad | inr never ↦ never (accepted k v at) ]);
   opened = λ v. false;
   are_opened = λ v no. absurd (cc no);
   left = λ images is v there.
