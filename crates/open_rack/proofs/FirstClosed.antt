@@ -1,15 +1,13 @@
 -- The first volume that isn't open, and why.
-use Rattle.std.proofs.Common.{◌≡◌, ◌<◌, ◌+◌, ℕ, zero, suc, Bool, true, false, List, [], ◌∷◌, length, map, refl, sym, ap, subst, ◌∙◌, Option, None, Some, arith}
-use Rattle.std.specs.Prelude.{Contains, IfSome, IsTrue, not, slice_get, slice_index_or}
+use Rattle.std.proofs.Common.{◌≡◌, ◌⊎◌, inl, inr, ◌<◌, ◌+◌, ℕ, zero, suc, Bool, List, [], ◌∷◌, length, refl, sym, ap, subst, ◌∙◌, Option, None, Some, arith}
+use Rattle.std.specs.Prelude.{All, IfSome, IsTrue, slice_get, slice_index_or}
 use Rattle.std.proofs.lemmas.List.{length-map}
-use Rattle.std.proofs.lemmas.Option.{slice_get_within, slice_get-get_or, get_or_from_slice_get}
+use Rattle.std.proofs.lemmas.Option.{slice_get_within, slice_get-get_or}
 use Rattle.wol_disk.specs.Disk.{Rose, State}
-use Rattle.wol_promise.proofs.Lists.{all_map}
-use Rattle.wol_bay.specs.Bay.{BayState, Told}
+use Rattle.wol_bay.specs.Bay.{BayState}
 use Rattle.wol_config.specs.declared.config.Config.{Config}
 use Rattle.wol_config.specs.declared.config.VolumeConf.{VolumeConf}
 use Rattle.manager.specs.declared.part.Part.{Part}
-use Rattle.manager.specs.declared.station.Station.{Station}
 use Rattle.manager_recovery.specs.declared.refusal.OpenRefusal.TheVariants as refusal
 use Rattle.report.specs.declared.fault.Fault.{Fault}
 use Rattle.report.specs.declared.fault.Fault.TheVariants.{Volume}
@@ -19,18 +17,18 @@ use Rattle.volume_images.specs.Refusals.{IsCallFault}
 use Rattle.volume_images.specs.Volumes.{shape_in, shapes_of}
 use Rattle.volume_images.specs.declared.reading.ImageFault.{ImageFault}
 use Rattle.volume_images.specs.declared.reading.ImageFault.TheVariants as image
-use Rattle.rack.specs.Closes.{CameBackFaulty, is_kept_home}
-use Rattle.rack.specs.Opens.{AreRefused, BeganWith, RefusesVolume, WereThere, fault_in_image}
-use Rattle.rack.specs.Owners.{IsBegun, WasOpened, images_taken}
-use Rattle.rack.specs.Racks.{IsOpenBase, IsRack, IsStation, NamesVolumes, base_of_station}
-use Rattle.rack.specs.Rests.{IsImageOut}
+use Rattle.rack.specs.Closes.{CameBackFaulty, IsClosedVolume}
+use Rattle.rack.specs.Opens.{AreRefused, BeganWith, HasFaulty, RefusesVolume, WereThere, fault_in_image}
+use Rattle.rack.specs.Racks.{AreUnused, IsRack, NamesVolumes}
 use Rattle.rack_parts.specs.declared.rack.ImageRest.{ImageRest}
 use Rattle.rack_parts.specs.declared.rack.Rack.{Rack}
 use Rattle.rack_parts.specs.declared.volume_fault.VolumeFault.{VolumeFault}
 use Rattle.rack_parts.specs.declared.volume_fault.VolumeFault.TheVariants as fault
 use Rattle.rack_closing.proofs.Places.{some_at}
-use Rattle.open_rack.specs.NotOpened.{IsFirstClosed, IsOfCall, first_closed}
-use Rattle.open_rack.proofs.Since.{all_at, out_of, refused_missing, unmapped}
+use Rattle.open_rack.specs.NotOpened.{IsFirstClosed, IsOfCall, LeavesOpened, WasRefused, first_closed}
+use Rattle.open_rack.specs.Sessions.{OpensAndCloses}
+use Rattle.open_rack.proofs.OpenedKept.{leaves_opened}
+use Rattle.spin_model.specs.Spindles.{SpindleView}
 
 -- ---- Which volume
 
@@ -88,57 +86,60 @@ call_rose tells state config out old new k v (fault.Refused refusal.NoMemory) di
 
 -- ---- The rack
 
-module _ {D : Type 0} (state : D → State) (config : Config) (b : BayState) (r : Rack D) (is : IsRack state config b r) where
-  -- a volume without a fault has its image out
-  pub opened_out : (j : ℕ) → j < length (shapes_of config) → slice_index_or r.faults.items j None ≡ None → IsImageOut r.rest.images.items j
-  opened_out j lt none = out_of state config b r is j ((is.faults j lt).0 none)
+module _ {D : Type 0} (state : D → State) (config : Config) (b : BayState) (r : Rack D) (is : IsRack state config b r)
+    (tells : Bool) (old new : BayState) (refused : AreRefused tells state config old new r)
+    (failed : (k : ℕ) (p : Part) → slice_get r.faults.items k ≡ Some (Some (fault.Refused (refusal.DiskFault p))) → Rose old.faults new.faults)
+    (part : (k : ℕ) (p : Part) → slice_get r.faults.items k ≡ Some (Some (fault.Refused (refusal.DiskFault p))) → IsTold (CameBackFaulty config p) old.told new.told)
+    (began : IsTrue tells → IfSome old.told (λ t. BeganWith state config t r)) (there : IsTrue tells → IfSome old.told (λ t. WereThere config r.rest.images.items t))
+    (fresh : AreUnused r.stations.items) (gained : IsTold HasFaulty old.told b.told) (closed : All (IsClosedVolume tells config r.rest.images.items b new) r.stations.items) where
+  abbrev out : List (Option (ImageRest D))
+  out = r.rest.images.items
 
-  -- it has a station, which was opened
-  pub opened_at : (t : Told) → BeganWith state config t r → (j : ℕ) → j < length (shapes_of config) → slice_index_or r.faults.items j None ≡ None → WasOpened config (is_kept_home r.rest.images.items) t j
-  opened_at t began j lt none =
-      let (at, less, id) = (is.faults j lt).0 none in
-      let (s, there, same) = unmapped (λ (s : Station D). s.id) r.stations.items at j (slice_get-get_or (map (λ (s : Station D). s.id) r.stations.items) at j less ∙ ap (λ (n : ℕ). Some n) id) in
-      record {
-        base = (base_of_station s).volume.began;
-        owner = (all_at (λ (x : Station D). IsStation x) r.stations.items at s is.stations there).id ∙ same;
-        begun = all_at (λ (x : Station D). IsBegun config (images_taken config r.rest.images.items t) (base_of_station x).volume.began) r.stations.items at s began.stations there;
-        loggers =
-            all_map (IsImageOut r.rest.images.items) (λ l. is_kept_home r.rest.images.items l ≡ false) (λ l out. ap not out) (base_of_station s).volume.began.view
-            (all_at (λ (x : Station D). IsOpenBase config r.shared r.rest.images.items (base_of_station x)) r.stations.items at s is.bases there).loggers_out;
+  -- a volume with a fault
+  was_refused : (j : ℕ) (v : VolumeConf) (g : VolumeFault) → slice_get config.volumes.items j ≡ Some v → slice_get r.faults.items j ≡ Some (Some g) → WasRefused tells state config out old new j v g
+  was_refused j v g conf here =
+      let why = refused j v g conf here in record {
+        refused = why;
+        names = subst (λ (n : ℕ). NamesVolumes n g) (length-map config.volumes.items (shape_in config)) (is.known j g here);
+        cause = call_rose tells state config out old new j v g (λ p same. failed j p (here ∙ ap (λ (x : VolumeFault). Some (Some x)) same)) why;
+        part = λ p same. part j p (here ∙ ap (λ (x : VolumeFault). Some (Some x)) same);
       }
 
-  module _ (tells : Bool) (old new : BayState) (refused : AreRefused tells state config old new r)
-      (failed : (k : ℕ) (p : Part) → slice_get r.faults.items k ≡ Some (Some (fault.Refused (refusal.DiskFault p))) → Rose old.faults new.faults)
-      (part : (k : ℕ) (p : Part) → slice_get r.faults.items k ≡ Some (Some (fault.Refused (refusal.DiskFault p))) → IsTold (CameBackFaulty config p) old.told new.told)
-      (began : IsTrue tells → IfSome old.told (λ t. BeganWith state config t r)) (there : IsTrue tells → IfSome old.told (λ t. WereThere config r.rest.images.items t)) where
-    opened_before : (j : ℕ) → j < length (shapes_of config) → slice_index_or r.faults.items j None ≡ None → IsTrue tells → IfSome old.told (λ t. WasOpened config (is_kept_home r.rest.images.items) t j)
-    opened_before j lt none telling = at old.told (began telling)
-      where
-        at : (o : Option Told) → IfSome o (λ t. BeganWith state config t r) → IfSome o (λ t. WasOpened config (is_kept_home r.rest.images.items) t j)
-        at None all = tt
-        at (Some t) all = opened_at t all j lt none
+  -- each volume keeps its records, or was refused
+  each_left : (j : ℕ) (v : VolumeConf) → slice_get config.volumes.items j ≡ Some v → LeavesOpened tells config out old new j ⊎ ((g : VolumeFault) × WasRefused tells state config out old new j v g)
+  each_left j v conf = at (slice_index_or r.faults.items j None) refl
+    where
+      within : j < length (shapes_of config)
+      within = let less = slice_get_within config.volumes.items j v conf in omega (arith, less, length-map config.volumes.items (shape_in config))
 
-    -- the first volume that isn't open
-    pub first_refused : (told : Fault) → first_closed 0 r.faults.items ≡ Some told → (k : ℕ) × (f : VolumeFault) × (told ≡ Volume k (trouble_of f)) × IsFirstClosed tells state config old new k f
-    first_refused told first =
-        let one = first_is 0 r.faults.items told first in
-        let less = slice_get_within r.faults.items one.k (Some one.fault_) one.here in
-        let (v, conf) = some_at config.volumes.items one.k (omega (arith, less, is.fault_count, length-map config.volumes.items (shape_in config))) in
-        let why = refused one.k v one.fault_ conf one.here in (
-          one.k,
-          one.fault_,
-          one.told_is ∙ ap (λ (m : ℕ). Volume m (trouble_of one.fault_)) (omega arith),
-          record {
-            out = r.rest.images.items;
-            count = is.rest.parts.images.0 ∙ length-map config.volumes.items (shape_in config);
-            missing = refused_missing tells state config b old new r is refused;
-            there = there;
-            before = λ j lt. (let within : j < length (shapes_of config) = omega (arith, lt, less, is.fault_count) in (opened_out j within (one.before j lt), opened_before j within (one.before j lt)));
-            names = subst (λ (n : ℕ). NamesVolumes n one.fault_) (length-map config.volumes.items (shape_in config)) (is.known one.k one.fault_ one.here);
-            conf = v;
-            conf_is = conf;
-            refused = why;
-            cause = call_rose tells state config r.rest.images.items old new one.k v one.fault_ (λ p same. failed one.k p (one.here ∙ ap (λ (x : VolumeFault). Some (Some x)) same)) why;
-            part = λ p same. part one.k p (one.here ∙ ap (λ (x : VolumeFault). Some (Some x)) same);
-          },
-        )
+      at : (o : Option VolumeFault) → slice_index_or r.faults.items j None ≡ o → LeavesOpened tells config out old new j ⊎ ((g : VolumeFault) × WasRefused tells state config out old new j v g)
+      at None none = inl (leaves_opened state config b r is tells old new began fresh gained closed j within none)
+      at (Some g) some = inr (g, was_refused j v g conf (slice_get-get_or r.faults.items j None (let count = is.fault_count in omega (arith, within, count)) ∙ ap (λ (o : Option VolumeFault). Some o) some))
+
+  -- the first volume that isn't open, where nothing was done with the rack
+  pub first_refused : (told : Fault) → first_closed 0 r.faults.items ≡ Some told → (k : ℕ) × (f : VolumeFault) × (told ≡ Volume k (trouble_of f)) × IsFirstClosed tells state config old new k f
+  first_refused told first =
+      let one = first_is 0 r.faults.items told first in
+      let less = slice_get_within r.faults.items one.k (Some one.fault_) one.here in
+      let (v, conf) = some_at config.volumes.items one.k (omega (arith, less, is.fault_count, length-map config.volumes.items (shape_in config))) in (
+        one.k,
+        one.fault_,
+        one.told_is ∙ ap (λ (m : ℕ). Volume m (trouble_of one.fault_)) (omega arith),
+        record {
+          out = out;
+          count = is.rest.parts.images.0 ∙ length-map config.volumes.items (shape_in config);
+          there = there;
+          each = each_left;
+          before = λ j lt. leaves_opened state config b r is tells old new began fresh gained closed j (omega (arith, lt, less, is.fault_count)) (one.before j lt);
+          conf = v;
+          conf_is = conf;
+          is_refused = was_refused one.k v one.fault_ conf one.here;
+        },
+      )
+
+-- so of a session whose work left the rack as it was
+pub first_unopened : {D : Type 0} (tells : Bool) (state : D → State) (config : Config) (did : Rack D → Rack D → Type 0) (old new : BayState) (spindles : List SpindleView) (session : OpensAndCloses tells state config did old new spindles)
+    → session.after ≡ session.before → (told : Fault) → first_closed 0 session.before.faults.items ≡ Some told → (k : ℕ) × (f : VolumeFault) × (told ≡ Volume k (trouble_of f)) × IsFirstClosed tells state config old new k f
+first_unopened {D} tells state config did old new spindles session same =
+    first_refused state config session.bay session.before session.opened.rack tells old new session.refused session.failed session.part session.opened.began session.opened.there session.opened.fresh session.opened.faulty
+    (subst (λ (r : Rack D). All (IsClosedVolume tells config r.rest.images.items session.bay new) r.stations.items) same session.closed.stations)

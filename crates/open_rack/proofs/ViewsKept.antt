@@ -1,16 +1,18 @@
 -- Labels and views behind a session, whatever was done with its rack.
-use Rattle.std.proofs.Common.{Bool, List}
+use Rattle.std.proofs.Common.{◌<◌, ℕ, Bool, List, length}
 use Rattle.std.specs.Prelude.{IsTrue}
 use Rattle.wol_disk.specs.Disk.{State}
 use Rattle.wol_bay.specs.Bay.{BayState, Told}
 use Rattle.wol_config.specs.declared.config.Config.{Config}
 use Rattle.spin_model.specs.Spindles.{SpindleView}
 use Rattle.volume_images.specs.Left.{IsTold}
-use Rattle.rack.specs.Opens.{KeepsViews}
+use Rattle.rack.specs.Opens.{KeepsViews, LeavesFronts}
 use Rattle.rack.specs.Owners.{HadRefused}
+use Rattle.rack.specs.Rests.{IsImageOut}
 use Rattle.rack_parts.specs.declared.rack.Rack.{Rack}
 use Rattle.rack_closing.proofs.NewFaults.{told_each, told_with}
-use Rattle.rack_closing.proofs.ViewsLeft.{told_left, views_left}
+use Rattle.rack_closing.proofs.Places.{some_at}
+use Rattle.rack_closing.proofs.ViewsLeft.{front_left, told_left, views_left}
 use Rattle.open_rack.specs.Sessions.{OpensAndCloses}
 use Rattle.open_rack.proofs.RacksAgain.{rest_again}
 
@@ -26,3 +28,11 @@ module _ {D : Type 0} (tells : Bool) (state : D → State) (config : Config) (di
       (told_left state config session.before session.after (λ x y. Had x y → KeepsViews config x y) old.told session.bay.told new.told
       (λ entry left began were parts. views_left state config session.before session.after (rest_again state config session.before session.after session.again) entry left began were parts)
       (session.opened.began telling) (session.opened.there telling) session.opened.faulty (session.closed.parts telling)) (session.kept telling))
+
+  -- where all images were out, each is as it was read
+  pub fronts_kept : ((k : ℕ) → k < length config.volumes.items → IsImageOut session.before.rest.images.items k) → IsTrue tells → IsTold (LeavesFronts config) old.told new.told
+  fronts_kept all_out telling =
+      told_left state config session.before session.after (LeavesFronts config) old.told session.bay.told new.told
+      (λ entry left began were parts v lt. let (conf, at) = some_at config.volumes.items v lt in
+      front_left state config session.before session.after (rest_again state config session.before session.after session.again) entry left began were parts v conf at (all_out v lt))
+      (session.opened.began telling) (session.opened.there telling) session.opened.faulty (session.closed.parts telling)

@@ -1,8 +1,8 @@
 -- The first volume that isn't open, and what a bay is left with where not all volumes could be
 -- opened.
-use Rattle.std.specs.Prelude.{⊤, ◌≡◌, ◌<◌, ◌+◌, ℕ, Bool, List, [], ◌∷◌, length, Option, None, Some, IfSome, slice_get, IsTrue}
+use Rattle.std.specs.Prelude.{⊤, ◌≡◌, ◌⊎◌, ◌<◌, ◌+◌, ℕ, Bool, List, [], ◌∷◌, length, Option, None, Some, IfSome, slice_get, IsTrue}
 use Rattle.wol_disk.specs.Disk.{Rose, State}
-use Rattle.wol_bay.specs.Bay.{BayState}
+use Rattle.wol_bay.specs.Bay.{BayState, Told}
 use Rattle.wol_config.specs.declared.config.Config.{Config}
 use Rattle.wol_config.specs.declared.config.VolumeConf.{VolumeConf}
 use Rattle.manager.specs.declared.part.Part.{Part}
@@ -15,10 +15,11 @@ use Rattle.rack.specs.Closes.{CameBackFaulty, is_kept_home}
 use Rattle.rack.specs.Opens.{KeepsAllSound, LeavesAll, RefusesVolume, WereThere, KeepsViews}
 use Rattle.rack.specs.Owners.{WasOpened}
 use Rattle.rack.specs.Racks.{NamesVolumes}
-use Rattle.rack.specs.Rests.{IsImageOut, image_here}
+use Rattle.rack.specs.Rests.{IsImageOut}
 use Rattle.rack_parts.specs.declared.rack.ImageRest.{ImageRest}
 use Rattle.rack_parts.specs.declared.volume_fault.VolumeFault.{VolumeFault}
 use Rattle.rack_parts.specs.declared.volume_fault.VolumeFault.TheVariants as fault
+use Rattle.open_rack.specs.Sessions.{LeavesRecordsIn}
 
 -- what is told of the first of these volumes, from number k on, that has a fault
 abbrev pub first_closed : (k : ℕ) → List (Option VolumeFault) → Option Fault
@@ -40,29 +41,46 @@ IsOfCall (fault.Refused (refusal.Damaged volume block)) = ⊥
 IsOfCall (fault.Refused (refusal.Twins first_volume first second_volume second)) = ⊥
 IsOfCall (fault.Refused refusal.NoMemory) = ⊥
 
--- Volume k is the first that isn't open, and is so for its first cause: those before it were
--- opened, each image that was handed out was there and may be opened as it reads, and each other
--- one was refused. Where a call failed the bay's count rose, and the part that is named came back
--- with a fault.
-pub record IsFirstClosed {D : Type 0} (tells : Bool) (state : D → State) (config : Config)
-    (old new : BayState) (k : ℕ) (f : VolumeFault) : Type 0 where
-  pub out : List (Option (ImageRest D))
-  pub count : length out ≡ length config.volumes.items
-  pub missing : (j : ℕ) (v : VolumeConf) → slice_get config.volumes.items j ≡ Some v
-      → image_here out j ≡ None
-      → (g : VolumeFault) × RefusesVolume tells state config out old new j v g
-  pub there : IsTrue tells → IfSome old.told (λ t. WereThere config out t)
-  pub before : (j : ℕ) → j < k
-      → IsImageOut out j
-      × (IsTrue tells → IfSome old.told (λ t. WasOpened config (is_kept_home out) t j))
-  pub conf : VolumeConf
-  pub conf_is : slice_get config.volumes.items k ≡ Some conf
-  pub refused : RefusesVolume tells state config out old new k conf f
-  -- the volumes that it names are configured
+-- Volume v was opened of the images that are out, and in these the records that are left of it are
+-- those with which it was opened.
+pub record LeavesAsOpened {D : Type 0} (config : Config) (out : List (Option (ImageRest D))) (v : ℕ)
+    (entry left : Told) : Type 0 where
+  pub was : WasOpened config (is_kept_home out) entry v
+  pub records : LeavesRecordsIn config out v was.base.look.listed left
+
+-- the image of volume v is out, and so it is told of the volume
+abbrev pub LeavesOpened : {D : Type 0} → (tells : Bool) → Config → List (Option (ImageRest D))
+    → (old new : BayState) → (v : ℕ) → Type 0
+LeavesOpened tells config out old new v = IsImageOut out v
+    × (IsTrue tells → IsTold (LeavesAsOpened config out v) old.told new.told)
+
+-- Volume v isn't open, for its first cause, which names configured volumes. Where a call failed the
+-- bay's count rose, and the part that is named came back with a fault.
+pub record WasRefused {D : Type 0} (tells : Bool) (state : D → State) (config : Config)
+    (out : List (Option (ImageRest D))) (old new : BayState) (v : ℕ) (conf : VolumeConf)
+    (f : VolumeFault) : Type 0 where
+  pub refused : RefusesVolume tells state config out old new v conf f
   pub names : NamesVolumes (length config.volumes.items) f
   pub cause : IsOfCall f → Rose old.faults new.faults
   pub part : (p : Part) → f ≡ fault.Refused (refusal.DiskFault p)
       → IsTold (CameBackFaulty config p) old.told new.told
+
+-- Volume k is the first that isn't open. Each image that was handed out was there and may be opened
+-- as it reads. Each volume was opened and keeps its records, or was refused; those before k were
+-- opened.
+pub record IsFirstClosed {D : Type 0} (tells : Bool) (state : D → State) (config : Config)
+    (old new : BayState) (k : ℕ) (f : VolumeFault) : Type 0 where
+  pub out : List (Option (ImageRest D))
+  pub count : length out ≡ length config.volumes.items
+  pub there : IsTrue tells → IfSome old.told (λ t. WereThere config out t)
+  pub each : (j : ℕ) (v : VolumeConf) → slice_get config.volumes.items j ≡ Some v
+      → LeavesOpened tells config out old new j
+      ⊎ ((g : VolumeFault) × WasRefused tells state config out old new j v g)
+  pub before : (j : ℕ) → j < k → LeavesOpened tells config out old new j
+  pub conf : VolumeConf
+  pub conf_is : slice_get config.volumes.items k ≡ Some conf
+  pub is_refused : WasRefused tells state config out old new k conf f
+  pub open is_refused use *
 
 -- each image that is left recovers to what an image at entry did, and sound images stay sound
 pub record LeavesBay {D : Type 0} (tells : Bool) (state : D → State) (config : Config)

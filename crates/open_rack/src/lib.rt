@@ -6,8 +6,9 @@
 //! `specs/`: `Again` says when a rack was opened, and when it has again all that it came with, `Sessions` what opening,
 //! a work and closing come to, told of the bay before and behind them, and `NotOpened` which volume is the first that
 //! isn't open, and why. In `proofs/`: `RacksAgain` (a rack that a work left can be closed, and began with the same),
-//! `Since` (what closing says, told of the bay at entry), `FirstClosed`, `AllOut` (where all images are out none is
-//! refused), and `ViewsKept` (no label or view is changed, whatever the work did).
+//! `Since` (what closing says, told of the bay at entry), `OpenedKept` (where nothing was done, each volume that was
+//! opened keeps its records), `FirstClosed`, `AllOut` (where all images are out none is refused), and `ViewsKept` (no
+//! label or view is changed, whatever the work did).
 #![tactic(auto)]
 
 mod not_opened;
