@@ -52,9 +52,9 @@ use Rattle.rack_parts.specs.declared.rack.Rest.{Rest}
 
 -- ---- Spindles
 
--- The manager of a station as its lock was closed, at the spindle of volume k: of these entries those
--- of the station's volume are the ones that the manager's pass of that spindle had made, which is
--- its own one or that of a lane.
+-- A manager with the locks of a station, at the spindle of volume k: of these entries those of the
+-- station's volume are the ones that the manager's pass of that spindle had made, which is its own
+-- one or that of a lane. It is known by these locks alone.
 pub record MadeByManager {D : Type 0} (s : Station D) (k : ℕ) (entries : List Entry) : Type 0 where
   pub manager : Manager D
   pub locks : HasLocks manager (base_of_station s)
@@ -63,8 +63,8 @@ pub record MadeByManager {D : Type 0} (s : Station D) (k : ℕ) (entries : List 
       manager.lanes.items
 
 -- A spindle stands for all entries of its lock, among which are those of its keeper. The entries of
--- a pass are the ones that it had made: as it is in the rack where no manager had it, else as it was
--- when its manager's lock was closed.
+-- a pass are the ones that it had made, as it is in the rack where no manager had it; else those
+-- that a manager with the locks of its station had made by it.
 pub record IsClosedSpindle {D : Type 0} (r : Rack D) (k : ℕ) (s : SpindleView) : Type 0 where
   pub entries : List Entry
   pub stands : (l : TurnLock Spindle SpindleBase) → slice_get r.shared.spindles.items k ≡ Some l
