@@ -10,9 +10,11 @@ use Rattle.report.specs.declared.trouble.Trouble.{Trouble}
 use Rattle.spin_model.specs.Spindles.{SpindleView}
 use Rattle.volume_images.specs.Volumes.{shape_in}
 use Rattle.rack_parts.specs.declared.rack.Rack.{Rack}
+use Rattle.rack_closing.proofs.ViewsLeft.{front_left, told_left}
 use Rattle.open_rack.specs.Sessions.{OpensAndCloses}
+use Rattle.open_rack.proofs.RacksAgain.{rest_again}
 use Rattle.inspection.specs.Lines.{PrintsVolumes}
-use Rattle.inspection.specs.Runs.{Inspects}
+use Rattle.inspection.specs.Runs.{Inspects, LeavesFrontsOut}
 use Rattle.inspection.specs.declared.asked.Asked.{Asked}
 use Rattle.inspection.specs.declared.calls.Stop.{Stop}
 use Rattle.inspection.specs.declared.calls.Stop.TheVariants.{Memory}
@@ -26,6 +28,7 @@ nothing_told tells state config asked old new result faults printed is = record 
   count = λ some. absurd (some refl);
   there = λ some. absurd (some refl);
   missing = λ some. absurd (some refl);
+  fronts = λ some. absurd (some refl);
   told = [];
   few = omega arith;
   each = λ k t no. absurd (let e : None ≡ Some t = no in cc);
@@ -42,6 +45,9 @@ inspected tells state config asked did old new spindles session result faults fa
   count = λ some. session.opened.rack.rest.parts.images.0 ∙ length-map config.volumes.items (shape_in config);
   there = λ some. session.opened.there;
   missing = λ some. session.missing;
+  fronts = λ some telling. told_left state config session.before session.after (LeavesFrontsOut config session.before.rest.images.items) old.told session.bay.told new.told
+      (λ entry left began were parts. front_left state config session.before session.after (rest_again state config session.before session.after session.again) entry left began were parts)
+      (session.opened.began telling) (session.opened.there telling) session.opened.faulty (session.closed.parts telling);
   told = prints.told;
   few = prints.are.few;
   each = λ k t at. told_of tells state config asked did old new spindles session k t

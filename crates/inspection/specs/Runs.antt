@@ -23,7 +23,7 @@ use Rattle.troubles.specs.Troubles.{trouble_of, trouble_of_part}
 use Rattle.volume_images.specs.Left.{IsTold}
 use Rattle.volume_images.specs.Volumes.{shapes_of}
 use Rattle.rack.specs.Closes.{CameBackFaulty, HasFaultyPart, part_named}
-use Rattle.rack.specs.Opens.{RefusesVolume, WereThere}
+use Rattle.rack.specs.Opens.{LeavesFront, RefusesVolume, WereThere}
 use Rattle.rack.specs.Owners.{images_taken, IsBegun, StandAsRead}
 use Rattle.rack.specs.Racks.{NamesVolumes}
 use Rattle.rack.specs.Rests.{IsImageOut, image_here}
@@ -118,6 +118,13 @@ IsToldOf tells state config asked out old new number t =
     ⊎ TellsLines tells state config asked out old new number t
     ⊎ TellsPart tells config out old new number t
 
+-- whatever images a crash leaves, label and view of each image that is out are as they were read
+abbrev pub LeavesFrontsOut : {D : Type 0} → Config → (out : List (Option (ImageRest D)))
+    → (entry left : Told) → Type 0
+LeavesFrontsOut config out entry left =
+    (k : ℕ) (v : VolumeConf) → slice_get config.volumes.items k ≡ Some v → IsImageOut out k
+    → LeavesFront config k entry left
+
 -- Looking at all volumes: what was told of the first of them, or of all, and how it was printed.
 pub record Inspects {D : Type 0} (tells : Bool) (state : D → State) (config : Config)
     (asked : Asked) (old new : BayState) (result : Result (Option Trouble) Stop)
@@ -131,6 +138,7 @@ pub record Inspects {D : Type 0} (tells : Bool) (state : D → State) (config : 
   pub missing : told ≢ [] → (k : ℕ) (v : VolumeConf) → slice_get config.volumes.items k ≡ Some v
       → image_here out k ≡ None
       → (f : VolumeFault) × RefusesVolume tells state config out old new k v f
+  pub fronts : told ≢ [] → IsTrue tells → IsTold (LeavesFrontsOut config out) old.told new.told
   pub few : length told ≤ length config.volumes.items
   pub each : (k : ℕ) (t : Telling) → slice_get told k ≡ Some t
       → IsToldOf tells state config asked out old new k t
