@@ -26,14 +26,15 @@ use Rattle.open_rack.specs.NotOpened.{first_closed}
 use Rattle.replay.specs.declared.stop.Stop.{Stop}
 use Rattle.replay.specs.declared.stop.Stop.TheVariants as stop
 use Rattle.open_rack.proofs.AllOut.{recovered_all}
+use Rattle.open_rack.proofs.FirstClosed.{first_unopened}
+use Rattle.open_rack.proofs.ViewsKept.{fronts_kept}
 use Rattle.replay.proofs.RacksServed.{a_member, station_count}
 use Rattle.replay.proofs.RunClosed.{quiet_all}
 use Rattle.cleaning.specs.Racks.{CanCleanAll, CleansRack}
 use Rattle.cleaning.specs.Racks as racks
 use Rattle.cleaning.specs.Runs.{CleansBay, Completes, MayComplete}
 use Rattle.cleaning.specs.Runs as runs
-use Rattle.cleaning.proofs.Closed.{first_refused, none_first}
-use Rattle.cleaning.proofs.Uncleaned.{cleans_nothing}
+use Rattle.cleaning.proofs.Closed.{none_first}
 use Rattle.cleaning.proofs.Volumes.{all_out, all_out_after}
 use Rattle.cleaning.proofs.Whole.{ends_for, kept_by, later_told, run_completes}
 
@@ -115,10 +116,11 @@ module _ {D : Type 0} (tells : Bool) (state : D → State) (config : Config) (di
 
     pub cleans_by : (answer : Result (Unit {0}) Stop) → CleansRack tells state config session.before session.after sink sink' printed printed' answer → CleansBay tells state config old new sink sink' printed printed' answer
     cleans_by answer (racks.closed f is same calm kept) =
-        let (k, g, told, first) = first_refused tells state config did old new spindles session f is in
-        subst (λ (x : Fault). CleansBay tells state config old new sink sink' printed printed' (Err (stop.Fault x))) (sym told) (runs.closed k g calm (cleans_nothing tells state config did old new spindles session same printed printed' kept) first)
+        let (k, g, told, first) = first_unopened tells state config did old new spindles session same f is in
+        subst (λ (x : Fault). CleansBay tells state config old new sink sink' printed printed' (Err (stop.Fault x))) (sym told) (runs.closed k g calm kept first)
     cleans_by answer (racks.ran r open_ worked all) =
         runs.ran r (ends_for tells state config did old new spindles session open_ sink sink' printed printed' r all) (kept_by tells state config did old new spindles session open_ sink sink' printed printed' r all)
+        (fronts_kept tells state config did old new spindles session (λ k lt. outs open_ k (omega (arith, lt, length-map config.volumes.items (shape_in config)))))
 
     pub completes_by : (answer : Result (Unit {0}) Stop) → CleansRack tells state config session.before session.after sink sink' printed printed' answer → MayComplete tells config old new sink sink' → Completes answer
     completes_by answer (racks.closed f is same calm kept) m = absurd (let no : None ≡ Some f = sym (none_first 0 session.before.faults.items all_open) ∙ is in cc no)

@@ -6,5 +6,4 @@ pub mod Histories
 pub mod Volumes
 pub mod Closed
 pub mod Whole
-pub mod Uncleaned
 pub mod Leaving

@@ -42,7 +42,8 @@ use Rattle.open_rack.proofs.Since.{rose_before}
 use Rattle.spin_model.specs.Spindles.{SpindleView}
 use Rattle.open_rack.specs.NotOpened.{first_closed}
 use Rattle.open_rack.proofs.AllOut.{accepted_all, recovered_all, taken_all}
-use Rattle.open_rack.proofs.FirstClosed.{none_closed, opened_out}
+use Rattle.open_rack.proofs.FirstClosed.{none_closed}
+use Rattle.open_rack.proofs.OpenedKept.{opened_out}
 use Rattle.replay.proofs.RacksServed.{at_place, each_station}
 use Rattle.log_cleaner.specs.Chunks.{NoneHomed}
 use Rattle.log_cleaner.specs.Cleans.{CanClean, HasCleaned, TellsCleaned}

@@ -4,13 +4,12 @@ use Rattle.std.specs.List.{AllByRecursion}
 use Rattle.std.specs.Io.KnownBytes.{Appends, Keeps}
 use Rattle.wol_disk.specs.Disk.{Rose, State}
 use Rattle.wol_io.specs.Streams.{AppendsFront}
-use Rattle.wol_bay.specs.Bay.{BayState, Told}
+use Rattle.wol_bay.specs.Bay.{BayState}
 use Rattle.wol_model.specs.History.{worker}
 use Rattle.wol_model.specs.Index.{AreRising, is_covered, listed_in}
 use Rattle.wol_promise.specs.Manager.{Base}
 use Rattle.wol_promise.specs.Ruled.{Noted}
 use Rattle.wol_config.specs.declared.config.Config.{Config}
-use Rattle.wol_config.specs.declared.config.VolumeConf.{VolumeConf}
 use Rattle.manager.specs.Seen.{name_of}
 use Rattle.manager.specs.Stands.{Stands}
 use Rattle.manager.specs.declared.base.ManagerBase.{ManagerBase}
@@ -21,12 +20,11 @@ use Rattle.troubles.specs.Troubles.{trouble_of}
 use Rattle.volume_images.specs.Left.{IsTold}
 use Rattle.volume_images.specs.Volumes.{images_read}
 use Rattle.rack.specs.Closes.{HasFaultyPart}
-use Rattle.rack.specs.Opens.{RefusesVolume}
-use Rattle.rack.specs.Owners.{IsBegun, images_taken}
-use Rattle.rack_parts.specs.declared.rack.ImageRest.{ImageRest}
+use Rattle.rack.specs.Opens.{LeavesFronts}
+use Rattle.rack.specs.Owners.{IsBegun}
 use Rattle.rack_parts.specs.declared.volume_fault.VolumeFault.{VolumeFault}
 use Rattle.open_rack.specs.NotOpened.{IsFirstClosed}
-use Rattle.open_rack.specs.Sessions.{KeepsArrays, LeavesRecords, LeavesRecordsIn}
+use Rattle.open_rack.specs.Sessions.{KeepsArrays, LeavesRecords}
 use Rattle.inspection.specs.Runs as look
 use Rattle.replay.specs.declared.stop.Stop.{Stop}
 use Rattle.replay.specs.declared.stop.Stop.TheVariants as stop
@@ -56,28 +54,6 @@ pub record LeavesVolume (tells : Bool) (config : Config) (old new : BayState) (n
       → IsTold (λ entry exit. IsBegun config (images_read config entry) base) old.told new.told
   pub listed : IsTrue tells
       → IsTold (λ entry exit. LeavesRecords config number base.look.listed exit) old.told new.told
-
--- A volume was open while another one wasn't, and it wasn't cleaned: in the images that were out the
--- records that are left are those with which it was opened.
-pub record LeavesOpened {D : Type 0} (tells : Bool) (config : Config)
-    (out : List (Option (ImageRest D))) (old new : BayState) (number : ℕ) : Type 0 where
-  pub base : Base
-  pub owner : base.owner ≡ number
-  pub begun : IsTrue tells
-      → IsTold (λ entry exit. IsBegun config (images_taken config out entry) base) old.told new.told
-  pub listed : IsTrue tells
-      → IsTold (λ entry exit. LeavesRecordsIn config out number base.look.listed exit) old.told
-      new.told
-
--- One of the volumes wasn't open. Nothing was printed, and none was cleaned of those that were
--- opened; each other one was refused.
-pub record CleansNothing {D : Type 0} (tells : Bool) (state : D → State) (config : Config)
-    (old new : BayState) (printed printed' : Option (List ℕ)) : Type 0 where
-  pub kept : Keeps printed printed'
-  pub out : List (Option (ImageRest D))
-  pub each : (v : ℕ) (conf : VolumeConf) → slice_get config.volumes.items v ≡ Some conf
-      → LeavesOpened tells config out old new v
-      ⊎ ((f : VolumeFault) × RefusesVolume tells state config out old new v conf f)
 
 -- A volume was cleaned: `opened` is its manager as the volume was opened of the images as they
 -- read, `after` the one that cleaning left, which stands for the array at opening behind one entry
@@ -140,15 +116,15 @@ module _ {D : Type 0} (tells : Bool) (state : D → State) (config : Config) (ol
         → AppendsFront printed printed' (lines_of config (told ++ c ∷ [])) → EndsFor (Err stop.Sink)
 
   -- A cleaning over a bay: there was no memory to open its volumes; or one of them couldn't be
-  -- opened, and none was cleaned; or all were open.
+  -- opened, and none was cleaned; or all were open, and no array, label or view was changed.
   pub data CleansBay : Result (Unit {0}) Stop → Type 0 where
     unopened : sink' ≡ sink → Keeps printed printed' → CleansBay (Err (stop.Fault Memory))
-    closed : (k : ℕ) (f : VolumeFault) → sink' ≡ sink
-        → CleansNothing tells state config old new printed printed'
+    closed : (k : ℕ) (f : VolumeFault) → sink' ≡ sink → Keeps printed printed'
         → IsFirstClosed tells state config old new k f
         → CleansBay (Err (stop.Fault (Volume k (trouble_of f))))
     ran : (result : Result (Unit {0}) Stop) → EndsFor result
-        → (IsTrue tells → IsTold (KeepsArrays config) old.told new.told) → CleansBay result
+        → (IsTrue tells → IsTold (KeepsArrays config) old.told new.told)
+        → (IsTrue tells → IsTold (LeavesFronts config) old.told new.told) → CleansBay result
 
 -- ---- When it has to come to its end
 

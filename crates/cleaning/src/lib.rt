@@ -5,7 +5,7 @@
 //! says whether a manager can be cleaned, `lines.rt` has the line of a volume. Of `specs/`: `Turns` is what one turn
 //! adds and makes of its manager, `Lines` what is printed, `Racks` what becomes of a rack, `Runs` what is told of the
 //! bay. In `proofs/`: `Testing` and `Turning` for a turn, `Stations` for one station among all, `Going` for the loop,
-//! `Histories` and `Volumes` for what the images recover to, `Closed`, `Uncleaned`, `Whole` and `Leaving` for the command.
+//! `Histories` and `Volumes` for what the images recover to, `Closed`, `Whole` and `Leaving` for the command.
 #![tactic(auto)]
 
 mod calls;
