@@ -44,7 +44,8 @@ use Rattle.open_rack.specs.Sessions.{LeavesRecords, OpensAndCloses}
 use Rattle.open_rack.proofs.RacksAgain.{began_again, closable_again, numbers_again, rest_again}
 use Rattle.open_rack.proofs.Since.{all_at, rose_before, unmapped}
 use Rattle.open_rack.specs.NotOpened.{first_closed}
-use Rattle.open_rack.proofs.FirstClosed.{none_closed, opened_out}
+use Rattle.open_rack.proofs.FirstClosed.{none_closed}
+use Rattle.open_rack.proofs.OpenedKept.{opened_out}
 use Rattle.inspection.proofs.Unhelped.{none_before}
 use Rattle.open_rack.proofs.AllOut.{accepted_all, recovered_all, taken_all}
 use Rattle.nbd_session.specs.Sessions.{IsSession}

@@ -15,7 +15,7 @@ use Rattle.rack.specs.Opens.{KeepsAllSound, LeavesAll}
 use Rattle.rack_parts.specs.declared.rack.Rack.{Rack}
 use Rattle.open_rack.specs.Sessions.{OpensAndCloses}
 use Rattle.open_rack.specs.NotOpened.{first_closed}
-use Rattle.open_rack.proofs.FirstClosed.{first_is, first_refused}
+use Rattle.open_rack.proofs.FirstClosed.{first_is, first_unopened}
 use Rattle.open_rack.proofs.ViewsKept.{views_kept}
 use Rattle.inspection.specs.Racks.{IsSameRack}
 use Rattle.inspection.specs.Runs.{MayComplete}
@@ -63,7 +63,7 @@ module _ {D : Type 0} (tells : Bool) (state : D → State) (config : Config) (be
     where
       go : (a : Result Ended Stop) → ServesRack tells config volume begins session.before session.after wire wire' a → ServesNamed tells state config begins name old new wire wire' a
       go a (racks.closed fault is same calm) =
-          let first = first_refused state config session.bay session.before session.opened.rack tells old new session.refused session.failed session.part session.opened.began session.opened.there fault is in
+          let first = first_unopened tells state config did old new spindles session same fault is in
           subst (λ (f : Fault). ServesNamed tells state config begins name old new wire wire' (Err (stop.Fault f))) (sym first.2)
           (runs.closed volume first.0 first.1 named first.3 (record { bay = record { left = untouched same; sound = sound }; views = views_kept tells state config did old new spindles session }) calm)
       go a (racks.unagreed why is begins_ same) = runs.unagreed volume why named begins_ (kept is same sound)

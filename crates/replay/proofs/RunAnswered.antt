@@ -146,7 +146,7 @@ module _ {D S : Type 0} (T : Type 0) (state : D → State) (tells : Bool) (left 
   replayed_err result (closed f first none) e is =
       let same : stop.Fault f ≡ e = cc is in
       subst (λ (x : Stop). Comes (Err x) faults' printed') same
-      (runs_closed {T = T} tells state left config options start now entry opened left_ r q faults faults' printed printed' f o.is o.refused o.failed c.cause o.counts c.counts o.gained c.faulty o.began o.there first none (bay_left none.same))
+      (runs_closed {T = T} tells state left config options start now entry opened left_ r q faults faults' printed printed' f o.is o.refused o.failed c.cause o.counts c.counts o.gained c.faulty o.began o.there first none (bay_left none.same) o.fresh c.stations.0)
   replayed_err result (no_memory first none) e is = ran (Err e) (served_err result (no_memory first none) e is first)
   replayed_err result (served done first before moved from) e is = ran (Err e) (served_err result (served done first before moved from) e is first)
 

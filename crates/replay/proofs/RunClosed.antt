@@ -2,7 +2,7 @@
 use Rattle.replay.proofs.Basics.{◌≡◌, ◌≤◌, ℕ, Bool, true, List, [], sym, ap, subst, Option, None, Some, Err, inl, inr}
 use Rattle.replay.proofs.Basics.{All, IfSome, IsTrue, slice_get}
 use Rattle.replay.proofs.Terms.{Rose, State, BayState, Told, writes, entries_of, Config, VolumeConf, Entry, notes_of, Part, Station, Fault}
-use Rattle.replay.proofs.Terms.{IsTold, AreLeftOfParts, flight_in, HasFaultAt, HasFaultIn, IsQuiet, LeavesVolumes, ListsFaulty, has_station}
+use Rattle.replay.proofs.Terms.{IsTold, IsClosedVolume, AreLeftOfParts, flight_in, HasFaultAt, HasFaultIn, IsQuiet, LeavesVolumes, ListsFaulty, has_station}
 use Rattle.replay.proofs.Terms.{is_kept_home, AreRefused, BeganWith, HasFaulty, KeepsAllSound, LeavesAll, RefusesVolume, WereThere}
 use Rattle.replay.proofs.Terms.{HadRefused, AreUnused, IsRack, IsImageOut, Rack, VolumeFault, LeavesBay, LeavesViews, Replayed}
 use Rattle.replay.proofs.Terms.{first_closed, RunsNone, Given, Options}
@@ -85,8 +85,9 @@ pub runs_closed : {D S T : Type 0} (tells : Bool) (state : D → State) (left : 
     → (HasFaultIn state new.rest → Rose opened.faults last.faults) → entry.faults ≤ opened.faults → opened.faults ≤ last.faults → IsTold HasFaulty entry.told opened.told → IsTold (ListsFaulty state config new.rest) opened.told last.told
     → (IsTrue tells → IfSome entry.told (λ t. BeganWith state config t old)) → (IsTrue tells → IfSome entry.told (λ t. WereThere config old.rest.images.items t)) → first_closed 0 old.faults.items ≡ Some f
     → RunsNone tells left config options start now old new sink sink' printed printed' → LeavesViews tells state config entry last
+    → AreUnused old.stations.items → All (IsClosedVolume tells config new.rest.images.items opened last) new.stations.items
     → Replayed {T = T} tells state left config options start now entry last sink sink' printed printed' (Err (stop.Fault f))
-runs_closed {D} {S} {T} tells state left config options start now entry opened last old new sink sink' printed printed' f is refused failed rises opening closing first_gained faulty began there first none leaves =
+runs_closed {D} {S} {T} tells state left config options start now entry opened last old new sink sink' printed printed' f is refused failed rises opening closing first_gained faulty began there first none leaves fresh closed_ =
     let lists = subst (λ (r : Rack D). IsTold (ListsFaulty state config r.rest) opened.told last.told) none.same faulty in
     let refused_now = refused_last tells state config entry opened last old is refused closing (gained_parts state config old.rest opened.told last.told lists) in
     let (k, why, told, first_) = first_refused state config opened old is tells entry last refused_now
@@ -94,6 +95,7 @@ runs_closed {D} {S} {T} tells state left config options start now entry opened l
       | inl has ↦ rose_from entry.faults opened.faults last.faults opening (subst (λ (r : Rack D). HasFaultIn state r.rest → Rose opened.faults last.faults) none.same rises has)
       | inr rose ↦ rose_on entry.faults opened.faults last.faults rose closing
     ])
-    (part_came_back tells state config entry opened last old is.fault_count refused_now failed first_gained lists) began there f first in
+    (part_came_back tells state config entry opened last old is.fault_count refused_now failed first_gained lists) began there fresh first_gained
+    (subst (λ (r : Rack D). All (IsClosedVolume tells config r.rest.images.items opened last) r.stations.items) none.same closed_) f first in
     subst (λ (x : Fault). Replayed {T = T} tells state left config options start now entry last sink sink' printed printed' (Err (stop.Fault x))) (sym told)
     (closed k why (record { unread = none.unread; calm = none.calm; kept = none.kept }) first_ leaves)

@@ -51,7 +51,8 @@ pub use Rattle.msr_trace.specs.Lines.{is_feed, trace_line}
 pub use Rattle.msr_trace.specs.Reading.{Reading, IsDone, RefusesLine, pending, is_no_memory}
 pub use Rattle.msr_trace.specs.declared.format.TraceFault.{TraceFault}
 pub use Rattle.open_rack.proofs.AllOut.{accepted_all, recovered_all, taken_all}
-pub use Rattle.open_rack.proofs.FirstClosed.{none_closed, opened_out}
+pub use Rattle.open_rack.proofs.FirstClosed.{none_closed}
+pub use Rattle.open_rack.proofs.OpenedKept.{opened_out}
 pub use Rattle.open_rack.specs.NotOpened.{first_closed}
 pub use Rattle.replay.specs.Completes.{Completes, MayComplete, writes_to}
 pub use Rattle.replay.specs.Counts.{was_drained, most_count, no_totals, was_logged, went_home, AddsAtMost, was_read, was_written, CountsWindow, CountsOutcomes}

@@ -15,9 +15,7 @@ use Rattle.manager.specs.declared.part.StepFault.TheVariants.{DiskFault, Down}
 use Rattle.manager.specs.declared.station.Station.{Station}
 use Rattle.request_turns.specs.Turns.{IsBroken, faulty_part, notes_seen}
 use Rattle.request_turns.proofs.Gaining.{down_breaks}
-use Rattle.report.specs.declared.fault.Fault.{Fault}
-use Rattle.report.specs.declared.fault.Fault.TheVariants.{Volume}
-use Rattle.troubles.specs.Troubles.{trouble_of, trouble_of_part}
+use Rattle.troubles.specs.Troubles.{trouble_of_part}
 use Rattle.spin_model.specs.Spindles.{SpindleView}
 use Rattle.volume_images.specs.Left.{IsTold}
 use Rattle.volume_images.specs.Volumes.{images_read, shape_in, shapes_of}
@@ -28,16 +26,15 @@ use Rattle.rack.specs.Racks.{IsStation, base_of_station}
 use Rattle.rack.specs.Rests.{IsImageOut, image_here}
 use Rattle.rack_parts.specs.declared.rack.ImageRest.{ImageRest}
 use Rattle.rack_parts.specs.declared.rack.Rack.{Rack}
-use Rattle.rack_parts.specs.declared.volume_fault.VolumeFault.{VolumeFault}
 use Rattle.open_rack.specs.Sessions.{KeepsArrays, OpensAndCloses}
 use Rattle.open_rack.proofs.Since.{rose_before, unmapped}
 use Rattle.inspection.specs.Racks.{IsSameRack, numbers_of}
 use Rattle.inspection.proofs.Quiet.{all_quiet}
 use Rattle.inspection.proofs.SameRacks.{numbers_same}
 use Rattle.inspection.proofs.Unhelped.{all_at, broken_still}
-use Rattle.open_rack.specs.NotOpened.{IsFirstClosed, first_closed}
 use Rattle.open_rack.proofs.AllOut.{recovered_all, taken_all}
-use Rattle.open_rack.proofs.FirstClosed.{first_refused, none_closed, opened_at, opened_out}
+use Rattle.open_rack.proofs.FirstClosed.{none_closed}
+use Rattle.open_rack.proofs.OpenedKept.{opened_at, opened_out}
 use Rattle.view_commands.specs.Drains.{AllOpen, IsDrained, trouble_of_step}
 use Rattle.view_commands.specs.Runs.{FailsWith}
 use Rattle.view_commands.specs.Runs as runs
@@ -77,11 +74,6 @@ module _ {D : Type 0} (tells : Bool) (state : D → State) (config : Config) (di
 
   shapes_count : length (shapes_of config) ≡ length config.volumes.items
   shapes_count = length-map config.volumes.items (shape_in config)
-
-  -- ---- The first volume that isn't open
-
-  pub closed_first : (told : Fault) → first_closed 0 before.faults.items ≡ Some told → (k : ℕ) × (f : VolumeFault) × (told ≡ Volume k (trouble_of f)) × IsFirstClosed tells state config old new k f
-  closed_first told is = first_refused state config session.bay before session.opened.rack tells old new session.refused session.failed session.part session.opened.began session.opened.there told is
 
   -- ---- All volumes were open
 

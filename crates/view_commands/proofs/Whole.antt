@@ -24,7 +24,7 @@ use Rattle.rack.specs.Owners.{recovered_but}
 use Rattle.rack_parts.specs.declared.rack.Rack.{Rack}
 use Rattle.rack_closing.proofs.SoundBefore.{some_image}
 use Rattle.open_rack.specs.Sessions.{KeepsArrays, OpensAndCloses}
-use Rattle.open_rack.proofs.FirstClosed.{first_is}
+use Rattle.open_rack.proofs.FirstClosed.{first_is, first_unopened}
 use Rattle.open_rack.proofs.Since.{rose_before}
 use Rattle.open_rack.proofs.ViewsKept.{views_kept as views_as_before}
 use Rattle.inspection.specs.Racks.{IsSameRack}
@@ -47,7 +47,7 @@ use Rattle.view_commands.specs.declared.order.ViewRefusal.{ViewRefusal}
 use Rattle.view_commands.proofs.Changed.{HasNoLog, IsAddition, arrays_left, sound_gone, sound_left, there_kept, there_left, views_kept, views_left}
 use Rattle.view_commands.proofs.Kept.{HasFront, KeepsFronts, entry_reads, front_fault, read_at, read_some, reads_left, view_at_entry}
 use Rattle.view_commands.proofs.Names.{not_named}
-use Rattle.view_commands.proofs.Sessions.{arrays, drain_fails, drain_rose, closed_first, fronts, told_by}
+use Rattle.view_commands.proofs.Sessions.{arrays, drain_fails, drain_rose, fronts, told_by}
 
 -- ---- Arrays that are kept are those of images at entry
 
@@ -330,7 +330,7 @@ module _ (config : Config) (valid : IsValid config) (volume : ℕ) (v : VolumeCo
         go : TellsRack tells state asked volume before after (Err f) → ChangesVolume tells state config volume asked old new (Err (stop.Fault f))
         go (drains.closed fault is same told) =
             let same_f : f ≡ fault = cc told in
-            let first = closed_first tells state config (λ x y. TellsRack tells state asked volume x y (Err f)) old new spindles session fault is in
+            let first = first_unopened tells state config (λ x y. TellsRack tells state asked volume x y (Err f)) old new spindles session same fault is in
             subst (λ (g : Fault). ChangesVolume tells state config volume asked old new (Err (stop.Fault g))) (sym (same_f ∙ first.2)) (runs.one_closed first.0 first.1 first.3 (record { bay = record { left = left_of; sound = sound }; views = views_as_before tells state config (λ x y. TellsRack tells state asked volume x y (Err f)) old new spindles session }))
         go (drains.open_ all_open same tells_change) = behind asked refl tells_change
           where
