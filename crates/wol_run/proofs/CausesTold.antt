@@ -1,7 +1,7 @@
 -- Why each command ended with its status.
 use Rattle.std.proofs.Common.{◌≡◌, ◌≢◌, ◌⊎◌, inl, inr, ℕ, zero, suc, ◌<◌, Bool, true, false, List, [], ◌∷◌, Option, None, Some, Result, Ok, Err, refl, sym, ap, subst, ◌∙◌, true≢false, arith}
 use Rattle.rack.specs.Closes.{is_kept_home, part_named}
-use Rattle.std.specs.Prelude.{IfSome, IsTrue, not, slice_get}
+use Rattle.std.specs.Prelude.{IfSome, IsTrue, is_some, not, slice_get}
 use Rattle.std.specs.Io.KnownBytes.{IsAtEnd}
 use Rattle.std.proofs.lemmas.Option.{same_Some}
 use Rattle.wol_disk.specs.Disk.{Rose, State}
@@ -29,7 +29,7 @@ use Rattle.replay.specs.Ended.{EndsFor, HasRefusedWrite, whole, no_line, refused
 use Rattle.comparison.specs.Compares.{EndsBehind}
 use Rattle.comparison.specs.Compares as behind
 use Rattle.replay.specs.Givens.{HasGivenAll, Refuses}
-use Rattle.replay.specs.NotOpened.{IsFirstClosed}
+use Rattle.replay.specs.NotOpened.{IsFirstClosed, LeavesAsOpened}
 use Rattle.rack.specs.Opens.{RefusesVolume, WereThere}
 use Rattle.rack.specs.Owners.{WasOpened}
 use Rattle.rack.specs.Rests.{IsImageOut, image_here}
@@ -251,7 +251,17 @@ module _ {D : Type 0} (tells : Bool) (state : D → State) (read : Option Config
       -- the first volume that isn't open, and why it isn't
       closed_cause : (config : Config) → read ≡ Some config → (k : ℕ) (f : VolumeFault) → IsFirstClosed tells state config before.bay after.bay k f → Cause (trouble_status (trouble_of f))
       closed_cause config has k f first =
-          refused_cause config has k first.conf first.out f first.conf_is first.missing first.there first.refused (λ j less. (first.before j less).1) (λ four. first.cause (of_call f _ first.names four))
+          refused_cause config has k first.conf first.out f first.conf_is missing first.there first.refused before_ (λ four. first.cause (of_call f _ first.names four))
+        where
+          missing : (j : ℕ) (v : VolumeConf) → slice_get config.volumes.items j ≡ Some v → image_here first.out j ≡ None → (e : VolumeFault) × RefusesVolume tells state config first.out before.bay after.bay j v e
+          missing j v conf none = elim (first.each j v conf) [
+            | inl left ↦ absurd (let no : true ≡ false = sym left.0 ∙ ap is_some none in cc no)
+            | inr (e, why) ↦ (e, why.refused)
+          ]
+
+          before_ : (j : ℕ) → j < k → IsTrue tells → IfSome before.bay.told (λ images. WasOpened config (is_kept_home first.out) images j)
+          before_ j less telling =
+              at_entry (LeavesAsOpened config first.out j) (λ images. WasOpened config (is_kept_home first.out) images j) before.bay.told after.bay.told (λ images left is. is.was) ((first.before j less).1 telling)
 
       -- ---- Volumes that were looked at
 
@@ -380,7 +390,7 @@ module _ {D : Type 0} (tells : Bool) (state : D → State) (read : Option Config
           of_bay r (cleaned.unopened calm kept) ends = told_cause _ fault.Memory run.over.printed_then ends memory_cause
           of_bay r (cleaned.closed k f calm kept first) ends =
               told_cause _ (fault.Volume k (trouble_of f)) run.over.printed_then ends (λ same. at_status (trouble_status (trouble_of f)) status same (closed_cause config has k f first))
-          of_bay r (cleaned.ran x ended arrays) ends = of_cleaned x ended ends
+          of_bay r (cleaned.ran x ended arrays fronts) ends = of_cleaned x ended ends
 
         pub clean_cause : (o : Option Config) → read ≡ o → IsCleaningOf tells state o before after status → Cause status
         clean_cause (Some config) has run = of_bay config has run run.over.result run.cleans run.over.ends

@@ -43,7 +43,7 @@ module _ {D : Type 0} (tells : Bool) (state : D → State) (config : Config) (ol
   pub sink_said : (r : Result (Unit {0}) Stop) → CleansBay tells state config old new sink sink' printed printed' r → SinkSaid r
   sink_said r (unopened calm kept) = (calm, tt)
   sink_said r (closed k f calm kept first) = (calm, tt)
-  sink_said r (ran x ends arrays) = said_at_end x ends
+  sink_said r (ran x ends arrays fronts) = said_at_end x ends
 
 -- nothing stands in the way of a cleaning
 module _ (tells : Bool) (left : Option (List ℕ)) (config : Config) (has : HasConfig left config) (old new : BayState) (sink sink' : ℕ) where
