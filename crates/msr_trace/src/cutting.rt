@@ -1,7 +1,7 @@
 // The pieces of a request: runs of blocks that lie in the volume and aren't too long.
 ghost use Rattle.msr_trace.specs.Lines.{trace_line};
 ghost use Rattle.std.specs.Iterator.{YieldsFirst, item_count};
-ghost use Rattle.std.specs.Prelude.{◌≡◌, ◌+◌, ◌-◌, ◌/◌, ◌%◌, ◌<◌, All};
+ghost use Rattle.std.specs.Prelude.{◌≡◌, ◌+◌, ◌-◌, ◌/◌, ◌%◌, ◌<◌, ◌≤◌, All};
 ghost use Rattle.wol_model.specs.Trace as trace;
 ghost use Rattle.wol_model.specs.TraceLaws.{LiesIn};
 
@@ -74,11 +74,20 @@ impl Iterator for Pieces {
         }
         let lbn = self.first;
         let count = self.count.min(u64::from(self.most)).min(self.home - lbn);
-        self.first = (lbn + count) % self.home;
+        self.first = behind(lbn + count, self.home);
         self.count -= count;
         Some(Piece {
             lbn,
             count: count as u32,
         })
     }
+}
+
+// The block behind a run that ends here, which is block 0 where the volume ends.
+fn behind(end: u64, home: u64) -> u64
+    requires some { 0 < home }
+    requires within { end ≤ home }
+    ensures { result ≡ end % home }
+{
+    if end == home { 0 } else { end }
 }
