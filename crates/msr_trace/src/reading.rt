@@ -86,6 +86,43 @@ impl<S: Source> Lines<S> {
             → S.faults self.new.source ≡ S.faults self.old.source }
         ensures same_borrow { S.borrow self.new.source ≡ S.borrow self.old.source }
     {
+        match self.next_line() {
+            Ok(Some(line)) => Ok(Some((self.given, line))),
+            Ok(None) => Ok(None),
+            Err(fault) => Err(fault),
+        }
+    }
+
+    /// The next line without its number: one more was given then. A blank line is None in it, and None in place of both
+    /// means that the source is at its end. It is refused as `next` says.
+    pub fn next_line(&mut self) -> Result<Option<Option<Line>>, TraceFault>
+        requires { self.old.live ≡ true }
+        ensures size { length self.new.held ≤ 8192 }
+        ensures count { IfOk result
+            (λ o. IfSome o (λ _. self.new.given ≡ self.old.given + 1)) }
+        ensures most { self.new.given ≤ 2 ^ 32 }
+        ensures line { IfOk result (λ o.
+            IfSome o (λ line. TakesLine (pending S.left self.old) (pending S.left self.new)
+            (Ok (option_map trace_line line)))) }
+        ensures fits { IfOk result (λ o. IfSome o (λ p. IfSome p (λ l. Fits (trace_line l)))) }
+        ensures end { IfOk result (λ o. IfNone o (IsDone S.left self.old self.new)) }
+        ensures bad { (line : _) (why : _) → result ≡ Err (TraceFault.Bad line why)
+            → (line ≡ self.old.given + 1) × (line ≤ 2 ^ 32)
+            × RefusesLine (pending S.left self.old) why }
+        ensures spent { (result ≡ Err TraceFault.Spent)
+            ↔ ((self.old.given ≡ 2 ^ 32) × (0 < length self.new.held)) }
+        ensures cut { result ≡ Err TraceFault.Source → list_any is_feed self.new.held ≡ false }
+        ensures kept { OnErr result (Keeps (pending S.left self.old) (pending S.left self.new)) }
+        ensures given { OnErr result (self.new.given ≡ self.old.given) }
+        ensures live { MatchResult result (λ _. self.new.live ≡ true)
+            (λ e. self.new.live ≡ is_no_memory e) }
+        ensures later { S.faults self.old.source ≤ S.faults self.new.source }
+        ensures cause { result ≡ Err TraceFault.Source
+            → Rose (S.faults self.old.source) (S.faults self.new.source) }
+        ensures calm { result ≢ Err TraceFault.Source
+            → S.faults self.new.source ≡ S.faults self.old.source }
+        ensures same_borrow { S.borrow self.new.source ≡ S.borrow self.old.source }
+    {
         if self.intake.take_first().is_err() {
             self.live = false;
             return Err(TraceFault::Source);
@@ -104,7 +141,7 @@ impl<S: Source> Lines<S> {
         match give_first(self.alloc, &mut self.fields, &mut self.intake, end) {
             Ok(line) => {
                 self.given += 1;
-                Ok(Some((self.given, line)))
+                Ok(Some(line))
             }
             Err(LineFault::NoMemory) => Err(TraceFault::NoMemory),
             Err(LineFault::Bad(why)) => {
@@ -115,7 +152,7 @@ impl<S: Source> Lines<S> {
         }
     }
 
-    /// Whether `next` may be called: no line was refused, and the source didn't fail.
+    /// Whether `next` and `next_line` may be called: no line was refused, and the source didn't fail.
     pub fn is_live(&self) -> bool
         ensures { result ≡ self.now.live }
     {
