@@ -1,12 +1,14 @@
 -- A line more of those that are given, and what comes after the last.
-use Rattle.replay.proofs.Basics.{◌≡◌, ◌<◌, ◌+◌, ◌-◌, ◌^◌, ℕ, false, List, [], ◌∷◌, ◌++◌, length, map, Option, Some, refl, sym, ap, ◌∙◌, arith}
-use Rattle.replay.proofs.Basics.{length-append, list_any, range_with_len, Keeps}
+use Rattle.replay.proofs.Basics.{◌≡◌, ◌<◌, ◌≤◌, ◌+◌, ◌-◌, ◌^◌, ℕ, false, List, [], ◌∷◌, ◌++◌, length, map, Option, Some, refl, sym, ap, ◌∙◌, arith}
+use Rattle.replay.proofs.Basics.{length-append, list_any, range_with_len, Keeps, Result, Ok, Err, None, option_map, IfOk, IfErr, IfSome, OnErr}
+use Rattle.std.specs.Prelude.{IfNone}
 use Rattle.replay.proofs.Terms.{Target, TraceLine, is_feed, Reading, IsDone, RefusesLine, pending, TraceFault, Generator, line, Given}
 use Rattle.replay.proofs.Terms.{HasGiven, HasGivenAll, Refuses, RefusesTrace}
 use Rattle.std.proofs.lemmas.List.FromFn.{map-range_with_len_more}
 use Rattle.msr_trace.specs.declared.format.BadLine.{BadLine}
 use Rattle.solo.specs.Requests.{HasLinesBefore}
-use Rattle.solo.proofs.Running.{has_all, has_bad, has_kept, has_next, has_none}
+use Rattle.solo.proofs.Running.{has_all, has_bad, has_kept, has_more, has_next, has_none}
+use Rattle.msr_trace.specs.Reading.{TakesLine}
 use Rattle.replay.specs.declared.given.Given.TheVariants.{Trace, Generated}
 use Rattle.msr_trace.specs.declared.format.TraceFault.TheVariants as fault
 
@@ -40,6 +42,37 @@ module _ {S : Type 0} (left : S → Option (List ℕ)) (targets : List Target) w
   pub read_kept : (start : Given S) (r q : Reading S) (ls : List (Option TraceLine)) → HasGiven left targets start (Trace r) ls → Keeps (pending left r) (pending left q) → q.given ≡ r.given → HasGiven left targets start (Trace q) ls
   read_kept (Trace s) r q ls (has, count) keeps same = (has_kept (pending left s) (pending left r) (pending left q) ls has keeps, same ∙ count)
   read_kept (Generated g n) r q ls has keeps same = absurd has
+
+  read_more : (start : Given S) (r q : Reading S) (ls : List (Option TraceLine)) (l : Option TraceLine) → HasGiven left targets start (Trace r) ls → TakesLine (pending left r) (pending left q) (Ok l) → q.given ≡ r.given + 1
+      → HasGiven left targets start (Trace q) (ls ++ l ∷ [])
+  read_more (Trace s) r q ls l (has, count) takes one =
+      let more : length (ls ++ l ∷ []) ≡ length ls + 1 = length-append ls (l ∷ []) in
+      (has_more (pending left s) (pending left r) (pending left q) ls l has takes, omega (arith, count, one, more))
+  read_more (Generated g n) r q ls l has takes one = absurd has
+
+  -- what a call of the trace answers: a line more, the end, or a refusal
+  pub lines_more : {L : Type 0} (of : L → TraceLine) (r q : Reading S) (result : Result (Option (Option L)) TraceFault)
+      → IfOk result (λ o. IfSome o (λ l. TakesLine (pending left r) (pending left q) (Ok (option_map of l)))) → IfOk result (λ o. IfSome o (λ _. q.given ≡ r.given + 1))
+      → IfOk result (λ o. IfSome o (λ l. (start : Given S) (ls : List (Option TraceLine)) → HasGiven left targets start (Trace r) ls → HasGiven left targets start (Trace q) (ls ++ option_map of l ∷ [])))
+  lines_more of r q (Err e) takes one = tt
+  lines_more of r q (Ok None) takes one = tt
+  lines_more of r q (Ok (Some l)) takes one = λ start ls has. read_more start r q ls (option_map of l) has takes one
+
+  pub lines_end : {X : Type 0} (r q : Reading S) (result : Result (Option X) TraceFault) → IfOk result (λ o. IfNone o (IsDone left r q))
+      → IfOk result (λ o. IfNone o ((start : Given S) (ls : List (Option TraceLine)) → HasGiven left targets start (Trace r) ls → HasGiven left targets start (Trace q) ls × HasGivenAll left targets start (Trace q) ls))
+  lines_end r q (Err e) done = tt
+  lines_end r q (Ok (Some x)) done = tt
+  lines_end r q (Ok None) done = λ start ls has. (read_kept start r q ls has done.kept done.given, read_all start r q ls has done)
+
+  pub lines_refused : {X : Type 0} (r q : Reading S) (result : Result X TraceFault) → OnErr result (Keeps (pending left r) (pending left q)) → OnErr result (q.given ≡ r.given)
+      → ((number : ℕ) (why : BadLine) → result ≡ Err (fault.Bad number why) → (number ≡ r.given + 1) × (number ≤ 2 ^ 32) × RefusesLine (pending left r) why)
+      → (result ≡ Err fault.Spent → (r.given ≡ 2 ^ 32) × (0 < length q.held)) → (result ≡ Err fault.Source → list_any is_feed q.held ≡ false)
+      → IfErr result (λ e. (start : Given S) (ls : List (Option TraceLine)) → HasGiven left targets start (Trace r) ls → HasGiven left targets start (Trace q) ls × Refuses left e start (Trace q) ls)
+  lines_refused r q (Ok x) keeps same bad spent cut = tt
+  lines_refused r q (Err e) keeps same bad spent cut = λ start ls has. (
+    read_kept start r q ls has keeps same,
+    read_refused start r q e ls has keeps (λ number why is. let b = bad number why (ap Err is) in (b.0, b.2)) (λ is. spent (ap Err is)) (λ is. cut (ap Err is)),
+  )
 
   -- ---- A seed
 

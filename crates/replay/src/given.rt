@@ -68,11 +68,7 @@ impl<S: Source> Given<S> {
         ensures same_borrow { borrow_of S.borrow self.new ≡ borrow_of S.borrow self.old }
     {
         match self {
-            Given::Trace(lines) => match lines.next() {
-                Ok(Some((_number, line))) => Ok(Some(line)),
-                Ok(None) => Ok(None),
-                Err(fault) => Err(fault),
-            },
+            Given::Trace(lines) => lines.next_line(),
             Given::Generated { generator, lines } => {
                 if generator.given() == *lines {
                     return Ok(None);
