@@ -1,23 +1,22 @@
 -- Blocks given up, and what became of the segment.
-use Rattle.std.proofs.Common.{◌≡◌, inl, inr, ⊎_elim, ℕ, false, List, ◌++◌, map, set, slice_get, Option, Some, None, Result, Ok, Err, IfOk, IsErr, is_ok, refl, sym, ap, subst, ◌∙◌}
+use Rattle.std.proofs.Common.{◌≡◌, ◌<◌, inl, inr, ⊎_elim, ℕ, false, List, ◌++◌, map, set, slice_get, Option, Some, None, Result, Ok, Err, IfOk, IsErr, is_ok, refl, sym, ap, subst, arith, ◌∙◌}
 use Rattle.std.specs.Prelude.{◌-◌, ◌==◌, if◌then◌else◌}
 use Rattle.std.specs.List.{AllByRecursion}
 use Rattle.std.proofs.lemmas.Option.{none-some}
-use Rattle.wol_disk.specs.Disk.{State, LeavesOnly, Rose}
+use Rattle.wol_disk.specs.Disk.{State}
 use Rattle.wol_disk.specs.declared.disk.Failed.{Failed}
-use Rattle.wol_disk.proofs.Moments.{then_leaves, widened}
+use Rattle.wol_disk.proofs.Moments.{widened}
 use Rattle.wol_model.specs.Blocks.{AreApart}
 use Rattle.wol_model.specs.Heads.{RecordHead}
-use Rattle.wol_model.specs.Log.{Record, IsLog, position_of}
 use Rattle.turn_lock.specs.Passes.{pass_mine}
 use Rattle.turn_lock.specs.declared.pass.PassOf.{PassOf}
 use Rattle.seg_pool.specs.declared.base.PoolBase.{PoolBase}
 use Rattle.seg_pool.specs.declared.pool.Pool.{Pool}
-use Rattle.log_segment.specs.Kept.{IsKeptOrTrimmed}
-use Rattle.log_segment.specs.Records.{IsSameHead, trimmed}
-use Rattle.log_segment.specs.Segment.{IsSegment, IsBlank, IsSame, Holds, disk_of, segment_volume, owner_of, blocks_of, place_of, valid_of}
+use Rattle.log_segment.specs.Records.{IsProperPart}
+use Rattle.log_segment.specs.Segment.{IsSegment, IsSame, blocks_of, valid_of}
 use Rattle.log_segment.specs.declared.free.FreeSegment.{FreeSegment}
-use Rattle.logger.specs.Lanes.{IsHeld, CutDown, GaveUp, Stayed, Trimmed, in_place, not_freed, IsHeadAt, IsBareAfter, held_in, pool_of}
+use Rattle.log_segment.proofs.Headed.{valid_trimmed}
+use Rattle.logger.specs.Lanes.{IsHeld, CutDown, GaveUp, Stayed, Trimmed, in_place, not_freed, IsBareAfter, held_in, pool_of}
 use Rattle.logger.specs.Trims.{Freed, NotFreed, StaysAt, Cut, stays, freed, could_not}
 use Rattle.logger.specs.declared.lane.HeldSegment.{HeldSegment}
 use Rattle.logger.specs.declared.lane.Lane.{Lane}
@@ -39,57 +38,31 @@ none_of_err (Ok x) err = cc
 none_of_err (Err x) err = refl
 
 module _ {D : Type 0} (state : D → State) where
-  -- a segment before and after a trim that succeeded, none of whose records keeps a block then
-  pub record IsBared (o n : HeldSegment D) (pos : ℕ) (head : RecordHead) (keep : ℕ) : Type 0 where
-    pub index : n.index ≡ o.index
-    pub same : IsSame o.segment n.segment
-    pub end : place_of n.segment ≡ place_of o.segment
-    pub bare : valid_of n.segment ≡ 0
-    pub fewer : valid_of n.segment ≡ valid_of o.segment - (if keep == 0 then 1 else 0)
-    pub ok : (rs : List Record) (j : ℕ) (r : Record) → Holds state o.segment rs → IsHeadAt rs j r pos head → Holds state n.segment (set rs j (trimmed keep r))
-    pub any_moment : (rs : List Record) (j : ℕ) (r : Record) → Holds state o.segment rs → IsHeadAt rs j r pos head → LeavesOnly (disk_of state o.segment) (disk_of state n.segment) (IsKeptOrTrimmed (owner_of o.segment) rs j (trimmed keep r))
-    pub calm : (disk_of state n.segment).faults ≡ (disk_of state o.segment).faults
+  -- a segment whose last record that keeps a block gives up its last one
+  pub bare_after : (o : HeldSegment D) (pos : ℕ) (head : RecordHead) (keep : ℕ) → IsProperPart keep head.mask → valid_of o.segment - (if keep == 0 then 1 else 0) ≡ 0 → IsBareAfter state o.segment pos head keep
+  bare_after o pos head keep part none rs j r h at =
+      let mask : keep < r.head.mask = subst (λ (m : ℕ). keep < m) (ap (λ (x : RecordHead). x.mask) at.same_head) part.fewer in
+      omega (arith, valid_trimmed rs j r keep at.there mask, h.valid, none)
 
-  -- from what the trim said
-  pub bared : (o n : HeldSegment D) (pos : ℕ) (head : RecordHead) (keep : ℕ) → n.index ≡ o.index → IsSame o.segment n.segment → place_of n.segment ≡ place_of o.segment → valid_of n.segment ≡ 0 → valid_of n.segment ≡ valid_of o.segment - (if keep == 0 then 1 else 0)
-      → ((rs : List Record) (j : ℕ) (r : Record) → Holds state o.segment rs → slice_get rs j ≡ Some r → pos ≡ position_of rs j → IsSameHead head r.head → Holds state n.segment (set rs j (trimmed keep r)))
-      → ((rs : List Record) (j : ℕ) (r : Record) → Holds state o.segment rs → slice_get rs j ≡ Some r → pos ≡ position_of rs j → IsSameHead head r.head → LeavesOnly (disk_of state o.segment) (disk_of state n.segment) (IsKeptOrTrimmed (owner_of o.segment) rs j (trimmed keep r)))
-      → (disk_of state n.segment).faults ≡ (disk_of state o.segment).faults → IsBared o n pos head keep
-  bared o n pos head keep index same end bare fewer ok any_moment calm = record {
-    index = index;
-    same = same;
-    end = end;
-    bare = bare;
-    fewer = fewer;
-    ok = λ rs j r h at. ok rs j r h at.there at.position at.same_head;
-    any_moment = λ rs j r h at. any_moment rs j r h at.there at.position at.same_head;
-    calm = calm;
+  pub gave_up : (o : HeldSegment D) (free : FreeSegment D) (pos : ℕ) (head : RecordHead) (keep : ℕ) → IsProperPart keep head.mask → valid_of o.segment - (if keep == 0 then 1 else 0) ≡ 0 → Freed state o free → GaveUp state o (blocks_of o.segment) free pos head keep
+  gave_up o free pos head keep part none f = record {
+    blank = f.blank;
+    bare = bare_after o pos head keep part none;
+    fewer = none;
+    any_moment = λ rs j r h at. widened (f.any_moment rs h) (λ d is. ⊎_elim (λ log. inl (inl log)) (λ idle. inr idle) is);
+    calm = f.calm;
   }
 
-  bare_after : (o n : HeldSegment D) (pos : ℕ) (head : RecordHead) (keep : ℕ) → IsBared o n pos head keep → IsBareAfter state o.segment pos head keep
-  bare_after o n pos head keep b rs j r h at = sym (b.ok rs j r h at).valid ∙ b.bare
-
-  pub gave_up : (o n : HeldSegment D) (free : FreeSegment D) (pos : ℕ) (head : RecordHead) (keep : ℕ) → IsBared o n pos head keep → Freed state n free → GaveUp state o (blocks_of o.segment) free pos head keep
-  gave_up o n free pos head keep b f = record {
-    blank = subst (λ (v : ℕ). IsBlank state v (blocks_of o.segment) free) b.same.volume (subst (λ (k : ℕ). IsBlank state (segment_volume n.segment) k free) b.same.blocks f.blank);
-    bare = bare_after o n pos head keep b;
-    fewer = sym b.fewer ∙ b.bare;
-    any_moment = λ rs j r h at. then_leaves (widened (b.any_moment rs j r h at) (λ d is. inl is)) (f.any_moment (set rs j (trimmed keep r)) (b.ok rs j r h at))
-        (λ d is. ⊎_elim (λ log. inl (inr (subst (λ (u : ℕ). IsLog d u (set rs j (trimmed keep r))) b.same.owner log))) (λ idle. inr idle) is);
-    calm = f.calm ∙ b.calm;
-  }
-
-  pub stayed : (o n after : HeldSegment D) (pos : ℕ) (head : RecordHead) (keep : ℕ) → IsBared o n pos head keep → NotFreed state n after → Stayed state o after pos head keep
-  stayed o n after pos head keep b f = record {
-    index = f.index ∙ b.index;
-    same = record { volume = f.same.volume ∙ b.same.volume; owner = f.same.owner ∙ b.same.owner; blocks = f.same.blocks ∙ b.same.blocks };
-    end = f.end ∙ b.end;
+  pub stayed : (o after : HeldSegment D) (pos : ℕ) (head : RecordHead) (keep : ℕ) → IsProperPart keep head.mask → valid_of o.segment - (if keep == 0 then 1 else 0) ≡ 0 → NotFreed state o after → Stayed state o after pos head keep
+  stayed o after pos head keep part none f = record {
+    index = f.index;
+    same = f.same;
+    end = f.end;
     broken = f.broken;
-    bare = bare_after o n pos head keep b;
-    fewer = sym b.fewer ∙ b.bare;
-    any_moment = λ rs j r h at. then_leaves (widened (b.any_moment rs j r h at) (λ d is. inl is)) (f.any_moment (set rs j (trimmed keep r)) (b.ok rs j r h at))
-        (λ d is. ⊎_elim (λ log. inl (inr (subst (λ (u : ℕ). IsLog d u (set rs j (trimmed keep r))) b.same.owner log))) (λ idle. inr idle) is);
-    cause = subst (λ (m : ℕ). Rose m (disk_of state after.segment).faults) b.calm f.cause;
+    bare = bare_after o pos head keep part none;
+    fewer = none;
+    any_moment = λ rs j r h at. widened (f.any_moment rs h) (λ d is. ⊎_elim (λ log. inl (inl log)) (λ idle. inr idle) is);
+    cause = f.cause;
   }
 
   -- what is said of one answer, said of another that is as good

@@ -4,7 +4,7 @@ ghost use Rattle.log_segment.specs.Records.{IsProperPart};
 ghost use Rattle.logger.specs.Lanes.{IsLane, HoldsAll, IsAt, IsSameLane, HasUsed, IsTrimmable, Trimmed, lane_owner, taken_in};
 ghost use Rattle.logger.specs.Trims.{IsWholeAt, IsCuttable, IsRetirable, FreedAt, StaysAt, Cut, Retired};
 ghost use Rattle.spin_model.specs.Spun.{token_volume};
-ghost use Rattle.std.specs.Prelude.{◌≡◌, IfOk, OnErr, vec_len, vec_capacity};
+ghost use Rattle.std.specs.Prelude.{◌≡◌, ◌-◌, ◌==◌, if◌then◌else◌, IfOk, OnErr, vec_len, vec_capacity};
 ghost use Rattle.turn_lock.specs.Passes.{pass_mine};
 ghost use Rattle.wol_model.specs.Heads.{IsRecordHead};
 
@@ -40,7 +40,19 @@ fn free_held<D: Disk>(
     }
 }
 
-// Gives up blocks of a record of the segment at this place. Where none of its records keeps a block then, it is freed.
+// How many records keep a block once one of so many keeps those of `keep`.
+fn left_valid(valid: u32, keep: u128) -> u32
+    ensures { result ≡ valid - (if keep == 0 then 1 else 0) }
+{
+    if keep == 0 {
+        valid.saturating_sub(1)
+    } else {
+        valid
+    }
+}
+
+// Gives up blocks of a record of the segment at this place. Where none of its records keeps a block then, it is freed
+// by the one write of its head, and the record's own head is not written.
 fn trim_held<D: Disk>(
     held: &mut Vec<HeldSegment<D>>,
     place: usize,
@@ -58,8 +70,8 @@ fn trim_held<D: Disk>(
     ensures room { vec_capacity held.new ≡ vec_capacity held.old }
 {
     let segment = &mut held[place].segment;
-    segment.trim(token, pos, head, keep)?;
-    if segment.valid() > 0 {
+    if left_valid(segment.valid(), keep) > 0 {
+        segment.trim(token, pos, head, keep)?;
         return Ok(None);
     }
     let freed = free_held(held, place, token)?;
