@@ -1,5 +1,6 @@
 -- Blocks laid behind those that are there.
 use Rattle.std.proofs.Common.{◌≡◌, inr, ⊎_elim, ℕ, zero, suc, ◌+◌, ◌<◌, ◌≤◌, List, [], ◌∷◌, ◌++◌, length, take, drop, refl, sym, ◌∙◌, ap, subst, arith, append_assoc, take-append-drop, length-append, length-drop}
+use Rattle.std.specs.Prelude.{slice_set}
 use Rattle.std.specs.List.{flat_map}
 use Rattle.std.proofs.lemmas.List.{take_at, length-take-le}
 use Rattle.wol_disk.specs.Disk.{Block, put, IsBlend}
@@ -119,3 +120,34 @@ blend_past (x ∷ xs) l m (z ∷ c) b =
     let rest = blend_past xs l m c b.1 in
     let first : z ≡ x = ⊎_elim (λ p. p) (λ p. p) b.0 in
     (rest.0, λ i. first i ∷ rest.1 i, rest.2)
+
+-- ---- One write of blocks and of the gate behind them
+
+-- two writes, one behind the other, are one
+pub put_both : (xs ys bs : List Block) (at next : ℕ) → next ≡ at + length xs → put next ys (put at xs bs) ≡ put at (xs ++ ys) bs
+put_both xs ys [] at next e = refl
+put_both xs ys (b ∷ bs) (suc at) zero e = absurd (omega (arith, e))
+put_both xs ys (b ∷ bs) (suc at) (suc next) e = ap (λ l. b ∷ l) (put_both xs ys bs at next (omega (arith, e)))
+put_both [] ys (b ∷ bs) zero next e = let same : next ≡ 0 = omega (arith, e) in ap (λ (n : ℕ). put n ys (b ∷ bs)) same
+put_both (x ∷ xs) ys (b ∷ bs) zero zero e = absurd (omega (arith, e))
+put_both (x ∷ xs) ys (b ∷ bs) zero (suc next) e = ap (λ l. x ∷ l) (put_both xs ys bs zero next (omega (arith, e)))
+
+take_past : (xs l : List Block) (m n : ℕ) → n ≡ length xs + m → take n (xs ++ l) ≡ xs ++ take m l
+take_past [] l m n e = let same : n ≡ m = omega (arith, e) in ap (λ (k : ℕ). take k l) same
+take_past (x ∷ xs) l m zero e = absurd (omega (arith, e))
+take_past (x ∷ xs) l m (suc n) e = ap (λ l. x ∷ l) (take_past xs l m n (omega (arith, e)))
+
+first_at_most : (x : Block) (l : List Block) (m : ℕ) → m ≤ 1 → take m (x ∷ l) ≡ take m (x ∷ [])
+first_at_most x l zero le = refl
+first_at_most x l (suc zero) le = refl
+first_at_most x l (suc (suc m)) le = absurd (omega (arith, le))
+
+-- the front of a copy that has a gate behind the blocks
+pub gated_front : (xs both rest : List Block) (g : Block) (m : ℕ) → both ≡ xs ++ (g ∷ rest) → m ≤ 1 → take (length xs + m) both ≡ xs ++ take m (g ∷ [])
+gated_front xs both rest g m is le = ap (take (length xs + m)) is ∙ take_past xs (g ∷ rest) m (length xs + m) refl ∙ ap (λ l. xs ++ l) (first_at_most g rest m le)
+
+-- a gate among other blocks, from its place on
+pub gate_at : (zs : List Block) (n : ℕ) (g : Block) → n < length zs → drop n (slice_set zs n g) ≡ g ∷ drop (suc n) zs
+gate_at [] n g lt = absurd (omega (arith, lt))
+gate_at (z ∷ zs) zero g lt = refl
+gate_at (z ∷ zs) (suc n) g lt = gate_at zs n g (omega (arith, lt))

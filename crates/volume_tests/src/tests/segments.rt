@@ -105,12 +105,12 @@ fn records_left(alloc: Global, calls: u64, records: usize, choice: &[u32]) -> Re
 fn a_record_is_there_once_its_head_is(rt: HostRuntime) -> Result<(), Fail> {
     let alloc = rt.alloc();
     let rows: [(u64, &[u32], usize); 6] = [
-        (9, &[], 0),
-        (9, &[1, 1, 1, 1], 0),
-        (10, &[], 1),
-        (10, &[0, 1], 1),
-        (10, &[0, 0], 0),
-        (11, &[0, 0], 1),
+        (8, &[], 0),
+        (8, &[1, 1, 1, 1], 0),
+        (9, &[], 1),
+        (9, &[0, 1], 1),
+        (9, &[0, 0], 0),
+        (10, &[0, 0], 1),
     ];
     for (calls, choice, want) in rows {
         let left = records_left(alloc, calls, 1, choice)?;
@@ -131,10 +131,10 @@ fn a_stop_leaves_the_first_ones_of_a_group(rt: HostRuntime) -> Result<(), Fail> 
         ([0, 1, 0, 0, 0, 1, 0, 1], 1),
         ([0, 1, 0, 1, 0, 1, 0, 1], 4),
     ] {
-        let left = records_left(alloc, 19, 4, &choice)?;
+        let left = records_left(alloc, 15, 4, &choice)?;
         assert!(rt; left == want, "{choice:?}: {left}");
     }
-    assert!(rt; records_left(alloc, 20, 4, &[0, 0])? == 4);
+    assert!(rt; records_left(alloc, 16, 4, &[0, 0])? == 4);
     Ok(())
 }
 
