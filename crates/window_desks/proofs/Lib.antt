@@ -9,3 +9,4 @@ pub mod Moving
 pub mod Stationed
 pub mod Counted
 mod Rounds
+mod Payloads

@@ -1,14 +1,32 @@
-use Rattle.std.proofs.Common.{◌≤◌, ◌<◌, length, arith, sym, subst, get_or}
+use Rattle.std.proofs.Common.{◌≡◌, ◌<◌, length, arith, sym, subst, get_or}
+use Rattle.std.proofs.lemmas.List.{length-set, get_or_default}
 use Rattle.window_desks.specs.Desks.{IsReadyDesk}
+use Rattle.window_desks.specs.Served.{HasServed}
+use Rattle.window_desks.specs.declared.desk.Desk.{Desk}
 use Rattle.request_turns.specs.Helped.{ManagerLock}
+use Rattle.window_desks.proofs.Payloads.{ready_but, served_more, rest_more}
 use Rattle.window_desks.proofs.run.serve_run.Goals as goal
 
 pub serve_desk-requires : goal.serve_desk-requires
 serve_desk-requires g c =
-    let within : c.loop-k.k < length c.args.run.now = (let t = c.loop-k-test.true in let a = c.loop-k.auto.run in omega arith) in
-    let same : c.loop-k.k ≤ c.loop-k.k = omega arith in
+    let k = c.loop-k.k in let d = c.index-run-k.result in let l = c.index-locks-start.result in
+    let test : k < length c.args.run.now = c.loop-k-test.true in
+    let within : k < length c.loop-k.run = (let a = c.loop-k.auto.run in omega arith) in
+    let r : IsReadyDesk l c.args.shared.now (get_or c.args.run.now k d) = subst (λ (m : ManagerLock g.row.D.Denot). IsReadyDesk m c.args.shared.now (get_or c.args.run.now k d)) (sym c.index-locks-start.is)
+    (c.requires.ready k l d test) in
+    record { ready = ready_but l c.args.shared.now (get_or c.args.run.now k d) (get_or c.loop-k.run k d) (get_or c.lend.new.run k d) (c.loop-k.invariant.rest k d (omega arith) test) (c.lend.ensures k d within) r }
+
+pub loop-k-preserved : goal.loop-k-preserved
+loop-k-preserved g c =
+    let is = c.args.run.now in let ps = c.loop-k.run in let qs = c.lend.new.run in let k = c.loop-k.k in let f = c.serve_desk.new.desk in
+    let test : k < length is = c.loop-k-test.true in
+    let long : length ps ≡ length is = c.loop-k.auto.run in
+    let lent_long : length qs ≡ length ps = c.lend.auto.run in
+    let within : k < length ps = omega (arith, test, long) in
+    let tells = g.D.Disk.tells in
+    let served : (d : Desk g.row.D.Denot) → HasServed tells (get_or qs k d).requests.items (get_or qs k d) f = λ d.
+    subst (λ (x : Desk g.row.D.Denot). HasServed tells x.requests.items x f) (get_or_default qs k c.index-run-k.result d (omega (arith, within, lent_long))) c.serve_desk.ensures in
     record {
-      ready = rw (c.loop-k.invariant.rest c.loop-k.k c.index-run-k.result same)
-          (subst (λ (l : ManagerLock g.row.D.Denot). IsReadyDesk l c.args.shared.now (get_or c.args.run.now c.loop-k.k c.index-run-k.result)) (sym c.index-locks-start.is)
-          (c.requires.ready c.loop-k.k c.index-locks-start.result c.index-run-k.result within));
+      served = served_more tells is ps qs c.lend-in-loop-k.new.run k f long lent_long (length-set qs k f) within c.loop-k.invariant.rest c.lend.ensures c.lend-in-loop-k.ensures c.loop-k.invariant.served served;
+      rest = rest_more tells is ps qs c.lend-in-loop-k.new.run k f long lent_long (length-set qs k f) within c.loop-k.invariant.rest c.lend.ensures c.lend-in-loop-k.ensures;
     }
