@@ -57,6 +57,15 @@ pub(crate) fn unasked(lanes: usize) -> ArrayVec<Room, 16>
     rooms
 }
 
+// The same notes before one is asked again.
+pub(crate) fn forget(rooms: &mut ArrayVec<Room, 16>)
+    ensures { rooms.new.items ≡ replicate (length rooms.old.items) Room.Unknown }
+{
+    for k in 0..rooms.len() {
+        rooms[k] = Room::Unknown;
+    }
+}
+
 impl<D: Disk> Manager<D> {
     /// The manager of a volume that was opened: its home, its pass of home's spindle, a lane for each logger of its view
     /// in order, the index of the records in the lanes' segments, the next version, and the most blocks of one write.

@@ -13,7 +13,7 @@ ghost use Rattle.std.specs.List.{list_any, range_with_len};
 ghost use Rattle.std.specs.Prelude.{◌≡◌, ◌↔◌, ◌+◌, ◌≤◌, ◌<◌, ◌^◌, ℕ, None, Some, Err, IfOk, IfSome, OnOk, length, map, replicate, slice_set};
 ghost use Rattle.wol_model.specs.Index.{listed_in, is_covered};
 
-use crate::manager::unasked;
+use crate::manager::forget;
 use crate::{Manager, Part, Place, WriteRefusal};
 use listed_records::reserve_places;
 use log_segment::Item;
@@ -210,7 +210,7 @@ impl<D: Disk> Manager<D> {
         ensures calm { OnOk result.answer (NoneRose D.state self.old self.new) }
         ensures unchanged { IsAsBefore result.answer self.old self.new }
     {
-        self.rooms = unasked(self.lanes.len());
+        forget(&mut self.rooms);
         if let Some(part) = self.down {
             return Ran {
                 items: 0,

@@ -19,47 +19,47 @@ use Rattle.manager.proofs.manager.Manager.write_some.Goals as goal
 
 pub returns-in-Some-clause-run : goal.returns-in-Some-clause-run
 returns-in-Some-clause-run g c =
-    let m = c.args.self.now in let is = c.unasked-self.ensures ∙ (λ i. replicate ((c.len.ensures ∙ c.args.self.now.lanes.ok.0) i) Unknown) in
-    run_kept g.D.Disk.tells g.D.Disk.state c.args.items.now c.args.from.now m m (Err (Down c.in-Some.part)) 0 c.unasked-self.result.items is c.args.self.now.index refl g.met.D.Disk.sound (Down c.in-Some.part) refl refl
+    let m = c.args.self.now in let is = c.forget.ensures ∙ (λ i. replicate (c.requires.ready.ready.rooms_ i) Unknown) in
+    run_kept g.D.Disk.tells g.D.Disk.state c.args.items.now c.args.from.now m m (Err (Down c.in-Some.part)) 0 c.forget.new.rooms.items is c.args.self.now.index refl g.met.D.Disk.sound (Down c.in-Some.part) refl refl
 
 pub returns-in-Some-clause-answered : goal.returns-in-Some-clause-answered
-returns-in-Some-clause-answered g c = none_asked (first_count c.args.items.now) c.unasked-self.result.items c.args.self.now.lanes.items (c.unasked-self.ensures ∙ (λ i. replicate ((c.len.ensures ∙ c.args.self.now.lanes.ok.0) i) Unknown))
+returns-in-Some-clause-answered g c = none_asked (first_count c.args.items.now) c.forget.new.rooms.items c.args.self.now.lanes.items (c.forget.ensures ∙ (λ i. replicate (c.requires.ready.ready.rooms_ i) Unknown))
 
 pub returns-in-Some-clause-unchanged : goal.returns-in-Some-clause-unchanged
-returns-in-Some-clause-unchanged g c = untouched g.D.Disk.tells g.D.Disk.state c.args.self.now c.unasked-self.result.items (c.unasked-self.ensures ∙ (λ i. replicate ((c.len.ensures ∙ c.args.self.now.lanes.ok.0) i) Unknown)) c.args.self.now.index refl
+returns-in-Some-clause-unchanged g c = untouched g.D.Disk.tells g.D.Disk.state c.args.self.now c.forget.new.rooms.items (c.forget.ensures ∙ (λ i. replicate (c.requires.ready.ready.rooms_ i) Unknown)) c.args.self.now.index refl
 
 pub returns-then-self-clause-run : goal.returns-then-self-clause-run
 returns-then-self-clause-run g c =
-    let m = c.args.self.now in let is = c.unasked-self.ensures ∙ (λ i. replicate ((c.len.ensures ∙ c.args.self.now.lanes.ok.0) i) Unknown) in
-    run_kept g.D.Disk.tells g.D.Disk.state c.args.items.now c.args.from.now m m (Err VersionsSpent) 0 c.unasked-self.result.items is c.args.self.now.index refl g.met.D.Disk.sound VersionsSpent refl refl
+    let m = c.args.self.now in let is = c.forget.ensures ∙ (λ i. replicate (c.requires.ready.ready.rooms_ i) Unknown) in
+    run_kept g.D.Disk.tells g.D.Disk.state c.args.items.now c.args.from.now m m (Err VersionsSpent) 0 c.forget.new.rooms.items is c.args.self.now.index refl g.met.D.Disk.sound VersionsSpent refl refl
 
 pub returns-then-self-clause-answered : goal.returns-then-self-clause-answered
-returns-then-self-clause-answered g c = none_asked (first_count c.args.items.now) c.unasked-self.result.items c.args.self.now.lanes.items (c.unasked-self.ensures ∙ (λ i. replicate ((c.len.ensures ∙ c.args.self.now.lanes.ok.0) i) Unknown))
+returns-then-self-clause-answered g c = none_asked (first_count c.args.items.now) c.forget.new.rooms.items c.args.self.now.lanes.items (c.forget.ensures ∙ (λ i. replicate (c.requires.ready.ready.rooms_ i) Unknown))
 
 pub returns-then-self-clause-unchanged : goal.returns-then-self-clause-unchanged
-returns-then-self-clause-unchanged g c = untouched g.D.Disk.tells g.D.Disk.state c.args.self.now c.unasked-self.result.items (c.unasked-self.ensures ∙ (λ i. replicate ((c.len.ensures ∙ c.args.self.now.lanes.ok.0) i) Unknown)) c.args.self.now.index refl
+returns-then-self-clause-unchanged g c = untouched g.D.Disk.tells g.D.Disk.state c.args.self.now c.forget.new.rooms.items (c.forget.ensures ∙ (λ i. replicate (c.requires.ready.ready.rooms_ i) Unknown)) c.args.self.now.index refl
 
 pub returns-in_default-reserve_places-clause-run : goal.returns-in_default-reserve_places-clause-run
 returns-in_default-reserve_places-clause-run g c =
-    let m = c.args.self.now in let is = c.unasked-self.ensures ∙ (λ i. replicate ((c.len.ensures ∙ c.args.self.now.lanes.ok.0) i) Unknown) in
-    run_kept g.D.Disk.tells g.D.Disk.state c.args.items.now c.args.from.now m m (Err NoMemory) 0 c.unasked-self.result.items is c.reserve_places.new.index c.reserve_places.ensures.entries g.met.D.Disk.sound NoMemory refl refl
+    let m = c.args.self.now in let is = c.forget.ensures ∙ (λ i. replicate (c.requires.ready.ready.rooms_ i) Unknown) in
+    run_kept g.D.Disk.tells g.D.Disk.state c.args.items.now c.args.from.now m m (Err NoMemory) 0 c.forget.new.rooms.items is c.reserve_places.new.index c.reserve_places.ensures.entries g.met.D.Disk.sound NoMemory refl refl
 
 pub returns-in_default-reserve_places-clause-answered : goal.returns-in_default-reserve_places-clause-answered
-returns-in_default-reserve_places-clause-answered g c = none_asked (first_count c.args.items.now) c.unasked-self.result.items c.args.self.now.lanes.items (c.unasked-self.ensures ∙ (λ i. replicate ((c.len.ensures ∙ c.args.self.now.lanes.ok.0) i) Unknown))
+returns-in_default-reserve_places-clause-answered g c = none_asked (first_count c.args.items.now) c.forget.new.rooms.items c.args.self.now.lanes.items (c.forget.ensures ∙ (λ i. replicate (c.requires.ready.ready.rooms_ i) Unknown))
 
 pub returns-in_default-reserve_places-clause-unchanged : goal.returns-in_default-reserve_places-clause-unchanged
-returns-in_default-reserve_places-clause-unchanged g c = untouched g.D.Disk.tells g.D.Disk.state c.args.self.now c.unasked-self.result.items (c.unasked-self.ensures ∙ (λ i. replicate ((c.len.ensures ∙ c.args.self.now.lanes.ok.0) i) Unknown)) c.reserve_places.new.index c.reserve_places.ensures.entries
+returns-in_default-reserve_places-clause-unchanged g c = untouched g.D.Disk.tells g.D.Disk.state c.args.self.now c.forget.new.rooms.items (c.forget.ensures ∙ (λ i. replicate (c.requires.ready.ready.rooms_ i) Unknown)) c.reserve_places.new.index c.reserve_places.ensures.entries
 
 -- ---- It was asked of lanes
 
 pub place_run-requires-clause-run : goal.place_run-requires-clause-run
 place_run-requires-clause-run g c =
     let m = c.args.self.now in let items = c.args.items.now in let n = c.versioned-most.result in
-    let is = c.unasked-self.ensures ∙ (λ i. replicate ((c.len.ensures ∙ c.args.self.now.lanes.ok.0) i) Unknown) in
+    let is = c.forget.ensures ∙ (λ i. replicate (c.requires.ready.ready.rooms_ i) Unknown) in
     let few = at_most _ _ _ c.versioned-most.ensures.most (at_most _ _ _ c.in-Some-reserve_places.ensures.some.1 c.looked_at-asked.ensures.within) in
     record {
       serves = record {
-        ready = ready_then g.D.Disk.tells g.D.Disk.state m c.unasked-self.result.items is c.reserve_places.new.index c.reserve_places.ensures.entries c.requires.ready;
+        ready = ready_then g.D.Disk.tells g.D.Disk.state m c.forget.new.rooms.items is c.reserve_places.new.index c.reserve_places.ensures.entries c.requires.ready;
         at = c.requires.at;
         up = never_some m.down c.in_default.not-Some;
       };
@@ -77,24 +77,24 @@ place_run-requires-clause-covered g c =
 
 pub returns-clause-run : goal.returns-clause-run
 returns-clause-run g c =
-    let tells = g.D.Disk.tells in let state = g.D.Disk.state in let m = c.args.self.now in let items = c.args.items.now in let from = c.args.from.now in let rooms = c.unasked-self.result.items in let index = c.reserve_places.new.index in
-    let is = c.unasked-self.ensures ∙ (λ i. replicate ((c.len.ensures ∙ c.args.self.now.lanes.ok.0) i) Unknown) in let new = c.place_run.new.self in let ran = c.place_run.result in let most = c.versioned-most.result in
+    let tells = g.D.Disk.tells in let state = g.D.Disk.state in let m = c.args.self.now in let items = c.args.items.now in let from = c.args.from.now in let rooms = c.forget.new.rooms.items in let index = c.reserve_places.new.index in
+    let is = c.forget.ensures ∙ (λ i. replicate (c.requires.ready.ready.rooms_ i) Unknown) in let new = c.place_run.new.self in let ran = c.place_run.result in let most = c.versioned-most.result in
     run_then tells state items from m new ran.answer ran.items rooms is index c.reserve_places.ensures.entries
-    (run_front tells state items from (record m { rooms = c.unasked-self.result; index = index }) new ran.answer ran.items most c.versioned-most.ensures.some (at_most _ _ _ c.versioned-most.ensures.most (at_most _ _ _ c.in-Some-reserve_places.ensures.some.1 c.looked_at-asked.ensures.within)) c.place_run.ensures.run)
+    (run_front tells state items from (record m { rooms = c.forget.new.rooms; index = index }) new ran.answer ran.items most c.versioned-most.ensures.some (at_most _ _ _ c.versioned-most.ensures.most (at_most _ _ _ c.in-Some-reserve_places.ensures.some.1 c.looked_at-asked.ensures.within)) c.place_run.ensures.run)
 
 pub returns-clause-placed : goal.returns-clause-placed
 returns-clause-placed g c =
-    let m = c.args.self.now in let items = c.args.items.now in let from = c.args.from.now in let rooms = c.unasked-self.result.items in let index = c.reserve_places.new.index in let is = c.unasked-self.ensures ∙ (λ i. replicate ((c.len.ensures ∙ c.args.self.now.lanes.ok.0) i) Unknown) in let new = c.place_run.new.self in let ran = c.place_run.result in
+    let m = c.args.self.now in let items = c.args.items.now in let from = c.args.from.now in let rooms = c.forget.new.rooms.items in let index = c.reserve_places.new.index in let is = c.forget.ensures ∙ (λ i. replicate (c.requires.ready.ready.rooms_ i) Unknown) in let new = c.place_run.new.self in let ran = c.place_run.result in
     (placed_then g.D.Disk.tells g.D.Disk.state items from m new ran.answer ran.items rooms is index c.reserve_places.ensures.entries c.versioned-most.result c.versioned-most.ensures.some c.place_run.ensures.placing.placed)
 
 pub returns-clause-answered : goal.returns-clause-answered
 returns-clause-answered g c =
-    let m = c.args.self.now in let items = c.args.items.now in let from = c.args.from.now in let rooms = c.unasked-self.result.items in let index = c.reserve_places.new.index in let is = c.unasked-self.ensures ∙ (λ i. replicate ((c.len.ensures ∙ c.args.self.now.lanes.ok.0) i) Unknown) in let new = c.place_run.new.self in let ran = c.place_run.result in
+    let m = c.args.self.now in let items = c.args.items.now in let from = c.args.from.now in let rooms = c.forget.new.rooms.items in let index = c.reserve_places.new.index in let is = c.forget.ensures ∙ (λ i. replicate (c.requires.ready.ready.rooms_ i) Unknown) in let new = c.place_run.new.self in let ran = c.place_run.result in
     (answered_run g.D.Disk.tells g.D.Disk.state items from m new ran.answer ran.items rooms is index c.reserve_places.ensures.entries c.versioned-most.result c.versioned-most.ensures.some c.place_run.ensures.placing.answered)
 
 pub returns-clause-waking_home : goal.returns-clause-waking_home
 returns-clause-waking_home g c =
-    let m = c.args.self.now in let items = c.args.items.now in let from = c.args.from.now in let rooms = c.unasked-self.result.items in let index = c.reserve_places.new.index in let is = c.unasked-self.ensures ∙ (λ i. replicate ((c.len.ensures ∙ c.args.self.now.lanes.ok.0) i) Unknown) in let new = c.place_run.new.self in let ran = c.place_run.result in
+    let m = c.args.self.now in let items = c.args.items.now in let from = c.args.from.now in let rooms = c.forget.new.rooms.items in let index = c.reserve_places.new.index in let is = c.forget.ensures ∙ (λ i. replicate (c.requires.ready.ready.rooms_ i) Unknown) in let new = c.place_run.new.self in let ran = c.place_run.result in
     (home_then g.D.Disk.tells g.D.Disk.state items from m new ran.answer ran.items rooms is index c.reserve_places.ensures.entries c.versioned-most.result c.versioned-most.ensures.some c.place_run.ensures.placing.waking)
 
 pub returns-clause-waking_logs : goal.returns-clause-waking_logs
@@ -102,17 +102,17 @@ returns-clause-waking_logs g c = needs_logs (first_count c.args.items.now) (rule
 
 pub returns-clause-fault : goal.returns-clause-fault
 returns-clause-fault g c =
-    let m = c.args.self.now in let rooms = c.unasked-self.result.items in let index = c.reserve_places.new.index in let is = c.unasked-self.ensures ∙ (λ i. replicate ((c.len.ensures ∙ c.args.self.now.lanes.ok.0) i) Unknown) in let new = c.place_run.new.self in let ran = c.place_run.result in
+    let m = c.args.self.now in let rooms = c.forget.new.rooms.items in let index = c.reserve_places.new.index in let is = c.forget.ensures ∙ (λ i. replicate (c.requires.ready.ready.rooms_ i) Unknown) in let new = c.place_run.new.self in let ran = c.place_run.result in
     fault_then g.D.Disk.tells g.D.Disk.state m rooms is index c.reserve_places.ensures.entries new ran.answer c.place_run.ensures.fault
 
 pub returns-clause-calm : goal.returns-clause-calm
 returns-clause-calm g c =
-    let m = c.args.self.now in let rooms = c.unasked-self.result.items in let index = c.reserve_places.new.index in let is = c.unasked-self.ensures ∙ (λ i. replicate ((c.len.ensures ∙ c.args.self.now.lanes.ok.0) i) Unknown) in let new = c.place_run.new.self in let ran = c.place_run.result in
+    let m = c.args.self.now in let rooms = c.forget.new.rooms.items in let index = c.reserve_places.new.index in let is = c.forget.ensures ∙ (λ i. replicate (c.requires.ready.ready.rooms_ i) Unknown) in let new = c.place_run.new.self in let ran = c.place_run.result in
     calm_then g.D.Disk.tells g.D.Disk.state m rooms is index c.reserve_places.ensures.entries new ran.answer c.place_run.ensures.calm
 
 pub returns-clause-unchanged : goal.returns-clause-unchanged
 returns-clause-unchanged g c =
-    let m = c.args.self.now in let items = c.args.items.now in let from = c.args.from.now in let rooms = c.unasked-self.result.items in let index = c.reserve_places.new.index in let is = c.unasked-self.ensures ∙ (λ i. replicate ((c.len.ensures ∙ c.args.self.now.lanes.ok.0) i) Unknown) in let new = c.place_run.new.self in let ran = c.place_run.result in
+    let m = c.args.self.now in let items = c.args.items.now in let from = c.args.from.now in let rooms = c.forget.new.rooms.items in let index = c.reserve_places.new.index in let is = c.forget.ensures ∙ (λ i. replicate (c.requires.ready.ready.rooms_ i) Unknown) in let new = c.place_run.new.self in let ran = c.place_run.result in
     (as_before g.D.Disk.tells g.D.Disk.state items from m new ran.answer ran.items rooms is index c.reserve_places.ensures.entries ran.answer c.place_run.ensures.answer c.place_run.ensures.unchanged)
 
 pub returns-clause-versions : goal.returns-clause-versions
