@@ -13,7 +13,7 @@ use Rattle.rack_closing.proofs.Places.{some_at, both_slices, slice_join}
 use Rattle.rack_closing.proofs.Names.{names_differ}
 use Rattle.rack_closing.proofs.CutParts.{reads_range}
 use Rattle.rack_closing.proofs.KeptImages.{IsKeptImage, AreTwo, IsBefore, kept_before, before_same, before_all}
-use Rattle.rack_closing.proofs.LeftImage.{IsLeftNow, left_image, volume_at}
+use Rattle.rack_closing.proofs.LeftImage.{IsLeftNow, left_image, may_at, volume_at}
 use Rattle.rack_closing.proofs.NewFaults.{told_each}
 use Rattle.rack_closing.proofs.SameRecovered.{SegmentsKeep, keeping}
 use Rattle.rack_closing.proofs.SoundBefore.{sound_before}
@@ -24,7 +24,7 @@ use Rattle.rack_closing.proofs.KeptLogs.{log_may, logs_stay, owned_not_idle}
 use Rattle.rack.specs.declared.images.Images.{Images as Asked}
 use Rattle.rack.proofs.Asking.{refuses_later, told_then}
 use Rattle.rack.proofs.ImagesSent.{names_alike, none_named}
-use Rattle.rack.proofs.StillThere.{WasThere, conf_there, kept_home, may_at, there_may}
+use Rattle.rack.proofs.StillThere.{WasThere, conf_there, kept_home, there_may}
 use Rattle.rack.specs.Opening.{IsOut, BringsAllBack}
 
 -- What was taken out for a rack, from which it is set up.
@@ -73,7 +73,7 @@ module _ {D : Type 0} (tells : Bool) (state : D → State) (config : Config) (b 
   sound_less old new less all images left = all images (left_less config old new less images left)
 
   views_less : (old new : Told) → LeavesNoMore old new → KeepsViews config old new
-  views_less old new less images left k v at blocks here = inl (less v.name (Some blocks) (subst (MayLeave (at_name v.name new.images)) here (may_at config new images k v at left)))
+  views_less old new less images left k v at blocks here = inl (less v.name (Some blocks) (subst (MayLeave (at_name v.name new.images)) here (may_at config new images left k v at)))
 
   told_less : {P : Told → Told → Type 0} → ((old new : Told) → LeavesNoMore old new → P old new) → IsTold LeavesNoMore b.told b'.told → IsTold P b.told b'.told
   told_less {P} each = told_each LeavesNoMore P b.told b'.told each
@@ -348,10 +348,7 @@ module _ {D : Type 0} (tells : Bool) (state : D → State) (config : Config) (b 
                       (segment_of s c j, (ba.entry.cut.segments j p.0 p.1).had (segment_of s c j) (now.segments j p.0 (ba.restored.owned j owner e ∙ p.1)), inl refl))
 
           still : (k : ℕ) (conf : VolumeConf) → slice_get config.volumes.items k ≡ Some conf → not_taken k ≡ true → MayLeave (at_name conf.name t.images) (image_of images k)
-          still k conf at is_not =
-              let one = left.each k conf (slice_get_within config.volumes.items k conf at) in
-              let name : (slice_index_or config.volumes.items k conf).name ≡ conf.name = ap (λ (w : VolumeConf). w.name) (get_or_from_slice_get config.volumes.items k conf conf at) in
-              refused_kept k conf at is_not (image_of images k) (subst (λ (m : _). MayLeave (at_name m t2.images) (image_of images k)) name one)
+          still k conf at is_not = refused_kept k conf at is_not (image_of images k) (may_at config t2 images left k conf at)
 
           -- label and view are those that an image had as it read, or it is left as it might have been
           back_front : (k : ℕ) (conf : VolumeConf) → slice_get config.volumes.items k ≡ Some conf → (blocks : List Block) → image_of images k ≡ Some blocks
@@ -393,7 +390,7 @@ module _ {D : Type 0} (tells : Bool) (state : D → State) (config : Config) (b 
 
           -- each segment of a volume is as it might have been before, since none was freed
           back_logs : (v k i : ℕ) (logger : VolumeConf) (entry : Image) (blocks : List Block) → slice_get config.volumes.items k ≡ Some logger → at_name logger.name t.images ≡ Some entry → image_of images k ≡ Some blocks → i < logger.segments
-              → IsSegmentOf (length (shapes_of config)) v (blocks_of_segment (shape_in config logger) entry i) → KeepsLog v (blocks_of_segment (shape_in config logger) entry i) (segment_of (shape_in config logger) blocks i)
+              → IsSegmentOf (length (shapes_of config)) v (blocks_of_segment (shape_in config logger) entry i) ⊎ HasHead (length (shapes_of config)) (segment_of (shape_in config logger) blocks i) (segment_head (Owned v)) → KeepsLog v (blocks_of_segment (shape_in config logger) entry i) (segment_of (shape_in config logger) blocks i)
           back_logs v k i logger entry blocks found was here lt own = go (not_taken k) refl
             where
               go : (o : Bool) → not_taken k ≡ o → KeepsLog v (blocks_of_segment (shape_in config logger) entry i) (segment_of (shape_in config logger) blocks i)
@@ -407,7 +404,11 @@ module _ {D : Type 0} (tells : Bool) (state : D → State) (config : Config) (b 
                   ⊎_elim
                   (λ (as_was : segment_of (shape_in config logger) kept_.now i ≡ segment.0).
                   inl (subst (IsImage (blocks_of_segment (shape_in config logger) entry i)) (sym as_was ∙ ap (λ (c : List Block). segment_of (shape_in config logger) c i) same) had))
-                  (λ idle. absurd (owned_not_idle (length (shapes_of config)) v segment.0 (own segment.0 had) idle.1))
+                  (λ idle. absurd (⊎_elim
+                  (λ of. owned_not_idle (length (shapes_of config)) v segment.0 (of segment.0 had) idle.1)
+                  (λ head. owned_not_idle (length (shapes_of config)) v (segment_of (shape_in config logger) kept_.now i)
+                  (subst (λ (c : List Block). HasHead (length (shapes_of config)) (segment_of (shape_in config logger) c i) (segment_head (Owned v))) (sym same) head) idle.0)
+                  own))
                   segment.2
 
           back_sound : ((was : Images) → AreLeft config t was → AreSound (shapes_of config) was) → AreSound (shapes_of config) images

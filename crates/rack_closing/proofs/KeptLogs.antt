@@ -3,7 +3,7 @@ use Rattle.rack_closing.proofs.Basics.{◌≡◌, ◌⊎◌, inl, inr, ⊎_elim,
 use Rattle.rack_closing.proofs.Basics.{All-contains}
 use Rattle.rack_closing.proofs.Terms.{Block, Values, IsImage, Name, Image, Told, at_name, BayState, State, Free, Owned, owned_block, Images, image_of, segment_of, Record, IsLog, IsIdle}
 use Rattle.rack_closing.proofs.Terms.{one_segment_head, Config, VolumeConf, Spun, HasNothing, HasHead, head_place, MayLeave, shape_in, shapes_of, ComesFrom, from_here, from_pool, from_manager}
-use Rattle.rack_closing.proofs.Terms.{has_station, IsStation, IsOpenBase, base_of_station, image_here, IsImageOut, IsSegmentHere, ImageRest, Rack, KeepsLog, KeepsLogs, IsSegmentOf, blocks_of_segment}
+use Rattle.rack_closing.proofs.Terms.{has_station, IsStation, IsOpenBase, base_of_station, image_here, IsImageOut, IsSegmentHere, ImageRest, Rack, KeepsLog, KeepsLogs, IsLogOfOther, IsKeptOrIdle, IsSegmentOf, blocks_of_segment}
 use Rattle.rack_closing.proofs.Cases.{by_option}
 use Rattle.rack_closing.proofs.LeftImage.{may_at}
 use Rattle.rack_closing.proofs.LeftVolumes.{IsOver, no_station, shape_at}
@@ -78,48 +78,62 @@ module _ {D : Type 0} {state : D → State} {config : Config} {b : BayState} {r 
       cc (out, gone)
 
   module _ (v : ℕ) (closed : IsClosed r v) (k i : ℕ) (logger : VolumeConf) (before : Image) (at : slice_get config.volumes.items k ≡ Some logger) (was : at_name logger.name entry.images ≡ Some before)
-      (lt : i < logger.segments) (own : IsSegmentOf (length (shapes_of config)) v (blocks_of_segment (shape_in config logger) before i)) where
+      (lt : i < logger.segments) where
     abbrev Keeps : List Block → Type 0
     Keeps left_ = KeepsLog v (blocks_of_segment (shape_in config logger) before i) left_
 
-    -- the volume had nothing in it
-    had_nothing : (owner : ℕ) (rs : List Record) (c left_ : List Block) → IsImage (blocks_of_segment (shape_in config logger) before i) c → HasNothing owner rs c → Keeps left_
-    had_nothing owner rs c left_ image has = inr (c, rs, image, subst (λ (w : ℕ). HasNothing w rs c) (owner_of_log _ v owner c rs (own c image) has.log) has)
+    -- the volume's it was, or is
+    abbrev IsOwn : List Block → Type 0
+    IsOwn left_ = IsSegmentOf (length (shapes_of config)) v (blocks_of_segment (shape_in config logger) before i) ⊎ HasHead (length (shapes_of config)) left_ (Owned v)
 
-    log_of : (m : ImageRest D) → image_here r.rest.images.items k ≡ Some m → (left_ : List Block) → ComesFrom state r k i left_ → Keeps left_
-    log_of m here left_ from = go from
+    -- its volume had nothing in it
+    had_nothing : (owner : ℕ) (rs : List Record) (c left_ : List Block) → IsImage (blocks_of_segment (shape_in config logger) before i) c → HasNothing owner rs c → owner ≡ v → IsKeptOrIdle owner rs left_ ⊎ IsLogOfOther v left_ → Keeps left_
+    had_nothing owner rs c left_ image has same is = let both = subst (λ (w : ℕ). HasNothing w rs c × (IsKeptOrIdle w rs left_ ⊎ IsLogOfOther v left_)) same (has, is) in inr (c, rs, image, both.0, both.1)
+
+    log_of : (m : ImageRest D) → image_here r.rest.images.items k ≡ Some m → (left_ : List Block) → IsOwn left_ → ComesFrom state r k i left_ → Keeps left_
+    log_of m here left_ own from = go from own
       where
-        gone : ((p : Spun D) → IsSegmentHere r.rest k i p → ⊥) → Keeps left_
-        gone never =
+        -- a segment that isn't here is no longer the volume's
+        gone : ((p : Spun D) → IsSegmentHere r.rest k i p → ⊥) → IsIdle left_ ⊎ IsLogOfOther v left_ → IsOwn left_ → Keeps left_
+        gone never (inl idle) (inr head) = absurd (owned_not_idle _ v left_ head idle)
+        gone never (inr log) (inr head) = absurd (log.2 (owner_of_log _ v log.0 left_ log.1 head log.3))
+        gone never is (inl own) =
             let g = began.gone k i logger before m at was here lt never in
             let head = own g.was g.had in
             ⊎_elim
             (λ (free : HasHead _ g.was Free). absurd (let no : Owned v ≡ Free = one_segment_head head.block (Owned v) Free head.spelled (record { in_range = tt; bytes = same_Some head.block free.block (sym head.first ∙ free.first) ∙ free.spelled.bytes }) in cc no))
             (λ more. ⊎_elim
             (λ x. absurd (closed x.0 x.1 (one_owner _ v x.0.id g.was head x.2)))
-            (λ x. had_nothing x.0 x.1 g.was left_ g.had x.2)
+            (λ x. had_nothing x.0 x.1 g.was left_ g.had x.2 (owner_of_log _ v x.0 g.was x.1 head x.2.log) (⊎_elim (λ idle. inl (inr idle)) (λ log. inr log) is))
             more)
             g.said
 
-        go : ComesFrom state r k i left_ → Keeps left_
-        go (from_pool never idle) = gone never
-        go (from_manager never s has view it unbroken) = gone never
-        go (from_here p place image) =
-            let had = ⊎_elim (λ x. (began.left k logger before x.0 at was x.1).segments i p x.2 left_ image) (λ x. began.held x.0 k i logger before p at was x.1 left_ image) place in
-            ⊎_elim (λ same. inl same) (λ less. had_nothing had.0 less.1 less.0 left_ less.2 less.3) had.1
+        kept : (owner : ℕ) (bs : List Block) (rs : List Record) → IsImage (blocks_of_segment (shape_in config logger) before i) bs → HasNothing owner rs bs → IsKeptOrIdle owner rs left_ → IsOwn left_ → Keeps left_
+        kept owner bs rs image has is (inl own) = had_nothing owner rs bs left_ image has (owner_of_log _ v owner bs rs (own bs image) has.log) (inl is)
+        kept owner bs rs image has (inl log) (inr head) = had_nothing owner rs bs left_ image has (owner_of_log _ v owner left_ rs head log) (inl (inl log))
+        kept owner bs rs image has (inr idle) (inr head) = absurd (owned_not_idle _ v left_ head idle)
 
-    log_left : (blocks : List Block) → image_of images k ≡ Some blocks → Keeps (segment_of (shape_in config logger) blocks i)
-    log_left blocks here = by_option (image_here r.rest.images.items k)
+        go : ComesFrom state r k i left_ → IsOwn left_ → Keeps left_
+        go (from_pool never idle) own = gone never (inl idle) own
+        go (from_manager never s has view (inl idle) unbroken) own = gone never (inl idle) own
+        go (from_manager never s has view (inr log) unbroken) own = gone never (inr (s.id, log.records, (λ e. closed s has (sym e)), log.log)) own
+        go (from_here p place image) own =
+            let had = ⊎_elim (λ x. (began.left k logger before x.0 at was x.1).segments i p x.2 left_ image) (λ x. began.held x.0 k i logger before p at was x.1 left_ image) place in
+            ⊎_elim (λ same. inl same) (λ less. kept had.0 less.0 less.1 less.2 less.3 less.4 own) had.1
+
+    log_left : (blocks : List Block) → image_of images k ≡ Some blocks → IsOwn (segment_of (shape_in config logger) blocks i) → Keeps (segment_of (shape_in config logger) blocks i)
+    log_left blocks here own = by_option (image_here r.rest.images.items k)
         (λ none. log_may config v entry images k i logger before blocks (still k logger at none (image_of images k) (may_at config new images left k logger at)) was here)
         (λ m out.
         let x = parts images left k (shape_in config logger) m (shape_at over k logger at) out in
         let same : x.0 ≡ blocks = same_Some x.0 blocks (sym x.1 ∙ here) in
-        subst (λ (c : List Block). Keeps (segment_of (shape_in config logger) c i)) same (log_of m out (segment_of (shape_in config logger) x.0 i) (x.2.segments i lt)))
+        subst (λ (c : List Block). IsOwn (segment_of (shape_in config logger) c i) → Keeps (segment_of (shape_in config logger) c i)) same (λ o. log_of m out (segment_of (shape_in config logger) x.0 i) o (x.2.segments i lt)) own)
 
   pub logs_closed : (v : ℕ) → IsClosed r v → (k i : ℕ) (logger : VolumeConf) (before : Image) (blocks : List Block) → slice_get config.volumes.items k ≡ Some logger → at_name logger.name entry.images ≡ Some before
-      → image_of images k ≡ Some blocks → i < logger.segments → IsSegmentOf (length (shapes_of config)) v (blocks_of_segment (shape_in config logger) before i)
+      → image_of images k ≡ Some blocks → i < logger.segments
+      → IsSegmentOf (length (shapes_of config)) v (blocks_of_segment (shape_in config logger) before i) ⊎ HasHead (length (shapes_of config)) (segment_of (shape_in config logger) blocks i) (Owned v)
       → KeepsLog v (blocks_of_segment (shape_in config logger) before i) (segment_of (shape_in config logger) blocks i)
-  logs_closed v closed k i logger before blocks at was here lt own = log_left v closed k i logger before at was lt own blocks here
+  logs_closed v closed k i logger before blocks at was here lt own = log_left v closed k i logger before at was lt blocks here own
 
   pub unopened_closed : (v : ℕ) → (has_station r v ≡ false) ⊎ (image_here r.rest.images.items v ≡ None) → IsClosed r v
   unopened_closed v or = ⊎_elim (λ none. no_station r v none) (λ none. image_closed v none) or

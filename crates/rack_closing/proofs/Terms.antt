@@ -61,5 +61,5 @@ pub use Rattle.rack_parts.specs.declared.rack.Rack.{Rack}
 pub use Rattle.rack_parts.specs.declared.rack.Rest.{Rest}
 pub use Rattle.rack_parts.specs.declared.volume_fault.VolumeFault.{VolumeFault}
 pub use Rattle.rack_parts.specs.declared.volume_fault.VolumeFault.TheVariants.{Absent, WrongLength, Refused, LabelFault, BayFailed}
-pub use Rattle.rack_closing.specs.Owners.{recovered_but, blocks_of_segment, IsSegmentOf, KeepsLog, KeepsLogs, HasNoLogIn, IsBegun, images_taken, HadRefused, RecoversSame, WasOpened, IsSegmentIn, IsOwnedIn, AreOwnedIn, IsOpeningOf}
+pub use Rattle.rack_closing.specs.Owners.{recovered_but, blocks_of_segment, IsSegmentOf, IsLogOfOther, KeepsLog, KeepsLogs, HasNoLogIn, IsBegun, images_taken, HadRefused, RecoversSame, WasOpened, IsSegmentIn, IsOwnedIn, AreOwnedIn, IsOpeningOf}
 pub use Rattle.rack_closing.specs.Laws.{ReadsAreLeft, FollowsOn, OpensAgain, OpensCut, IsOfFailedCall, RefusesSound, OpensAllAgain}

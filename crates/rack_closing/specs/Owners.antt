@@ -1,6 +1,6 @@
 -- What the images of a configuration say of one volume as they read: which segments it owns, and
 -- what it recovers to.
-use Rattle.std.specs.Prelude.{false, true, ◌≡◌, ◌⊎◌, ◌<◌, ◌+◌, ◌-◌, ℕ, Bool, List, ◌∷◌, length, map, Option, None, Some, is_some, not, slice_get, slice_range, Contains, All}
+use Rattle.std.specs.Prelude.{false, true, ◌≡◌, ◌≢◌, ◌⊎◌, ◌<◌, ◌+◌, ◌-◌, ℕ, Bool, List, ◌∷◌, length, map, Option, None, Some, is_some, not, slice_get, slice_range, Contains, All}
 use Rattle.std.specs.List.{AllByRecursion}
 use Rattle.wol_disk.specs.Disk.{Block, State, Values, IsImage}
 use Rattle.wol_model.specs.Heads.{Shape, Owned as OwnedHead, owned_block}
@@ -15,6 +15,7 @@ use Rattle.wol_promise.specs.Manager.{Base}
 use Rattle.wol_promise.specs.Stands.{next_version}
 use Rattle.log_layout.specs.Values.{shape_of}
 use Rattle.logger_view.specs.Stored.{HasView}
+use Rattle.log_segment.specs.Kept.{IsKeptOrIdle}
 use Rattle.spin_model.specs.Spun.{state_of}
 use Rattle.manager.specs.declared.base.ManagerBase.{ManagerBase}
 use Rattle.manager_recovery.specs.Left.{HasNothing}
@@ -71,14 +72,20 @@ blocks_of_segment s image i = slice_range image.blocks (head_place s i) (head_pl
 abbrev pub IsSegmentOf : (volumes v : ℕ) → List (Values Block) → Type 0
 IsSegmentOf volumes v before = (c : List Block) → IsImage before c → HasHead volumes c (OwnedHead v)
 
--- it is left as it might have been before; or it might have been a log of records of the volume
--- none of which keeps a block
+-- a log of another volume
+abbrev pub IsLogOfOther : (v : ℕ) → List Block → Type 0
+IsLogOfOther v left = (w : ℕ) × (rs : List Record) × (w ≢ v) × IsLog left w rs
+
+-- It is left as it might have been before. Or it might have been a log of records of the volume none
+-- of which keeps a block: then it is left so, or free, or a log of another volume.
 abbrev pub KeepsLog : (v : ℕ) → (before : List (Values Block)) → (left : List Block) → Type 0
 KeepsLog v before left = IsImage before left
-    ⊎ ((was : List Block) × (rs : List Record) × IsImage before was × HasNothing v rs was)
+    ⊎ ((was : List Block) × (rs : List Record) × IsImage before was × HasNothing v rs was
+    × (IsKeptOrIdle v rs left ⊎ IsLogOfOther v left))
 
 -- Whatever images a crash leaves, each segment of volume v stays, block for block, but for logs that
--- have nothing: also where the volume's own image isn't there.
+-- have nothing; and a segment that is left as one of the volume was one before, so none is forged.
+-- It is so also where the volume's own image isn't there.
 abbrev pub KeepsLogs : Config → (v : ℕ) → (old new : Told) → Type 0
 KeepsLogs config v old new =
     (images : Images) → AreLeft config new images
@@ -87,6 +94,8 @@ KeepsLogs config v old new =
     → at_name logger.name old.images ≡ Some before
     → image_of images k ≡ Some blocks → i < logger.segments
     → IsSegmentOf (length (shapes_of config)) v (blocks_of_segment (shape_in config logger) before i)
+    ⊎ HasHead (length (shapes_of config)) (segment_of (shape_in config logger) blocks i)
+    (OwnedHead v)
     → KeepsLog v (blocks_of_segment (shape_in config logger) before i)
     (segment_of (shape_in config logger) blocks i)
 
