@@ -23,6 +23,7 @@ use Rattle.rack_closing.proofs.CutParts.{reads_range, cut_reads, cut_had, cut_sy
 use Rattle.rack_closing.proofs.Names.{cases_name, names_differ}
 use Rattle.rack_closing.proofs.NewFaults.{told_each}
 use Rattle.rack_parts.proofs.Members.{here_within, in_map, element_at}
+use Rattle.rack_parts.proofs.GivenBack.{none_names}
 use Rattle.wol_model.specs.Journal.{Needed, Done}
 use Rattle.volume_images.specs.Disks.{disks_of}
 use Rattle.volume_images.specs.ImageParts.{ArePartsOf}
@@ -302,17 +303,13 @@ untouched (Some t) = refl
 
 -- ---- What a bay tells while images go out of it in order
 
-none_out : (D : Type 0) (config : Config) (vs : List VolumeConf) → out_names {D = D} config vs [] ≡ []
-none_out D config [] = refl
-none_out D config (v ∷ vs) = refl
-
 -- where the same images are out their names are the same
 pub names_alike : {D : Type 0} (config : Config) (vs : List VolumeConf) (xs ys : List (Option (ImageRest D))) → ((k : ℕ) → is_some (image_here xs k) ≡ is_some (image_here ys k)) → out_names config vs xs ≡ out_names config vs ys
 names_alike config [] xs ys same = refl
 names_alike config (v ∷ vs) [] [] same = refl
-names_alike {D} config (v ∷ vs) [] (None ∷ ys) same = sym (none_out D config vs) ∙ names_alike config vs [] ys (λ k. same (suc k))
+names_alike {D} config (v ∷ vs) [] (None ∷ ys) same = sym (none_names D config vs) ∙ names_alike config vs [] ys (λ k. same (suc k))
 names_alike config (v ∷ vs) [] (Some y ∷ ys) same = absurd (let e = same 0 in cc (e))
-names_alike {D} config (v ∷ vs) (None ∷ xs) [] same = names_alike config vs xs [] (λ k. same (suc k)) ∙ none_out D config vs
+names_alike {D} config (v ∷ vs) (None ∷ xs) [] same = names_alike config vs xs [] (λ k. same (suc k)) ∙ none_names D config vs
 names_alike config (v ∷ vs) (Some x ∷ xs) [] same = absurd (let e = same 0 in cc (e))
 names_alike config (v ∷ vs) (None ∷ xs) (None ∷ ys) same = names_alike config vs xs ys (λ k. same (suc k))
 names_alike config (v ∷ vs) (None ∷ xs) (Some y ∷ ys) same = absurd (let e = same 0 in cc (e))
@@ -336,13 +333,13 @@ module _ {D : Type 0} (config : Config) where
       → out_names config vs (images ++ Some r ∷ []) ≡ out_names config vs images ++ (v.name, part_sizes (shape_in config v)) ∷ []
   out_push [] images v r at = absurd (none-some v at)
   out_push (w ∷ vs) [] v r at = let is : w ≡ v = same_Some w v at in
-      ap (λ (l : List (Name × List ℕ)). (w.name, part_sizes (shape_in config w)) ∷ l) (none_out D config vs) ∙ ap (λ (u : VolumeConf). (u.name, part_sizes (shape_in config u)) ∷ []) is
+      ap (λ (l : List (Name × List ℕ)). (w.name, part_sizes (shape_in config w)) ∷ l) (none_names D config vs) ∙ ap (λ (u : VolumeConf). (u.name, part_sizes (shape_in config u)) ∷ []) is
   out_push (w ∷ vs) (None ∷ images) v r at = out_push vs images v r at
   out_push (w ∷ vs) (Some i ∷ images) v r at = ap (λ (l : List (Name × List ℕ)). (w.name, part_sizes (shape_in config w)) ∷ l) (out_push vs images v r at)
 
   pub out_none : (vs : List VolumeConf) (images : List (Option (ImageRest D))) → out_names config vs (images ++ None ∷ []) ≡ out_names config vs images
   out_none [] images = refl
-  out_none (w ∷ vs) [] = none_out D config vs
+  out_none (w ∷ vs) [] = none_names D config vs
   out_none (w ∷ vs) (None ∷ images) = out_none vs images
   out_none (w ∷ vs) (Some i ∷ images) = ap (λ (l : List (Name × List ℕ)). (w.name, part_sizes (shape_in config w)) ∷ l) (out_none vs images)
 
@@ -421,7 +418,7 @@ module _ {D : Type 0} (config : Config) where
     where
       same : (o : Option (List (Name × List ℕ))) → o ≡ option_map (λ os. os ++ out_names {D = D} config config.volumes.items []) o
       same None = refl
-      same (Some os) = ap Some (sym (ap (λ (l : List (Name × List ℕ)). os ++ l) (none_out D config config.volumes.items) ∙ Rattle.std.proofs.Common.append-nil os))
+      same (Some os) = ap Some (sym (ap (λ (l : List (Name × List ℕ)). os ++ l) (none_names D config config.volumes.items) ∙ Rattle.std.proofs.Common.append-nil os))
 
       stays : (o : Option Told) → IsTold (StayedSo {D = D} config [] 0) o o
       stays None = refl

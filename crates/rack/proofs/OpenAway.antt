@@ -10,6 +10,7 @@ use Rattle.rack.proofs.Terms.{held_in, HeldSegment, Kept, IsFateOf, HasGiven, ke
 use Rattle.rack.proofs.Terms.{HadSegmentBefore, IsGone, BeganWith, HasBegun, IsStopped, CanPutLanes, PutsManager, IsSegmentHere}
 use Rattle.manager.specs.declared.base.LaneBase.{LaneBase}
 use Rattle.rack_parts.proofs.ManagerBack.{lane_stays, lane_came, lane_cases, home_stays, home_came, home_cases}
+use Rattle.manager.proofs.Touched.{zip_all}
 use Rattle.rack_parts.proofs.Members.{segment_in_image, a_value, none_in, of_recursion}
 use Rattle.rack.proofs.Openable.{parts, all_out, all_inside, can_open, image_id, no_home, can_take, IsTakenLane, lanes_taken, owned_in_image, had_at, foreign_kept, nowhere}
 use Rattle.rack_closing.proofs.Places.{some_at}
@@ -154,13 +155,6 @@ module _ {D : Type 0} (state : D → State) (config : Config) (valid : IsValid c
 
 -- ---- What the manager of a volume that was opened begins with, among the locks of its rack
 
--- what holds of each of a list holds so of its partners
-zip_through : {X Y : Type 0} (R : X → Y → Type 0) (P : X → Type 0) (Q : Y → Type 0) → ((x : X) (y : Y) → R x y → P x → Q y) → (xs : List X) (ys : List Y) → AllZip R xs ys → AllByRecursion P xs → AllByRecursion Q ys
-zip_through R P Q each [] [] zip all = tt
-zip_through R P Q each [] (y ∷ ys) zip all = absurd zip
-zip_through R P Q each (x ∷ xs) [] zip all = absurd zip
-zip_through R P Q each (x ∷ xs) (y ∷ ys) zip all = (each x y zip.0 all.0, zip_through R P Q each xs ys zip.1 all.1)
-
 zip_named : {D : Type 0} (ls : List (Lane D)) (bs : List LaneBase) → AreNamed ls bs → AllZip IsNamed ls bs
 zip_named [] [] named = tt
 zip_named [] (b ∷ bs) named = absurd named
@@ -222,7 +216,7 @@ module _ {D : Type 0} (tells : Bool) (state : D → State) (config : Config) (va
         at = record {
           spindle_in = subst (λ (k : ℕ). k < vec_len r.shared.spindles) locks.owner opens.at.spindle_in;
           spindle = λ d. sym locks.pass ∙ opens.at.spindle_is d ∙ ap (λ (k : ℕ). lock_id (slice_index_or r.shared.spindles.items k d)) locks.owner;
-          lanes = zip_through IsNamed (IsAt r.shared) (IsLaneShared r.shared) lane_shared m.lanes.items opens.base.lanes named opens.at.lanes_;
+          lanes = zip_all IsNamed (IsAt r.shared) (IsLaneShared r.shared) lane_shared m.lanes.items opens.base.lanes named opens.at.lanes_;
         };
         loggers = zip_map IsNamed logger_of (λ (x : LaneBase). x.logger) (λ l x is. sym is.logger) m.lanes.items opens.base.lanes named ∙ locks.view;
         loggers_out = subst (AllByRecursion (IsImageOut new.images.items)) (sym view_new) (recursion_from_All (IsImageOut new.images.items) view outs);
@@ -231,9 +225,9 @@ module _ {D : Type 0} (tells : Bool) (state : D → State) (config : Config) (va
         most = begins.most ∙ takes.most;
         own_spindle = sym locks.number ∙ opens.spindle.1 ∙ own_number ∙ sym owner_new;
         own_lanes = subst (λ (k : ℕ). AllByRecursion (λ (x : LaneBase). (x.pool_number ≡ k) × (x.spindle_number ≡ k)) opens.base.lanes) (sym owner_new)
-            (zip_through IsNamed HasNumbers (λ (x : LaneBase). (x.pool_number ≡ id) × (x.spindle_number ≡ id)) (λ l x is number. (sym is.pool_number ∙ number.0, sym is.spindle_number ∙ number.1)) m.lanes.items opens.base.lanes named
-            (zip_through IsSameLane (IsTakenLane state config valid b said id r own ready lt at view new o takes) HasNumbers (λ l n same is. (same.pool.1 ∙ is.number, same.spindle.1 ∙ is.spindle_number)) o.lanes.items m.lanes.items opens.lanes taken));
-        untaken = zip_through CountsTakes (IsTakenLane state config valid b said id r own ready lt at view new o takes) (λ (x : LaneBase). x.takes ≡ 0) (λ l x counts is. counts ∙ ap takes_in is.unused) o.lanes.items opens.base.lanes opens.takes taken;
+            (zip_all IsNamed HasNumbers (λ (x : LaneBase). (x.pool_number ≡ id) × (x.spindle_number ≡ id)) (λ l x is number. (sym is.pool_number ∙ number.0, sym is.spindle_number ∙ number.1)) m.lanes.items opens.base.lanes named
+            (zip_all IsSameLane (IsTakenLane state config valid b said id r own ready lt at view new o takes) HasNumbers (λ l n same is. (same.pool.1 ∙ is.number, same.spindle.1 ∙ is.spindle_number)) o.lanes.items m.lanes.items opens.lanes taken));
+        untaken = zip_all CountsTakes (IsTakenLane state config valid b said id r own ready lt at view new o takes) (λ (x : LaneBase). x.takes ≡ 0) (λ l x counts is. counts ∙ ap takes_in is.unused) o.lanes.items opens.base.lanes opens.takes taken;
       }
     where
       -- the locks of a lane are those of the shared ones

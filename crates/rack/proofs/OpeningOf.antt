@@ -1,12 +1,13 @@
 -- The opening of a volume is one of the images as they read.
-use Rattle.rack.proofs.Basics.{◌≡◌, ℕ, ◌^◌, ◌<◌, length, Some, option_map, sym, ap, ◌∙◌, subst, arith, ◌==◌, not, cond, List, [], ◌∷◌, Option, None, slice_get, unwrap_or, is_some, All}
+use Rattle.rack.proofs.Basics.{◌≡◌, ℕ, ◌^◌, ◌<◌, length, Some, option_map, sym, ap, ◌∙◌, subst, arith, not, cond, List, ◌∷◌, Option, None, slice_get, is_some, All}
 use Rattle.rack.proofs.Basics.{Contains, length-map, same_Some, slice_get-map, get_or_from_slice_get, none-some, slice_get-get_or}
-use Rattle.rack.proofs.Terms.{Shape, owned_block, IsValid, Config, VolumeConf, shape_in, shapes_of, image_read, images_read, Block, State, reads, Images, image_of, image_size, home_of}
+use Rattle.rack.proofs.Terms.{Shape, owned_block, IsValid, Config, VolumeConf, shape_in, shapes_of, images_read, Block, State, reads, Images, image_of, image_size, home_of}
 use Rattle.rack.proofs.Terms.{segment_of, one_segment_head, Image, Told, BayState, at_name, shape_of, segment_head, SegHead, Free, Owned, HasView, state_of, AreInOrder, place_of, read_of}
 use Rattle.rack.proofs.Terms.{owned_of, all_owned, Opening, OwnedPart, said_at, SaysOf, AreStillCut, IsOpeningRack, images_taken, IsOwnedIn, IsOpeningOf, TakesOpening, IsOwnedPlace}
 use Rattle.rack.proofs.Terms.{image_here, Said, ImageRest, Rack, Rest}
 use Rattle.rack_closing.proofs.Places.{some_at}
-use Rattle.rack_closing.proofs.FinalImages.{accepted_at, volume_at}
+use Rattle.rack_closing.proofs.LeftImage.{accepted_same, volume_at}
+use Rattle.rack_closing.proofs.LoggersNamed.{image_is_read}
 use Rattle.rack_parts.proofs.Members.{all_member, of_map, in_map, map_map, here_within}
 use Rattle.rack.proofs.Openable.{IsInImage, image_id, first_block, owned_in_image}
 use Rattle.rack_closing.proofs.Cases.{some_or}
@@ -25,10 +26,6 @@ same_owned shapes images v a b one_owned other_owned logger index =
     let first : a.first ≡ b.first = one.first_is ∙ (λ i. Rattle.volume_images.specs.Accepted.head_place (shape i) (index i)) ∙ sym other.first_is in
     let blocks : a.blocks ≡ b.blocks = one.blocks_are ∙ (λ i. segment_of (shape i) (image i) (index i)) ∙ sym other.blocks_are in
     λ i. record { logger = logger i; index = index i; first = first i; blocks = blocks i }
-
--- the image of a name as it reads, where it has whole blocks
-reads_whole : (o : Option Image) (i : Image) → o ≡ Some i → i.rest ≡ [] → image_read o ≡ Some (reads i.blocks)
-reads_whole o i is whole = ap image_read is ∙ ap (λ (n : ℕ). cond (n == 0) (Some (reads i.blocks)) None) (ap length whole)
 
 module _ {D : Type 0} (state : D → State) (config : Config) (valid : IsValid config) (b : BayState) (said : List (Option Said)) (id : ℕ) (r : Rack D) (own : Said)
     (ready : IsOpeningRack state config b said id r) (lt : id < length (shapes_of config)) (at : slice_get said id ≡ Some (Some own)) (view : List ℕ) (own_view : own.view ≡ view)
@@ -56,12 +53,8 @@ module _ {D : Type 0} (state : D → State) (config : Config) (valid : IsValid c
       let says = ready.says k shape.0 shape.1 (ap is_some here) in
       let entry = cut.says k conf.0 says.0 conf.1 says.1 in
       let kept : image_of images k ≡ image_of (images_read config t) k
-      = accepted_at 0 (λ (n : ℕ). not (is_some (image_here r.rest.images.items n))) (images_read config t) k
-      ∙ ap (λ (n : ℕ). cond (not (is_some (image_here r.rest.images.items n))) None (image_of (images_read config t) k)) (omega arith)
-      ∙ ap (λ (x : Option (ImageRest D)). cond (not (is_some x)) None (image_of (images_read config t) k)) here in
-      let read : image_of (images_read config t) k ≡ Some (reads entry.0.blocks)
-      = ap (λ (x : Option (Option (List Block))). unwrap_or x None) (slice_get-map (λ (v : VolumeConf). image_read (at_name v.name t.images)) config.volumes.items k ∙ ap (option_map (λ (v : VolumeConf). image_read (at_name v.name t.images))) conf.1)
-      ∙ reads_whole (at_name conf.0.name t.images) entry.0 entry.1 entry.2.whole in
+      = accepted_same (λ (n : ℕ). not (is_some (image_here r.rest.images.items n))) (images_read config t) k (ap (λ (x : Option (ImageRest D)). not (is_some x)) here) in
+      let read = image_is_read config t k conf.0 entry.0 conf.1 entry.1 entry.2.whole in
       record {
         conf = conf.0;
         conf_is = conf.1;

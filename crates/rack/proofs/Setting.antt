@@ -7,18 +7,12 @@ use Rattle.rack.proofs.Basics.{get_or_from_slice_get, All-nil, slice_get_read}
 use Rattle.rack.proofs.Terms.{TurnLock, PassOf, Spindle, SpindleBase, PoolBase, Pool, FreeSegment, AreLists, PutsSpindles, PutsPools, last_of, Lists, Issued, AreEmptyPasses, ArePopped}
 use Rattle.rack.proofs.Terms.{AreEmptied, CanDeal, Deals, IsSetUp, Spun, Shared, ManagerBase, Manager, Station, IsRow, AreRooms, held_here, list_of, Rack, Rooms}
 use Rattle.manager.proofs.Lanes.{get_set, get_other}
-use Rattle.manager_recovery.proofs.Lists.{zip_get, zip_length}
+use Rattle.manager_recovery.proofs.Lists.{zip_get, zip_length, zip_push}
 use Rattle.rack_parts.specs.declared.rack.VolumePasses.{VolumePasses}
 use Rattle.rack_parts.proofs.LanesMoved.{all_read}
 use Rattle.rack_parts.proofs.Members.{element_at}
 
 module _ {X Y : Type 0} where
-  pub zip_push : (R : X → Y → Type 0) (xs : List X) (ys : List Y) (x : X) (y : Y) → AllZip R xs ys → R x y → AllZip R (xs ++ x ∷ []) (ys ++ y ∷ [])
-  zip_push R [] [] x y zip here = (here, tt)
-  zip_push R [] (b ∷ ys) x y zip here = absurd zip
-  zip_push R (a ∷ xs) [] x y zip here = absurd zip
-  zip_push R (a ∷ xs) (b ∷ ys) x y zip here = (zip.0, zip_push R xs ys x y zip.1 here)
-
   pub map_same : (f g : X → Y) (xs ys : List X) → length xs ≡ length ys → ((k : ℕ) (d : X) → k < length xs → f (slice_index_or xs k d) ≡ g (slice_index_or ys k d)) → map f xs ≡ map g ys
   map_same f g [] [] count same = refl
   map_same f g [] (y ∷ ys) count same = absurd (omega (arith, count))
@@ -137,21 +131,6 @@ module _ {D : Type 0} where
 
         take_front : (xs : List SpindlePass) (x : SpindlePass) (n : ℕ) → length xs ≡ n → take n (xs ++ x ∷ []) ≡ xs
         take_front xs x n size = take_at xs (x ∷ []) n size
-
-  pub spindles_all : (all : List SpindleLock) (old new : Lists D) → AreSpindlesPut all [] old new → PutsSpindles all old new
-  spindles_all all old new so_far =
-      let same : all ≡ so_far.done = so_far.kept ∙ append-nil so_far.done in
-      record {
-        locks = so_far.locks ∙ ap (map (λ (i : SpindleLock). i.lock)) (sym same);
-        keepers = subst (λ (l : List SpindleLock). AllZip (keeper_is (length all)) l new.keepers.items) (sym same) so_far.keepers;
-        rows = subst (λ (l : List SpindleLock). AllZip (row_is (length all)) l new.rooms.spindles.items) (sym same) so_far.rows;
-        pools = ap (λ (l : Lists D). l.shared.pools) so_far.rest;
-        stations = ap (λ (l : Lists D). l.stations) so_far.rest;
-        passes = ap (λ (l : Lists D). l.passes) so_far.rest;
-        pool_rooms = ap (λ (l : Lists D). l.rooms.pools) so_far.rest;
-        managers = ap (λ (l : Lists D). l.rooms.managers) so_far.rest;
-        closed = ap (λ (l : Lists D). l.rooms.closed) so_far.rest;
-      }
 
   -- the same of pools
   abbrev with_pools : (old new : Lists D) → Lists D

@@ -1,10 +1,10 @@
 -- An image that was there, whatever a crash had left of it, is there afterwards.
 use Rattle.rack.proofs.Basics.{◌≡◌, ◌⊎◌, ⊎_elim, ℕ, List, Option, None, Some, true, is_some, option_map, sym, ap, ◌∙◌, subst, slice_get, slice_set, slice_index_or, unwrap_or, cases_eq, length-set}
-use Rattle.rack.proofs.Basics.{get_or_from_slice_get, slice_get_within, slice_get-map}
+use Rattle.rack.proofs.Basics.{get_or_from_slice_get, slice_get-map}
 use Rattle.rack.proofs.Terms.{Block, State, Shape, Images, image_of, IsThere, Name, Told, at_name, Config, VolumeConf, shapes_of, image_read, images_read, MayLeave, AreLeft, AreLeftOfParts}
 use Rattle.rack.proofs.Terms.{HadRefused, ImageRest, WasAccepted, WereThere, image_here, is_kept_home, Rack}
 use Rattle.manager.proofs.Lanes.{get_set, get_other}
-use Rattle.rack_closing.proofs.LeftImage.{volume_at}
+use Rattle.rack_closing.proofs.LeftImage.{may_at, volume_at}
 use Rattle.rack_closing.proofs.SoundClosed.{reads_are_left}
 use Rattle.rack_closing.proofs.Cases.{by_option, none_or}
 
@@ -17,9 +17,6 @@ name_at : (config : Config) (v : ℕ) (d conf : VolumeConf) → slice_get config
 name_at config v d conf at = ap (λ (w : VolumeConf). w.name) (get_or_from_slice_get config.volumes.items v conf d at)
 
 -- what a crash may leave of one image
-pub may_at : (config : Config) (t : Told) (images : Images) (v : ℕ) (conf : VolumeConf) → slice_get config.volumes.items v ≡ Some conf → AreLeft config t images → MayLeave (at_name conf.name t.images) (image_of images v)
-may_at config t images v conf at left = subst (λ (n : Name). MayLeave (at_name n t.images) (image_of images v)) (name_at config v conf conf at) (left.each v conf (slice_get_within config.volumes.items v conf at))
-
 module _ (config : Config) (old : Told) (images : Images) (v : ℕ) (conf : VolumeConf) (at : slice_get config.volumes.items v ≡ Some conf) (may : MayLeave (at_name conf.name old.images) (image_of images v)) where
   -- the images as they read before, with this one
   abbrev before : Images
@@ -64,7 +61,7 @@ pub there_left : {D : Type 0} (state : D → State) (config : Config) (r : Rack 
 there_left {D} state config r old new had parts images left v all =
     let c = conf_there config old v all in
     by_option (image_here r.rest.images.items v)
-    (λ none. there_may config old images v c.1 c.3 (had v c.1 c.3 none (image_of images v) (may_at config new images v c.1 c.3 left)) all)
+    (λ none. there_may config old images v c.1 c.3 (had v c.1 c.3 none (image_of images v) (may_at config new images left v c.1 c.3)) all)
     (λ m here. let x = parts images left v c.0 m c.2 here in (c.0, x.0, c.2, x.1, x.2.sized))
 
 -- an image that gives no segments, and one that couldn't be opened as it read, isn't out

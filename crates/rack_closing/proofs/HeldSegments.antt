@@ -1,5 +1,5 @@
 -- The segments of a manager's lanes, the segments that it is seen to hold, and the records that its index lists among theirs.
-use Rattle.rack_closing.proofs.Basics.{◌≡◌, ◌≢◌, ◌<◌, ◌+◌, ◌^◌, inl, inr, ℕ, Bool, List, [], ◌∷◌, ◌++◌, map, Option, Some, None, refl, sym, ap, subst, Contains, unwrap_or, AllByRecursion, ⊎_elim}
+use Rattle.rack_closing.proofs.Basics.{◌≡◌, ◌≢◌, ◌<◌, ◌+◌, ◌^◌, inl, inr, ℕ, Bool, List, [], ◌∷◌, map, Option, Some, None, refl, sym, ap, subst, Contains, unwrap_or, AllByRecursion, ⊎_elim}
 use Rattle.rack_closing.proofs.Basics.{◌∙◌, slice_get}
 use Rattle.rack_closing.proofs.Terms.{Block, Free, Owned, owned_block, Record, IsIdle, IsLog, extent_of, read_log, Held, SaysOwnerOrFree, Spun, part_of, held_in, HeldSegment, Lane, Logs, AllHold}
 use Rattle.rack_closing.proofs.Terms.{AllLanesHold, held_with, all_held, IsAmong, Extent, IsValid, marked, AreRising, Indexed, Listed, listed_in, IsEntryOf, IsFound, IsBacked, IsIndexOf, IsSorted}
@@ -7,8 +7,9 @@ use Rattle.rack_closing.proofs.Terms.{extents_held, IsOfExtent, AreListedOf}
 use Rattle.wol_model.specs.Recovered.{extents_in}
 use Rattle.wol_model.proofs.ReadLogs.{log_from}
 use Rattle.wol_model.proofs.Spellings.{one_segment_head}
+use Rattle.wol_promise.proofs.Lists.{all_joined, all_front, all_back}
 use Rattle.rack_parts.proofs.Members.{none_in, first_in, later_in, in_cases, in_map, of_map, of_recursion}
-use Rattle.manager_recovery.proofs.ByLogger.{all_from, all_among, among_left, among_right, among_either, among_map, map_among, among_get, among_at}
+use Rattle.manager_recovery.proofs.ByLogger.{among_left, among_right, among_either, among_map, map_among, among_get, among_at}
 
 -- ---- Blocks that are no log of a volume
 
@@ -43,15 +44,6 @@ not_of_other v w bs small differs says = no_log v bs (λ rs log. no_log_of_other
 
 -- ---- What is held
 
-pub all_append : {X : Type 0} (P : X → Type 0) (xs ys : List X) → AllByRecursion P xs → AllByRecursion P ys → AllByRecursion P (xs ++ ys)
-all_append P xs ys front back = all_from P (xs ++ ys) (λ x has. ⊎_elim (λ one. all_among P xs x front one) (λ other. all_among P ys x back other) (among_either xs ys x has))
-
-front_of : {X : Type 0} (P : X → Type 0) (xs ys : List X) → AllByRecursion P (xs ++ ys) → AllByRecursion P xs
-front_of P xs ys all = all_from P xs (λ x has. all_among P (xs ++ ys) x all (among_left xs ys x has))
-
-back_of : {X : Type 0} (P : X → Type 0) (xs ys : List X) → AllByRecursion P (xs ++ ys) → AllByRecursion P ys
-back_of P xs ys all = all_from P ys (λ x has. all_among P (xs ++ ys) x all (among_right xs ys x has))
-
 module _ {D : Type 0} where
   each_with : (P : Held (Spun D) → Type 0) (j : ℕ) (hs : List (HeldSegment D)) (logs : List (List Record)) → ((h : HeldSegment D) (rs : List Record) (broken : Bool) → Contains hs h → P (record { part = part_of h.segment; lane = j; index = h.index; broken = broken; records = rs }))
       → AllByRecursion P (held_with j hs logs)
@@ -66,7 +58,7 @@ module _ {D : Type 0} where
   each_held P j [] logs each = tt
   each_held P j (l ∷ lanes) [] each = tt
   each_held P j (l ∷ lanes) (ls ∷ logs) each =
-      all_append P (held_with j (held_in l) ls) (all_held (j + 1) lanes logs) (each_with P j (held_in l) ls (λ h rs broken has. each j l h rs broken (first_in l l lanes refl) has))
+      all_joined P (held_with j (held_in l) ls) (all_held (j + 1) lanes logs) (each_with P j (held_in l) ls (λ h rs broken has. each j l h rs broken (first_in l l lanes refl) has))
       (each_held P (j + 1) lanes logs (λ i k h rs broken in_lanes in_held. each i k h rs broken (later_in l k lanes in_lanes) in_held))
 
   held_at : (P : Held (Spun D) → Type 0) (Q : Type 0) (j : ℕ) (hs : List (HeldSegment D)) (logs : List (List Record)) (R : HeldSegment D → List Record → Type 0) → AllHold R hs logs → AllByRecursion P (held_with j hs logs) → (h : HeldSegment D) → Contains hs h
@@ -84,8 +76,8 @@ module _ {D : Type 0} where
   of_held P Q j [] logs R hold all l h in_lanes in_held then = absurd (none_in l in_lanes)
   of_held P Q j (k ∷ lanes) [] R hold all l h in_lanes in_held then = absurd hold
   of_held P Q j (k ∷ lanes) (ls ∷ logs) R hold all l h in_lanes in_held then = ⊎_elim
-      (λ e. held_at P Q j (held_in k) ls R hold.0 (front_of P (held_with j (held_in k) ls) (all_held (j + 1) lanes logs) all) h (subst (λ (x : Lane D). Contains (held_in x) h) (sym e) in_held) (λ rs broken x. then j rs broken x))
-      (λ more. of_held P Q (j + 1) lanes logs R hold.1 (back_of P (held_with j (held_in k) ls) (all_held (j + 1) lanes logs) all) l h more in_held then)
+      (λ e. held_at P Q j (held_in k) ls R hold.0 (all_front P (held_with j (held_in k) ls) (all_held (j + 1) lanes logs) all) h (subst (λ (x : Lane D). Contains (held_in x) h) (sym e) in_held) (λ rs broken x. then j rs broken x))
+      (λ more. of_held P Q (j + 1) lanes logs R hold.1 (all_back P (held_with j (held_in k) ls) (all_held (j + 1) lanes logs) all) l h more in_held then)
       (in_cases k l lanes in_lanes)
 
 -- The records that an index lists, among the extents of the segments that it is of.

@@ -4,13 +4,9 @@ use Rattle.rack_closing.proofs.Basics.{Contains-append_right, same_Some, Contain
 use Rattle.rack_closing.proofs.Terms.{Name, Told, sent_out, Image, BayState, at_name, HasFaulty, IsFaultAmong, HasNewFault, RefusesImage, reads, Config, VolumeConf, IsImageFault, shape_in}
 use Rattle.rack_closing.proofs.Terms.{shapes_of, ImageRest, VolumeFault}
 use Rattle.volume_images.specs.Left.{IsTold}
+pub use Rattle.volume_images.proofs.InOrder.{told_weaker as told_each}
 use Rattle.volume_images.specs.declared.reading.ImageFault.{ImageFault}
 use Rattle.volume_images.specs.declared.reading.ImageFault.TheVariants as fault
-
-pub told_each : (P Q : Told → Told → Type 0) (o n : Option Told) → ((x y : Told) → P x y → Q x y) → IsTold P o n → IsTold Q o n
-told_each P Q None n each is = is
-told_each P Q (Some o) None each is = is
-told_each P Q (Some o) (Some n) each is = each o n is
 
 pub told_with : (P Q : Told → Told → Type 0) (o n : Option Told) → IsTold P o n → IsTold Q o n → IsTold (λ x y. P x y × Q x y) o n
 told_with P Q None n first then = first

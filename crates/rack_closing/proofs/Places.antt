@@ -1,8 +1,9 @@
 -- What stands at the places of a list, and slices of lists that lie side by side.
 use Rattle.rack_closing.proofs.Basics.{◌≡◌, ◌⊎◌, inl, inr, ⊎_elim, ℕ, zero, suc, ◌+◌, ◌-◌, ◌<◌, ◌≤◌, false, List, [], ◌∷◌, ◌++◌, length, get_or, Option, None, Some, refl, sym, ap, ◌∙◌, subst}
-use Rattle.rack_closing.proofs.Basics.{arith, take, drop, slice_get, IsSome, is_some, slice_range, cases_lt, get_or_append_left, get_or_push, get_or_past, length_push, drop-drop, take_all}
+use Rattle.rack_closing.proofs.Basics.{arith, take, drop, IsSome, is_some, slice_range, cases_lt, get_or_append_left, get_or_push, get_or_past, length_push, drop-drop, take_all}
 use Rattle.rack_closing.proofs.Basics.{none-some}
 use Rattle.rack_closing.proofs.Terms.{Block, Values, IsImage}
+pub use Rattle.rack_parts.proofs.Members.{element_at as some_at}
 
 -- ---- One more at the end of a list
 
@@ -26,11 +27,6 @@ module _ {A : Type 0} (xs : List (Option A)) (y : Option A) (n : ℕ) (count : l
       (λ (past : n + 1 ≤ k). absurd (none-some x (sym (get_or_past (xs ++ y ∷ []) k None (omega (arith, past, count, length_push xs y))) ∙ at)))
       (cases_lt k (n + 1)))
       (cases_lt k n)
-
-pub some_at : {A : Type 0} (xs : List A) (k : ℕ) → k < length xs → (x : A) × (slice_get xs k ≡ Some x)
-some_at [] k lt = absurd (omega (arith, lt))
-some_at (x ∷ xs) zero lt = (x, refl)
-some_at (x ∷ xs) (suc k) lt = some_at xs k (omega (arith, lt))
 
 -- what is there stays there
 pub still_there : {A : Type 0} (xs : List (Option A)) (y : Option A) (k : ℕ) → IsSome (get_or xs k None) → IsSome (get_or (xs ++ y ∷ []) k None)

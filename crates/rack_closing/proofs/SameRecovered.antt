@@ -1,14 +1,16 @@
 -- Images whose segments keep the same records, or nothing of a volume, recover to the same array.
 use Rattle.rack_closing.proofs.Basics.{◌≡◌, ◌⊎◌, inl, ⊎_elim, ℕ, zero, suc, ◌+◌, ◌<◌, ◌≤◌, Bool, true, false, cond, List, [], ◌∷◌, ◌++◌, map, length, Option, None, Some, refl, sym, ap, ◌∙◌, arith}
-use Rattle.rack_closing.proofs.Basics.{get_or, subst, ◌≢◌, ◌^◌, option_and_then, slice_get, unwrap_or, AllByRecursion, range_with_len, eq-eqb, cases_eq, flat_map-append, length-map-range_with_len}
+use Rattle.rack_closing.proofs.Basics.{get_or, subst, ◌≢◌, ◌^◌, option_and_then, slice_get, AllByRecursion, range_with_len, eq-eqb, cases_eq, flat_map-append, length-map-range_with_len}
 use Rattle.rack_closing.proofs.Basics.{get_or-map-range_with_len, none-some, same_Some, slice_get_within}
-use Rattle.rack_closing.proofs.Terms.{Block, Values, IsImageOf, block_of, overlaid, Extent, Cover, newer_of, newest, CoversNothing, Shape, owned_block, Images, image_of, image_size, home_in}
-use Rattle.rack_closing.proofs.Terms.{segment_of, segments_of, accepted, all_segments, Record, IsLog, extent_of, IsIdle, extents_of, log_read, idle_none, SaysOwnerOrFree, Config, VolumeConf}
-use Rattle.rack_closing.proofs.Terms.{Station, HasNothing, IsLeftOf, HasHead, recovered_but, HasNoLogIn}
+use Rattle.rack_closing.proofs.Terms.{Block, block_of, overlaid, Extent, Cover, newer_of, newest, CoversNothing, Shape, Images, image_of, image_size, home_in}
+use Rattle.rack_closing.proofs.Terms.{segment_of, segments_of, accepted, all_segments, Record, IsLog, extent_of, IsIdle, extents_of, idle_none, SaysOwnerOrFree, Config, VolumeConf}
+use Rattle.rack_closing.proofs.Terms.{Station, HasNothing, HasHead, recovered_but, HasNoLogIn}
 use Rattle.wol_model.specs.Extents.{newest_block, with_extents}
 use Rattle.wol_model.specs.Images.{recovered_from}
 use Rattle.wol_model.specs.Recovered.{extents_in, recovered}
 use Rattle.manager_recovery.proofs.Leaves.{all_bare}
+use Rattle.wol_model.proofs.Images.{kept as log_extents}
+use Rattle.wol_promise.proofs.LogWrites.{says_owner}
 use Rattle.rack_closing.proofs.LeftImage.{accepted_count, accepted_both, accepted_same, accepted_gone}
 use Rattle.rack_closing.proofs.HeldSegments.{no_log, not_of_other}
 use Rattle.rack_closing.proofs.Cases.{by_option}
@@ -233,41 +235,19 @@ idle_keeps v bs idle = none_keeps v bs (idle_none v bs idle)
 pub other_keeps : (v w : ℕ) (bs : List Block) → w < 2 ^ 32 → v ≢ w → SaysOwnerOrFree w bs → KeepsNothing v bs
 other_keeps v w bs small differs says = none_keeps v bs (not_of_other v w bs small differs says)
 
-log_says : (owner : ℕ) (bs : List Block) (rs : List Record) → IsLog bs owner rs → SaysOwnerOrFree owner bs
-log_says owner [] rs log = absurd (let joined = log.joined in cc joined)
-log_says owner (b ∷ bs) rs log = inl (first b bs (owned_block owner) _ log.joined)
-  where
-    first : (x : Block) (xs : List Block) (y : Block) (ys : List Block) → x ∷ xs ≡ y ∷ ys → x ≡ y
-    first x xs y ys e = cc e
-
-read_extents : (v : ℕ) (bs : List Block) (rs : List Record) → IsLog bs v rs → extents_in v bs ≡ map extent_of rs
-unfolding extents_in
-read_extents v bs rs log = ap (λ (o : Option (List Record)). map extent_of (unwrap_or o [])) (log_read bs v rs log)
-
 -- a log of records none of which keeps a block
 pub bare_keeps : (v owner : ℕ) (bs : List Block) (rs : List Record) → HasNothing owner rs bs → KeepsNothing v bs
 bare_keeps v owner bs rs has =
     ⊎_elim
     (λ (e : v ≡ owner). λ n.
     let es = map extent_of rs in
-    ap (keeping n) (read_extents v bs rs (subst (λ (w : ℕ). IsLog bs w rs) (sym e) has.log)) ∙ keeping_none n es (all_at n es (all_bare rs has.nothing)))
-    (λ (differs : v ≡ owner → ⊥). other_keeps v owner bs has.log.known differs (log_says owner bs rs has.log))
+    ap (keeping n) (log_extents v bs rs (subst (λ (w : ℕ). IsLog bs w rs) (sym e) has.log)) ∙ keeping_none n es (all_at n es (all_bare rs has.nothing)))
+    (λ (differs : v ≡ owner → ⊥). other_keeps v owner bs has.log.known differs (says_owner owner bs rs has.log))
     (cases_eq v owner)
   where
     all_at : (n : ℕ) (es : List Extent) → AllByRecursion CoversNothing es → AllByRecursion (λ (e : Extent). e.cover.covers n ≡ Rattle.std.proofs.Common.false) es
     all_at n [] all = tt
     all_at n (e ∷ es) all = (all.0 n, all_at n es all.1)
-
--- a segment keeps the same as the one that it is left of
-pub left_keeps : (v owner : ℕ) (values : Option (List (Values Block))) (c : List Block) → IsLeftOf owner values c → (was : List Block) × IsImageOf values was × SegmentsKeep v c was
-left_keeps v owner values c left =
-    ⊎_elim
-    (λ same. (c, same, λ n. refl))
-    (λ x. (x.0, x.2, nothing_same v c x.0 (now x.1 x.3 x.4) (bare_keeps v owner x.0 x.1 x.3)))
-    left
-  where
-    now : {bs : List Block} (rs : List Record) → HasNothing owner rs bs → IsLog c owner rs ⊎ IsIdle c → KeepsNothing v c
-    now rs has or = ⊎_elim (λ log. bare_keeps v owner c rs (record { log = log; nothing = has.nothing })) (λ idle. idle_keeps v c idle) or
 
 -- one whose head is free, or another's, or whose records keep nothing
 pub gone_keeps : {D : Type 0} (v volumes : ℕ) (stations : List (Station D)) (was : List Block) → volumes ≤ 2 ^ 32 → ((s : Station D) → Rattle.std.specs.Prelude.Contains stations s → v ≢ s.id)

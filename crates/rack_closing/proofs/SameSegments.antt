@@ -4,6 +4,7 @@ use Rattle.rack_closing.proofs.Basics.{flat_map-append, All-from_recursion, All-
 use Rattle.rack_closing.proofs.Terms.{Block, IsAmong, Shape, AreDistinct, Cover, Extent, covers_of, with_extents, IsValid, Images, image_of, image_size, segment_of, all_segments, extents_in}
 use Rattle.rack_closing.proofs.Terms.{extents_of, IsBefore}
 use Rattle.manager_recovery.specs.Owned.{Owned}
+use Rattle.wol_promise.proofs.Lists.{all_insert, all_mapped}
 use Rattle.manager_recovery.proofs.SameNewest.{same_array}
 use Rattle.std.proofs.lemmas.List.Folds.{flat_map-map}
 use Rattle.manager_recovery.proofs.ByLogger.{all_among, all_from, among_map, map_among, contains_among}
@@ -16,10 +17,6 @@ pub data Shuffled {X : Type 0} : List X → List X → Type 0 where
   insert : (x : X) (xs front back : List X) → Shuffled xs (front ++ back) → Shuffled (x ∷ xs) (front ++ x ∷ back)
 
 module _ {X : Type 0} where
-  all_insert : (P : X → Type 0) (front : List X) (x : X) (back : List X) → P x → AllByRecursion P (front ++ back) → AllByRecursion P (front ++ x ∷ back)
-  all_insert P [] x back here all = (here, all)
-  all_insert P (y ∷ front) x back here all = (all.0, all_insert P front x back here all.1)
-
   pub all_shuffled : (P : X → Type 0) (xs ys : List X) → Shuffled xs ys → AllByRecursion P xs → AllByRecursion P ys
   all_shuffled P [] ys none all = tt
   all_shuffled P (x ∷ xs) ys (insert _ _ front back rest) all = all_insert P front x back all.0 (all_shuffled P xs (front ++ back) rest all.1)
@@ -53,19 +50,15 @@ module _ {X : Type 0} where
 
 -- ---- Extents
 
-mapped : {X Y : Type 0} (P : Y → Type 0) (f : X → Y) (xs : List X) → AllByRecursion (λ x. P (f x)) xs → AllByRecursion P (map f xs)
-mapped P f [] all = tt
-mapped P f (x ∷ xs) all = (all.0, mapped P f xs all.1)
-
 pub unmapped : {X Y : Type 0} (P : Y → Type 0) (f : X → Y) (xs : List X) → AllByRecursion P (map f xs) → AllByRecursion (λ x. P (f x)) xs
 unmapped P f [] all = tt
 unmapped P f (x ∷ xs) all = (all.0, unmapped P f xs all.1)
 
 distinct_insert : (front : List Extent) (x : Extent) (back : List Extent) → AllByRecursion (λ (d : Extent). IsValid x.cover → IsValid d.cover → x.cover.version ≢ d.cover.version) (front ++ back)
     → AreDistinct (covers_of (front ++ back)) → AreDistinct (covers_of (front ++ x ∷ back))
-distinct_insert [] x back apart all = (mapped (λ (d : Cover). IsValid x.cover → IsValid d → x.cover.version ≢ d.version) (λ (e : Extent). e.cover) back apart, all)
+distinct_insert [] x back apart all = (all_mapped (λ (d : Cover). IsValid x.cover → IsValid d → x.cover.version ≢ d.version) (λ (e : Extent). e.cover) back apart, all)
 distinct_insert (y ∷ front) x back apart all = (
-  mapped (λ (d : Cover). IsValid y.cover → IsValid d → y.cover.version ≢ d.version) (λ (e : Extent). e.cover) (front ++ x ∷ back)
+  all_mapped (λ (d : Cover). IsValid y.cover → IsValid d → y.cover.version ≢ d.version) (λ (e : Extent). e.cover) (front ++ x ∷ back)
       (all_insert (λ (e : Extent). IsValid y.cover → IsValid e.cover → y.cover.version ≢ e.cover.version) front x back (λ vy vx same. apart.0 vx vy (sym same))
       (unmapped (λ (d : Cover). IsValid y.cover → IsValid d → y.cover.version ≢ d.version) (λ (e : Extent). e.cover) (front ++ back) all.0)),
   distinct_insert front x back apart.1 all.1,

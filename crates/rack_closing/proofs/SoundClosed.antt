@@ -1,9 +1,9 @@
 -- What closing a rack leaves is sound where all was at its opening, and recovers to the same when it is opened again.
 use Rattle.rack_closing.proofs.Basics.{◌≡◌, ◌≢◌, ◌⊎◌, inl, inr, ⊎_elim, ℕ, ◌+◌, ◌<◌, Bool, true, not, List, [], ◌∷◌, map, length, Option, None, Some, is_some, refl, sym, ap, ◌∙◌, subst, arith}
 use Rattle.rack_closing.proofs.Basics.{◌≤◌, zero, suc, ◌++◌, Contains, All, slice_get, unwrap_or, IsTrue, AllByRecursion, range_with_len, cases_eq, All-contains, same_Some}
-use Rattle.rack_closing.proofs.Terms.{Block, State, reads, TellsContent, Image, Told, BayState, at_name, AreDistinct, covers_of, Extent, with_extents, Shape, SpellsView, Images, image_of}
+use Rattle.rack_closing.proofs.Terms.{Block, State, reads, TellsContent, Told, BayState, AreDistinct, covers_of, Extent, with_extents, Shape, SpellsView, Images, image_of}
 use Rattle.rack_closing.proofs.Terms.{segment_of, segments_of, all_segments, accepted, IsSoundSegment, AreSound, idle, log, home_in, recovered_from, extents_in, extents_of, idle_none, one_view}
-use Rattle.rack_closing.proofs.Terms.{IsLog, IsIdle, after, writes, flight_of, IsCut, entries_of, Config, VolumeConf, HasView, Station, notes_of, shapes_of, image_read, images_read, AreLeft}
+use Rattle.rack_closing.proofs.Terms.{IsLog, IsIdle, after, writes, flight_of, IsCut, entries_of, Config, HasView, Station, notes_of, shapes_of, images_read, AreLeft}
 use Rattle.rack_closing.proofs.Terms.{IsTold, AreLeftOfParts, segments_out, is_kept_home, recovered_out, ComesFrom, from_here, from_pool, from_manager, IsLogOfStation, IsClosedVolume, RecoversTo}
 use Rattle.rack_closing.proofs.Terms.{BeganWith, WereThere, IsBegun, images_taken, HadRefused, IsOpenBase, IsStation, base_of_station, image_here, IsImageOut, IsSegmentHere, ImageRest, Rack, Rest}
 use Rattle.rack_closing.proofs.Terms.{AreForeign, IsForeign, FollowsOn, OpensAgain, OpensCut}
@@ -14,7 +14,8 @@ use Rattle.rack_closing.proofs.SoundBefore.{Fewer, none, fewer_same, fewer_disti
 use Rattle.rack_closing.proofs.SoundBefore.{sound_with, some_image, at_front}
 use Rattle.rack_closing.proofs.KeptImages.{two_go}
 use Rattle.rack_closing.proofs.SameRecovered.{images_go}
-use Rattle.rack_closing.proofs.LeftImage.{read_cases, volume_at, read_here, accepted_count, accepted_same, accepted_gone}
+use Rattle.rack_closing.proofs.LeftImage.{volume_at, accepted_count, accepted_same, accepted_gone}
+use Rattle.rack_closing.proofs.LoggersNamed.{image_is_read}
 use Rattle.rack_closing.proofs.FinalImages.{IsCrash, distinct_left, array_out}
 use Rattle.rack_closing.proofs.StationParts.{place_of, one_place}
 pub use Rattle.rack_closing.proofs.LeftVolumes.{reads_are_left}
@@ -22,12 +23,6 @@ use Rattle.rack_closing.proofs.LeftVolumes.{IsOver, shapes, refused, Fronts, Seg
 use Rattle.rack_closing.proofs.HeldSegments.{no_log}
 
 -- The images that a crash leaves of a rack that was closed are sound where all that it might have left at the rack's opening were.
-
-read_whole : (o : Option Image) (i : Image) → o ≡ Some i → i.rest ≡ [] → image_read o ≡ Some (reads i.blocks)
-read_whole o i is whole = ap image_read is ∙ ⊎_elim (λ r. r.1) (λ r. absurd (r.0 whole)) (read_cases i)
-
-read_at : (config : Config) (t : Told) (k : ℕ) (v : VolumeConf) (i : Image) → slice_get config.volumes.items k ≡ Some v → at_name v.name t.images ≡ Some i → i.rest ≡ [] → image_of (images_read config t) k ≡ Some (reads i.blocks)
-read_at config t k v i at is whole = read_here config t k v at ∙ read_whole (at_name v.name t.images) i is whole
 
 module _ {D : Type 0} {state : D → State} {config : Config} {b : BayState} {r : Rack D} {entry new : Told} {images : Images} (over : IsOver state config b r entry new images)
     (apart : (s : Station D) → Contains r.stations.items s → AreDistinct (covers_of (extents_of s.id (segments_out config r.rest.images.items images)))) where
@@ -54,7 +49,7 @@ module _ {D : Type 0} {state : D → State} {config : Config} {b : BayState} {r 
         let second : slice_get two.go.was 1 ≡ slice_get (reads o.entered.image.blocks) 1 =
         sym (at_front n 1 two.go.was (omega arith)) ∙ two.front.0 1 (omega arith) ∙ at_front n 1 two.go.now (omega arith) ∙ ap (λ (l : List Block). slice_get l 1) now
         ∙ sym (at_front 2 1 o.now (omega arith)) ∙ ap (λ (l : List Block). slice_get l 1) o.label ∙ at_front 2 1 (reads o.entered.image.blocks) (omega arith) in
-        let read : image_of (images_taken config r.rest.images.items entry) s.id ≡ Some (reads o.entered.image.blocks) = accepted_same (refused over) (images_read config entry) s.id taken ∙ read_at config entry s.id v.0 o.entered.image v.1 o.entered.there o.entered.whole in
+        let read : image_of (images_taken config r.rest.images.items entry) s.id ≡ Some (reads o.entered.image.blocks) = accepted_same (refused over) (images_read config entry) s.id taken ∙ image_is_read config entry s.id v.0 o.entered.image v.1 o.entered.there o.entered.whole in
         let says : HasView (reads o.entered.image.blocks) (base_of_station s).volume.began.view = begun.view (reads o.entered.image.blocks) (ap (image_of (images_taken config r.rest.images.items entry)) owner ∙ read) in
         let block : says.block ≡ sound.4.view.0 = same_Some says.block sound.4.view.0 (sym says.second ∙ sym second ∙ ap (λ (l : List Block). slice_get l 1) (sym was) ∙ sound.4.view.1) in
         let same : sound.1 ≡ (base_of_station s).volume.began.view = one_view sound.4.view.0 sound.1 (base_of_station s).volume.began.view sound.4.view.2 (subst (λ (x : Block). SpellsView x (base_of_station s).volume.began.view) block says.spelled) in

@@ -1,8 +1,8 @@
 -- Volumes whose images at entry are sound as they read: they are refused only for a failed call, and opened again.
 use Rattle.rack_closing.proofs.Basics.{◌≡◌, ◌≢◌, ℕ, suc, ◌+◌, ◌<◌, ◌≤◌, ◌^◌, ◌==◌, ◌&&◌, Bool, true, false, not, cond, eqb, List, [], ◌∷◌, ◌++◌, length, map, Option, None, Some, refl, sym, ap}
-use Rattle.rack_closing.proofs.Basics.{◌∙◌, subst, arith, ⊎_elim, ◌*◌, get_or, replicate, option_map, ◌⊎◌, is_some, IfSome, slice_get, unwrap_or, filter, Contains, slice_index_or, IsTrue, sum}
+use Rattle.rack_closing.proofs.Basics.{◌∙◌, subst, arith, ⊎_elim, ◌*◌, get_or, option_map, ◌⊎◌, is_some, IfSome, slice_get, unwrap_or, filter, Contains, slice_index_or, IsTrue, sum}
 use Rattle.rack_closing.proofs.Basics.{find, AllByRecursion, range_with_len, position_or_len, eq-eqb, eqb-true, cases_lt, lt-ltb, length-append, map-append, length-map, filter-append}
-use Rattle.rack_closing.proofs.Basics.{All-contains, same_Some, none-some, slice_get-map, slice_get_within, slice_get-get_or, get_or_from_slice_get, fails_before_first, sum_by-cons}
+use Rattle.rack_closing.proofs.Basics.{All-contains, same_Some, none-some, slice_get-map, slice_get_within, slice_get-get_or, get_or_from_slice_get, fails_before_first}
 use Rattle.rack_closing.proofs.Basics.{Contains-append_right}
 use Rattle.rack_closing.proofs.Terms.{Block, State, Rose, reads, Image, Told, BayState, at_name, byte_length, Extent, Cover, AreDistinct, covers_of, Shape, owned_block, free_block, SpellsView}
 use Rattle.rack_closing.proofs.Terms.{Images, image_of, image_size, segment_of, segments_of, all_segments, IsSoundSegment, IsSoundImage, AreSound, accepted, Record, IsIdle, IsLog, IsNamed}
@@ -11,7 +11,6 @@ use Rattle.rack_closing.proofs.Terms.{heads_from, heads_of, heads_in, with_versi
 use Rattle.rack_closing.proofs.Terms.{image_read, images_read, IsSegmentIn, IsOwnedIn, AreOwnedIn, images_taken, IsOpeningOf, fault_in_image, RefusesVolume, RefusesImage, RefusesOpening, RefusesBay}
 use Rattle.rack_closing.proofs.Terms.{AreRefused, NamesVolumes, IsRack, IsOpenBase, IsStation, base_of_station, image_here, IsImageOut, ImageRest, VolumeFault, Absent, WrongLength, Refused}
 use Rattle.rack_closing.proofs.Terms.{LabelFault, BayFailed, is_kept_home, HasFaultIn, IsOfFailedCall, RefusesSound, OpensAllAgain, Rack}
-use Rattle.std.proofs.lemmas.List.Folds.{sum_by-replicate}
 use Rattle.wol_bay.specs.Refusals.{refusal, refusal_of}
 use Rattle.wol_bay.specs.declared.fault.BayFault.{BayFault}
 use Rattle.wol_model.specs.Extents.{IsValid as IsValidCover}
@@ -33,7 +32,9 @@ use Rattle.rack_closing.proofs.OwnedSegments.{extents_owned, range_has}
 use Rattle.rack_closing.proofs.SameOut.{out_bit}
 use Rattle.rack_closing.proofs.SoundBefore.{Fewer, none, fewer_same, fewer_images, fewer_distinct, segments_are}
 use Rattle.rack_closing.proofs.LeftImage.{read_cases, read_here, accepted_is, accepted_same, accepted_gone, accepted_count}
-use Rattle.rack_closing.proofs.HeldSegments.{all_append}
+use Rattle.wol_promise.proofs.Lists.{all_joined}
+use Rattle.wol_model.proofs.Counts.{both as both_true}
+use Rattle.volume_images.proofs.GivenBack.{all_sizes}
 use Rattle.rack_closing.proofs.NewFaults.{image_said}
 use Rattle.rack_closing.proofs.SoundClosed.{reads_are_left}
 use Rattle.rack_closing.proofs.Cases.{by_option}
@@ -52,10 +53,6 @@ keeps r = not (eqb r.head.mask 0)
 
 abbrev has_version : (n : ℕ) → Record → Bool
 has_version n r = keeps r && eqb r.head.version n
-
-both_true : (t u : Bool) → (t && u) ≡ true → (t ≡ true) × (u ≡ true)
-both_true true u e = (refl, e)
-both_true false u e = absurd (cc e)
 
 -- the heads of a segment's records of one version are as many as the records
 heads_of_segment : (n : ℕ) (s : Owned) (pos : ℕ) (rs : List Record) → length (with_version n (heads_from s pos rs)) ≡ length (filter (has_version n) rs)
@@ -188,7 +185,7 @@ module _ (shapes : List Shape) (images : Images) (sound : AreSound shapes images
 
     all_named : (os : List Owned) → ((o : Owned) → Contains os o → IsSoundLog o) → AllByRecursion (IsNamed v) (records_in v os)
     all_named [] each = tt
-    all_named (o ∷ os) each = all_append (IsNamed v) (records_of v o) (records_in v os) (named o (each o (0, omega arith, refl))) (all_named os (λ x has. each x (later_in o x os has)))
+    all_named (o ∷ os) each = all_joined (IsNamed v) (records_of v o) (records_in v os) (named o (each o (0, omega arith, refl))) (all_named os (λ x has. each x (later_in o x os has)))
 
     -- no two records that keep blocks have one version, in images of which no two have
     pub no_twins_in : (others : Images) (sized : (k : ℕ) (s : Shape) (image : List Block) → slice_get shapes k ≡ Some s → image_of others k ≡ Some image → length image ≡ image_size s)
@@ -241,12 +238,6 @@ read_back (Some i) c is = ⊎_elim
     (λ r. absurd (none-some c (sym r.1 ∙ is)))
     (read_cases i)
 
--- the parts of an image have all of its blocks
-sum_parts : (s : Shape) → sum (part_sizes s) ≡ image_size s
-sum_parts s =
-    let segments = replicate s.segments s.segment_blocks in
-    omega (arith, sum_by-cons (λ x. x) 2 (s.home ∷ segments), sum_by-cons (λ x. x) s.home segments, sum_by-replicate (λ x. x) s.segments s.segment_blocks)
-
 -- ---- Refusals
 
 -- a call failed: what is said of it, and what of a logger whose image is missing
@@ -291,7 +282,7 @@ module _ (config : Config) (valid : IsValid config) (t : Told) (sound : AreSound
   goes_out k v x =
       let size = x.here.is.sized in
       let long = length-map x.image.blocks (λ b. b.now) in
-      let parts = sum_parts (shape_in config v) in
+      let parts = all_sizes (shape_in config v) in
       let none = ap length x.whole in
       let bytes : byte_length x.image ≡ 512 * sum (part_sizes (shape_in config v)) = omega (arith, size, long, parts, none) in
       ap (refusal_of (part_sizes (shape_in config v))) x.there

@@ -1,12 +1,13 @@
 -- A rack whose stations and pools are closed: its images are whole, the same ones are out, and the parts of a station are among them.
 use Rattle.rack_closing.proofs.Basics.{◌≡◌, ◌<◌, ◌≤◌, ℕ, suc, Bool, List, [], ◌∷◌, ◌++◌, length, get_or, Option, Some, None, is_some, option_map, refl, sym, ap, ◌∙◌, subst, arith, All, slice_get}
-use Rattle.rack_closing.proofs.Basics.{option_and_then, length-map, slice_get-get_or, ⊎_elim, zero, map, AllZip, AllByRecursion, Contains, IsTrue, cases_lt, get_or_past, All-contains}
+use Rattle.rack_closing.proofs.Basics.{option_and_then, length-map, slice_get-get_or, ⊎_elim, map, AllByRecursion, Contains, IsTrue, cases_lt, get_or_past, All-contains}
 use Rattle.rack_closing.proofs.Basics.{slice_get_within, get_or_from_slice_get, slice_get-map}
 use Rattle.rack_closing.proofs.Terms.{State, Name, BayState, IsOut, Config, VolumeConf, lock_id, TurnLock, PoolBase, Pool, FreeSegment, part_sizes, shape_in, image_here, held_here, list_of}
 use Rattle.rack_closing.proofs.Terms.{IsImageOut, IsRow, IsRest, out_names, IsClosable, KeepsButHome, ClosesStations, RefillsAll, KeepsSpindles, KeepsOtherRows, LeavesNoneOut, without_all, ImageRest, Rack}
 use Rattle.rack_closing.proofs.Terms.{Rest, Block, IsImageOf, Shape, Record, Held, SaysOwnerOrFree, IsHeldBy, volume_of, state_of, Spun, part_of, IsHeld, logger_of, held_in, HeldSegment, Lane}
 use Rattle.rack_closing.proofs.Terms.{all_held, parts_of, IsReadyLane, Station, shapes_of, CanCloseStations, HasBack, AreComplete, Closing, IsClosing, home_here, IsOpenBase, base_of_station, IsStation}
 use Rattle.rack_closing.proofs.Terms.{segment_here, AreImageRests, IsDisk, TellsContent}
+use Rattle.manager.proofs.Touched.{zip_get}
 use Rattle.rack_parts.specs.Closing.{IsRefilledAll}
 use Rattle.wol_model.specs.Index.{AreRising}
 use Rattle.turn_lock.specs.Histories.{Entry}
@@ -17,14 +18,6 @@ use Rattle.rack_parts.proofs.Rising.{rising_at}
 use Rattle.rack_parts.specs.declared.rack.VolumePasses.{VolumePasses}
 use Rattle.rack_closing.proofs.Closable.{stations_may, blocks_at, image_was, images_rest, images_whole}
 use Rattle.rack_closing.proofs.HeldSegments.{of_held}
-
--- the closing at the place of a station
-pub zip_at : {A B : Type 0} (R : A → B → Type 0) (xs : List A) (ys : List B) (n : ℕ) (x : A) → AllZip R xs ys → slice_get xs n ≡ Some x → (y : B) × (slice_get ys n ≡ Some y) × R x y
-zip_at R [] [] n x all at = absurd (cc at)
-zip_at R [] (y ∷ ys) n x all at = absurd all
-zip_at R (a ∷ xs) [] n x all at = absurd all
-zip_at R (a ∷ xs) (y ∷ ys) zero x all at = let same : a ≡ x = cc at in (y, refl, subst (λ z. R z y) same all.0)
-zip_at R (a ∷ xs) (y ∷ ys) (suc n) x all at = zip_at R xs ys n x all.1 at
 
 -- what is at the place of an element that a list has
 pub place_of : {X : Type 0} (xs : List X) (x : X) (has : Contains xs x) → slice_get xs has.0 ≡ Some x
@@ -171,7 +164,7 @@ module _ {D : Type 0} {state : D → State} {tells : Bool} {config : Config} {b 
 
   -- how a station's lock was closed
   pub closing_of : (s : Station D) (has : Contains r.stations.items s) → (c : Closing D) × (slice_get closed.closings has.0 ≡ Some c) × IsClosing tells state first s c
-  closing_of s has = zip_at (IsClosing tells state first) r.stations.items closed.closings has.0 s closed.each (place_of r.stations.items s has)
+  closing_of s has = zip_get (IsClosing tells state first) r.stations.items closed.closings has.0 s closed.each (place_of r.stations.items s has)
 
   abbrev pub manager_of : (s : Station D) → Contains r.stations.items s → Manager D
   manager_of s has = (closing_of s has).0.manager

@@ -1,15 +1,12 @@
 -- Images go back to their bay, the last first.
-use Rattle.rack_parts.proofs.Basics.{◌≡◌, ◌≢◌, ◌<◌, ℕ, zero, suc, Bool, true, false, cond, List, [], ◌∷◌, ◌++◌, length, take, Option, Some}
-use Rattle.rack_parts.proofs.Basics.{None, is_some, refl, ap, subst, arith, append_assoc, ◌≤◌, ◌⊎◌, inl, inr, get_or, sym, ◌∙◌, ◌+◌, ◌-◌}
-use Rattle.rack_parts.proofs.Basics.{◌*◌, drop, replicate, map, option_map, slice_get, Contains, slice_range, IfSome, All, cases_eq}
-use Rattle.rack_parts.proofs.Basics.{cases_lt, append-nil, length-map, get_or-map, drop-drop, length-append, length-drop, take_all}
-use Rattle.rack_parts.proofs.Basics.{Contains-append_left, Contains-append_right, All-contains, none-some, same_Some, slice_get-get_or}
-use Rattle.rack_parts.proofs.Basics.{slice_get_within, get_or_from_slice_get, get_or_past, length-take, ⊎_elim}
-use Rattle.rack_parts.proofs.Terms.{Name, at_name, without, AreNamedApart, Image, Told, stored, each_place, came_back, BayState, outs}
-use Rattle.rack_parts.proofs.Terms.{IsOut, Config, VolumeConf, shape_in, out_names, image_here, segment_here, IsPart, IsImageRest}
-use Rattle.rack_parts.proofs.Terms.{IsImageOut, ImageRest, Block, Values, State, IsDisk, TellsContent, IsImage, IsImageOf, Rose, blocks_of}
-use Rattle.rack_parts.proofs.Terms.{faulty_places, joined, sizes_of, IsTogether, IsStoredAs, GivesBack, IsImageBack, HasFaultHere, Shape}
-use Rattle.rack_parts.proofs.Terms.{Spun}
+use Rattle.rack_parts.proofs.Basics.{◌≡◌, ◌≢◌, ◌<◌, ℕ, zero, suc, Bool, true, false, cond, List, [], ◌∷◌, ◌++◌, length, take, Option, Some, None, is_some, refl, ap, subst, arith}
+use Rattle.rack_parts.proofs.Basics.{append_assoc, ◌≤◌, ◌⊎◌, inl, inr, get_or, sym, ◌∙◌, ◌+◌, ◌-◌, ◌*◌, drop, replicate, map, option_map, slice_get, Contains, slice_range, IfSome}
+use Rattle.rack_parts.proofs.Basics.{All, cases_eq, cases_lt, append-nil, length-map, get_or-map, drop-drop, length-append, length-drop, take_all, Contains-append_left}
+use Rattle.rack_parts.proofs.Basics.{Contains-append_right, All-contains, none-some, same_Some, slice_get-get_or, slice_get_within, get_or_from_slice_get, get_or_past, length-take}
+use Rattle.rack_parts.proofs.Basics.{⊎_elim}
+use Rattle.rack_parts.proofs.Terms.{Name, at_name, without, AreNamedApart, Image, Told, stored, each_place, came_back, BayState, outs, IsOut, Config, VolumeConf, shape_in}
+use Rattle.rack_parts.proofs.Terms.{out_names, image_here, segment_here, IsPart, IsImageRest, IsImageOut, ImageRest, Block, Values, State, IsDisk, TellsContent, IsImage, IsImageOf}
+use Rattle.rack_parts.proofs.Terms.{Rose, blocks_of, faulty_places, joined, sizes_of, IsTogether, IsStoredAs, GivesBack, IsImageBack, HasFaultHere, Shape, Spun}
 use Rattle.std.specs.Str.{bytes_eq}
 use Rattle.std.proofs.lemmas.Slice.Eq.{bytes_eq-Decides}
 use Rattle.std.proofs.Math.Nat.{suc-mul, add-mul}
@@ -21,6 +18,7 @@ use Rattle.wol_config.specs.Configs.{IsValid}
 use Rattle.spin_model.specs.Spun.{state_of, disk_of}
 use Rattle.volume_images.specs.Formatted.{part_sizes}
 use Rattle.volume_images.specs.Left.{IsTold}
+use Rattle.volume_images.proofs.Refused.{rose_since}
 use Rattle.rack_parts.specs.Closing.{LeavesNoneOut, without_all}
 use Rattle.rack_parts.proofs.Members.{first_in, later_in}
 
@@ -462,10 +460,6 @@ module _ {D : Type 0} (state : D → State) (config : Config) (images : List (Op
         rose_on x y z (inl less) le = inl (omega (arith, less, le))
         rose_on x y z (inr top) le = inr (omega (arith, top, le))
 
-        rose_late : (x y z : ℕ) → x ≤ y → Rose y z → Rose x z
-        rose_late x y z le (inl less) = inl (omega (arith, less, le))
-        rose_late x y z le (inr top) = inr top
-
         same_disks : (es : List D) → IsTogether r es → es ≡ disks
         same_disks es t =
             let home = same_Some t.home together.home (sym t.home_is ∙ together.home_is) in
@@ -482,7 +476,7 @@ module _ {D : Type 0} (state : D → State) (config : Config) (images : List (Op
         rose fault (inl e) =
             let same : fault.image ≡ r = same_Some fault.image r (sym fault.here ∙ ap (image_here images) e ∙ here) in
             let their : IsTogether r fault.disks = subst (λ (q : ImageRest D). IsTogether q fault.disks) same fault.together in
-            rose_late b.faults cur.faults new.faults so_far.counts (cause (subst (λ (es : List D). faulty_places state es ≢ []) (same_disks fault.disks their) fault.fault))
+            rose_since b.faults cur.faults new.faults so_far.counts (cause (subst (λ (es : List D). faulty_places state es ≢ []) (same_disks fault.disks their) fault.fault))
         rose fault (inr differs) =
             rose_on b.faults cur.faults new.faults
             (so_far.cause (record { volume = fault.volume; behind = omega (arith, fault.behind, differs); image = fault.image; here = fault.here; disks = fault.disks; together = fault.together; fault = fault.fault })) counts

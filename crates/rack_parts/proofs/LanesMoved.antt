@@ -1,14 +1,12 @@
 -- A row of passes changes at one place: a lane, or the pass of a home, goes out or comes back.
-use Rattle.rack_parts.proofs.Basics.{◌≡◌, ◌≢◌, ◌<◌, ℕ, List, length, Option, None, Some, option_and_then, ⊎_elim, sym, ap, subst, ◌∙◌, []}
-use Rattle.rack_parts.proofs.Basics.{refl, arith, ◌∷◌, ◌++◌, All, slice_get, slice_set, slice_index_or, AllPairs, option_map, cases_eq}
-use Rattle.rack_parts.proofs.Basics.{length-set, get_or-set_same, get_or-set_other, get_or_append_left, All-push, All-weaker, slice_get_read}
-use Rattle.rack_parts.proofs.Basics.{get_or_push, length_push, get_or_read, All-set, All-nil, All-cons, All-head, set-set, set-get_or}
-use Rattle.rack_parts.proofs.Basics.{slice_get_within, get_or_from_slice_get, slice_get-get_or, slice_get-map, Global, Vec, with_item}
-use Rattle.rack_parts.proofs.Terms.{get_set, get_other, IsRow, pool_pass, spindle_pass, held_here, list_of, image_here, KeepsPlace}
-use Rattle.rack_parts.proofs.Terms.{KeepsRows, HasPlace, PutsLane, held_parts, IsBarePlace, HasBack, PutsLanes, CanPutLanes, ChangesHome}
-use Rattle.rack_parts.proofs.Terms.{with_home, TakesPasses, IsSameRest, segments_of, segment_count, Rest, VolumePasses, PassOf, Spindle}
-use Rattle.rack_parts.proofs.Terms.{SpindleBase, Spun, PoolBase, Pool, FreeSegment, logger_of, pool_of, spindle_of, IsLane, taken_in, Lane}
-use Rattle.rack_parts.proofs.Terms.{State, ImageRest, Config, VolumeConf, shape_in}
+use Rattle.rack_parts.proofs.Basics.{◌≡◌, ◌≢◌, ◌<◌, ℕ, List, length, Option, None, Some, option_and_then, ⊎_elim, sym, ap, subst, ◌∙◌, [], refl, arith, ◌∷◌, ◌++◌, All, slice_get}
+use Rattle.rack_parts.proofs.Basics.{slice_set, slice_index_or, AllPairs, option_map, cases_eq, length-set, get_or-set_same, get_or-set_other, get_or_append_left, All-push}
+use Rattle.rack_parts.proofs.Basics.{All-weaker, slice_get_read, get_or_push, length_push, get_or_read, All-set, All-nil, All-cons, All-head, set-set, set-get_or, slice_get_within}
+use Rattle.rack_parts.proofs.Basics.{get_or_from_slice_get, slice_get-get_or, slice_get-map, Global, Vec, with_item}
+use Rattle.rack_parts.proofs.Terms.{get_set, get_other, IsRow, pool_pass, spindle_pass, held_here, list_of, image_here, KeepsPlace, KeepsRows, HasPlace, PutsLane, held_parts}
+use Rattle.rack_parts.proofs.Terms.{IsBarePlace, HasBack, PutsLanes, CanPutLanes, ChangesHome, with_home, TakesPasses, IsSameRest, segments_of, segment_count, Rest, VolumePasses}
+use Rattle.rack_parts.proofs.Terms.{PassOf, Spindle, SpindleBase, Spun, PoolBase, Pool, FreeSegment, logger_of, pool_of, spindle_of, IsLane, taken_in, Lane, State, ImageRest}
+use Rattle.rack_parts.proofs.Terms.{Config, VolumeConf, shape_in}
 use Rattle.rack_parts.proofs.Members.{all_last, all_front}
 
 -- ---- A row of passes is changed at one place

@@ -3,10 +3,9 @@ use Rattle.rack_parts.proofs.Basics.{◌≡◌, ◌≢◌, ◌<◌, ◌≤◌, �
 use Rattle.rack_parts.proofs.Basics.{Option, None, is_some, sym, ap, subst, ◌∙◌, arith, All, AllPairs, Contains, slice_index_or}
 use Rattle.rack_parts.proofs.Basics.{Global, Vec, cases_eq, cases_Bool, append-nil, length_push, map_push, All-nil, All-cons, All-head, All-push}
 use Rattle.rack_parts.proofs.Basics.{All-map, All-weaker, All-from_recursion, filter_more, All-contains, Contains-append_left, Contains-push, take-append-drop}
-use Rattle.rack_parts.proofs.Terms.{State, AreApart, Config, IsLane, logger_of, taken_in, HeldSegment, Lane, part_of}
-use Rattle.rack_parts.proofs.Terms.{image_here, pool_pass, spindle_pass, held_here, KeepsPlace, KeepsRows, IsBarePlace, HasBack, PutsLanes}
-use Rattle.rack_parts.proofs.Terms.{CanPutLanes, IsUsablePlace, IsNewLane, TakesPasses, TakesOneLane, IsSameRest, segments_of, loggers_out}
-use Rattle.rack_parts.proofs.Terms.{TakesLanes, ImageRest, Rest}
+use Rattle.rack_parts.proofs.Terms.{State, AreApart, Config, IsLane, logger_of, taken_in, HeldSegment, Lane, part_of, image_here, pool_pass, spindle_pass, held_here, KeepsPlace}
+use Rattle.rack_parts.proofs.Terms.{KeepsRows, IsBarePlace, HasBack, PutsLanes, CanPutLanes, IsUsablePlace, IsNewLane, TakesPasses, TakesOneLane, IsSameRest, segments_of}
+use Rattle.rack_parts.proofs.Terms.{loggers_out, TakesLanes, ImageRest, Rest}
 use Rattle.std.proofs.lemmas.List.Elements.{filter-append}
 use Rattle.std.proofs.lemmas.List.Kept.{AllPairs-cons}
 use Rattle.std.proofs.lemmas.List.Quantifiers.{all_pairs_push}

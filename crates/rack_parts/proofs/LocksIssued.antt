@@ -1,16 +1,13 @@
 -- Locks are issued: those of spindles, and those of pools, which get the free segments of an image.
-use Rattle.rack_parts.proofs.Basics.{◌≡◌, ⊎_elim, ◌<◌, ◌≤◌, ℕ, List, [], ◌∷◌, ◌++◌, sym, ap, subst, arith, ◌≢◌, ◌+◌, Option, None, Some}
-use Rattle.rack_parts.proofs.Basics.{refl, ◌∙◌, option_map, cases_lt, cases_eq, get_or_append_left, get_or_push, length-map}
-use Rattle.rack_parts.proofs.Basics.{length_push, length-set, get_or-set_same, get_or-set_other, get_or_past, All-push, length, slice_get}
-use Rattle.rack_parts.proofs.Basics.{slice_index_or, slice_set, Result, Ok, Err, OnErr, none-some, same_Some, slice_get-get_or}
-use Rattle.rack_parts.proofs.Basics.{slice_get_within, slice_get_past, slice_get-map, slice_get_read, Global, Vec}
-use Rattle.rack_parts.proofs.Terms.{lock_passes, AreNewPasses, lock_id, has_token, Spindle, SpindleBase, AreAccesses, IsInOrder, AreSettled}
-use Rattle.rack_parts.proofs.Terms.{AreSpindlesOf, IsSpindleLock, segment_here, Issued, State, Spun, holder, IsEmptyPool, IsSamePool}
-use Rattle.rack_parts.proofs.Terms.{StandsFor, item_at, note_at, room_of, base_of, volume_of, Pool, IsBlank, free_part, FreeSegment}
-use Rattle.rack_parts.proofs.Terms.{SegHead, Free, Owned, holder_said, left_by, FillsSlot, IsFilledPool, TakesFree, of_head, either_part}
-use Rattle.rack_parts.proofs.Terms.{item_part, IsBlankPart, IsSameBut, IsRefilled, CanFill, IsRestored, Restores, IsSupplied, CanIssue}
-use Rattle.rack_parts.proofs.Terms.{IsIssuedPool, Supplies, CanEnd, EndsInto, holder_by, Shape, Elsewhere, InPool, HeldBy, Said, ImageRest}
-use Rattle.rack_parts.proofs.Terms.{Config, VolumeConf, PoolBase, shape_in, shapes_of, TurnLock, PassOf}
+use Rattle.rack_parts.proofs.Basics.{◌≡◌, ⊎_elim, ◌<◌, ◌≤◌, ℕ, List, [], ◌∷◌, ◌++◌, sym, ap, subst, arith, ◌≢◌, ◌+◌, Option, None, Some, refl, ◌∙◌, option_map, cases_lt, cases_eq}
+use Rattle.rack_parts.proofs.Basics.{get_or_append_left, get_or_push, length-map, length_push, length-set, get_or-set_same, get_or-set_other, get_or_past, All-push, length}
+use Rattle.rack_parts.proofs.Basics.{slice_get, slice_index_or, slice_set, Result, Ok, Err, OnErr, none-some, same_Some, slice_get-get_or, slice_get_within, slice_get_past}
+use Rattle.rack_parts.proofs.Basics.{slice_get-map, slice_get_read, Global, Vec}
+use Rattle.rack_parts.proofs.Terms.{lock_passes, AreNewPasses, lock_id, has_token, Spindle, SpindleBase, AreAccesses, IsInOrder, AreSettled, AreSpindlesOf, IsSpindleLock}
+use Rattle.rack_parts.proofs.Terms.{segment_here, Issued, State, Spun, holder, IsEmptyPool, IsSamePool, StandsFor, item_at, note_at, room_of, base_of, volume_of, Pool, IsBlank}
+use Rattle.rack_parts.proofs.Terms.{free_part, FreeSegment, SegHead, Free, Owned, holder_said, left_by, FillsSlot, IsFilledPool, TakesFree, of_head, either_part, item_part}
+use Rattle.rack_parts.proofs.Terms.{IsBlankPart, IsSameBut, IsRefilled, CanFill, IsRestored, Restores, IsSupplied, CanIssue, IsIssuedPool, Supplies, CanEnd, EndsInto, holder_by}
+use Rattle.rack_parts.proofs.Terms.{Shape, Elsewhere, InPool, HeldBy, Said, ImageRest, Config, VolumeConf, PoolBase, shape_in, shapes_of, TurnLock, PassOf}
 use Rattle.seg_pool.specs.Pools.{blocks_of}
 use Rattle.rack_parts.proofs.Members.{a_value, element_at, get_front, get_last}
 use Rattle.rack_parts.proofs.PoolsEmptied.{holder_of, holder_at}

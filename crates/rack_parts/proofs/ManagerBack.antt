@@ -1,17 +1,14 @@
 -- A manager comes back to the rest of its rack.
-use Rattle.rack_parts.proofs.Basics.{◌≡◌, ◌⊎◌, inl, inr, ⊎_elim, ℕ, Bool, false, List, [], ◌∷◌, ◌++◌, map, sym, ap, ◌∙◌, subst, append_assoc, ◌≢◌}
-use Rattle.rack_parts.proofs.Basics.{◌<◌, ◌↔◌, length, Option, Some, None, refl, arith, Contains, All, AllPairs, IsSome, IfSome}
-use Rattle.rack_parts.proofs.Basics.{slice_get, slice_index_or, option_and_then, cases_eq, append-nil, map_push, get_or-map, length-map}
-use Rattle.rack_parts.proofs.Basics.{Contains-append_left, Contains-append_right, Contains-append_cases, Contains-push, Contains-push_cases}
-use Rattle.rack_parts.proofs.Basics.{All-contains, All-weaker, All-from_recursion, none-some, same_Some, get_or_from_slice_get, Vec, Global}
-use Rattle.rack_parts.proofs.Terms.{ManagerBase, away_with, image_here, segment_here, pool_pass, spindle_pass, held_here, indexes_here}
-use Rattle.rack_parts.proofs.Terms.{IsImageOut, IsPassAt, IsPart, IsImageRest, IsHolding, IsHeldHere, AreLocks, OnlyAccess, IsRestBut}
-use Rattle.rack_parts.proofs.Terms.{State, AreApart, Shape, Config, lock_id, pass_lock, pass_mine, TurnLock, PassOf, has_token}
-use Rattle.rack_parts.proofs.Terms.{Spun, Spindle, SpindleBase, holds, PoolBase, Pool, part_of, FreeSegment, IsLane, IsHeld, logger_of, AreAccesses}
-use Rattle.rack_parts.proofs.Terms.{pool_of, spindle_of, held_in, taken_in, indexes_in, HeldSegment, Lane, Shared, Keeps, IsReadyLane}
-use Rattle.rack_parts.proofs.Terms.{IsNamed, AreNamed, IsLaneShared, Manager, ManagerParts, shapes_of, IsOpenBase, HasPlace, IsBarePlace}
-use Rattle.rack_parts.proofs.Terms.{HasBack, KeepsPlace, CanPutLanes, IsHomeAway, PutsManager, held_parts, with_home, KeepsButHome}
-use Rattle.rack_parts.proofs.Terms.{home_here, ImageRest, Rest, Rooms}
+use Rattle.rack_parts.proofs.Basics.{◌≡◌, ◌⊎◌, inl, inr, ⊎_elim, ℕ, Bool, false, List, [], ◌∷◌, ◌++◌, map, sym, ap, ◌∙◌, subst, append_assoc, ◌≢◌, ◌<◌, ◌↔◌, length, Option, Some}
+use Rattle.rack_parts.proofs.Basics.{None, refl, arith, Contains, All, AllPairs, IsSome, IfSome, slice_get, slice_index_or, option_and_then, cases_eq, append-nil, map_push}
+use Rattle.rack_parts.proofs.Basics.{get_or-map, length-map, Contains-append_left, Contains-append_right, Contains-append_cases, Contains-push, Contains-push_cases, All-contains}
+use Rattle.rack_parts.proofs.Basics.{All-weaker, All-from_recursion, none-some, same_Some, get_or_from_slice_get, Vec, Global}
+use Rattle.rack_parts.proofs.Terms.{ManagerBase, away_with, image_here, segment_here, pool_pass, spindle_pass, held_here, indexes_here, IsImageOut, IsPassAt, IsPart, IsImageRest}
+use Rattle.rack_parts.proofs.Terms.{IsHolding, IsHeldHere, AreLocks, OnlyAccess, IsRestBut, State, AreApart, Shape, Config, lock_id, pass_lock, pass_mine, TurnLock, PassOf}
+use Rattle.rack_parts.proofs.Terms.{has_token, Spun, Spindle, SpindleBase, holds, PoolBase, Pool, part_of, FreeSegment, IsLane, IsHeld, logger_of, AreAccesses, pool_of, spindle_of}
+use Rattle.rack_parts.proofs.Terms.{held_in, taken_in, indexes_in, HeldSegment, Lane, Shared, Keeps, IsReadyLane, IsNamed, AreNamed, IsLaneShared, Manager, ManagerParts, shapes_of}
+use Rattle.rack_parts.proofs.Terms.{IsOpenBase, HasPlace, IsBarePlace, HasBack, KeepsPlace, CanPutLanes, IsHomeAway, PutsManager, held_parts, with_home, KeepsButHome, home_here}
+use Rattle.rack_parts.proofs.Terms.{ImageRest, Rest, Rooms}
 use Rattle.std.specs.Option.{option_to_list}
 use Rattle.std.proofs.lemmas.List.Elements.{recursion_from_All}
 use Rattle.wol_promise.specs.Ruled.{Noted}

@@ -1,9 +1,8 @@
 -- Members of lists, and lists side by side.
-use Rattle.rack_parts.proofs.Basics.{◌≡◌, ◌<◌, ◌≤◌, ◌+◌, ◌⊎◌, inl, inr, ⊎_elim, ℕ, zero, suc, List, [], ◌∷◌, ◌++◌, length, get_or, map}
-use Rattle.rack_parts.proofs.Basics.{Option, Some, None, is_some, refl, sym, ap, ◌∙◌, subst, arith, ◌-◌, reverse, Contains, All, IsSome}
-use Rattle.rack_parts.proofs.Basics.{slice_get, AllByRecursion, cases_eq, cases_lt, slice_get-get_or, get_or_at, get_or_append_left, get_or_past}
-use Rattle.rack_parts.proofs.Basics.{get_or_push, none-some, get_or-map, length-map, length_push, length-append, append-nil, append_assoc, map-append}
-use Rattle.rack_parts.proofs.Basics.{reverse-append, length-reverse, get_or-reverse, All-contains, Contains-push, Contains-get_or}
+use Rattle.rack_parts.proofs.Basics.{◌≡◌, ◌<◌, ◌≤◌, ◌+◌, ◌⊎◌, inl, inr, ⊎_elim, ℕ, zero, suc, List, [], ◌∷◌, ◌++◌, length, get_or, map, Option, Some, None, is_some, refl, sym, ap}
+use Rattle.rack_parts.proofs.Basics.{◌∙◌, subst, arith, ◌-◌, reverse, Contains, All, IsSome, slice_get, AllByRecursion, cases_eq, cases_lt, slice_get-get_or, get_or_at}
+use Rattle.rack_parts.proofs.Basics.{get_or_append_left, get_or_past, get_or_push, none-some, get_or-map, length-map, length_push, length-append, append-nil, append_assoc}
+use Rattle.rack_parts.proofs.Basics.{map-append, reverse-append, length-reverse, get_or-reverse, All-contains, Contains-push, Contains-get_or}
 
 -- ---- Members of lists, and options that are empty
 

@@ -1,21 +1,19 @@
 -- The owned segments of a volume go out, and all that it is opened of.
-use Rattle.rack_parts.proofs.Basics.{◌≡◌, ◌<◌, ◌≤◌, ◌+◌, ⊎_elim, inr, ℕ, Bool, true, false, List, [], ◌∷◌, ◌++◌, length, map, take, drop}
-use Rattle.rack_parts.proofs.Basics.{cond, Option, None, Some, refl, sym, ap, subst, ◌∙◌, arith, option_map, inl, is_some, ◌≢◌, All-map}
-use Rattle.rack_parts.proofs.Basics.{option_and_then, All, Contains, slice_get, slice_index_or, slice_set, IsSome, IfSome, All-weaker}
-use Rattle.rack_parts.proofs.Basics.{AllByRecursion, cases_eq, cases_Bool, false≢true, eq-eqb, eqb-true, append_assoc, map-append}
-use Rattle.rack_parts.proofs.Basics.{length_push, take-append-drop, take_all, get_or-set_same, get_or-set_other, length-set, append-nil}
-use Rattle.rack_parts.proofs.Basics.{length-append, take_more, All-nil, All-push, Contains-append_left, Contains-push, All-append, All-contains}
-use Rattle.rack_parts.proofs.Basics.{Contains-append_right, Contains-append_cases, same_Some, get_or_from_slice_get, slice_get_within, slice_get-map}
-use Rattle.rack_parts.proofs.Basics.{none-some, with_item, Global, Vec}
-use Rattle.rack_parts.proofs.Terms.{Shape, Spun, SegHead, Free, Owned, AreInOrder, IsBefore, place_of, OwnedPart, segment_here, image_here}
-use Rattle.rack_parts.proofs.Terms.{IsRow, spindle_pass, is_owned_by, count_owners, IsSameBut, TakesOwners, TakesOne, owned_in}
-use Rattle.rack_parts.proofs.Terms.{TakesOwnedIn, owned_total, KeepsImage, segment_in, in_image, IsOwnedPlace, IsTakenOf, TakesOwnedOf}
-use Rattle.rack_parts.proofs.Terms.{CanTakeOwnedOf, AreOwnedHere, TakesOwned, HasPlace, KeepsPlace, TakesLanes, CanTake, loggers_out}
-use Rattle.rack_parts.proofs.Terms.{ImageRest, Config, VolumeConf, shape_in, shapes_of, Said, Rest, State, Lane, VolumePasses}
+use Rattle.rack_parts.proofs.Basics.{◌≡◌, ◌<◌, ◌≤◌, ◌+◌, ⊎_elim, inr, ℕ, Bool, true, false, List, [], ◌∷◌, ◌++◌, length, map, take, drop, cond, Option, None, Some, refl, sym, ap}
+use Rattle.rack_parts.proofs.Basics.{subst, ◌∙◌, arith, option_map, inl, is_some, ◌≢◌, All-map, option_and_then, All, Contains, slice_get, slice_index_or, slice_set, IsSome}
+use Rattle.rack_parts.proofs.Basics.{IfSome, All-weaker, AllByRecursion, cases_eq, cases_Bool, false≢true, eq-eqb, eqb-true, append_assoc, map-append, length_push}
+use Rattle.rack_parts.proofs.Basics.{take-append-drop, take_all, get_or-set_same, get_or-set_other, length-set, append-nil, length-append, take_more, All-nil, All-push}
+use Rattle.rack_parts.proofs.Basics.{Contains-append_left, Contains-push, All-append, All-contains, Contains-append_right, Contains-append_cases, same_Some, get_or_from_slice_get}
+use Rattle.rack_parts.proofs.Basics.{slice_get_within, slice_get-map, none-some, with_item, Global, Vec}
+use Rattle.rack_parts.proofs.Terms.{Shape, Spun, SegHead, Free, Owned, AreInOrder, IsBefore, place_of, OwnedPart, segment_here, image_here, IsRow, spindle_pass, is_owned_by}
+use Rattle.rack_parts.proofs.Terms.{count_owners, IsSameBut, TakesOwners, TakesOne, owned_in, TakesOwnedIn, owned_total, KeepsImage, segment_in, in_image, IsOwnedPlace, IsTakenOf}
+use Rattle.rack_parts.proofs.Terms.{TakesOwnedOf, CanTakeOwnedOf, AreOwnedHere, TakesOwned, HasPlace, KeepsPlace, TakesLanes, CanTake, loggers_out, ImageRest, Config, VolumeConf}
+use Rattle.rack_parts.proofs.Terms.{shape_in, shapes_of, Said, Rest, State, Lane, VolumePasses}
 use Rattle.std.specs.Prelude.{sum_by}
 use Rattle.std.proofs.lemmas.List.Elements.{All-filter, recursion_from_All}
 use Rattle.std.proofs.lemmas.List.Sums.{sum_by-append, count_by_more_yes, count_by_more_no, sum_by_push}
 use Rattle.volume_images.specs.Accepted.{head_place}
+use Rattle.wol_promise.proofs.Lists.{all_joined}
 use Rattle.rack_parts.proofs.Members.{all_member, element_at, none_in, of_map}
 use Rattle.rack_parts.proofs.Returned.{keeps_image, same_but_then, keeps_image_then}
 use Rattle.rack_parts.proofs.LanesMoved.{all_both, place_then}
@@ -30,14 +28,10 @@ owner_of_true v (Owned o) is = ap (λ (n : ℕ). Owned n) (eqb-true o v is)
 pub true_of_owner : (v : ℕ) (h : SegHead) → h ≡ Owned v → is_owned_by v h ≡ true
 true_of_owner v h is = ap (is_owned_by v) is ∙ eq-eqb v v refl
 
-all_append : {X : Type 0} (P : X → Type 0) (xs ys : List X) → AllByRecursion P xs → AllByRecursion P ys → AllByRecursion P (xs ++ ys)
-all_append P [] ys a b = b
-all_append P (x ∷ xs) ys a b = (a.0, all_append P xs ys a.1 b)
-
 -- more places behind all of these
 in_order_append : (ps qs : List (ℕ × ℕ)) → AreInOrder ps → AreInOrder qs → AllByRecursion (λ p. AllByRecursion (IsBefore p) qs) ps → AreInOrder (ps ++ qs)
 in_order_append [] qs ordered later before = later
-in_order_append (p ∷ ps) qs ordered later before = (all_append (IsBefore p) ps qs ordered.0 before.0, in_order_append ps qs ordered.1 later before.1)
+in_order_append (p ∷ ps) qs ordered later before = (all_joined (IsBefore p) ps qs ordered.0 before.0, in_order_append ps qs ordered.1 later before.1)
 
 map_all : {X : Type 0} {Y : Type 0} (P : Y → Type 0) (f : X → Y) (xs : List X) → All (λ x. P (f x)) xs → AllByRecursion P (map f xs)
 map_all P f xs all = recursion_from_All P (map f xs) (All-map P f xs all)

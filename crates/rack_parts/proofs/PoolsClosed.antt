@@ -1,15 +1,12 @@
 -- Pools are closed one after the other.
-use Rattle.rack_parts.proofs.Basics.{◌≡◌, ◌≢◌, ◌<◌, ◌≤◌, ◌⊎◌, inl, inr, ⊎_elim, ℕ, zero, suc, true, List, [], ◌∷◌, length, get_or, set}
-use Rattle.rack_parts.proofs.Basics.{Option, Some, None, is_some, refl, sym, ap, ◌∙◌, subst, arith, ◌+◌, Contains, All, IsSome, slice_get}
-use Rattle.rack_parts.proofs.Basics.{option_and_then, cases_eq, cases_lt, nat_tests, get_or-set_same, MatchOption}
+use Rattle.rack_parts.proofs.Basics.{◌≡◌, ◌≢◌, ◌<◌, ◌≤◌, ◌⊎◌, inl, inr, ⊎_elim, ℕ, zero, suc, true, List, [], ◌∷◌, length, get_or, set, Option, Some, None, is_some, refl, sym, ap}
+use Rattle.rack_parts.proofs.Basics.{◌∙◌, subst, arith, ◌+◌, Contains, All, IsSome, slice_get, option_and_then, cases_eq, cases_lt, nat_tests, get_or-set_same, MatchOption}
 use Rattle.rack_parts.proofs.Basics.{get_or-set_other, All-contains, none-some, same_Some, slice_get_past, slice_get_within}
-use Rattle.rack_parts.proofs.Terms.{State, Shape, Entry, own, lock_id, pass_lock, pass_number, pass_mine, AreWhole, TurnLock, PassOf, Spun}
-use Rattle.rack_parts.proofs.Terms.{PoolUse, Took, Gave, holder, pool_used, pool_after, MayUsePool, ArePoolUses, is_in_pool, is_held_by, IsPartOf}
-use Rattle.rack_parts.proofs.Terms.{uses_of, holds, StandsFor, holders_after, item_at, IsEmptyPool, Holder, Elsewhere, InPool, HeldBy, pool_in}
-use Rattle.rack_parts.proofs.Terms.{PoolBase, Pool, IsBlank, free_part, FreeSegment, image_here, segment_here, pool_pass, held_here}
-use Rattle.rack_parts.proofs.Terms.{indexes_here, IsHolding, IsHeldHere, HasPlaces, EmptiesInto, IsRefilled, IsBlankPart}
-use Rattle.rack_parts.proofs.Terms.{IsSameBut, KeepsImage, item_part, either_part, CanClosePool, IsClosedPool, CanPutAllHeld}
-use Rattle.rack_parts.proofs.Terms.{PutsAllHeld, ArePoolsTaken, RefillsAll, IsRefilledAll, KeepsLogger, KeepsSpindles, ImageRest, Rest}
+use Rattle.rack_parts.proofs.Terms.{State, Shape, Entry, own, lock_id, pass_lock, pass_number, pass_mine, AreWhole, TurnLock, PassOf, Spun, PoolUse, Took, Gave, holder, pool_used}
+use Rattle.rack_parts.proofs.Terms.{pool_after, MayUsePool, ArePoolUses, is_in_pool, is_held_by, IsPartOf, uses_of, holds, StandsFor, holders_after, item_at, IsEmptyPool, Holder}
+use Rattle.rack_parts.proofs.Terms.{Elsewhere, InPool, HeldBy, pool_in, PoolBase, Pool, IsBlank, free_part, FreeSegment, image_here, segment_here, pool_pass, held_here}
+use Rattle.rack_parts.proofs.Terms.{indexes_here, IsHolding, IsHeldHere, HasPlaces, EmptiesInto, IsRefilled, IsBlankPart, IsSameBut, KeepsImage, item_part, either_part}
+use Rattle.rack_parts.proofs.Terms.{CanClosePool, IsClosedPool, CanPutAllHeld, PutsAllHeld, ArePoolsTaken, RefillsAll, IsRefilledAll, KeepsLogger, KeepsSpindles, ImageRest, Rest}
 use Rattle.rack_parts.proofs.Terms.{IsPassOf, IsFree, VolumePasses, entries_made}
 use Rattle.turn_lock.specs.LockIds.{LockId}
 use Rattle.seg_pool.proofs.Holding.{holder_own, is_holder}

@@ -3,11 +3,10 @@ use Rattle.rack_parts.proofs.Basics.{◌≡◌, ◌≢◌, ◌<◌, ◌+◌, ℕ
 use Rattle.rack_parts.proofs.Basics.{ap, ◌∙◌, arith, ◌⊎◌, ⊎_elim, inl, inr, sym, subst, true, false, ◌≤◌, ◌++◌, slice_index_or, IsSome}
 use Rattle.rack_parts.proofs.Basics.{IfSome, MatchOption, slice_set, All, slice_get, none-some, same_Some, slice_get_within, cases_eq}
 use Rattle.rack_parts.proofs.Basics.{false≢true, length-set, get_or-set_same, get_or-set_other, nil_from_length, length_push, length-map, All-head, All-tail}
-use Rattle.rack_parts.proofs.Terms.{holder, is_in_pool, item_in, note_in, holder_in, item_at, note_at, base_of, ChangesOnly, IsSamePool}
-use Rattle.rack_parts.proofs.Terms.{IsEmptyPool, StandsFor, holders_after, Holder, Elsewhere, InPool, HeldBy, Pool, free_part}
-use Rattle.rack_parts.proofs.Terms.{IsBlank, FreeSegment, segment_here, IsFilled, HasPlaces, IsSameBut, EmptiesInto, item_part, either_part}
-use Rattle.rack_parts.proofs.Terms.{IsBlankPart, IsRefilled, CanEnd, IsEndedInto, EndsInto, ImageRest, State, Entry, lock_id, pass_mine}
-use Rattle.rack_parts.proofs.Terms.{IsPassOf, IsFree, AreNewPasses, AreWhole, TurnLock, PassOf, PoolBase, Issued}
+use Rattle.rack_parts.proofs.Terms.{holder, is_in_pool, item_in, note_in, holder_in, item_at, note_at, base_of, ChangesOnly, IsSamePool, IsEmptyPool, StandsFor, holders_after}
+use Rattle.rack_parts.proofs.Terms.{Holder, Elsewhere, InPool, HeldBy, Pool, free_part, IsBlank, FreeSegment, segment_here, IsFilled, HasPlaces, IsSameBut, EmptiesInto, item_part}
+use Rattle.rack_parts.proofs.Terms.{either_part, IsBlankPart, IsRefilled, CanEnd, IsEndedInto, EndsInto, ImageRest, State, Entry, lock_id, pass_mine, IsPassOf, IsFree}
+use Rattle.rack_parts.proofs.Terms.{AreNewPasses, AreWhole, TurnLock, PassOf, PoolBase, Issued}
 use Rattle.std.specs.Prelude.{sum_by}
 use Rattle.std.proofs.lemmas.List.{ext_get_or}
 use Rattle.std.proofs.lemmas.List.Sums.{sum_by-set}

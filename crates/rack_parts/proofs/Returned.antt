@@ -1,14 +1,12 @@
 -- What a volume was opened with comes back, and the segments of its lanes go to their places.
-use Rattle.rack_parts.proofs.Basics.{◌≡◌, ◌≢◌, ◌<◌, ⊎_elim, ℕ, List, [], ◌∷◌, ◌++◌, length, Option, None, Some, refl, sym, ap, arith, subst}
-use Rattle.rack_parts.proofs.Basics.{◌∙◌, All, IsSome, IfSome, slice_set, Global, Vec, cases_eq, false≢true, length-set, get_or-set_same}
-use Rattle.rack_parts.proofs.Basics.{get_or-set_other, All-nil, All-push, All-weaker, ◌+◌, map, option_and_then, ◌≤◌, Contains, slice_get}
-use Rattle.rack_parts.proofs.Basics.{slice_index_or, AllByRecursion, with_item, map-append, length_push, All-from_recursion, All-contains}
+use Rattle.rack_parts.proofs.Basics.{◌≡◌, ◌≢◌, ◌<◌, ⊎_elim, ℕ, List, [], ◌∷◌, ◌++◌, length, Option, None, Some, refl, sym, ap, arith, subst, ◌∙◌, All, IsSome, IfSome, slice_set}
+use Rattle.rack_parts.proofs.Basics.{Global, Vec, cases_eq, false≢true, length-set, get_or-set_same, get_or-set_other, All-nil, All-push, All-weaker, ◌+◌, map, option_and_then}
+use Rattle.rack_parts.proofs.Basics.{◌≤◌, Contains, slice_get, slice_index_or, AllByRecursion, with_item, map-append, length_push, All-from_recursion, All-contains}
 use Rattle.rack_parts.proofs.Basics.{Contains-append_left, Contains-push, cases_lt, slice_get_past}
-use Rattle.rack_parts.proofs.Terms.{State, PassOf, Spindle, SpindleBase, Spun, logger_of, Lane, ManagerParts, place_of, OwnedPart, image_here}
-use Rattle.rack_parts.proofs.Terms.{IsFilled, IsBarePlace, PutsLanes, CanPutLanes, ChangesHome, with_home, PutsManager, IsSameBut, KeepsImage}
-use Rattle.rack_parts.proofs.Terms.{segment_in, IsOwedPlace, PutsOwned, CanPutOwned, ImageRest, Rest, AreApart, get_other, get_set, HasPlace}
-use Rattle.rack_parts.proofs.Terms.{list_of, segment_here, pool_pass, spindle_pass, held_here, indexes_here, IsImageOut, KeepsRows, in_image}
-use Rattle.rack_parts.proofs.Terms.{CanPutHeld, PutsHeld, PopsHeld, VolumePasses, CanPutAllHeld, PutsAllHeld}
+use Rattle.rack_parts.proofs.Terms.{State, PassOf, Spindle, SpindleBase, Spun, logger_of, Lane, ManagerParts, place_of, OwnedPart, image_here, IsFilled, IsBarePlace, PutsLanes}
+use Rattle.rack_parts.proofs.Terms.{CanPutLanes, ChangesHome, with_home, PutsManager, IsSameBut, KeepsImage, segment_in, IsOwedPlace, PutsOwned, CanPutOwned, ImageRest, Rest}
+use Rattle.rack_parts.proofs.Terms.{AreApart, get_other, get_set, HasPlace, list_of, segment_here, pool_pass, spindle_pass, held_here, indexes_here, IsImageOut, KeepsRows}
+use Rattle.rack_parts.proofs.Terms.{in_image, CanPutHeld, PutsHeld, PopsHeld, VolumePasses, CanPutAllHeld, PutsAllHeld}
 use Rattle.rack_parts.proofs.LanesMoved.{all_both, pairs_last, pairs_front, rows_then, place_then, row_is, held_found, row_set, at_changed}
 use Rattle.rack_parts.proofs.Members.{here_within, all_last, all_front, segment_in_image, a_value, all_member, in_map, none_in}
 use Rattle.std.proofs.lemmas.List.Elements.{recursion_from_All}

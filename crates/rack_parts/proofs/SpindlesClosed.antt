@@ -1,14 +1,11 @@
 -- Spindles are closed one after the other: their passes are gathered, and stand for all accesses.
-use Rattle.rack_parts.proofs.Basics.{◌≡◌, ◌<◌, ◌≤◌, ◌+◌, ⊎_elim, ℕ, List, [], ◌∷◌, ◌++◌, length, get_or, set, Option, Some, None}
-use Rattle.rack_parts.proofs.Basics.{sym, ap, ◌∙◌, subst, arith, ◌≢◌, ◌==◌, Bool, true, false, cond, map, refl, ◌-◌, slice_get}
-use Rattle.rack_parts.proofs.Basics.{option_and_then, slice_index_or, All, Contains, vec_capacity, cases_eq, cases_lt, get_or-set_same}
-use Rattle.rack_parts.proofs.Basics.{get_or-set_other, get_or_push, get_or_default, get_or_append_left, length_push, length-set, Contains-push}
-use Rattle.rack_parts.proofs.Basics.{slice_get-get_or, slice_get_past, same_Some, slice_get_within, AllByRecursion, All-push, All-contains}
-use Rattle.rack_parts.proofs.Basics.{Contains-append_left, Contains-get_or, nat_tests}
-use Rattle.rack_parts.proofs.Terms.{IsPassOf, IsFree, pass_number, pass_mine, IsPartOf, AreWhole, TurnLock, PassOf, Spindle, SpindleBase, lock_id}
-use Rattle.rack_parts.proofs.Terms.{PoolBase, Pool, FreeSegment, list_of, IsPassAt, IsRow, pool_in, spindle_in, IsPoolTaken, ArePoolsTaken}
-use Rattle.rack_parts.proofs.Terms.{AreSpindlesTaken, IsAccessBut, entries_made, CanCloseSpindles, HasSpindlePasses, StandsClosed}
-use Rattle.rack_parts.proofs.Terms.{KeepsOtherRows, VolumePasses, Entry, own, has_token, AreAccesses, SpindleView, Rest, spindle_pass}
+use Rattle.rack_parts.proofs.Basics.{◌≡◌, ◌<◌, ◌≤◌, ◌+◌, ⊎_elim, ℕ, List, [], ◌∷◌, ◌++◌, length, get_or, set, Option, Some, None, sym, ap, ◌∙◌, subst, arith, ◌≢◌, ◌==◌, Bool, true}
+use Rattle.rack_parts.proofs.Basics.{false, cond, map, refl, ◌-◌, slice_get, option_and_then, slice_index_or, All, Contains, vec_capacity, cases_eq, cases_lt, get_or-set_same}
+use Rattle.rack_parts.proofs.Basics.{get_or-set_other, get_or_push, get_or_default, get_or_append_left, length_push, length-set, Contains-push, slice_get-get_or, slice_get_past}
+use Rattle.rack_parts.proofs.Basics.{same_Some, slice_get_within, AllByRecursion, All-push, All-contains, Contains-append_left, Contains-get_or, nat_tests}
+use Rattle.rack_parts.proofs.Terms.{IsPassOf, IsFree, pass_number, pass_mine, IsPartOf, AreWhole, TurnLock, PassOf, Spindle, SpindleBase, lock_id, PoolBase, Pool, FreeSegment}
+use Rattle.rack_parts.proofs.Terms.{list_of, IsPassAt, IsRow, pool_in, spindle_in, IsPoolTaken, ArePoolsTaken, AreSpindlesTaken, IsAccessBut, entries_made, CanCloseSpindles}
+use Rattle.rack_parts.proofs.Terms.{HasSpindlePasses, StandsClosed, KeepsOtherRows, VolumePasses, Entry, own, has_token, AreAccesses, SpindleView, Rest, spindle_pass}
 use Rattle.spin_model.specs.Spindles.{StandsFor}
 use Rattle.rack_parts.proofs.Members.{is_member, of_map, all_of_map, all_member, get_left, get_last}
 

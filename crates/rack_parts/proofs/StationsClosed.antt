@@ -1,13 +1,11 @@
 -- Stations are closed one after the other.
-use Rattle.rack_parts.proofs.Basics.{◌≡◌, ◌≢◌, ◌≤◌, ◌+◌, inl, inr, ⊎_elim, ℕ, List, [], ◌∷◌, ◌++◌, length, map, Some, refl, sym, ap, ◌∙◌, subst, arith, ◌<◌}
-use Rattle.rack_parts.proofs.Basics.{◌-◌, Bool, drop, get_or, Option, None, Contains, All, slice_get, option_map, vec_capacity, Vec, Global}
-use Rattle.rack_parts.proofs.Basics.{length-map, length_push, map_push, append-nil, length-drop, get_or-drop, drop_more}
-use Rattle.rack_parts.proofs.Basics.{All-contains, Contains-append_left, Contains-append_right, slice_get-get_or, slice_get-map}
+use Rattle.rack_parts.proofs.Basics.{◌≡◌, ◌≢◌, ◌≤◌, ◌+◌, inl, inr, ⊎_elim, ℕ, List, [], ◌∷◌, ◌++◌, length, map, Some, refl, sym, ap, ◌∙◌, subst, arith, ◌<◌, ◌-◌, Bool, drop}
+use Rattle.rack_parts.proofs.Basics.{get_or, Option, None, Contains, All, slice_get, option_map, vec_capacity, Vec, Global, length-map, length_push, map_push, append-nil}
+use Rattle.rack_parts.proofs.Basics.{length-drop, get_or-drop, drop_more, All-contains, Contains-append_left, Contains-append_right, slice_get-get_or, slice_get-map}
 use Rattle.rack_parts.proofs.Basics.{slice_get_within, get_or_from_slice_get, AllZip}
-use Rattle.rack_parts.proofs.Terms.{State, Config, Entry, AreWhole, PassOf, logger_of, Shared, StandsCoded, Keeps, notes_of, ManagerBase}
-use Rattle.rack_parts.proofs.Terms.{Manager, ManagerParts, Station, shapes_of, away_with, IsRestBut, AreRooms, image_here, base_of_station}
-use Rattle.rack_parts.proofs.Terms.{IsOpenBase, IsStation, HasBack, CanPutLanes, IsHomeAway, PutsManager, CanCloseStations, ClosesStation}
-use Rattle.rack_parts.proofs.Terms.{Closing, IsClosing, KeepsButHome, ClosesStations, Rest, Rooms, ImageRest}
+use Rattle.rack_parts.proofs.Terms.{State, Config, Entry, AreWhole, PassOf, logger_of, Shared, StandsCoded, Keeps, notes_of, ManagerBase, Manager, ManagerParts, Station, shapes_of}
+use Rattle.rack_parts.proofs.Terms.{away_with, IsRestBut, AreRooms, image_here, base_of_station, IsOpenBase, IsStation, HasBack, CanPutLanes, IsHomeAway, PutsManager}
+use Rattle.rack_parts.proofs.Terms.{CanCloseStations, ClosesStation, Closing, IsClosing, KeepsButHome, ClosesStations, Rest, Rooms, ImageRest}
 use Rattle.wol_model.specs.Index.{AreRising}
 use Rattle.rack_parts.proofs.ManagerBack.{lane_came, lanes_with, kept_all}
 use Rattle.rack_parts.proofs.Rising.{rising_at, rising_from}

@@ -1,5 +1,4 @@
-use Rattle.rack_parts.proofs.Basics.{◌≡◌, ◌++◌, List, [], length, map, reverse, Option, Some, refl, sym, ap, ◌∙◌, arith, append-nil}
-use Rattle.rack_parts.proofs.Basics.{reverse-reverse, nil_from_length}
+use Rattle.rack_parts.proofs.Basics.{◌≡◌, ◌++◌, List, [], length, map, reverse, Option, Some, refl, sym, ap, ◌∙◌, arith, append-nil, reverse-reverse, nil_from_length}
 use Rattle.rack_parts.proofs.Terms.{Spun}
 use Rattle.rack_parts.proofs.Members.{laid_next}
 use Rattle.rack_parts.proofs.heads_said.lay_out.Goals as goal

@@ -1,5 +1,4 @@
-use Rattle.rack_parts.proofs.Basics.{◌<◌, Option, None, length, sym, subst, ◌∙◌, arith, IsSome, slice_index_or, get_or_default}
-use Rattle.rack_parts.proofs.Basics.{slice_get-get_or}
+use Rattle.rack_parts.proofs.Basics.{◌<◌, Option, None, length, sym, subst, ◌∙◌, arith, IsSome, slice_index_or, get_or_default, slice_get-get_or}
 use Rattle.rack_parts.proofs.Terms.{Free, Spun}
 use Rattle.rack_parts.proofs.LocksIssued.{filled_none, filled_next, filled_all}
 use Rattle.rack_parts.proofs.pools.fill_pool.Goals as goal

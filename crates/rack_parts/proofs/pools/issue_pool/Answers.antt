@@ -1,5 +1,4 @@
-use Rattle.rack_parts.proofs.Basics.{◌≡◌, ℕ, length, sym, ap, subst, ◌∙◌, arith}
-use Rattle.rack_parts.proofs.Basics.{same_Some}
+use Rattle.rack_parts.proofs.Basics.{◌≡◌, ℕ, length, sym, ap, subst, ◌∙◌, arith, same_Some}
 use Rattle.rack_parts.proofs.Terms.{Shape, shape_in, CanIssue, Restores}
 use Rattle.rack_parts.proofs.LocksIssued.{unchanged, on_err, issued_one, shape_read}
 use Rattle.rack_parts.proofs.pools.issue_pool.Goals as goal

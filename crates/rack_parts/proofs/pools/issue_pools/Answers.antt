@@ -1,5 +1,4 @@
-use Rattle.rack_parts.proofs.Basics.{◌<◌, ◌+◌, List, None, Option, length, refl, sym, ap, subst, ◌∙◌, arith, slice_index_or, length-map}
-use Rattle.rack_parts.proofs.Basics.{length-set}
+use Rattle.rack_parts.proofs.Basics.{◌<◌, ◌+◌, List, None, Option, length, refl, sym, ap, subst, ◌∙◌, arith, slice_index_or, length-map, length-set}
 use Rattle.rack_parts.proofs.Terms.{lock_id, shape_in, CanEnd, EndsInto, ImageRest}
 use Rattle.rack_parts.proofs.LocksIssued.{AreIssuedTo, issued_none, may_issue, issued_next, may_end, all_restored, kept_at, supplies_all}
 use Rattle.rack_parts.proofs.pools.issue_pools.Goals as goal

@@ -1,5 +1,4 @@
-use Rattle.rack_parts.proofs.Basics.{◌≡◌, ℕ, suc, length, Some, None, ap, ◌∙◌, subst, arith, slice_get, option_map}
-use Rattle.rack_parts.proofs.Basics.{get_or_from_slice_get, slice_get-map}
+use Rattle.rack_parts.proofs.Basics.{◌≡◌, ℕ, suc, length, Some, None, ap, ◌∙◌, subst, arith, slice_get, option_map, get_or_from_slice_get, slice_get-map}
 use Rattle.rack_parts.proofs.Terms.{shape_in, image_here}
 use Rattle.rack_parts.proofs.Members.{element_at, front_all, pop_front, is_there}
 use Rattle.rack_parts.proofs.GivenBack.{IsBackFrom, none_so_far, one_more_back, all_are_back}

@@ -1,5 +1,4 @@
-use Rattle.rack_parts.proofs.Basics.{◌≡◌, [], Some, length, is_some, refl, sym, ap, ◌∙◌, arith, slice_get, slice_index_or, append-nil}
-use Rattle.rack_parts.proofs.Basics.{length-append, slice_get-get_or}
+use Rattle.rack_parts.proofs.Basics.{◌≡◌, [], Some, length, is_some, refl, sym, ap, ◌∙◌, arith, slice_get, slice_index_or, append-nil, length-append, slice_get-get_or}
 use Rattle.rack_parts.proofs.Terms.{shape_of, Free}
 use Rattle.rack_parts.proofs.OwnedTaken.{owner_of_true, taken_none, still_here, fewer_taken, taken_next, taken_all}
 use Rattle.rack_parts.proofs.rack.ImageRest.take_owned.Goals as goal

@@ -1,8 +1,6 @@
-use Rattle.rack_parts.proofs.Basics.{◌≡◌, ◌<◌, ◌≤◌, ◌+◌, ◌-◌, ℕ, List, [], ◌∷◌, ◌++◌, length, reverse, get_or, Some, refl, sym, ap}
-use Rattle.rack_parts.proofs.Basics.{◌∙◌, subst, arith, All, slice_get, vec_capacity, length_push, get_or-reverse, length-reverse}
-use Rattle.rack_parts.proofs.Basics.{same_Some, slice_get-get_or, slice_get_within}
-use Rattle.rack_parts.proofs.Terms.{TurnLock, PassOf, SpindleView, Spindle, SpindleBase, CanCloseSpindles, HasSpindlePasses, StandsClosed}
-use Rattle.rack_parts.proofs.Terms.{KeepsOtherRows, spindle_pass}
+use Rattle.rack_parts.proofs.Basics.{◌≡◌, ◌<◌, ◌≤◌, ◌+◌, ◌-◌, ℕ, List, [], ◌∷◌, ◌++◌, length, reverse, get_or, Some, refl, sym, ap, ◌∙◌, subst, arith, All, slice_get, vec_capacity}
+use Rattle.rack_parts.proofs.Basics.{length_push, get_or-reverse, length-reverse, same_Some, slice_get-get_or, slice_get_within}
+use Rattle.rack_parts.proofs.Terms.{TurnLock, PassOf, SpindleView, Spindle, SpindleBase, CanCloseSpindles, HasSpindlePasses, StandsClosed, KeepsOtherRows, spindle_pass}
 use Rattle.rack_parts.proofs.Members.{all_front, all_last, front_all, pop_front}
 use Rattle.rack_parts.proofs.SpindlesClosed.{same_count, next_passes, others_may, rows_same, rows_then, made_in, one_more_closed}
 use Rattle.rack_parts.proofs.rack.Rest.close_spindles.Goals as goal

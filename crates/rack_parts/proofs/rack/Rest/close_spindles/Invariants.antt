@@ -1,7 +1,6 @@
 use Rattle.rack_parts.proofs.Basics.{◌≡◌, ◌<◌, ◌≤◌, ◌+◌, ◌-◌, ℕ, length, get_or, vec_len, Some, slice_get}
 use Rattle.rack_parts.proofs.Members.{IsFrontOf}
-use Rattle.rack_parts.proofs.Terms.{TurnLock, PassOf, SpindleView, Spindle, SpindleBase, CanCloseSpindles, StandsClosed, KeepsOtherRows}
-use Rattle.rack_parts.proofs.Terms.{spindle_pass}
+use Rattle.rack_parts.proofs.Terms.{TurnLock, PassOf, SpindleView, Spindle, SpindleBase, CanCloseSpindles, StandsClosed, KeepsOtherRows, spindle_pass}
 use Rattle.rack_parts.proofs.rack.Rest.close_spindles.Given as goal
 
 -- the spindles behind those that are left are closed, the last first

@@ -1,5 +1,4 @@
-use Rattle.rack_parts.proofs.Basics.{◌≡◌, ◌≤◌, List, [], ◌∷◌, ◌++◌, length, map, sym, ap, ◌∙◌, subst, arith, All, vec_capacity, All-cons}
-use Rattle.rack_parts.proofs.Basics.{All-nil}
+use Rattle.rack_parts.proofs.Basics.{◌≡◌, ◌≤◌, List, [], ◌∷◌, ◌++◌, length, map, sym, ap, ◌∙◌, subst, arith, All, vec_capacity, All-cons, All-nil}
 use Rattle.rack_parts.proofs.Terms.{AreWhole, IsPassOf, IsFree, PassOf, logger_of, Lane, ManagerBase, Manager, Station, shapes_of, AreRooms}
 use Rattle.rack_parts.proofs.Terms.{IsStation, base_of_station, CanPutLanes}
 use Rattle.rack_parts.proofs.Members.{all_last}

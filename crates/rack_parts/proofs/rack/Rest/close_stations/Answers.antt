@@ -1,5 +1,4 @@
-use Rattle.rack_parts.proofs.Basics.{◌≡◌, ◌+◌, ℕ, List, [], length, drop, map, sym, subst, arith, drop_all}
-use Rattle.rack_parts.proofs.Basics.{nil_from_length}
+use Rattle.rack_parts.proofs.Basics.{◌≡◌, ◌+◌, ℕ, List, [], length, drop, map, sym, subst, arith, drop_all, nil_from_length}
 use Rattle.rack_parts.proofs.Terms.{Station, IsRest, base_of_station, CanCloseStations, ClosesStations}
 use Rattle.rack_parts.proofs.Members.{front_all, pop_front}
 use Rattle.rack_parts.proofs.StationsClosed.{none_closed, one_closed, apart_behind, next_drop}

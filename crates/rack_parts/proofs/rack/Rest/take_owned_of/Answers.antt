@@ -1,5 +1,4 @@
-use Rattle.rack_parts.proofs.Basics.{◌≡◌, ◌<◌, ◌++◌, ℕ, List, None, Option, is_some, length, sym, ap, subst, ◌∙◌, arith, IfSome, with_item}
-use Rattle.rack_parts.proofs.Basics.{get_or_read}
+use Rattle.rack_parts.proofs.Basics.{◌≡◌, ◌<◌, ◌++◌, ℕ, List, None, Option, is_some, length, sym, ap, subst, ◌∙◌, arith, IfSome, with_item, get_or_read}
 use Rattle.rack_parts.proofs.Terms.{shape_of, SegHead, OwnedPart, owned_in, TakesOwnedOf, CanTakeOwnedOf, Said, ImageRest}
 use Rattle.rack_parts.proofs.OwnedTaken.{Gave, shape_at, took_of}
 use Rattle.rack_parts.proofs.rack.Rest.take_owned_of.Goals as goal
