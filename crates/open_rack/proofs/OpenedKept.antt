@@ -1,6 +1,6 @@
 -- Where nothing was done with a rack, each volume that was opened keeps its records.
 use Rattle.std.proofs.Common.{◌≡◌, ◌≢◌, ◌<◌, ℕ, zero, suc, Bool, false, cond, List, [], ◌∷◌, length, map, Option, None, Some, refl, sym, ap, subst, ◌∙◌, arith}
-use Rattle.std.specs.Prelude.{IfSome, IsTrue, All, not, slice_get, slice_index_or}
+use Rattle.std.specs.Prelude.{IfSome, IsTrue, All, Contains, not, slice_get, slice_index_or}
 use Rattle.std.proofs.lemmas.Bool.{eq-eqb}
 use Rattle.std.proofs.lemmas.Option.{slice_get-get_or}
 use Rattle.wol_disk.specs.Disk.{State}
@@ -86,8 +86,13 @@ module _ {D : Type 0} (state : D → State) (config : Config) (bay : BayState) (
       left_as_opened t y began recovers = record {
         was = was_opened t began;
         records = λ images left. subst (λ (es : List Entry). AreListedOf (last_look base.look (notes_of es)).listed (extents_of s.id (segments_out config out images))) none
-            (recovers.listed images left (ap (λ (es : List Entry). flight_of (entries_of (notes_of es))) none));
+            (recovers.listed images left calm);
+        distinct = recovers.distinct;
+        on_loggers = λ images left e has. recovers.on_loggers images left calm e (subst (λ (es : List Entry). Contains (last_look base.look (notes_of es)).listed e) (sym none) has);
       }
+        where
+          calm : flight_of (entries_of (notes_of ends.entries)) ≡ None
+          calm = ap (λ (es : List Entry). flight_of (entries_of (notes_of es))) none
 
   -- ---- A volume without a fault
 

@@ -1,17 +1,22 @@
 -- The first volume that isn't open, and what a bay is left with where not all volumes could be
 -- opened.
-use Rattle.std.specs.Prelude.{⊤, ◌≡◌, ◌⊎◌, ◌<◌, ◌+◌, ℕ, Bool, List, [], ◌∷◌, length, Option, None, Some, IfSome, slice_get, IsTrue}
+use Rattle.std.specs.Prelude.{⊤, ◌≡◌, ◌⊎◌, ◌<◌, ◌+◌, ℕ, Bool, List, [], ◌∷◌, length, Option, None, Some, IfSome, slice_get, Contains, IsTrue}
 use Rattle.wol_disk.specs.Disk.{Rose, State}
+use Rattle.wol_model.specs.Extents.{AreDistinct, covers_of}
+use Rattle.wol_model.specs.Images.{Images}
+use Rattle.wol_model.specs.Index.{Listed}
+use Rattle.wol_model.specs.Recovered.{extents_of}
 use Rattle.wol_bay.specs.Bay.{BayState, Told}
 use Rattle.wol_config.specs.declared.config.Config.{Config}
 use Rattle.wol_config.specs.declared.config.VolumeConf.{VolumeConf}
 use Rattle.manager.specs.declared.part.Part.{Part}
 use Rattle.manager_recovery.specs.declared.refusal.OpenRefusal.TheVariants as refusal
 use Rattle.volume_images.specs.Left.{IsTold}
+use Rattle.volume_images.specs.Volumes.{AreLeft, shapes_of}
 use Rattle.report.specs.declared.fault.Fault.{Fault}
 use Rattle.report.specs.declared.fault.Fault.TheVariants.{Volume}
 use Rattle.troubles.specs.Troubles.{trouble_of}
-use Rattle.rack.specs.Closes.{CameBackFaulty, is_kept_home}
+use Rattle.rack.specs.Closes.{CameBackFaulty, IsOnLogger, is_kept_home, segments_out}
 use Rattle.rack.specs.Opens.{KeepsAllSound, LeavesAll, RefusesVolume, WereThere, KeepsViews}
 use Rattle.rack.specs.Owners.{WasOpened}
 use Rattle.rack.specs.Racks.{NamesVolumes}
@@ -42,11 +47,17 @@ IsOfCall (fault.Refused (refusal.Twins first_volume first second_volume second))
 IsOfCall (fault.Refused refusal.NoMemory) = ⊥
 
 -- Volume v was opened of the images that are out, and in these the records that are left of it are
--- those with which it was opened.
+-- those with which it was opened: no two of them have one version, and each lies on the logger of
+-- its lane.
 pub record LeavesAsOpened {D : Type 0} (config : Config) (out : List (Option (ImageRest D))) (v : ℕ)
     (entry left : Told) : Type 0 where
   pub was : WasOpened config (is_kept_home out) entry v
   pub records : LeavesRecordsIn config out v was.base.look.listed left
+  pub distinct : (images : Images) → AreLeft config left images
+      → AreDistinct (covers_of (extents_of v (segments_out config out images)))
+  pub on_loggers : (images : Images) → AreLeft config left images → (e : Listed)
+      → Contains was.base.look.listed e
+      → IsOnLogger (shapes_of config) images v was.base.view e
 
 -- the image of volume v is out, and so it is told of the volume
 abbrev pub LeavesOpened : {D : Type 0} → (tells : Bool) → Config → List (Option (ImageRest D))
