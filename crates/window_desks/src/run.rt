@@ -1,6 +1,7 @@
 // Serving the desks of a run, one after another.
-ghost use Rattle.std.specs.Prelude.{◌≡◌, ◌≤◌, ◌<◌, ◌+◌, ℕ, length, slice_index_or};
+ghost use Rattle.std.specs.Prelude.{◌≡◌, ◌≢◌, ◌≤◌, ◌<◌, ◌+◌, ℕ, length, slice_index_or};
 ghost use Rattle.window_desks.specs.Desks.{AreReady, AreServed, AreButPayloads};
+ghost use Rattle.window_desks.specs.declared.desk.Desk.{Desk};
 
 use crate::desk::Desk;
 use crate::serve::serve_desk;
@@ -15,7 +16,13 @@ use wol_io::Gate;
 // The first desk and this one exchange their payloads.
 fn lend<D: Disk>(run: &mut [Desk<D>], to: usize)
     requires { to < length run.old }
-    ensures { AreButPayloads run.old run.new }
+    ensures but { AreButPayloads run.old run.new }
+    ensures first { (d : Desk _) → (slice_index_or run.new 0 d).payload
+        ≡ (slice_index_or run.old to d).payload }
+    ensures this { (d : Desk _) → (slice_index_or run.new to d).payload
+        ≡ (slice_index_or run.old 0 d).payload }
+    ensures others { (k : ℕ) (d : Desk _) → 0 < k → k ≢ to
+        → slice_index_or run.new k d ≡ slice_index_or run.old k d }
 {
     if 0 < to {
         let (front, back) = run.split_at_mut(to);

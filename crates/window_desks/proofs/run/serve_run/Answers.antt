@@ -14,7 +14,7 @@ serve_desk-requires g c =
     let within : k < length c.loop-k.run = (let a = c.loop-k.auto.run in omega arith) in
     let r : IsReadyDesk l c.args.shared.now (get_or c.args.run.now k d) = subst (λ (m : ManagerLock g.row.D.Denot). IsReadyDesk m c.args.shared.now (get_or c.args.run.now k d)) (sym c.index-locks-start.is)
     (c.requires.ready k l d test) in
-    record { ready = ready_but l c.args.shared.now (get_or c.args.run.now k d) (get_or c.loop-k.run k d) (get_or c.lend.new.run k d) (c.loop-k.invariant.rest k d (omega arith) test) (c.lend.ensures k d within) r }
+    record { ready = ready_but l c.args.shared.now (get_or c.args.run.now k d) (get_or c.loop-k.run k d) (get_or c.lend.new.run k d) (c.loop-k.invariant.rest k d (omega arith) test) (c.lend.ensures.but k d within) r }
 
 pub loop-k-preserved : goal.loop-k-preserved
 loop-k-preserved g c =
@@ -27,6 +27,6 @@ loop-k-preserved g c =
     let served : (d : Desk g.row.D.Denot) → HasServed tells (get_or qs k d).requests.items (get_or qs k d) f = λ d.
     subst (λ (x : Desk g.row.D.Denot). HasServed tells x.requests.items x f) (get_or_default qs k c.index-run-k.result d (omega (arith, within, lent_long))) c.serve_desk.ensures in
     record {
-      served = served_more tells is ps qs c.lend-in-loop-k.new.run k f long lent_long (length-set qs k f) within c.loop-k.invariant.rest c.lend.ensures c.lend-in-loop-k.ensures c.loop-k.invariant.served served;
-      rest = rest_more tells is ps qs c.lend-in-loop-k.new.run k f long lent_long (length-set qs k f) within c.loop-k.invariant.rest c.lend.ensures c.lend-in-loop-k.ensures;
+      served = served_more tells is ps qs c.lend-in-loop-k.new.run k f long lent_long (length-set qs k f) within c.loop-k.invariant.rest c.lend.ensures.but c.lend-in-loop-k.ensures.but c.loop-k.invariant.served served;
+      rest = rest_more tells is ps qs c.lend-in-loop-k.new.run k f long lent_long (length-set qs k f) within c.loop-k.invariant.rest c.lend.ensures.but c.lend-in-loop-k.ensures.but;
     }
