@@ -1,6 +1,7 @@
 -- Desks that differ in their payloads alone.
-use Rattle.std.proofs.Common.{◌≡◌, ◌≤◌, ◌<◌, ◌+◌, ◌≢◌, ℕ, Bool, List, length, slice_index_or, sym, subst, ap, ◌∙◌, arith}
+use Rattle.std.proofs.Common.{◌≡◌, ◌≤◌, ◌<◌, ◌+◌, ◌≢◌, ℕ, Bool, List, [], ◌∷◌, length, slice_index_or, inl, inr, sym, subst, ap, ◌∙◌, arith}
 use Rattle.std.specs.Prelude.{slice_set}
+use Rattle.std.proofs.lemmas.Bool.{cases_eq}
 use Rattle.std.proofs.lemmas.List.{get_or-set_other}
 use Rattle.logger.specs.declared.shared.Shared.{Shared}
 use Rattle.request_turns.specs.Helped.{ManagerLock}
@@ -9,6 +10,12 @@ use Rattle.window_desks.specs.Desks.{IsReadyDesk, IsButPayload, AreButPayloads}
 use Rattle.window_desks.specs.Served.{HasServed}
 use Rattle.window_desks.specs.declared.desk.Desk.{Desk}
 use Rattle.window_desks.proofs.OneMore.{each_next}
+use Rattle.window_desks.proofs.Serving.{up_to_none, all_served}
+
+-- one of them
+pub some_of : {A : Type 0} (xs : List A) → 0 < length xs → A
+some_of [] less = absurd (omega (arith, less))
+some_of (x ∷ xs) less = x
 
 module _ {D : Type 0} where
   but_both : (d e f : Desk D) → IsButPayload d e → IsButPayload e f → IsButPayload d f
@@ -52,3 +59,20 @@ module _ {D : Type 0} where
           let was : IsButPayload (slice_index_or is j d) (slice_index_or ps j d) = rest j d (omega (arith, later)) lt in
           let between : IsButPayload (slice_index_or ps j d) (slice_index_or qs j d) = lent j d (omega (arith, lt, long)) in
           but_both (slice_index_or is j d) (slice_index_or qs j d) (slice_index_or rs j d) (but_both (slice_index_or is j d) (slice_index_or ps j d) (slice_index_or qs j d) was between) now
+
+    -- a desk of a run that has no requests is served as it is
+    module _ (is ps : List (Desk D)) (k : ℕ) (l : ManagerLock D) (shared : Shared D) (within : k < length is) (ready : (d : Desk D) → IsReadyDesk l shared (slice_index_or is k d))
+        (rest : (j : ℕ) (d : Desk D) → k ≤ j → j < length is → IsButPayload (slice_index_or is j d) (slice_index_or ps j d)) (idle : (d : Desk D) → length (slice_index_or ps k d).requests.items ≡ 0) where
+      served_here : (d : Desk D) → HasServed tells (slice_index_or is k d).requests.items (slice_index_or is k d) (slice_index_or ps k d)
+      served_here d =
+          let a = slice_index_or is k d in let e = slice_index_or ps k d in
+          let b : IsButPayload a e = rest k d (omega arith) within in
+          let few : length a.requests.items ≤ 0 = (let none = idle d in let same = ap (λ (x : Desk D). length x.requests.items) b in omega (arith, none, same)) in
+          after_but a.requests.items a a e b (all_served tells 0 a a (ready d).empty few (up_to_none tells 0 a (omega arith) (ready d).pass.free))
+
+      pub served_idle : ((j : ℕ) (d : Desk D) → j < k → HasServed tells (slice_index_or is j d).requests.items (slice_index_or is j d) (slice_index_or ps j d))
+          → (j : ℕ) (d : Desk D) → j < k + 1 → HasServed tells (slice_index_or is j d).requests.items (slice_index_or is j d) (slice_index_or ps j d)
+      served_idle before j d lt = elim (cases_eq j k) [
+        | inl same ↦ subst (λ (i : ℕ). HasServed tells (slice_index_or is i d).requests.items (slice_index_or is i d) (slice_index_or ps i d)) (sym same) (served_here d)
+        | inr other ↦ before j d (omega (arith, lt, other))
+      ]

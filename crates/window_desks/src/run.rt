@@ -44,8 +44,11 @@ pub fn serve_run<D: Disk, G: Gate, R: Wait>(
     requires ready { AreReady locks.now shared.now start run.old }
     ensures { AreServed D.tells run.old run.new }
 {
-    // (each desk works in the first one's payload, which is warm)
+    // (each desk that has requests works in the first one's payload, which is warm)
     for k in 0..run.len() {
+        if run[k].requests.is_empty() {
+            continue;
+        }
         lend(run, k);
         serve_desk(rt, &locks[start + k], shared, &mut run[k], gate);
         lend(run, k);
