@@ -10,7 +10,7 @@ use Rattle.window_desks.proofs.run.serve_run.Goals as goal
 
 pub serve_desk-requires : goal.serve_desk-requires
 serve_desk-requires g c =
-    let k = c.loop-k.k in let d = c.index-run-k.result in let l = c.index-locks-start.result in
+    let k = c.loop-k.k in let d = c.index-run-k-in-loop-k.result in let l = c.index-locks-start.result in
     let test : k < length c.args.run.now = c.loop-k-test.true in
     let within : k < length c.loop-k.run = (let a = c.loop-k.auto.run in omega arith) in
     let r : IsReadyDesk l c.args.shared.now (get_or c.args.run.now k d) = subst (λ (m : ManagerLock g.row.D.Denot). IsReadyDesk m c.args.shared.now (get_or c.args.run.now k d)) (sym c.index-locks-start.is)
@@ -23,9 +23,10 @@ loop-k-preserved-then-is_empty g c =
     let test : k < length is = c.loop-k-test.true in
     let within : k < length ps = (let a = c.loop-k.auto.run in omega arith) in
     let there : 0 < length c.args.locks.now = (let w = c.requires.within in omega (arith, w, test)) in
-    let none : length c.index-run-k.result.requests.items ≡ 0 = (let z = eqb-true _ 0 (sym c.is_empty.ensures ∙ c.if-is_empty.true) in let o = c.index-run-k.result.requests.ok.0 in omega (arith, z, o)) in
+    let e = get_or ps k c.index-run-k.result in
+    let none : length e.requests.items ≡ 0 = sym e.requests.ok.0 ∙ eqb-true _ 0 (sym c.is_empty.ensures ∙ c.if-is_empty.true) in
     let idle : (d : Desk g.row.D.Denot) → length (get_or ps k d).requests.items ≡ 0 = λ d.
-    subst (λ (x : Desk g.row.D.Denot). length x.requests.items ≡ 0) (c.index-run-k.is ∙ get_or_default ps k c.index-run-k.result d within) none in
+    subst (λ (x : Desk g.row.D.Denot). length x.requests.items ≡ 0) (get_or_default ps k c.index-run-k.result d within) none in
     let l = some_of c.args.locks.now there in
     record {
       served = served_idle g.D.Disk.tells is ps k (get_or c.args.locks.now (c.args.start + k) l) c.args.shared.now test (λ d. c.requires.ready k l d test) c.loop-k.invariant.rest idle c.loop-k.invariant.served;
