@@ -19,15 +19,13 @@ use wol_disk::{Block, Disk, Failed};
 // Of how many blocks a copy is made, so that one write has them and the gate behind them.
 const COPIED: usize = 16;
 
-// A copy of the blocks, with a gate behind them.
-fn with_gate(from: &[Block]) -> [Block; COPIED + 1]
+// Copies the blocks into the array, with a gate behind them.
+fn copy_with_gate(from: &[Block], both: &mut [Block; COPIED + 1])
     requires { length from.now ≤ 16 }
-    ensures { (rest : List Block) × (result ≡ from.now ++ (gate_block ∷ rest)) }
+    ensures { (rest : List Block) × (both.new ≡ from.now ++ (gate_block ∷ rest)) }
 {
-    let mut both = [[0; 512]; COPIED + 1];
     write_gate(&mut both[from.len()]);
     both[..from.len()].copy_from_slice(from);
-    both
 }
 
 // Writes blocks behind the place of their head, and a gate behind them unless the segment ends there: few blocks and
@@ -54,7 +52,8 @@ fn lay_blocks<D: Disk>(
     let next = at as u64 + 1 + from.len() as u64;
     let gates = if next < part.blocks() { 1 } else { 0 };
     if from.len() <= COPIED {
-        let both = with_gate(from);
+        let mut both = [[0; 512]; COPIED + 1];
+        copy_with_gate(from, &mut both);
         return part.write(token, at as u64 + 1, &both[..from.len() + gates]);
     }
     let mut behind = [[0; 512]];

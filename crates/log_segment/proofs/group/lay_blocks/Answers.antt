@@ -23,7 +23,7 @@ returns-then-from-le-COPIED-clause-ok g c front tail place is ends =
     let ys = take m (gate_block ∷ []) in
     let behind = behind_take gate_block m next (length (front ++ tail)) refl one none in
     let laid = laid_behind front tail from ys at place ends (omega (arith, size, c.requires.fits)) behind in
-    let piece = gated_front from c.with_gate-both.result c.with_gate-both.ensures.0 gate_block m c.with_gate-both.ensures.1 few in
+    let piece = gated_front from c.copy_with_gate.new.both c.copy_with_gate.ensures.0 gate_block m c.copy_with_gate.ensures.1 few in
     on_ok_weaker c.write.result (λ w. (laid.0, laid.1, reads_put (at + 1) _ (front ++ tail) _ _ is w ∙ ap (λ l. Some (put (at + 1) l (front ++ tail))) piece ∙ ap Some (sym (put_both from ys (front ++ tail) (at + 1) next refl) ∙ laid.2))) c.write.ensures.ok
 
 pub returns-then-from-le-COPIED-clause-any_moment : goal.returns-then-from-le-COPIED-clause-any_moment
@@ -31,7 +31,7 @@ returns-then-from-le-COPIED-clause-any_moment g c =
     let at = c.args.at in
     let sound = g.met.D.Disk.sound in
     let begun = started (sound (disk_of c.args.part.now)) (λ d i. (d, i, refl)) in
-    write_goes_on c.write.result (at + 1) (take (length c.args.from.now + c.if-next-blocks.gates) c.with_gate-both.result) begun (sound (disk_of c.args.part.now)) c.write.ensures.ok c.write.ensures.err c.write.ensures.passes
+    write_goes_on c.write.result (at + 1) (take (length c.args.from.now + c.if-next-blocks.gates) c.copy_with_gate.new.both) begun (sound (disk_of c.args.part.now)) c.write.ensures.ok c.write.ensures.err c.write.ensures.passes
     (λ d e P i b. (P.0, P.1, front_kept (at + 1) (at + 1) _ d e (omega arith) b ∙ P.2))
 
 pub returns-in_err-write-clause-any_moment : goal.returns-in_err-write-clause-any_moment
