@@ -26,18 +26,19 @@ const LANES: usize = 16;
 /// It stands for what the volume was at its opening and for a list of entries: what was written and read since.
 /// After a disk call failed it is down: it tells the part, and answers nothing more until the volume is opened again.
 pub struct Manager<D: Disk> {
+    // (what each window's turns read comes first, side by side)
     pub(crate) id: u32,
-    pub(crate) home: Spun<D>,
     pub(crate) spindle: PassOf<Spindle, SpindleBase>,
-    pub(crate) lanes: Vec<Lane<D>>,
-    pub(crate) index: Index,
-    pub(crate) next: u64,
-    pub(crate) most: u32,
+    pub(crate) down: Option<Part>,
     pub(crate) home_up: bool,
     pub(crate) ups: ArrayVec<bool, 16>,
+    pub(crate) lanes: Vec<Lane<D>>,
+    pub(crate) index: Index,
+    pub(crate) home: Spun<D>,
+    pub(crate) next: u64,
+    pub(crate) most: u32,
     // what each logger answered of its room in the last write
     pub(crate) rooms: ArrayVec<Room, 16>,
-    pub(crate) down: Option<Part>,
 }
 
 /// What is left of a manager: home, its pass of home's spindle, and its lanes in view order.

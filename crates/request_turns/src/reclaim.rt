@@ -72,7 +72,9 @@ fn give_up<R: Wait, D: Disk>(
     }
 }
 
-// Puts home what is due, and then gives up what may go, until nothing of either is left within reach.
+// Puts home what is due, and then gives up what may go, until nothing of either is left within reach. It stands apart so that
+// the many turns that find no record stay short.
+#[inline(never)]
 fn reclaim_all<R: Wait, D: Disk>(
     rt: &R,
     m: &mut Manager<D>,

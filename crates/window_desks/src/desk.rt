@@ -12,13 +12,13 @@ pub struct Desk<D: Disk> {
     /// The number of the volume.
     pub id: u32,
     pub worker: Pass<Manager<D>>,
+    /// What was reclaimed in this window.
+    pub tally: Tally,
+    /// The refusal of this window's reclaim turn.
+    pub fault: Option<StepFault>,
     // the requests of its volume in this window, in order
     pub(crate) requests: Vec<Request>,
     pub(crate) outcomes: Vec<Outcome>,
     pub(crate) payload: Payload,
     pub(crate) fetch: Fetch,
-    /// What was reclaimed in this window.
-    pub tally: Tally,
-    /// The refusal of this window's reclaim turn.
-    pub fault: Option<StepFault>,
 }
