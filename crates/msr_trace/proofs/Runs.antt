@@ -4,6 +4,7 @@ use Rattle.std.specs.Prelude.{All}
 use Rattle.std.specs.List.{AllByRecursion}
 use Rattle.std.proofs.lemmas.List.Elements.{All-from_recursion}
 use Rattle.std.proofs.lemmas.Bool.{cases_Bool, eqb-true, eqb-false, ne_eqb}
+use Rattle.std.proofs.Math.Nat.{mod-eq_of_lt}
 use Rattle.std.proofs.lemmas.Nat.{mod_below}
 use Rattle.wol_model.specs.Trace.{TraceLine, blocks_touched, cut_run, pieces}
 use Rattle.wol_model.specs.declared.trace.Piece.{Piece}
@@ -64,3 +65,7 @@ line_run home most touched l some none = elim (cases_Bool (l.size == 0)) [
   | inl zero_size ↦ let e : touched ≡ 0 = none (eqb-true l.size 0 zero_size) in rw (zero_size, e) refl
   | inr other ↦ let e : touched ≡ blocks_touched l = some (omega (arith, eqb-false l.size 0 other)) in rw (other, e) refl
 ]
+
+-- a block within the volume is its own remainder
+pub same_within : (block home : ℕ) → block < home → block ≡ block % home
+same_within block home h = sym (mod-eq_of_lt h)

@@ -43,10 +43,19 @@ impl Line {
         Pieces {
             home,
             most,
-            first: self.offset / 512 % home,
+            first: within(self.offset / 512, home),
             count: blocks_touched(self.offset, self.size),
         }
     }
+}
+
+// The block of a volume that stands for a block of a disk. Most are the same, and a division takes as long as all else here.
+#[tactic(auto, using(crate::proofs::Runs::same_within))]
+fn within(block: u64, home: u64) -> u64
+    requires { 0 < home }
+    ensures { result ≡ block % home }
+{
+    if block < home { block } else { block % home }
 }
 
 // How many blocks the bytes touch, none where there is no byte.
