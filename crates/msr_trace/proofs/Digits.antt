@@ -99,3 +99,20 @@ run_word n count digits run behind short small front back h =
 
 pub none_small : (i : ℕ) → 0 < 10 ^ i
 none_small i = let one : 10 ^ 0 ≤ 10 ^ i = pow-le-pow_right {n = 10} (lit< tt) {i = 0} {j = i} (omega arith) in omega (arith, one)
+
+-- one digit more, where some are left
+pub digit_small : (n d left : ℕ) → n < 10 ^ (19 - left) → d < 10 → 0 < left → left < 20 → n * 10 + d < 10 ^ (19 - (left - 1))
+digit_small n d left small digit some short =
+    let e : 19 - left + 1 ≡ 19 - (left - 1) = omega (arith, some, short) in
+    let more : n * 10 + d < 10 ^ (19 - left + 1) = rw (pow_more 10 (19 - left)) (omega (arith, small, digit)) in
+    rw e at more
+
+pub digit_word : (n d left : ℕ) → n < 10 ^ (19 - left) → d < 10 → 0 < left → left < 20 → n * 10 + d < 2 ^ 64
+digit_word n d left small digit some short =
+    small_end (n * 10 + d) (19 - (left - 1)) (digit_small n d left small digit some short) (omega arith)
+
+-- the digit at a place goes on with what those before it write
+pub digit_at : (n i : ℕ) (field : List ℕ) → i < length field → digit_value (get_or field i 0) < 10 → value_after n (drop i field) ≡ value_after (n * 10 + digit_value (get_or field i 0)) (drop (i + 1) field)
+digit_at n i field h k =
+    let digit : is_digit (get_or field i 0) 10 ≡ true = lt-ltb (digit_value (get_or field i 0)) 10 k in
+    at_drop_more (value_after n) field i 0 h ∙ rw digit refl

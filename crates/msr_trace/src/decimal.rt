@@ -6,6 +6,7 @@ ghost use Rattle.std.specs.Prelude.{◌≡◌, ◌+◌, ◌-◌, ◌*◌, ◌^�
 ghost use Rattle.std.specs.Str.Parse.{digits_value_after};
 
 /// The number that one to 20 digits from 0 to 9 write, if it is below 2^64. Leading zeros are allowed.
+#[inline(always)]
 #[tactic(auto, unfolding(crate::specs::Numbers::number_of))]
 pub fn number(field: &[u8]) -> Option<u64>
     ensures { result ≡ number_of field.now }
@@ -21,6 +22,7 @@ pub fn number(field: &[u8]) -> Option<u64>
 }
 
 // The number that fewer than 20 digits write, which is always below 2^64.
+#[inline(always)]
 fn few(field: &[u8]) -> Option<u64>
     requires { length field.now < 20 }
     ensures { result ≡ value_after 0 field.now }
@@ -39,22 +41,42 @@ fn few(field: &[u8]) -> Option<u64>
 }
 
 // The number that digits write behind those of a number, of which there are fewer than 20 in all.
+#[inline(always)]
 fn few_after(value: u64, digits: &[u8]) -> Option<u64>
     requires short { length digits.now < 20 }
     requires small { value < 10 ^ (19 - length digits.now) }
     ensures { result ≡ value_after value digits.now }
 {
     if digits.len() < 4 {
-        return digit_by_digit(value, digits);
+        return last_after(value, digits);
     }
     let (run, behind) = digits.split_at(4);
     if !are_digits(run) {
         return None;
     }
-    digit_by_digit(with_run(value, run), behind)
+    last_after(with_run(value, run), behind)
 }
 
-// The number that any number of digits write behind those of a number, if it is below 2^64.
+// The same, one digit after another.
+#[inline(always)]
+fn last_after(value: u64, digits: &[u8]) -> Option<u64>
+    requires short { length digits.now < 20 }
+    requires small { value < 10 ^ (19 - length digits.now) }
+    ensures { result ≡ value_after value digits.now }
+{
+    let mut number = value;
+    for byte in digits {
+        if !byte.is_ascii_digit() {
+            return None;
+        }
+        number = number * 10 + value_of(*byte);
+    }
+    Some(number)
+}
+
+// The number that any number of digits write behind those of a number, if it is below 2^64. Few numbers have 20 digits.
+#[cold]
+#[inline(never)]
 fn digit_by_digit(value: u64, digits: &[u8]) -> Option<u64>
     ensures { result ≡ value_after value digits.now }
 {
