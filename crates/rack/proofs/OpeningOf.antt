@@ -1,12 +1,12 @@
 -- The opening of a volume is one of the images as they read.
-use Rattle.rack.proofs.Basics.{◌≡◌, ℕ, ◌^◌, ◌<◌, length, Some, option_map, sym, ap, ◌∙◌, subst, arith, not, cond, List, ◌∷◌, Option, None, slice_get, is_some, All}
+use Rattle.rack.proofs.Basics.{◌≡◌, ℕ, ◌^◌, ◌<◌, length, Some, option_map, sym, ap, ◌∙◌, subst, arith, not, List, ◌∷◌, Option, None, slice_get, is_some, All}
 use Rattle.rack.proofs.Basics.{Contains, length-map, same_Some, slice_get-map, get_or_from_slice_get, none-some, slice_get-get_or}
 use Rattle.rack.proofs.Terms.{Shape, owned_block, IsValid, Config, VolumeConf, shape_in, shapes_of, images_read, Block, State, reads, Images, image_of, image_size, home_of}
 use Rattle.rack.proofs.Terms.{segment_of, one_segment_head, Image, Told, BayState, at_name, shape_of, segment_head, SegHead, Free, Owned, HasView, state_of, AreInOrder, place_of, read_of}
 use Rattle.rack.proofs.Terms.{owned_of, all_owned, Opening, OwnedPart, said_at, SaysOf, AreStillCut, IsOpeningRack, images_taken, IsOwnedIn, IsOpeningOf, TakesOpening, IsOwnedPlace}
 use Rattle.rack.proofs.Terms.{image_here, Said, ImageRest, Rack, Rest}
 use Rattle.rack_closing.proofs.Places.{some_at}
-use Rattle.rack_closing.proofs.LeftImage.{accepted_same, volume_at}
+use Rattle.rack_closing.proofs.LeftImage.{accepted_gone, accepted_same, volume_at}
 use Rattle.rack_closing.proofs.LoggersNamed.{image_is_read}
 use Rattle.rack_parts.proofs.Members.{all_member, of_map, in_map, map_map, here_within}
 use Rattle.rack.proofs.Openable.{IsInImage, image_id, first_block, owned_in_image}
@@ -71,9 +71,7 @@ module _ {D : Type 0} (state : D → State) (config : Config) (valid : IsValid c
   pub image_out : (k : ℕ) (image : List Block) → image_of images k ≡ Some image → (x : ImageRest D) × (image_here r.rest.images.items k ≡ Some x)
   image_out k image is = some_or (image_here r.rest.images.items k) (λ e.
       let none : image_of images k ≡ None
-      = accepted_at 0 (λ (n : ℕ). not (is_some (image_here r.rest.images.items n))) (images_read config t) k
-      ∙ ap (λ (n : ℕ). cond (not (is_some (image_here r.rest.images.items n))) None (image_of (images_read config t) k)) (omega arith)
-      ∙ ap (λ (x : Option (ImageRest D)). cond (not (is_some x)) None (image_of (images_read config t) k)) e in
+      = accepted_gone (λ (n : ℕ). not (is_some (image_here r.rest.images.items n))) (images_read config t) k (ap (λ (x : Option (ImageRest D)). not (is_some x)) e) in
       none-some image (sym none ∙ is))
 
   -- each has its volume's length
