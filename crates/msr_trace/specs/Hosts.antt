@@ -1,5 +1,5 @@
 -- Where the bytes of a host's name are, and what tells most names apart.
-use Rattle.std.specs.Prelude.{⊤, ◌≤◌, ◌+◌, ◌-◌, ◌*◌, ◌%◌, ℕ, List, length, slice_index, take}
+use Rattle.std.specs.Prelude.{⊤, ◌≤◌, ◌+◌, ◌-◌, ◌*◌, ℕ, List, length, slice_index, take}
 use Rattle.msr_trace.specs.declared.host.Bytes.{Bytes}
 use Rattle.msr_trace.specs.declared.host.Bytes.TheVariants as held
 
@@ -12,6 +12,6 @@ abbrev pub IsHeld : Bytes → Type 0
 IsHeld (held.Short len bytes) = len ≤ 23
 IsHeld (held.Long bytes) = ⊤
 
--- the length, modulo 256, and the last byte
+-- the last two bytes; a lone byte counts twice
 abbrev pub mark_of : List ℕ → ℕ
-mark_of bytes = length bytes % 256 * 256 + slice_index bytes (length bytes - 1)
+mark_of bytes = slice_index bytes (length bytes - 2) * 256 + slice_index bytes (length bytes - 1)

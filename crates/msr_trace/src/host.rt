@@ -49,7 +49,7 @@ fn shorten(bytes: &[u8]) -> Bytes
     }
 }
 
-// The length, modulo 256, and the last byte: names of hosts differ at their ends more often than in front.
+// The last two bytes: names of hosts differ at their ends more often than in front.
 fn mark_of(bytes: &[u8]) -> u16
     ensures { result ≡ mark_of bytes.now }
 {
@@ -57,7 +57,8 @@ fn mark_of(bytes: &[u8]) -> u16
         return 0;
     }
     let last = bytes[bytes.len() - 1];
-    (bytes.len() % 256) as u16 * 256 + u16::from(last)
+    let before = bytes[bytes.len().saturating_sub(2)];
+    u16::from(before) * 256 + u16::from(last)
 }
 
 impl HostName {
