@@ -3,6 +3,7 @@
 # no volume, on a memory file system; windows of 64 and of 2 lines with 1 and 4 workers, there and synced on a disk; and digests of 4 volumes beside
 # those of one. The works of a group run by turns, each on images just formatted, and the best of RUNS runs counts of each. The limit is what a plain
 # program does in the same place in the same run: `dd` with a synced block of 4 KiB a line, by as many processes as workers; `wc -l`; `sha256sum`.
+# A last line says how the speed of a processor changed meanwhile.
 # usage: bench/ratios.sh [LINES] [SYNCED]    lines in memory (1000000 if left out) and on the disk (4000); the program is build/wol, as `make build`
 # leaves it. RUNS is 3 if left out. DISK is the folder on the disk (/var/tmp). Tables in the form of bench/FIGURES.md are printed
 set -eu
@@ -15,6 +16,7 @@ trap 'rm -r "$memory" "$disk"' EXIT
 python3 - "$program" "$memory" "$disk" "${1:-1000000}" "${2:-4000}" "${RUNS:-3}" <<'PYTHON'
 import os, resource, subprocess, sys, time
 program, memory, disk, lines, synced, runs = sys.argv[1:4] + [int(it) for it in sys.argv[4:]]
+speeds = []  # what the same work of a processor took before each round
 
 
 def configure(volumes):
@@ -60,10 +62,15 @@ def write_and_sync(count, workers):
         os.remove("limit%d" % k)
 
 
+def hash_zeros():
+    subprocess.run("head -c 100000000 /dev/zero | sha256sum >zeros.txt", shell=True, check=True)
+
+
 def best(works, limits):
     """The least of what each work spends, and each limit, of some runs by turns."""
     spent, least = {}, {}
     for _ in range(runs):
+        speeds.append(spend(hash_zeros)[1])
         for name, words in works.items():
             subprocess.run([program, "format"], stdout=subprocess.DEVNULL, check=True)
             got = spend(lambda: run([program, *words]))
@@ -117,4 +124,5 @@ for volumes in 1, 4:
     beside = "" if one is None else "%.2f times the bytes a second of one" % (volumes * one[2] / spent[""][2])
     row("memory, check of %d volume%s of 51 MB" % (volumes, "s" if volumes > 1 else ""), spent[""], least[""], beside)
     one = spent[""]
+print("\nBefore each round of runs `sha256sum` of 100 MB took %.2f to %.2f CPU seconds: a processor's speed." % (min(speeds), max(speeds)))
 PYTHON
