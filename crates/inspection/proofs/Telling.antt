@@ -1,6 +1,6 @@
 -- What was told of a rack's volumes is told of its bay's.
 use Rattle.std.proofs.Common.{◌≡◌, ◌≢◌, ◌⊎◌, inl, inr, ◌<◌, ◌≤◌, ℕ, Bool, List, [], ◌∷◌, ◌++◌, length, Option, None, Some, Result, Ok, Err, refl, sym, ap, subst, ◌∙◌, arith}
-use Rattle.std.specs.Prelude.{slice_get, IfSome, IsTrue}
+use Rattle.std.specs.Prelude.{Contains, slice_get, IfSome, IsTrue}
 use Rattle.std.specs.List.{AllByRecursion}
 use Rattle.std.proofs.lemmas.List.{length-map}
 use Rattle.std.proofs.lemmas.Option.{same_Some}
@@ -12,6 +12,7 @@ use Rattle.wol_bay.specs.Bay.{BayState, Told}
 use Rattle.wol_config.specs.declared.config.Config.{Config}
 use Rattle.wol_config.specs.declared.config.VolumeConf.{VolumeConf}
 use Rattle.wol_config.specs.Documents.{names_of}
+use Rattle.wol_model.specs.Extents.{AreDistinct, covers_of}
 use Rattle.wol_model.specs.Images.{recovered_from}
 use Rattle.wol_model.proofs.Overlay.{after_none}
 use Rattle.wol_model.specs.History.{Operation, flight_from, flight_of}
@@ -43,7 +44,7 @@ use Rattle.request_turns.proofs.Gaining.{down_breaks}
 use Rattle.request_turns.proofs.Noting.{notes_at}
 use Rattle.volume_images.specs.Left.{IsTold}
 use Rattle.volume_images.specs.Volumes.{shape_in, shapes_of}
-use Rattle.rack.specs.Closes.{AreListedOf, HasFaultyPart, IsClosedVolume, RecoversTo, part_named, segments_out}
+use Rattle.rack.specs.Closes.{AreListedOf, HasFaultyPart, IsClosedVolume, IsOnLogger, RecoversTo, part_named, segments_out}
 use Rattle.rack.proofs.FailedParts.{faulty_since}
 use Rattle.rack.specs.Opens.{BeganWith, HasFaulty}
 use Rattle.rack.specs.Owners.{BeganInPlace, IsBegun, StandAsRead, images_taken}
@@ -59,6 +60,7 @@ use Rattle.open_rack.proofs.Since.{rose_before}
 use Rattle.spin_model.specs.Spindles.{SpindleView}
 use Rattle.inspection.specs.Looks.{AppendsAsked, BreaksIn}
 use Rattle.inspection.specs.Lines.{Telling, TellsFailed, IsTelling, LooksAtVolume, trouble_line}
+use Rattle.inspection.specs.Logs.{LeavesDistinctIn, LeavesLogsIn, LeavesOnLoggers}
 use Rattle.inspection.specs.Runs.{AreLinesOf, IsInOrder, IsToldOf}
 use Rattle.inspection.specs.declared.asked.Asked.{Asked}
 use Rattle.inspection.specs.declared.asked.Asked.TheVariants.{Check, Dump}
@@ -207,22 +209,48 @@ module _ {D : Type 0} (tells : Bool) (state : D → State) (config : Config) (as
   stood k text look = subst (λ (b : ManagerBase). Stands tells state look.looks.manager b []) (based k (Ok tt) text look)
       (subst (λ (es : List Entry). Stands tells state look.looks.manager (pass_lock look.station.worker).base (notes_of es)) (nothing k (Ok tt) text look) look.looks.stands)
 
-  -- a crash leaves the records with which the volume was opened
-  records_left : (k : ℕ) (text : List ℕ) (look : LooksAtVolume tells state config asked before after k (Ok tt) text) (y : Told)
-      → RecoversTo config after.rest.images.items (record look.station { worker = look.pass }) (ends k (Ok tt) text look).entries y
-      → LeavesRecordsIn config before.rest.images.items k (base_of_station look.station).volume.began.look.listed y
-  records_left k text look y recovers images left =
-      let n = look.looks.note in
-      let began : Base = (base_of_station look.station).volume.began in
-      let entries : List Entry = (ends k (Ok tt) text look).entries in
-      let are : notes_of entries ≡ n ∷ [] = ap notes_of (only k (Ok tt) text look) ∙ notes_at [] n.entry.pass n refl in
-      let calm : flight_of (entries_of (notes_of entries)) ≡ None = ap (λ (ns : List Noted). flight_of (entries_of ns)) are ∙ ap (λ (o : Operation). flight_from o None) look.looks.operation in
-      let same : (last_look began.look (notes_of entries)).listed ≡ began.look.listed
-      = ap (λ (ns : List Noted). (last_look began.look ns).listed) are ∙ look.looks.listed ∙ sym (ap (λ (l : Look). l.listed) (stood k text look).look) in
-      let out_is : after.rest.images.items ≡ before.rest.images.items = ap (λ (r : Rest D). r.images.items) (rest_again state config before after session.again) in
-      subst (λ (v : ℕ). AreListedOf began.look.listed (extents_of v (segments_out config before.rest.images.items images))) look.is_station.id
-      (subst (λ (out : List (Option (ImageRest D))). AreListedOf began.look.listed (extents_of look.station.id (segments_out config out images))) out_is
-      (subst (λ (es : List Listed). AreListedOf es (extents_of look.station.id (segments_out config after.rest.images.items images))) same (recovers.listed images left calm)))
+  -- what a crash leaves of a volume that was looked at: the records with which it was opened, each
+  -- once, on the loggers of its view
+  module _ (k : ℕ) (text : List ℕ) (look : LooksAtVolume tells state config asked before after k (Ok tt) text) where
+    abbrev opened : Base
+    opened = (base_of_station look.station).volume.began
+
+    abbrev entries : List Entry
+    entries = (ends k (Ok tt) text look).entries
+
+    one_note : notes_of entries ≡ look.looks.note ∷ []
+    one_note = ap notes_of (only k (Ok tt) text look) ∙ notes_at [] look.looks.note.entry.pass look.looks.note refl
+
+    calm : flight_of (entries_of (notes_of entries)) ≡ None
+    calm = ap (λ (ns : List Noted). flight_of (entries_of ns)) one_note ∙ ap (λ (o : Operation). flight_from o None) look.looks.operation
+
+    same_listed : (last_look opened.look (notes_of entries)).listed ≡ opened.look.listed
+    same_listed = ap (λ (ns : List Noted). (last_look opened.look ns).listed) one_note ∙ look.looks.listed ∙ sym (ap (λ (l : Look). l.listed) (stood k text look).look)
+
+    same_out : after.rest.images.items ≡ before.rest.images.items
+    same_out = ap (λ (r : Rest D). r.images.items) (rest_again state config before after session.again)
+
+    abbrev Recovers : Told → Type 0
+    Recovers y = RecoversTo config after.rest.images.items (record look.station { worker = look.pass }) entries y
+
+    records_left : (y : Told) → Recovers y → LeavesRecordsIn config before.rest.images.items k opened.look.listed y
+    records_left y recovers images left =
+        subst (λ (v : ℕ). AreListedOf opened.look.listed (extents_of v (segments_out config before.rest.images.items images))) look.is_station.id
+        (subst (λ (out : List (Option (ImageRest D))). AreListedOf opened.look.listed (extents_of look.station.id (segments_out config out images))) same_out
+        (subst (λ (es : List Listed). AreListedOf es (extents_of look.station.id (segments_out config after.rest.images.items images))) same_listed (recovers.listed images left calm)))
+
+    distinct_left : (y : Told) → Recovers y → LeavesDistinctIn config before.rest.images.items k y
+    distinct_left y recovers images left =
+        subst (λ (v : ℕ). AreDistinct (covers_of (extents_of v (segments_out config before.rest.images.items images)))) look.is_station.id
+        (subst (λ (out : List (Option (ImageRest D))). AreDistinct (covers_of (extents_of look.station.id (segments_out config out images)))) same_out (recovers.distinct images left))
+
+    on_loggers_left : (y : Told) → Recovers y → LeavesOnLoggers config k opened.view opened.look.listed y
+    on_loggers_left y recovers images left e among =
+        subst (λ (v : ℕ). IsOnLogger (shapes_of config) images v opened.view e) look.is_station.id
+        (recovers.on_loggers images left calm e (subst (λ (es : List Listed). Contains es e) (sym same_listed) among))
+
+    logs_left : (y : Told) → Recovers y → LeavesLogsIn config before.rest.images.items k opened.view opened.look.listed y
+    logs_left y recovers = record { records = records_left y recovers; distinct = distinct_left y recovers; on_loggers = on_loggers_left y recovers }
 
   in_order : (k : ℕ) (text : List ℕ) (look : LooksAtVolume tells state config asked before after k (Ok tt) text) (t y : Told) → IsTrue tells → BeganWith state config t before
       → RecoversTo config after.rest.images.items (record look.station { worker = look.pass }) (ends k (Ok tt) text look).entries y
@@ -241,7 +269,7 @@ module _ {D : Type 0} (tells : Bool) (state : D → State) (config : Config) (as
         lines_ = lines_of asked t k look.looks.manager (base_of_station look.station) text (owner k (Ok tt) text look) begun stands
             (subst (λ (b : ManagerBase). AppendsAsked config asked k look.looks.manager b [] [] text) (based k (Ok tt) text look)
             (subst (λ (es : List Entry). AppendsAsked config asked k look.looks.manager (pass_lock look.station.worker).base (notes_of es) [] text) (nothing k (Ok tt) text look) (look.looks.content told)));
-        records = records_left k text look y recovers;
+        logs = logs_left k text look y recovers;
       }
 
   if_told : (o b n : Option Told) (k : ℕ) (text : List ℕ) (look : LooksAtVolume tells state config asked before after k (Ok tt) text) → IsTrue tells → IfSome o (λ t. BeganWith state config t before) → IsTold HasFaulty o b

@@ -31,8 +31,8 @@ pub use Rattle.open_rack.specs.Sessions.{MayComplete}
 use Rattle.rack_parts.specs.declared.rack.ImageRest.{ImageRest}
 use Rattle.rack_parts.specs.declared.volume_fault.VolumeFault.{VolumeFault}
 use Rattle.rack_parts.specs.declared.volume_fault.VolumeFault.TheVariants.{Refused}
-use Rattle.open_rack.specs.Sessions.{LeavesRecordsIn}
 use Rattle.inspection.specs.Lines.{Telling, PrintsBy, trouble_line}
+use Rattle.inspection.specs.Logs.{LeavesLogsIn}
 use Rattle.inspection.specs.declared.asked.Asked.{Asked}
 use Rattle.inspection.specs.declared.asked.Asked.TheVariants.{Check, Dump}
 use Rattle.inspection.specs.declared.calls.Stop.{Stop}
@@ -52,7 +52,7 @@ AreLinesOf config Dump out t number b m text = IsDump config number m [] text
 -- A volume in order: a manager that stands for what the images as they read recover to, where an
 -- image that was refused gives no segments, and its lines. Each of its records stands where those
 -- images have it: in the segment and at the block that `dump` names. The records with which it was
--- opened are left.
+-- opened are left, each once, in logs on the loggers of its view.
 pub record IsInOrder {D : Type 0} (tells : Bool) (state : D → State) (config : Config)
     (asked : Asked) (out : List (Option (ImageRest D))) (t left : Told) (number : ℕ)
     (text : List ℕ) : Type 0 where
@@ -65,7 +65,7 @@ pub record IsInOrder {D : Type 0} (tells : Bool) (state : D → State) (config :
   pub places : StandAsRead config (images_taken config out t) number base.volume.began.view
       manager.index.entries
   pub lines_ : AreLinesOf config asked out t number base.volume.began manager text
-  pub records : LeavesRecordsIn config out number base.volume.began.look.listed left
+  pub logs : LeavesLogsIn config out number base.volume.began.view base.volume.began.look.listed left
 
 -- a volume that wasn't opened, with the line of its fault, which is the first cause
 pub record TellsRefusal {D : Type 0} (tells : Bool) (state : D → State) (config : Config)

@@ -9,11 +9,11 @@
 //! each into a text of its own, and what was found is told when the volume's turn comes. Of `specs/`: `Looks` is
 //! what one turn adds and prints, and what a manager must serve (`IsConfiguredBase`); `Racks` what a rack needs to
 //! be looked at (`CanLook`), and what a look leaves of it (`IsSameRack`: only the workers' passes are others);
-//! `Findings` what looks side by side found; `Lines` what is told of each volume, and how it was printed. In
-//! `proofs/`: `Serving` and `Looking` for a turn, `Placing` for a station among all, `Halves` for stations that are
-//! split among threads, `Ahead` for a run of them, `Judging` for what is told, `AsFound` and `Printing` for the loop
-//! side by side and one after another, `AsPrinted` for both, `WorkedRacks` and `SameRacks` for racks of whose
-//! stations only the workers' passes are others.
+//! `Findings` what looks side by side found; `Lines` what is told of each volume, and how it was printed; `Logs`
+//! what is left of a volume's logs. In `proofs/`: `Serving` and `Looking` for a turn, `Placing` for a station among
+//! all, `Halves` for stations that are split among threads, `Ahead` for a run of them, `Judging` for what is told,
+//! `AsFound` and `Printing` for the loop side by side and one after another, `AsPrinted` for both, `WorkedRacks` and
+//! `SameRacks` for racks of whose stations only the workers' passes are others.
 #![tactic(auto)]
 
 mod asked;
