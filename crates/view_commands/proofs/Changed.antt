@@ -201,10 +201,10 @@ module _ (config : Config) (valid : IsValid config) (volume : ℕ) (v : VolumeCo
       | inr shown ↦ recovers_same shapes volume (changed asked ids) images shown.before shown.only (all_there shown.before shown.left) n ∙ arrays shown.before shown.left n lt
     ]
 
-    view_is : HasViewIn images volume ids ⊎ HasViewIn images volume (changed asked ids)
+    view_is : HasViewIn images volume ids ⊎ (MayChange volume asked ids × HasViewIn images volume (changed asked ids))
     view_is = elim either [
       | inl left ↦ inl (view_now config entry images volume v conf (fronts images left volume v conf) ids at_entry)
-      | inr shown ↦ inr (shown_view images shown)
+      | inr shown ↦ inr (shown.may, shown_view images shown)
     ]
 
     there_is_each : (n : ℕ) → n < length shapes → IsThere shapes images n

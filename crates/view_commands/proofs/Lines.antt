@@ -33,7 +33,7 @@ module _ (config : Config) (volume : ℕ) (asked : Change) (view line : List ℕ
       go (Ok done) never = is.becomes
       go (Err stop.Sink) never = is.becomes
       go (Err (stop.Refused r)) never = absurd (never r refl)
-      go (Err (stop.Fault f)) never = λ images may. inr (subst (HasViewIn images volume) is.becomes.1 (is.becomes.2 images may))
+      go (Err (stop.Fault f)) never = λ images may. inr (is.becomes.0, subst (HasViewIn images volume) is.becomes.1 (is.becomes.2 images may))
 
   failed_of : (e : Stop) → ChangesViewOf {T = List ℕ} config volume asked (Err e) view entry left → ChangesViewOf {T = Unit {0}} config volume asked (Err e) view entry left
   failed_of e is = record { ids = is.ids; at_entry = is.at_entry; becomes = go e is.becomes; others = is.others }

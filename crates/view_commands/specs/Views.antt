@@ -32,12 +32,6 @@ abbrev pub LeavesView : Config → (volume : ℕ) → (ids : List ℕ) → Told 
 LeavesView config volume ids left =
     (images : Images) → AreLeft config left images → HasViewIn images volume ids
 
--- .. one of these two
-abbrev pub LeavesEither : Config → (volume : ℕ) → (ids others : List ℕ) → Told → Type 0
-LeavesEither config volume ids others left =
-    (images : Images) → AreLeft config left images
-    → HasViewIn images volume ids ⊎ HasViewIn images volume others
-
 -- each volume but this one has the view in them that it had at entry
 abbrev pub KeepsOtherViews : Config → (volume : ℕ) → (entry left : Told) → Type 0
 KeepsOtherViews config volume entry left =
@@ -65,6 +59,13 @@ MayNotChange volume (Add logger) ids ViewFull =
 MayNotChange volume (Remove logger) ids NotThere = (logger ≢ volume) × (Contains ids logger → ⊥)
 MayNotChange volume change ids refusal = ⊥
 
+-- whatever images a crash leaves, the volume has this view in them, or, where it can be changed so,
+-- the view that this makes of it
+abbrev pub LeavesEither : Config → (volume : ℕ) → Change → (ids : List ℕ) → Told → Type 0
+LeavesEither config volume change ids left = (images : Images) → AreLeft config left images
+    → HasViewIn images volume ids
+    ⊎ (MayChange volume change ids × HasViewIn images volume (changed change ids))
+
 -- what becomes of these loggers of the volume, by the answer: `view` is what is printed of them
 abbrev pub BecomesBy : {T : Type 0} → Result T Stop → Config → (volume : ℕ) → Change
     → (ids view : List ℕ) → (left : Told) → Type 0
@@ -75,7 +76,7 @@ BecomesBy (Err stop.Sink) config volume change ids view left =
 BecomesBy (Err (stop.Refused refusal)) config volume change ids view left =
     MayNotChange volume change ids refusal × LeavesView config volume ids left
 BecomesBy (Err (stop.Fault fault)) config volume change ids view left =
-    LeavesEither config volume ids (changed change ids) left
+    LeavesEither config volume change ids left
 
 -- The view that the volume had at entry is changed in each image that a crash may leave, by the
 -- answer; other volumes keep theirs.
