@@ -10,6 +10,7 @@ use Rattle.turn_lock.specs.Passes.{pass_lock, pass_number, pass_seen, pass_mine}
 use Rattle.wol_bay.specs.Bay.{BayState, Told}
 use Rattle.wol_model.specs.Blocks.{Write}
 use Rattle.wol_model.specs.History.{Broke, flight_of, worker, helper, keeper}
+use Rattle.wol_model.specs.Extents.{AreDistinct, covers_of}
 use Rattle.wol_model.specs.Images.{Images, all_segments, recovered_from}
 use Rattle.wol_model.specs.Index.{Listed, is_homed, listed_in}
 use Rattle.wol_model.specs.Recovered.{extents_of}
@@ -29,14 +30,15 @@ use Rattle.request_turns.specs.Turns.{ManagerPass, coded}
 use Rattle.request_turns.proofs.Noting.{notes_at}
 use Rattle.volume_images.specs.Left.{IsTold}
 use Rattle.volume_images.specs.Volumes.{AreLeft, images_read, shapes_of}
-use Rattle.rack.specs.Closes.{AreListedOf, HasFaultyPart, IsClosedVolume, RecoversTo, recovered_out, segments_out}
+use Rattle.rack.specs.Closes.{AreListedOf, HasFaultyPart, IsClosedVolume, IsOnLogger, RecoversTo, recovered_out, segments_out}
 use Rattle.rack.specs.Opens.{BeganWith}
 use Rattle.rack.specs.Owners.{IsBegun, images_taken}
 use Rattle.rack.specs.Racks.{IsStation, IsUnused, base_of_station}
 use Rattle.rack.specs.Rests.{IsImageOut}
 use Rattle.rack_parts.specs.declared.rack.Rack.{Rack}
 use Rattle.rack_parts.specs.declared.rack.Rest.{Rest}
-use Rattle.open_rack.specs.Sessions.{LeavesRecords, OpensAndCloses}
+use Rattle.open_rack.specs.Sessions.{OpensAndCloses}
+use Rattle.inspection.specs.Logs.{LeavesDistinct, LeavesLogs}
 use Rattle.open_rack.proofs.RacksAgain.{rest_again}
 use Rattle.open_rack.proofs.Since.{rose_before}
 use Rattle.spin_model.specs.Spindles.{SpindleView}
@@ -150,6 +152,21 @@ module _ {D : Type 0} (tells : Bool) (state : D → State) (config : Config) (di
         subst (λ (is : Images). AreListedOf records (extents_of v (all_segments (shapes_of config) is))) (accepted_all config after.rest.images.items all_out_after images count)
         (subst (λ (n : ℕ). AreListedOf records (extents_of n (segments_out config after.rest.images.items images))) number listed)
 
+    -- no two of them have one version
+    pub distinct_left : (y : Told) → RecoversTo config after.rest.images.items (record s { worker = pass }) ends.entries y → LeavesDistinct config v y
+    distinct_left y recovers images left_ =
+        subst (λ (is : Images). AreDistinct (covers_of (extents_of v (all_segments (shapes_of config) is)))) (accepted_all config after.rest.images.items all_out_after images left_.count)
+        (subst (λ (n : ℕ). AreDistinct (covers_of (extents_of n (segments_out config after.rest.images.items images)))) number (recovers.distinct images left_))
+
+    -- where no call failed, the logs that are left have the records of the last look
+    logs_left : (y : Told) → RecoversTo config after.rest.images.items (record s { worker = pass }) ends.entries y → flight_of (entries_of (notes_of ends.entries)) ≡ None
+        → LeavesLogs config v (base_of_station s).volume.began.view (last_look (base_of_station s).volume.began.look (notes_of ends.entries)).listed y
+    logs_left y recovers calm = record {
+      records = λ images left_. listed_all (last_look (base_of_station s).volume.began.look (notes_of ends.entries)).listed images left_.count (recovers.listed images left_ calm);
+      distinct = distinct_left y recovers;
+      on_loggers = λ images left_ e among. subst (λ (n : ℕ). IsOnLogger (shapes_of config) images n (base_of_station s).volume.began.view e) number (recovers.on_loggers images left_ calm e among);
+    }
+
     -- a volume that had no turn
     module _ (unworked : pass_mine pass ≡ []) (its : pass_number pass ≡ worker) where
       none : ends.entries ≡ []
@@ -161,12 +178,11 @@ module _ {D : Type 0} (tells : Bool) (state : D → State) (config : Config) (di
           (subst (λ (es : List Entry). Rattle.wol_model.specs.History.IsCut (base_of_station s).volume.began.array (Rattle.wol_model.specs.History.writes (entries_of (notes_of es))) (unwrap_or (flight_of (entries_of (notes_of es))) [])
           (recovered_out config after.rest.images.items images s.id)) none (recovers.cut images left_)))
 
-      -- the records that are left are those with which it was opened
-      pub records_kept : (y : Told) → RecoversTo config after.rest.images.items (record s { worker = pass }) ends.entries y → LeavesRecords config v (base_of_station s).volume.began.look.listed y
-      records_kept y recovers images left_ =
-          let told = recovers.listed images left_ (ap (λ (es : List Entry). flight_of (entries_of (notes_of es))) none) in
-          listed_all (base_of_station s).volume.began.look.listed images left_.count
-          (subst (λ (es : List Entry). AreListedOf (last_look (base_of_station s).volume.began.look (notes_of es)).listed (extents_of s.id (segments_out config after.rest.images.items images))) none told)
+      -- the logs that are left have the records with which it was opened
+      pub logs_kept : (y : Told) → RecoversTo config after.rest.images.items (record s { worker = pass }) ends.entries y → LeavesLogs config v (base_of_station s).volume.began.view (base_of_station s).volume.began.look.listed y
+      logs_kept y recovers =
+          subst (λ (es : List Entry). LeavesLogs config v (base_of_station s).volume.began.view (last_look (base_of_station s).volume.began.look (notes_of es)).listed y) none
+          (logs_left y recovers (ap (λ (es : List Entry). flight_of (entries_of (notes_of es))) none))
 
     -- a volume that was cleaned
     module _ (result : Result Cleaned CleanFault) (c : CleansIn tells state (most_of config) s.worker pass result) where
@@ -208,14 +224,14 @@ module _ {D : Type 0} (tells : Bool) (state : D → State) (config : Config) (di
           (subst (λ (ns : List Noted). Rattle.wol_model.specs.History.IsCut (base_of_station s).volume.began.array (Rattle.wol_model.specs.History.writes (entries_of ns)) (unwrap_or (flight_of (entries_of ns)) [])
           (recovered_out config after.rest.images.items images s.id)) notes (recovers.cut images left_)))
 
-      -- where none failed, the records that are left are those of the manager
-      pub records_left : ((p : Part) → result ≢ Err (DiskFault p)) → (y : Told) → RecoversTo config after.rest.images.items (record s { worker = pass }) ends.entries y → LeavesRecords config v (listed_in c.after.index.entries) y
-      records_left sure y recovers images left_ =
+      -- where none failed, the logs that are left have the records of the manager
+      pub logs_cleaned : ((p : Part) → result ≢ Err (DiskFault p)) → (y : Told) → RecoversTo config after.rest.images.items (record s { worker = pass }) ends.entries y
+          → LeavesLogs config v (base_of_station s).volume.began.view (listed_in c.after.index.entries) y
+      logs_cleaned sure y recovers =
           let calm = note_done c.note done.0.copies result operation sure in
-          let told = recovers.listed images left_ (ap (λ (ns : List Noted). flight_of (entries_of ns)) notes ∙ calm) in
-          let noted = subst (λ (ns : List Noted). AreListedOf (last_look (base_of_station s).volume.began.look ns).listed (extents_of s.id (segments_out config after.rest.images.items images))) notes told in
-          let looked = subst (λ (l : Look). AreListedOf l.listed (extents_of s.id (segments_out config after.rest.images.items images))) stands.look noted in
-          listed_all (listed_in c.after.index.entries) images left_.count looked
+          subst (λ (l : Look). LeavesLogs config v (base_of_station s).volume.began.view l.listed y) stands.look
+          (subst (λ (ns : List Noted). LeavesLogs config v (base_of_station s).volume.began.view (last_look (base_of_station s).volume.began.look ns).listed y) notes
+          (logs_left y recovers (ap (λ (ns : List Noted). flight_of (entries_of ns)) notes ∙ calm)))
 
       -- where a call of a disk failed
       broke : (copies : List Write) → c.note.entry.operation ≡ Broke copies → flight_of (entries_of (notes_of ends.entries)) ≡ None → ⊥

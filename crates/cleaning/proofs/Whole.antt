@@ -27,7 +27,7 @@ use Rattle.rack.proofs.FailedParts.{faulty_since}
 use Rattle.rack.specs.Opens.{BeganWith, HasFaulty}
 use Rattle.rack.specs.Owners.{IsBegun}
 use Rattle.rack_parts.specs.declared.rack.Rack.{Rack}
-use Rattle.open_rack.specs.Sessions.{KeepsArrays, LeavesRecords, OpensAndCloses}
+use Rattle.open_rack.specs.Sessions.{KeepsArrays, OpensAndCloses}
 use Rattle.spin_model.specs.Spindles.{SpindleView}
 use Rattle.open_rack.specs.NotOpened.{first_closed}
 use Rattle.replay.specs.declared.stop.Stop.{Stop}
@@ -39,6 +39,7 @@ use Rattle.log_cleaner.specs.declared.answer.Cleaned.{Cleaned}
 use Rattle.log_cleaner.specs.declared.answer.CleanFault.{CleanFault}
 use Rattle.log_cleaner.specs.declared.answer.CleanFault.TheVariants.{DiskFault, VersionsSpent, NoMemory}
 use Rattle.log_cleaner.proofs.Cleaning.{rising_push}
+use Rattle.inspection.specs.Logs.{LeavesDistinct, LeavesLogs}
 use Rattle.cleaning.specs.Racks.{CleansAll, CleansFirst, CleansRack, CleansStation, all_ok}
 use Rattle.cleaning.specs.Racks as racks
 use Rattle.cleaning.specs.Runs.{AreCleaned, CleansBay, CleansVolume, Completes, EndsFor, LacksVersions, LeavesFrom, LeavesVolume, MayComplete}
@@ -109,6 +110,10 @@ module _ {D : Type 0} (tells : Bool) (state : D → State) (config : Config) (di
     broke : (p : Part) → answer ≡ Err (DiskFault p) → c.cleans.note.entry.operation ≡ Rattle.wol_model.specs.History.Broke c.cleans.copies
     broke p is = c.cleans.operation ∙ ap (operation_of c.cleans.copies) is
 
+    -- what closing says of what is left
+    abbrev recovers_to : Told → Type 0
+    recovers_to y = RecoversTo config session.after.rest.images.items (record s { worker = c.pass }) (volumes.ends tells state config did old new spindles session open_ k s c.there c.pass c.now).entries y
+
     pub cleans_volume : CleansVolume tells state config old new k answer
     cleans_volume = record {
       base = base;
@@ -123,9 +128,13 @@ module _ {D : Type 0} (tells : Bool) (state : D → State) (config : Config) (di
       pass = volumes.its tells state config did old new spindles session open_ k s c.there c.pass c.now answer c.cleans;
       operation = volumes.operation tells state config did old new spindles session open_ k s c.there c.pass c.now answer c.cleans;
       stands = volumes.stands tells state config did old new spindles session open_ k s c.there c.pass c.now answer c.cleans;
-      listed = λ sure telling. later_told (LeavesRecords config k (listed_in c.cleans.after.index.entries)) old.told session.bay.told new.told session.opened.faulty
-          (told_of (λ y. RecoversTo config session.after.rest.images.items (record s { worker = c.pass }) (volumes.ends tells state config did old new spindles session open_ k s c.there c.pass c.now).entries y) (LeavesRecords config k (listed_in c.cleans.after.index.entries))
-          (volumes.records_left tells state config did old new spindles session open_ k s c.there c.pass c.now answer c.cleans sure)
+      distinct = λ telling. later_told (LeavesDistinct config k) old.told session.bay.told new.told session.opened.faulty
+          (told_of recovers_to (LeavesDistinct config k)
+          (volumes.distinct_left tells state config did old new spindles session open_ k s c.there c.pass c.now)
+          session.bay.told new.told ((volumes.ends tells state config did old new spindles session open_ k s c.there c.pass c.now).recovers telling));
+      logs = λ sure telling. later_told (LeavesLogs config k base.volume.began.view (listed_in c.cleans.after.index.entries)) old.told session.bay.told new.told session.opened.faulty
+          (told_of recovers_to (LeavesLogs config k base.volume.began.view (listed_in c.cleans.after.index.entries))
+          (volumes.logs_cleaned tells state config did old new spindles session open_ k s c.there c.pass c.now answer c.cleans sure)
           session.bay.told new.told ((volumes.ends tells state config did old new spindles session open_ k s c.there c.pass c.now).recovers telling));
       cause = λ p is. volumes.rose tells state config did old new spindles session open_ k s c.there c.pass c.now answer c.cleans c.cleans.copies (broke p is);
       faulty = λ p is. faulty_since tells config k base.volume.began.view (name_of p) old.told session.bay.told new.told session.opened.faulty
@@ -148,9 +157,9 @@ module _ {D : Type 0} (tells : Bool) (state : D → State) (config : Config) (di
       begun = λ telling. told_through HasFaulty (λ x y. AreLeftOfParts state config session.after y) (λ t n. IsBegun config (images_read config t) left_base) old.told session.bay.told new.told
           session.opened.faulty (session.closed.parts telling) (λ t n is. volumes.begun_of tells state config did old new spindles session open_ v s there s.worker now t
           (subst (λ (o : Option Told). IfSome o (λ x. BeganWith state config x session.before)) is (session.opened.began telling)));
-      listed = λ telling. later_told (LeavesRecords config v left_base.look.listed) old.told session.bay.told new.told session.opened.faulty
-          (told_of (λ y. RecoversTo config session.after.rest.images.items (record s { worker = s.worker }) (volumes.ends tells state config did old new spindles session open_ v s there s.worker now).entries y) (LeavesRecords config v left_base.look.listed)
-          (volumes.records_kept tells state config did old new spindles session open_ v s there s.worker now (volumes.unused tells state config did old new spindles session open_ v s there s.worker now).0.mine
+      logs = λ telling. later_told (LeavesLogs config v left_base.view left_base.look.listed) old.told session.bay.told new.told session.opened.faulty
+          (told_of (λ y. RecoversTo config session.after.rest.images.items (record s { worker = s.worker }) (volumes.ends tells state config did old new spindles session open_ v s there s.worker now).entries y) (LeavesLogs config v left_base.view left_base.look.listed)
+          (volumes.logs_kept tells state config did old new spindles session open_ v s there s.worker now (volumes.unused tells state config did old new spindles session open_ v s there s.worker now).0.mine
           (volumes.station tells state config did old new spindles session open_ v s there s.worker now).worker_.number_is)
           session.bay.told new.told ((volumes.ends tells state config did old new spindles session open_ v s there s.worker now).recovers telling));
     }

@@ -24,7 +24,8 @@ use Rattle.rack.specs.Opens.{LeavesFronts}
 use Rattle.rack.specs.Owners.{IsBegun}
 use Rattle.rack_parts.specs.declared.volume_fault.VolumeFault.{VolumeFault}
 use Rattle.open_rack.specs.NotOpened.{IsFirstClosed}
-use Rattle.open_rack.specs.Sessions.{KeepsArrays, LeavesRecords}
+use Rattle.open_rack.specs.Sessions.{KeepsArrays}
+use Rattle.inspection.specs.Logs.{LeavesDistinct, LeavesLogs}
 use Rattle.inspection.specs.Runs as look
 use Rattle.replay.specs.declared.stop.Stop.{Stop}
 use Rattle.replay.specs.declared.stop.Stop.TheVariants as stop
@@ -45,15 +46,16 @@ pub record LacksVersions (most : ℕ) (b : Base) : Type 0 where
   pub apart : AreRising (map (λ (c : ℕ × ℕ). c.0) chunks)
   pub beyond : 2 ^ 63 < b.next + length chunks
 
--- A volume wasn't cleaned: the records that are left are those with which it was opened.
+-- A volume wasn't cleaned: the logs that are left have the records with which it was opened.
 pub record LeavesVolume (tells : Bool) (config : Config) (old new : BayState) (number : ℕ) :
     Type 0 where
   pub base : Base
   pub owner : base.owner ≡ number
   pub begun : IsTrue tells
       → IsTold (λ entry exit. IsBegun config (images_read config entry) base) old.told new.told
-  pub listed : IsTrue tells
-      → IsTold (λ entry exit. LeavesRecords config number base.look.listed exit) old.told new.told
+  pub logs : IsTrue tells
+      → IsTold (λ entry exit. LeavesLogs config number base.view base.look.listed exit) old.told
+      new.told
 
 -- A volume was cleaned: `opened` is its manager as the volume was opened of the images as they
 -- read, `after` the one that cleaning left, which stands for the array at opening behind one entry
@@ -73,10 +75,13 @@ pub record CleansVolume {D : Type 0} (tells : Bool) (state : D → State) (confi
   pub pass : note.entry.pass ≡ worker
   pub operation : note.entry.operation ≡ operation_of cleans.copies answer
   pub stands : Stands tells state after base (note ∷ [])
-  -- unless a call failed, the records that are left are those of the manager that cleaning left
-  pub listed : ((p : Part) → answer ≢ Err (DiskFault p)) → IsTrue tells
-      → IsTold (λ entry exit. LeavesRecords config number (listed_in after.index.entries) exit)
-      old.told new.told
+  -- no two records that are left have one version; unless a call failed they are those of the
+  -- manager that cleaning left, in logs on the loggers of the view
+  pub distinct : IsTrue tells → IsTold (λ entry exit. LeavesDistinct config number exit) old.told
+      new.told
+  pub logs : ((p : Part) → answer ≢ Err (DiskFault p)) → IsTrue tells
+      → IsTold (λ entry exit. LeavesLogs config number base.volume.began.view
+      (listed_in after.index.entries) exit) old.told new.told
   pub cause : (p : Part) → answer ≡ Err (DiskFault p) → Rose old.faults new.faults
   -- .. and the part that is told, one of this volume, came back with a fault
   pub faulty : (p : Part) → answer ≡ Err (DiskFault p)
