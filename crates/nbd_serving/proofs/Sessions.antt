@@ -1,8 +1,9 @@
 -- All volumes were opened, one was served, and all were closed: what is told of the bay.
-use Rattle.std.proofs.Common.{◌≡◌, ◌≢◌, ◌<◌, ◌∷◌, ℕ, zero, suc, Bool, true, false, List, [], length, map, Option, None, Some, Result, refl, sym, ap, ◌∙◌, subst, arith, append-nil}
+use Rattle.std.proofs.Common.{◌≡◌, ◌≢◌, ◌<◌, ◌≤◌, ◌∷◌, ℕ, zero, suc, Bool, true, false, List, [], length, map, Option, None, Some, Result, refl, sym, ap, ◌∙◌, subst, arith, append-nil}
 use Rattle.rack.proofs.FailedParts.{faulty_since}
-use Rattle.std.specs.Prelude.{All, Contains, slice_get, slice_index_or, unwrap_or, IfSome, IsSome, IsTrue}
+use Rattle.std.specs.Prelude.{sum_by, All, Contains, slice_get, slice_index_or, unwrap_or, IfSome, IsSome, IsTrue}
 use Rattle.std.proofs.lemmas.List.{length-map}
+use Rattle.std.proofs.lemmas.List.Sums.{sum_by-cons}
 use Rattle.std.proofs.lemmas.Option.{same_Some, slice_get-get_or, slice_get_within}
 use Rattle.wol_disk.specs.Disk.{Block, State}
 use Rattle.wol_bay.specs.Bay.{BayState, Told}
@@ -10,23 +11,26 @@ use Rattle.wol_config.specs.declared.config.Config.{Config}
 use Rattle.wol_config.specs.declared.config.VolumeConf.{VolumeConf}
 use Rattle.wol_model.specs.Blocks.{Write, after}
 use Rattle.wol_model.specs.History.{IsCut, worker, helper, keeper, writes, flight_of, in_flight}
+use Rattle.wol_model.specs.Extents.{AreDistinct, covers_of}
 use Rattle.wol_model.specs.Images.{Images, all_segments, recovered_from}
+use Rattle.wol_model.specs.Index.{Listed}
 use Rattle.wol_model.specs.Recovered.{extents_of}
 use Rattle.wol_model.proofs.Overlay.{after_none}
 use Rattle.wol_promise.specs.Manager.{Base}
 use Rattle.wol_promise.specs.Policy.{PartName}
+use Rattle.wol_promise.specs.Report.{logged_writes}
 use Rattle.wol_promise.specs.Ruled.{Noted, entries_of, last_look}
 use Rattle.turn_lock.specs.Histories.{Entry, own}
 use Rattle.turn_lock.specs.LockIds.{LockId}
 use Rattle.turn_lock.specs.Passes.{lock_id, pass_lock, pass_number, pass_mine}
-use Rattle.manager.specs.Stands.{notes_of}
+use Rattle.manager.specs.Stands.{notes_of, takes_in}
 use Rattle.manager.specs.declared.base.ManagerBase.{ManagerBase}
 use Rattle.manager.specs.declared.station.Station.{Station}
 use Rattle.manager.proofs.Lanes.{get_set, get_other}
 use Rattle.spin_model.specs.Spindles.{SpindleView}
 use Rattle.volume_images.specs.Left.{IsTold}
 use Rattle.volume_images.specs.Volumes.{AreLeft, images_read, shape_in, shapes_of}
-use Rattle.rack.specs.Closes.{AreLeftOfParts, AreListedOf, HasFaultyPart, IsClosedVolume, RecoversTo, part_named, recovered_out, segments_out}
+use Rattle.rack.specs.Closes.{AreLeftOfParts, AreListedOf, HasFaultyPart, IsClosedVolume, IsOnLogger, RecoversTo, part_named, recovered_out, segments_out}
 use Rattle.request_turns.specs.Entries.{IsFlightAt}
 use Rattle.rack.specs.Opens.{BeganWith, WereThere, HasFaulty}
 use Rattle.rack.specs.Owners.{IsBegun, images_taken}
@@ -47,6 +51,7 @@ use Rattle.open_rack.specs.NotOpened.{first_closed}
 use Rattle.open_rack.proofs.FirstClosed.{none_closed}
 use Rattle.open_rack.proofs.OpenedKept.{opened_out}
 use Rattle.inspection.proofs.Unhelped.{none_before}
+use Rattle.inspection.specs.Logs.{LeavesDistinct, LeavesLogs, LeavesOnLoggers}
 use Rattle.open_rack.proofs.AllOut.{accepted_all, recovered_all, taken_all}
 use Rattle.nbd_session.specs.Sessions.{IsSession}
 use Rattle.nbd_session.specs.declared.session.Ended.{Ended}
@@ -60,7 +65,7 @@ use Rattle.nbd_serving.specs.Entries.{AddsEntry}
 use Rattle.nbd_serving.proofs.Entries.{adds, noted}
 use Rattle.nbd_serving.proofs.Flights.{IsOnWay, none_on_way, on_way_more}
 use Rattle.nbd_serving.specs.Racks.{ServesStation}
-use Rattle.nbd_serving.specs.Runs.{LeavesOthers, LeavesServed, ServesOpen}
+use Rattle.nbd_serving.specs.Runs.{LeavesOthers, LeavesServed, OnlyTakes, ServesOpen}
 use Rattle.nbd_serving.specs.Volumes.{AreKept, IsKept, IsOpen}
 use Rattle.nbd_serving.specs.Wires.{Wire}
 use Rattle.nbd_serving.proofs.Recovered.{cut_pieces}
@@ -76,6 +81,17 @@ third P h k more (suc (suc (suc n))) other = more (suc (suc (suc n))) other (λ 
 here_is : {X : Type 0} (o : Option X) → IsSome o → (x : X) × (o ≡ Some x)
 here_is None is = absurd (let no : false ≡ true = is in cc)
 here_is (Some x) is = (x, refl)
+
+-- a part of a sum is no larger
+part_le : {X : Type 0} (f : X → ℕ) (xs : List X) (x : X) → Contains xs x → f x ≤ sum_by f xs
+part_le f [] x (k, less, at) = absurd (omega (arith, less))
+part_le {X} f (y ∷ ys) x (zero, less, at) = let s = sum_by-cons f y ys in subst (λ (z : X). f z ≤ sum_by f (y ∷ ys)) at (omega (arith, s))
+part_le f (y ∷ ys) x (suc k, less, at) = let s = sum_by-cons f y ys in let rest = part_le f ys x (k, omega (arith, less), at) in omega (arith, s, rest)
+
+-- a number that is 0 where it isn't
+zero_by : (n : ℕ) → ((n ≡ 0 → ⊥) → n ≡ 0) → n ≡ 0
+zero_by zero by = refl
+zero_by (suc n) by = by (λ is. omega (arith, is))
 
 flight_some : (o : Option (List Write)) → IsSome o → o ≡ None → ⊥
 flight_some None is none = absurd (let no : false ≡ true = is in cc)
@@ -224,13 +240,32 @@ module _ {D : Type 0} (tells : Bool) (state : D → State) (config : Config) (di
           subst (λ (a : List Block). IsCut a ws fl (recovered_from (shapes_of config) images u.id)) (array_is entry is.began)
           (subst (λ (x : List Block). IsCut (base_of_station w).volume.began.array ws fl x) same ((is.recovers w place there).cut images left))
 
-      -- where no call failed, its records are those of the last look
+      -- no two of its records have one version
+      distinct_at : (entry mid : Told) → Leaves entry mid → LeavesDistinct config u.id mid
+      distinct_at entry mid is images left =
+          subst (λ (is : Images). AreDistinct (covers_of (extents_of u.id (all_segments (shapes_of config) is)))) (accepted_all config after_.rest.images.items outs_after images left.count)
+          (subst (λ (n : ℕ). AreDistinct (covers_of (extents_of n (segments_out config after_.rest.images.items images)))) id_is
+          ((is.recovers w place there).distinct images left))
+
+      -- where no call failed, they are those of the last look
       records_at : (entry mid : Told) → Leaves entry mid → flight_of (entries_of (notes_of ends.entries)) ≡ None → LeavesRecords config u.id (last_look (base_of_station u).volume.began.look (notes_of ends.entries)).listed mid
       records_at entry mid is calm images left =
           subst (λ (is : Images). AreListedOf (last_look (base_of_station u).volume.began.look (notes_of ends.entries)).listed (extents_of u.id (all_segments (shapes_of config) is))) (accepted_all config after_.rest.images.items outs_after images left.count)
           (subst (λ (n : ℕ). AreListedOf (last_look (base_of_station u).volume.began.look (notes_of ends.entries)).listed (extents_of n (segments_out config after_.rest.images.items images))) id_is
           (subst (λ (b : ManagerBase). AreListedOf (last_look b.volume.began.look (notes_of ends.entries)).listed (extents_of w.id (segments_out config after_.rest.images.items images))) base_is
           ((is.recovers w place there).listed images left calm)))
+
+      -- .. on the loggers of its view
+      on_loggers_at : (entry mid : Told) → Leaves entry mid → flight_of (entries_of (notes_of ends.entries)) ≡ None
+          → LeavesOnLoggers config u.id (base_of_station u).volume.began.view (last_look (base_of_station u).volume.began.look (notes_of ends.entries)).listed mid
+      on_loggers_at entry mid is calm images left =
+          subst (λ (n : ℕ). (e : Listed) → Contains (last_look (base_of_station u).volume.began.look (notes_of ends.entries)).listed e → IsOnLogger (shapes_of config) images n (base_of_station u).volume.began.view e) id_is
+          (subst (λ (b : ManagerBase). (e : Listed) → Contains (last_look b.volume.began.look (notes_of ends.entries)).listed e → IsOnLogger (shapes_of config) images w.id b.volume.began.view e) base_is
+          (λ e among. (is.recovers w place there).on_loggers images left calm e among))
+
+      logs_at : (entry mid : Told) → Leaves entry mid → flight_of (entries_of (notes_of ends.entries)) ≡ None
+          → LeavesLogs config u.id (base_of_station u).volume.began.view (last_look (base_of_station u).volume.began.look (notes_of ends.entries)).listed mid
+      logs_at entry mid is calm = record { records = records_at entry mid is calm; distinct = distinct_at entry mid is; on_loggers = on_loggers_at entry mid is calm }
 
     -- ---- A volume that nobody used
 
@@ -253,6 +288,15 @@ module _ {D : Type 0} (tells : Bool) (state : D → State) (config : Config) (di
       unbroken : flight_of (entries_of (notes_of closed_same.entries)) ≡ None
       unbroken = ap (λ (es : List Entry). flight_of (entries_of (notes_of es))) no_entries
 
+      -- and took no segment
+      none_taken : (k : ℕ) → Contains (session.users.0 u.id) k → takes_in (own u.id (pools k)) ≡ 0
+      none_taken k names =
+          let few = (used_at u place there).taken unbroken in
+          let none : logged_writes (notes_of closed_same.entries) ≡ 0 = ap (λ (es : List Entry). logged_writes (notes_of es)) no_entries in
+          let view = all_at (λ (x : Station D). session.users.0 x.id ≡ (base_of_station x).volume.began.view) after_.stations.items place u session.users.1.opened there in
+          let part = part_le (λ (logger : ℕ). takes_in (own (base_of_station u).volume.began.owner (pools logger))) (base_of_station u).volume.began.view k (subst (λ (ids : List ℕ). Contains ids k) view names) in
+          subst (λ (n : ℕ). takes_in (own n (pools k)) ≡ 0) station.id (omega (arith, few, none, part))
+
       -- it recovers to what it did
       same_array : (entry mid : Told) → Leaves entry mid → (images : Images) → AreLeft config mid images → recovered_from (shapes_of config) images u.id ≡ recovered_from (shapes_of config) (images_read config entry) u.id
       same_array entry mid is images left =
@@ -262,11 +306,11 @@ module _ {D : Type 0} (tells : Bool) (state : D → State) (config : Config) (di
           ∙ after_none (base_of_station u).volume.began.array
           ∙ array_is u there refl refl entry is.began
 
-      -- and has its records
-      same_records : (entry mid : Told) → Leaves entry mid → LeavesRecords config u.id (base_of_station u).volume.began.look.listed mid
-      same_records entry mid is =
-          subst (λ (es : List Entry). LeavesRecords config u.id (last_look (base_of_station u).volume.began.look (notes_of es)).listed mid) no_entries
-          (records_at u there refl refl entry mid is unbroken)
+      -- and has its logs
+      same_logs : (entry mid : Told) → Leaves entry mid → LeavesLogs config u.id (base_of_station u).volume.began.view (base_of_station u).volume.began.look.listed mid
+      same_logs entry mid is =
+          subst (λ (es : List Entry). LeavesLogs config u.id (base_of_station u).volume.began.view (last_look (base_of_station u).volume.began.look (notes_of es)).listed mid) no_entries
+          (logs_at u there refl refl entry mid is unbroken)
 
       kept_at : (entry mid : Told) → Leaves entry mid → u.id < length (shapes_of config) → IsKept config u.id entry mid
       kept_at entry mid is lt =
@@ -277,7 +321,7 @@ module _ {D : Type 0} (tells : Bool) (state : D → State) (config : Config) (di
             owner = station.id;
             open_ = open_at entry mid is v conf lt;
             array = same_array entry mid is;
-            records = same_records entry mid is;
+            logs = same_logs entry mid is;
           }
 
   -- each volume has a station
@@ -373,10 +417,14 @@ module _ {D : Type 0} (tells : Bool) (state : D → State) (config : Config) (di
         (cut_pieces base.look notes (recovered_from (shapes_of config) (images_read config entry) s.id) (recovered_from (shapes_of config) images s.id)
         (cut_at s serves.place serves.is_station.there t there_now refl refl entry mid is images left))
 
-    records_served : flight_of (entries_of notes) ≡ None → (entry mid : Told) → Leaves entry mid → LeavesRecords config volume (last_look base.look notes).listed mid
-    records_served calm entry mid is =
-        subst (λ (v : ℕ). LeavesRecords config v (last_look base.look notes).listed mid) serves.is_station.id
-        (records_at s serves.place serves.is_station.there t there_now refl refl entry mid is calm)
+    distinct_served : (entry mid : Told) → Leaves entry mid → LeavesDistinct config volume mid
+    distinct_served entry mid is =
+        subst (λ (v : ℕ). LeavesDistinct config v mid) serves.is_station.id (distinct_at s serves.place serves.is_station.there t there_now refl refl entry mid is)
+
+    logs_served : flight_of (entries_of notes) ≡ None → (entry mid : Told) → Leaves entry mid → LeavesLogs config volume base.view (last_look base.look notes).listed mid
+    logs_served calm entry mid is =
+        subst (λ (v : ℕ). LeavesLogs config v base.view (last_look base.look notes).listed mid) serves.is_station.id
+        (logs_at s serves.place serves.is_station.there t there_now refl refl entry mid is calm)
 
     open_served : (entry mid : Told) → Leaves entry mid → IsOpen config volume serves.conf base entry mid
     open_served entry mid is =
@@ -385,16 +433,31 @@ module _ {D : Type 0} (tells : Bool) (state : D → State) (config : Config) (di
         subst (λ (v : ℕ). IsOpen config v serves.conf base entry mid) serves.is_station.id
         (open_at s serves.place serves.is_station.there entry mid is serves.conf conf (omega (arith, within, shapes_count)))
 
-    others_left : (entry mid : Told) → Leaves entry mid → LeavesOthers config volume entry mid
-    others_left entry mid is v lt other = volume_kept entry mid is v lt still
+    -- the stations of other volumes are as they were
+    still : (v : ℕ) → v ≢ volume → (at : ℕ) (u : Station D) → slice_get before.stations.items at ≡ Some u → u.id ≡ v → slice_get after_.stations.items at ≡ Some u
+    still v other at u was same = ap (λ (us : List (Station D)). slice_get us at) serves.stations ∙ get_other before.stations.items serves.place at t elsewhere ∙ was
       where
-        still : (at : ℕ) (u : Station D) → slice_get before.stations.items at ≡ Some u → u.id ≡ v → slice_get after_.stations.items at ≡ Some u
-        still at u was same = ap (λ (us : List (Station D)). slice_get us at) serves.stations ∙ get_other before.stations.items serves.place at t elsewhere ∙ was
-          where
-            elsewhere : at ≡ serves.place → ⊥
-            elsewhere here =
-                let u_is : u ≡ s = same_Some u s (sym was ∙ ap (slice_get before.stations.items) here ∙ serves.is_station.there) in
-                other (sym same ∙ ap (λ (x : Station D). x.id) u_is ∙ serves.is_station.id)
+        elsewhere : at ≡ serves.place → ⊥
+        elsewhere here =
+            let u_is : u ≡ s = same_Some u s (sym was ∙ ap (slice_get before.stations.items) here ∙ serves.is_station.there) in
+            other (sym same ∙ ap (λ (x : Station D). x.id) u_is ∙ serves.is_station.id)
+
+    others_left : (entry mid : Told) → Leaves entry mid → LeavesOthers config volume entry mid
+    others_left entry mid is v lt other = volume_kept entry mid is v lt (still v other)
+
+    -- so none of them took a segment
+    only_takes : OnlyTakes config volume pools
+    only_takes k v lt other =
+        let (l, lock) = some_at before.shared.pools.items k (omega (arith, lt, shapes_count, session.opened.rack.locks.pool_count)) in
+        zero_by (takes_in (own v (pools k))) (λ never. ap takes_in
+        (session.closed.pools.users k l (ap (λ (r : Rack D). slice_get r.shared.pools.items k) session.again.only ∙ lock) session.users.0 session.users.1 v
+        (λ used. never (of_view used.0 used.1))))
+      where
+        of_view : v < length config.volumes.items → Contains (session.users.0 v) k → takes_in (own v (pools k)) ≡ 0
+        of_view less names =
+            let (at, u, was, same) = station_of v (omega (arith, less, shapes_count)) in
+            subst (λ (n : ℕ). takes_in (own n (pools k)) ≡ 0) same
+            (none_taken u at was (still v other at u was same) k (subst (λ (n : ℕ). Contains (session.users.0 n) k) (sym same) names))
 
     pub serves_open : ServesOpen tells config volume old new wire wire' answer
     serves_open = record {
@@ -411,6 +474,7 @@ module _ {D : Type 0} (tells : Bool) (state : D → State) (config : Config) (di
       are_pools = through (λ entry left. ArePools config entry pools) pools_at;
       passed = (used_at t serves.place there_now).passed;
       taken = (used_at t serves.place there_now).taken;
+      alone = only_takes;
       cause = λ broken. rose_before old.faults session.bay.faults new.faults session.sooner (closed.cause (flight_some (flight_of (entries_of notes)) broken));
       faulty = λ broken. (
           let (part, down, told) = closed.faulty (flight_some (flight_of (entries_of notes)) broken) in (
@@ -422,6 +486,7 @@ module _ {D : Type 0} (tells : Bool) (state : D → State) (config : Config) (di
           )
           );
       images = through (LeavesServed config volume (pieces_of base.look notes)) served_left;
-      records = λ telling calm. through (λ entry left. LeavesRecords config volume (last_look base.look notes).listed left) (records_served calm) telling;
+      distinct = through (λ entry left. LeavesDistinct config volume left) distinct_served;
+      logs = λ telling calm. through (λ entry left. LeavesLogs config volume base.view (last_look base.look notes).listed left) (logs_served calm) telling;
       others = through (LeavesOthers config volume) others_left;
     }

@@ -1,7 +1,7 @@
 -- What serving a volume of a bay comes to.
 use Rattle.std.specs.Prelude.{◌≡◌, ◌≢◌, ◌<◌, ℕ, Bool, List, [], length, None, Some, Result, Ok, Err, IsSome, IsTrue, slice_get, unwrap_or}
 use Rattle.wol_promise.specs.Policy.{PartName}
-use Rattle.turn_lock.specs.Histories.{Entry}
+use Rattle.turn_lock.specs.Histories.{Entry, own}
 use Rattle.wol_disk.specs.Disk.{Rose, State}
 use Rattle.wol_bay.specs.Bay.{BayState, Told}
 use Rattle.wol_config.specs.Documents.{names_of, number_named}
@@ -14,6 +14,7 @@ use Rattle.wol_promise.specs.Ruled.{Noted, entries_of, last_look}
 use Rattle.wol_promise.specs.Stands.{IsOpening}
 use Rattle.report.specs.declared.fault.Fault.TheVariants.{Memory, Volume}
 use Rattle.troubles.specs.Troubles.{trouble_of}
+use Rattle.manager.specs.Stands.{takes_in}
 use Rattle.volume_images.specs.Left.{IsTold}
 use Rattle.volume_images.specs.Volumes.{AreLeft, images_read, shapes_of}
 use Rattle.rack.specs.Closes.{HasFaultyPart, part_named}
@@ -29,7 +30,7 @@ use Rattle.nbd_session.specs.declared.session.NbdFault.{NbdFault}
 use Rattle.nbd_station.specs.Pieces.{Pieces, pieces_of}
 use Rattle.nbd_serving.specs.Racks.{Begins}
 use Rattle.nbd_serving.specs.Volumes.{IsKept, IsOpen, KeepsBay}
-use Rattle.open_rack.specs.Sessions.{LeavesRecords}
+use Rattle.inspection.specs.Logs.{LeavesDistinct, LeavesLogs}
 use Rattle.nbd_serving.specs.Entries.{AddsEntry}
 use Rattle.nbd_serving.specs.Wires.{Wire, answer_of}
 use Rattle.nbd_serving.specs.declared.serving.Beginning.{Beginning}
@@ -52,6 +53,11 @@ LeavesOthers config volume entry left =
     (v : ℕ) → v < length config.volumes.items → v ≢ volume → IsKept config v entry left
 
 -- ---- The session
+
+-- by these entries of the pools' locks no volume but this one took a segment
+abbrev pub OnlyTakes : Config → (volume : ℕ) → (pools : ℕ → List Entry) → Type 0
+OnlyTakes config volume pools = (k v : ℕ) → k < length config.volumes.items → v ≢ volume
+    → takes_in (own v (pools k)) ≡ 0
 
 -- All volumes were open, and this one was served: the session was one at a volume that begins with
 -- its array at entry, and with the version that the images give next, and each turn added an entry
@@ -76,6 +82,8 @@ pub record ServesOpen (tells : Bool) (config : Config) (volume : ℕ) (old new :
   pub passed : PassesEmpty pools base notes
   -- and of all pools together it took no more segments than it wrote to logs, where no call failed
   pub taken : TakesFew pools base notes
+  -- .. and no other volume took one
+  pub alone : OnlyTakes config volume pools
   -- a call of a disk that failed is counted, the part of this volume that is down in the end came
   -- back with a fault, and what was in flight was on its way home, where that is its home, and else
   -- to some log
@@ -86,10 +94,12 @@ pub record ServesOpen (tells : Bool) (config : Config) (volume : ℕ) (old new :
       × IsTold (HasFaultyPart tells config volume base.view name) old.told new.told
   pub images : IsTrue tells
       → IsTold (LeavesServed config volume (pieces_of base.look notes)) old.told new.told
-  -- where none failed, the records that are left are those of the last look
-  pub records : IsTrue tells → flight_of (entries_of notes) ≡ None
-      → IsTold (λ entry left. LeavesRecords config volume (last_look base.look notes).listed left)
-      old.told new.told
+  -- no two records that are left have one version; where no call failed they are those of the last
+  -- look, in logs on the loggers of the view
+  pub distinct : IsTrue tells → IsTold (λ entry left. LeavesDistinct config volume left) old.told
+      new.told
+  pub logs : IsTrue tells → flight_of (entries_of notes) ≡ None → IsTold (λ entry left.
+      LeavesLogs config volume base.view (last_look base.look notes).listed left) old.told new.told
   pub others : IsTrue tells → IsTold (LeavesOthers config volume) old.told new.told
 
 -- ---- The command

@@ -12,7 +12,7 @@ use Rattle.volume_images.specs.Volumes.{AreLeft, images_read, shapes_of}
 use Rattle.rack.specs.Opens.{LeavesFront, WasAccepted}
 use Rattle.rack.specs.Owners.{IsBegun}
 use Rattle.open_rack.specs.NotOpened.{LeavesBay}
-use Rattle.open_rack.specs.Sessions.{LeavesRecords}
+use Rattle.inspection.specs.Logs.{LeavesLogs}
 
 -- Volume v was open: its image was accepted, and this base is what the images gave as they were
 -- read. Its label and view are left.
@@ -23,7 +23,7 @@ pub record IsOpen (config : Config) (v : ℕ) (conf : VolumeConf) (base : Base) 
   pub front : LeavesFront config v entry left
 
 -- Volume v was open, and nothing was done to it: whatever images a crash leaves, it recovers to its
--- array at entry, and its records that keep a block are those with which it was opened.
+-- array at entry, and its logs have the records with which it was opened.
 pub record IsKept (config : Config) (v : ℕ) (entry left : Told) : Type 0 where
   pub conf : VolumeConf
   pub conf_is : slice_get config.volumes.items v ≡ Some conf
@@ -33,7 +33,7 @@ pub record IsKept (config : Config) (v : ℕ) (entry left : Told) : Type 0 where
   pub array : (images : Images) → AreLeft config left images
       → recovered_from (shapes_of config) images v
       ≡ recovered_from (shapes_of config) (images_read config entry) v
-  pub records : LeavesRecords config v base.look.listed left
+  pub logs : LeavesLogs config v base.view base.look.listed left
 
 -- so it is of each volume
 abbrev pub AreKept : Config → (entry left : Told) → Type 0
