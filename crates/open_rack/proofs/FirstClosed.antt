@@ -1,13 +1,14 @@
 -- The first volume that isn't open, and why.
-use Rattle.std.proofs.Common.{◌≡◌, ◌⊎◌, inl, inr, ◌<◌, ◌+◌, ℕ, zero, suc, Bool, List, [], ◌∷◌, length, refl, sym, ap, subst, ◌∙◌, Option, None, Some, arith}
-use Rattle.std.specs.Prelude.{All, IfSome, IsTrue, slice_get, slice_index_or}
+use Rattle.std.proofs.Common.{◌≡◌, ◌≢◌, ◌⊎◌, inl, inr, ◌<◌, ◌+◌, ℕ, zero, suc, Bool, List, [], ◌∷◌, length, map, refl, sym, ap, subst, ◌∙◌, Option, None, Some, arith}
+use Rattle.std.specs.Prelude.{All, Contains, IfSome, IsTrue, slice_get, slice_index_or}
 use Rattle.std.proofs.lemmas.List.{length-map}
-use Rattle.std.proofs.lemmas.Option.{slice_get_within, slice_get-get_or}
+use Rattle.std.proofs.lemmas.Option.{slice_get_within, slice_get-get_or, get_or_from_slice_get}
 use Rattle.wol_disk.specs.Disk.{Rose, State}
 use Rattle.wol_bay.specs.Bay.{BayState}
 use Rattle.wol_config.specs.declared.config.Config.{Config}
 use Rattle.wol_config.specs.declared.config.VolumeConf.{VolumeConf}
 use Rattle.manager.specs.declared.part.Part.{Part}
+use Rattle.manager.specs.declared.station.Station.{Station}
 use Rattle.manager_recovery.specs.declared.refusal.OpenRefusal.TheVariants as refusal
 use Rattle.report.specs.declared.fault.Fault.{Fault}
 use Rattle.report.specs.declared.fault.Fault.TheVariants.{Volume}
@@ -17,13 +18,16 @@ use Rattle.volume_images.specs.Refusals.{IsCallFault}
 use Rattle.volume_images.specs.Volumes.{shape_in, shapes_of}
 use Rattle.volume_images.specs.declared.reading.ImageFault.{ImageFault}
 use Rattle.volume_images.specs.declared.reading.ImageFault.TheVariants as image
-use Rattle.rack.specs.Closes.{CameBackFaulty, IsClosedVolume}
+use Rattle.rack.specs.Closes.{CameBackFaulty, IsClosedVolume, LeavesUnopened}
 use Rattle.rack.specs.Opens.{AreRefused, BeganWith, HasFaulty, RefusesVolume, WereThere, fault_in_image}
+use Rattle.rack.specs.Owners.{HadRefused, KeepsLogs}
 use Rattle.rack.specs.Racks.{AreUnused, IsRack, NamesVolumes}
 use Rattle.rack_parts.specs.declared.rack.ImageRest.{ImageRest}
 use Rattle.rack_parts.specs.declared.rack.Rack.{Rack}
 use Rattle.rack_parts.specs.declared.volume_fault.VolumeFault.{VolumeFault}
 use Rattle.rack_parts.specs.declared.volume_fault.VolumeFault.TheVariants as fault
+use Rattle.rack_parts.proofs.Members.{in_map}
+use Rattle.rack_closing.proofs.NewFaults.{told_each}
 use Rattle.rack_closing.proofs.Places.{some_at}
 use Rattle.open_rack.specs.NotOpened.{IsFirstClosed, IsOfCall, LeavesOpened, WasRefused, first_closed}
 use Rattle.open_rack.specs.Sessions.{OpensAndCloses}
@@ -91,7 +95,8 @@ module _ {D : Type 0} (state : D → State) (config : Config) (b : BayState) (r 
     (failed : (k : ℕ) (p : Part) → slice_get r.faults.items k ≡ Some (Some (fault.Refused (refusal.DiskFault p))) → Rose old.faults new.faults)
     (part : (k : ℕ) (p : Part) → slice_get r.faults.items k ≡ Some (Some (fault.Refused (refusal.DiskFault p))) → IsTold (CameBackFaulty config p) old.told new.told)
     (began : IsTrue tells → IfSome old.told (λ t. BeganWith state config t r)) (there : IsTrue tells → IfSome old.told (λ t. WereThere config r.rest.images.items t))
-    (fresh : AreUnused r.stations.items) (gained : IsTold HasFaulty old.told b.told) (closed : All (IsClosedVolume tells config r.rest.images.items b new) r.stations.items) where
+    (fresh : AreUnused r.stations.items) (gained : IsTold HasFaulty old.told b.told) (closed : All (IsClosedVolume tells config r.rest.images.items b new) r.stations.items)
+    (stays : IsTrue tells → IsTold (HadRefused config r.rest.images.items) old.told new.told) (unopened : IsTrue tells → IsTold (LeavesUnopened config r) old.told new.told) where
   abbrev out : List (Option (ImageRest D))
   out = r.rest.images.items
 
@@ -103,7 +108,16 @@ module _ {D : Type 0} (state : D → State) (config : Config) (b : BayState) (r 
         names = subst (λ (n : ℕ). NamesVolumes n g) (length-map config.volumes.items (shape_in config)) (is.known j g here);
         cause = call_rose tells state config out old new j v g (λ p same. failed j p (here ∙ ap (λ (x : VolumeFault). Some (Some x)) same)) why;
         part = λ p same. part j p (here ∙ ap (λ (x : VolumeFault). Some (Some x)) same);
+        logs = λ telling. told_each (LeavesUnopened config r) (KeepsLogs config j) old.told new.told (λ x y left. left.logs j no_station) (unopened telling);
       }
+    where
+      -- it has no station
+      no_station : (s : Station D) → Contains r.stations.items s → j ≢ s.id
+      no_station s has same =
+          let within : j < length (shapes_of config) = let less = slice_get_within config.volumes.items j v conf in omega (arith, less, length-map config.volumes.items (shape_in config)) in
+          let opened : slice_index_or r.faults.items j None ≡ None = (is.faults j within).1 (subst (Contains (map (λ (t : Station D). t.id) r.stations.items)) (sym same) (in_map (λ (t : Station D). t.id) r.stations.items s has)) in
+          let no : Some g ≡ None = sym (get_or_from_slice_get r.faults.items j (Some g) None here) ∙ opened in
+          absurd (cc no)
 
   -- each volume keeps its records, or was refused
   each_left : (j : ℕ) (v : VolumeConf) → slice_get config.volumes.items j ≡ Some v → LeavesOpened tells config out old new j ⊎ ((g : VolumeFault) × WasRefused tells state config out old new j v g)
@@ -129,6 +143,7 @@ module _ {D : Type 0} (state : D → State) (config : Config) (b : BayState) (r 
           out = out;
           count = is.rest.parts.images.0 ∙ length-map config.volumes.items (shape_in config);
           there = there;
+          kept = stays;
           each = each_left;
           before = λ j lt. leaves_opened state config b r is tells old new began fresh gained closed j (omega (arith, lt, less, is.fault_count)) (one.before j lt);
           conf = v;
@@ -143,3 +158,4 @@ pub first_unopened : {D : Type 0} (tells : Bool) (state : D → State) (config :
 first_unopened {D} tells state config did old new spindles session same =
     first_refused state config session.bay session.before session.opened.rack tells old new session.refused session.failed session.part session.opened.began session.opened.there session.opened.fresh session.opened.faulty
     (subst (λ (r : Rack D). All (IsClosedVolume tells config r.rest.images.items session.bay new) r.stations.items) same session.closed.stations)
+    session.kept (λ telling. subst (λ (r : Rack D). IsTold (LeavesUnopened config r) old.told new.told) same (session.left_unopened telling))

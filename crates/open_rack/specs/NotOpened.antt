@@ -18,7 +18,7 @@ use Rattle.report.specs.declared.fault.Fault.TheVariants.{Volume}
 use Rattle.troubles.specs.Troubles.{trouble_of}
 use Rattle.rack.specs.Closes.{CameBackFaulty, IsOnLogger, is_kept_home, segments_out}
 use Rattle.rack.specs.Opens.{KeepsAllSound, LeavesAll, RefusesVolume, WereThere, KeepsViews}
-use Rattle.rack.specs.Owners.{WasOpened}
+use Rattle.rack.specs.Owners.{HadRefused, KeepsLogs, WasOpened}
 use Rattle.rack.specs.Racks.{NamesVolumes}
 use Rattle.rack.specs.Rests.{IsImageOut}
 use Rattle.rack_parts.specs.declared.rack.ImageRest.{ImageRest}
@@ -66,7 +66,8 @@ LeavesOpened tells config out old new v = IsImageOut out v
     × (IsTrue tells → IsTold (LeavesAsOpened config out v) old.told new.told)
 
 -- Volume v isn't open, for its first cause, which names configured volumes. Where a call failed the
--- bay's count rose, and the part that is named came back with a fault.
+-- bay's count rose, and the part that is named came back with a fault. Its logs stay, and none is
+-- forged.
 pub record WasRefused {D : Type 0} (tells : Bool) (state : D → State) (config : Config)
     (out : List (Option (ImageRest D))) (old new : BayState) (v : ℕ) (conf : VolumeConf)
     (f : VolumeFault) : Type 0 where
@@ -75,15 +76,17 @@ pub record WasRefused {D : Type 0} (tells : Bool) (state : D → State) (config 
   pub cause : IsOfCall f → Rose old.faults new.faults
   pub part : (p : Part) → f ≡ fault.Refused (refusal.DiskFault p)
       → IsTold (CameBackFaulty config p) old.told new.told
+  pub logs : IsTrue tells → IsTold (KeepsLogs config v) old.told new.told
 
 -- Volume k is the first that isn't open. Each image that was handed out was there and may be opened
--- as it reads. Each volume was opened and keeps its records, or was refused; those before k were
--- opened.
+-- as it reads; of each other a crash may leave only what it might have left before. Each volume was
+-- opened and keeps its records, or was refused; those before k were opened.
 pub record IsFirstClosed {D : Type 0} (tells : Bool) (state : D → State) (config : Config)
     (old new : BayState) (k : ℕ) (f : VolumeFault) : Type 0 where
   pub out : List (Option (ImageRest D))
   pub count : length out ≡ length config.volumes.items
   pub there : IsTrue tells → IfSome old.told (λ t. WereThere config out t)
+  pub kept : IsTrue tells → IsTold (HadRefused config out) old.told new.told
   pub each : (j : ℕ) (v : VolumeConf) → slice_get config.volumes.items j ≡ Some v
       → LeavesOpened tells config out old new j
       ⊎ ((g : VolumeFault) × WasRefused tells state config out old new j v g)

@@ -3,7 +3,7 @@ use Rattle.replay.proofs.Basics.{◌≡◌, ◌<◌, ◌≤◌, ℕ, Bool, List,
 use Rattle.replay.proofs.Basics.{IfSome, IsTrue, MatchResult, slice_get, length-map}
 use Rattle.replay.proofs.Terms.{BayState, Told, Rose, State, Config, IsTold, shape_in, shapes_of, Part, Station, printed_names}
 use Rattle.replay.proofs.Terms.{summary_text, Memory, AreClosedVolumes, AreLeftOfParts, HasFaultAt, HasFaultIn, IsClosedSpindle, IsQuiet}
-use Rattle.replay.proofs.Terms.{LeavesVolumes, ListsFaulty, AreRefused, BeganWith, HasFaulty, KeepsAllSound, WereThere, HadRefused}
+use Rattle.replay.proofs.Terms.{LeavesUnopened, LeavesVolumes, ListsFaulty, AreRefused, BeganWith, HasFaulty, KeepsAllSound, WereThere, HadRefused}
 use Rattle.replay.proofs.Terms.{AreUnused, IsRack, IsUnused, KeepToViews, IsImageOut, Rack, Rest, SpindleView, SpindlePass, AreStations}
 use Rattle.replay.proofs.Terms.{AreAllOpen, KeepsViews, LeavesFronts, LeavesViews, PrintsText, all_amounts, Replayed, Replays, ran, first_closed, view_at, RunsIn}
 use Rattle.replay.proofs.Terms.{closed, locks_of, no_memory, served, ServesSome, ServesWhole, Counted, Given, Options, Stop, none_closed}
@@ -15,7 +15,7 @@ use Rattle.rack_closing.proofs.ViewsLeft.{front_left, told_left, views_left}
 use Rattle.replay.proofs.HistoriesLeft.{histories_of}
 use Rattle.replay.proofs.RacksServed.{a_member, at_place, each_station, station_count}
 use Rattle.replay.proofs.RunClosed.{leaves_bay, runs_closed}
-use Rattle.replay.proofs.RunFlown.{began_still, run_sound}
+use Rattle.replay.proofs.RunFlown.{began_still, run_told}
 use Rattle.replay.proofs.RunReplayed.{replays_none, replays_some, replays_whole}
 use Rattle.replay.proofs.ViewsKept.{keep_views, locks_count}
 use Rattle.manager_recovery.specs.declared.refusal.OpenRefusal.TheVariants as refusal
@@ -44,6 +44,7 @@ pub record HasClosedRack {D : Type 0} (state : D → State) (tells : Bool) (conf
   pub kept : IsTrue tells → IsTold (HadRefused config q.rest.images.items) opened.told left_.told
   pub volumes : (t : Told) → IsTrue tells → BeganWith state config t q → WereThere config q.rest.images.items t → All (λ (s : Station D). IsQuiet s) q.stations.items
       → IsTold (λ old new. HadRefused config q.rest.images.items t old → LeavesVolumes config q t new) opened.told left_.told
+  pub unopened : (t : Told) → IsTrue tells → BeganWith state config t q → WereThere config q.rest.images.items t → IsTold (λ old new. HadRefused config q.rest.images.items t old → LeavesUnopened config q t new) opened.told left_.told
   pub sound : (t : Told) → IsTrue tells → BeganWith state config t q → WereThere config q.rest.images.items t → IsTold (λ old new. HadRefused config q.rest.images.items t old → KeepsAllSound config t new) opened.told left_.told
   pub cause : HasFaultIn state q.rest → Rose opened.faults left_.faults
   pub counts : opened.faults ≤ left_.faults
@@ -82,7 +83,7 @@ module _ {D S : Type 0} (T : Type 0) (state : D → State) (tells : Bool) (left 
     -- sound images stay sound, over a rack with the same rest and locks
     sound_still : q.rest ≡ r.rest → q.shared ≡ r.shared → locks_of q.stations.items ≡ locks_of r.stations.items → AreStations q.stations.items → IsTrue tells → IsTold (KeepsAllSound config) entry.told left_.told
     sound_still rest shared locks news telling =
-        run_sound state config q Q entry opened left_ (still entry.told (o.began telling)) (subst (λ (x : Rest D). IfSome entry.told (λ t. WereThere config x.images.items t)) (sym rest) (o.there telling))
+        run_told state config q (KeepsAllSound config) Q entry opened left_ (still entry.told (o.began telling)) (subst (λ (x : Rest D). IfSome entry.told (λ t. WereThere config x.images.items t)) (sym rest) (o.there telling))
         (subst (λ (x : Rest D). IsTold (HadRefused config x.images.items) entry.told opened.told) (sym rest) (o.kept telling)) (c.told telling) (λ t with was. c.sound t telling with was)
       where
         still : (told : Option Told) → IfSome told (λ t. BeganWith state config t r) → IfSome told (λ t. BeganWith state config t q)
@@ -99,6 +100,19 @@ module _ {D S : Type 0} (T : Type 0) (state : D → State) (tells : Bool) (left 
     kept_views : q.rest ≡ r.rest → locks_of q.stations.items ≡ locks_of r.stations.items → AreStations q.stations.items → KeepToViews (view_at (histories_of tells config q.rest.images.items opened left_ q.stations.items c.stations.0)) q
     kept_views rest locks news = keep_views state tells config opened left_ r q o.is rest locks stations news count (locks_count q.stations.items r.stations.items locks) c.stations.0
 
+  -- images that weren't out stay, over the same rack
+  refused_kept : q ≡ r → IsTrue tells → IsTold (HadRefused config r.rest.images.items) entry.told left_.told
+  refused_kept same telling =
+      let closing = subst (λ (x : Rack D). HasClosedRack state tells config opened left_ x Q) same c in
+      let out = r.rest.images.items in
+      told_then (HadRefused config out) (HadRefused config out) (HadRefused config out) entry.told opened.told left_.told (λ x y z is first then k v conf none c may. first k v conf none c (then k v conf none c may)) (o.kept telling) (closing.kept telling)
+
+  -- .. and volumes without a station
+  unopened_kept : q ≡ r → IsTrue tells → IsTold (LeavesUnopened config r) entry.told left_.told
+  unopened_kept same telling =
+      let closing = subst (λ (x : Rack D). HasClosedRack state tells config opened left_ x Q) same c in
+      run_told state config r (LeavesUnopened config r) Q entry opened left_ (o.began telling) (o.there telling) (o.kept telling) (closing.told telling) (λ t with was. closing.unopened t telling with was)
+
   -- no label or view was changed, over the same rack
   views_kept : q ≡ r → IsTrue tells → IsTold (KeepsViews config) entry.told left_.told
   views_kept same telling =
@@ -107,7 +121,7 @@ module _ {D S : Type 0} (T : Type 0) (state : D → State) (tells : Bool) (left 
       told_each (λ x y. (HadRefused config out x y → KeepsViews config x y) × HadRefused config out x y) (KeepsViews config) entry.told left_.told (λ x y both. both.0 both.1)
       (told_with (λ x y. HadRefused config out x y → KeepsViews config x y) (HadRefused config out) entry.told left_.told
       (told_left state config r r (λ x y. HadRefused config out x y → KeepsViews config x y) entry.told opened.told left_.told (λ e n began were parts. views_left state config r r refl e n began were parts) (o.began telling) (o.there telling) o.gained (closing.parts telling))
-      (told_then (HadRefused config out) (HadRefused config out) (HadRefused config out) entry.told opened.told left_.told (λ x y z is first then k v conf none c may. first k v conf none c (then k v conf none c may)) (o.kept telling) (closing.kept telling)))
+      (refused_kept same telling))
 
   bay_left : q ≡ r → LeavesViews tells state config entry left_
   bay_left same =
@@ -146,7 +160,7 @@ module _ {D S : Type 0} (T : Type 0) (state : D → State) (tells : Bool) (left 
   replayed_err result (closed f first none) e is =
       let same : stop.Fault f ≡ e = cc is in
       subst (λ (x : Stop). Comes (Err x) faults' printed') same
-      (runs_closed {T = T} tells state left config options start now entry opened left_ r q faults faults' printed printed' f o.is o.refused o.failed c.cause o.counts c.counts o.gained c.faulty o.began o.there first none (bay_left none.same) o.fresh c.stations.0)
+      (runs_closed {T = T} tells state left config options start now entry opened left_ r q faults faults' printed printed' f o.is o.refused o.failed c.cause o.counts c.counts o.gained c.faulty o.began o.there first none (bay_left none.same) o.fresh c.stations.0 (refused_kept none.same) (unopened_kept none.same))
   replayed_err result (no_memory first none) e is = ran (Err e) (served_err result (no_memory first none) e is first)
   replayed_err result (served done first before moved from) e is = ran (Err e) (served_err result (served done first before moved from) e is first)
 

@@ -2,7 +2,7 @@
 use Rattle.replay.proofs.Basics.{◌≡◌, ◌≤◌, ℕ, Bool, true, List, [], sym, ap, subst, Option, None, Some, Err, inl, inr}
 use Rattle.replay.proofs.Basics.{All, IfSome, IsTrue, slice_get}
 use Rattle.replay.proofs.Terms.{Rose, State, BayState, Told, writes, entries_of, Config, VolumeConf, Entry, notes_of, Part, Station, Fault}
-use Rattle.replay.proofs.Terms.{IsTold, IsClosedVolume, AreLeftOfParts, flight_in, HasFaultAt, HasFaultIn, IsQuiet, LeavesVolumes, ListsFaulty, has_station}
+use Rattle.replay.proofs.Terms.{IsTold, IsClosedVolume, AreLeftOfParts, flight_in, HasFaultAt, HasFaultIn, IsQuiet, LeavesUnopened, LeavesVolumes, ListsFaulty, has_station}
 use Rattle.replay.proofs.Terms.{is_kept_home, AreRefused, BeganWith, HasFaulty, KeepsAllSound, LeavesAll, RefusesVolume, WereThere}
 use Rattle.replay.proofs.Terms.{HadRefused, AreUnused, IsRack, IsImageOut, Rack, VolumeFault, LeavesBay, LeavesViews, Replayed}
 use Rattle.replay.proofs.Terms.{first_closed, RunsNone, Given, Options}
@@ -14,7 +14,7 @@ use Rattle.rack.proofs.StillThere.{kept_home, there_left}
 use Rattle.open_rack.proofs.FirstClosed.{first_refused}
 use Rattle.open_rack.proofs.Since.{not_out, refused_alone, refused_missing}
 use Rattle.replay.proofs.CauseServed.{rose_from}
-use Rattle.replay.proofs.RunFlown.{run_sound}
+use Rattle.replay.proofs.RunFlown.{run_told}
 use Rattle.manager_recovery.specs.declared.refusal.OpenRefusal.TheVariants as refusal
 use Rattle.rack_parts.specs.declared.volume_fault.VolumeFault.TheVariants as fault
 use Rattle.replay.specs.declared.stop.Stop.TheVariants as stop
@@ -75,7 +75,7 @@ module _ {D : Type 0} (tells : Bool) (state : D → State) (config : Config) (en
     left = λ telling. through entry.told opened.told last.told (began telling) (there telling) (kept telling) (stays telling) (λ t with was.
         told_each (λ x y. (Stays t x → LeavesVolumes config r t y) × AreLeftOfParts state config r y) (λ x y. Stays t x → LeavesVolumes config r t y × AreLeftOfParts state config r y) opened.told last.told (λ x y both had. (both.0 had, both.1))
         (told_with (λ x y. Stays t x → LeavesVolumes config r t y) (λ x y. AreLeftOfParts state config r y) opened.told last.told (volumes t telling with was (quiet_all r.stations.items unused)) (parts telling)));
-    sound = λ telling. run_sound state config r Stays entry opened last (began telling) (there telling) (kept telling) (stays telling) (λ t with was. sound t telling with was);
+    sound = λ telling. run_told state config r (KeepsAllSound config) Stays entry opened last (began telling) (there telling) (kept telling) (stays telling) (λ t with was. sound t telling with was);
   }
 
 -- a volume wasn't open
@@ -86,8 +86,9 @@ pub runs_closed : {D S T : Type 0} (tells : Bool) (state : D → State) (left : 
     → (IsTrue tells → IfSome entry.told (λ t. BeganWith state config t old)) → (IsTrue tells → IfSome entry.told (λ t. WereThere config old.rest.images.items t)) → first_closed 0 old.faults.items ≡ Some f
     → RunsNone tells left config options start now old new sink sink' printed printed' → LeavesViews tells state config entry last
     → AreUnused old.stations.items → All (IsClosedVolume tells config new.rest.images.items opened last) new.stations.items
+    → (IsTrue tells → IsTold (HadRefused config old.rest.images.items) entry.told last.told) → (IsTrue tells → IsTold (LeavesUnopened config old) entry.told last.told)
     → Replayed {T = T} tells state left config options start now entry last sink sink' printed printed' (Err (stop.Fault f))
-runs_closed {D} {S} {T} tells state left config options start now entry opened last old new sink sink' printed printed' f is refused failed rises opening closing first_gained faulty began there first none leaves fresh closed_ =
+runs_closed {D} {S} {T} tells state left config options start now entry opened last old new sink sink' printed printed' f is refused failed rises opening closing first_gained faulty began there first none leaves fresh closed_ stays unopened =
     let lists = subst (λ (r : Rack D). IsTold (ListsFaulty state config r.rest) opened.told last.told) none.same faulty in
     let refused_now = refused_last tells state config entry opened last old is refused closing (gained_parts state config old.rest opened.told last.told lists) in
     let (k, why, told, first_) = first_refused state config opened old is tells entry last refused_now
@@ -96,6 +97,6 @@ runs_closed {D} {S} {T} tells state left config options start now entry opened l
       | inr rose ↦ rose_on entry.faults opened.faults last.faults rose closing
     ])
     (part_came_back tells state config entry opened last old is.fault_count refused_now failed first_gained lists) began there fresh first_gained
-    (subst (λ (r : Rack D). All (IsClosedVolume tells config r.rest.images.items opened last) r.stations.items) none.same closed_) f first in
+    (subst (λ (r : Rack D). All (IsClosedVolume tells config r.rest.images.items opened last) r.stations.items) none.same closed_) stays unopened f first in
     subst (λ (x : Fault). Replayed {T = T} tells state left config options start now entry last sink sink' printed printed' (Err (stop.Fault x))) (sym told)
     (closed k why (record { unread = none.unread; calm = none.calm; kept = none.kept }) first_ leaves)

@@ -1,9 +1,9 @@
--- The writes in flight of each volume of a run, and sound images.
+-- What a rack began with stays in a run, and what is told of the whole run.
 use Rattle.replay.proofs.Basics.{◌≡◌, ◌<◌, ◌+◌, ◌⊎◌, ℕ, Bool, List, length, sym, ap, subst, ◌∙◌, Option, None, Some, inl, inr, arith}
 use Rattle.replay.proofs.Basics.{Contains, IfSome, slice_get, slice_index_or, length-map}
 use Rattle.replay.proofs.Terms.{State, BayState, Image, Told, at_name, Config, VolumeConf, Shared, ManagerBase, Station, AreStations}
 use Rattle.replay.proofs.Terms.{IsMoved, Floor, Reclaim, IsTold, shape_in, shapes_of, BeganWith, HadSegmentBefore, IsGone, IsLeftHere}
-use Rattle.replay.proofs.Terms.{KeepsAllSound, WereThere, BeganInPlace, HadRefused, IsBegun, images_taken, AreUnused, base_of_station}
+use Rattle.replay.proofs.Terms.{WereThere, BeganInPlace, HadRefused, IsBegun, images_taken, AreUnused, base_of_station}
 use Rattle.replay.proofs.Terms.{IsSegmentHere, held_here, image_here, ImageRest, Rack, Rest, answers_in, locks_of, ServedFromStart}
 use Rattle.replay.proofs.Terms.{ServedWindow}
 use Rattle.wol_model.specs.Heads.{Free, Owned, Shape}
@@ -13,8 +13,6 @@ use Rattle.manager_recovery.specs.Left.{HasNothing}
 use Rattle.volume_images.specs.Accepted.{HasHead, head_place}
 use Rattle.replay.proofs.RacksServed.{a_member, at_place, there_at}
 use Rattle.replay.proofs.RunLeft.{base_same}
-
--- ---- Sound images
 
 -- what a rack began with stays, whatever its passes did since
 module _ {D : Type 0} (state : D → State) (config : Config) (r q : Rack D) (rest : q.rest ≡ r.rest) (shared : q.shared ≡ r.shared) (locks : locks_of q.stations.items ≡ locks_of r.stations.items) (olds : AreStations r.stations.items) (news : AreStations q.stations.items) where
@@ -69,19 +67,19 @@ module _ {D : Type 0} (state : D → State) (config : Config) (r q : Rack D) (re
     pools = λ k v l image conf lock here. with.pools k v l image conf (ap (λ (x : Shared D). slice_get x.pools.items k) (sym shared) ∙ lock) (subst (λ (x : Rest D). image_here x.images.items k ≡ Some image) rest here);
   }
 
--- sound images stay sound
-module _ {D : Type 0} (state : D → State) (config : Config) (q : Rack D) (Q : Told → Told → Type 0) where
+-- what closing tells of the images at entry, where those that aren't out were as they are now
+module _ {D : Type 0} (state : D → State) (config : Config) (q : Rack D) (P Q : Told → Told → Type 0) where
   through : (e o n : Option Told) → IfSome e (λ t. BeganWith state config t q) → IfSome e (λ t. WereThere config q.rest.images.items t) → IsTold (HadRefused config q.rest.images.items) e o
       → IsTold Q o n
-      → ((t : Told) → BeganWith state config t q → WereThere config q.rest.images.items t → IsTold (λ old new. HadRefused config q.rest.images.items t old → KeepsAllSound config t new) o n) → IsTold (KeepsAllSound config) e n
-  through None None n began there kept told sound = told
-  through None (Some o) n began there kept told sound = absurd (cc kept)
-  through (Some e) None n began there kept told sound = absurd kept
-  through (Some e) (Some o) None began there kept told sound = absurd told
-  through (Some e) (Some o) (Some n) began there kept told sound = sound e began there kept
+      → ((t : Told) → BeganWith state config t q → WereThere config q.rest.images.items t → IsTold (λ old new. HadRefused config q.rest.images.items t old → P t new) o n) → IsTold P e n
+  through None None n began there kept told since = told
+  through None (Some o) n began there kept told since = absurd (cc kept)
+  through (Some e) None n began there kept told since = absurd kept
+  through (Some e) (Some o) None began there kept told since = absurd told
+  through (Some e) (Some o) (Some n) began there kept told since = since e began there kept
 
-  pub run_sound : (entry opened left_ : BayState) → IfSome entry.told (λ t. BeganWith state config t q) → IfSome entry.told (λ t. WereThere config q.rest.images.items t)
+  pub run_told : (entry opened left_ : BayState) → IfSome entry.told (λ t. BeganWith state config t q) → IfSome entry.told (λ t. WereThere config q.rest.images.items t)
       → IsTold (HadRefused config q.rest.images.items) entry.told opened.told → IsTold Q opened.told left_.told
-      → ((t : Told) → BeganWith state config t q → WereThere config q.rest.images.items t → IsTold (λ old new. HadRefused config q.rest.images.items t old → KeepsAllSound config t new) opened.told left_.told)
-      → IsTold (KeepsAllSound config) entry.told left_.told
-  run_sound entry opened left_ began there kept told sound = through entry.told opened.told left_.told began there kept told sound
+      → ((t : Told) → BeganWith state config t q → WereThere config q.rest.images.items t → IsTold (λ old new. HadRefused config q.rest.images.items t old → P t new) opened.told left_.told)
+      → IsTold P entry.told left_.told
+  run_told entry opened left_ began there kept told since = through entry.told opened.told left_.told began there kept told since

@@ -39,7 +39,7 @@ pub use Rattle.rack_parts.specs.declared.rack.ImageRest.{ImageRest}
 pub use Rattle.rack_parts.specs.declared.rack.Rack.{Rack}
 pub use Rattle.rack_parts.specs.declared.rack.Rest.{Rest}
 pub use Rattle.rack_parts.specs.declared.volume_fault.VolumeFault.{VolumeFault}
-pub use Rattle.rack.specs.Closes.{CameBackFaulty, HasFaultyPart, IsClosedVolume, RecoversTo, IsClosedSpindle, SharePools, HasFaultIn, AreClosedVolumes, AreLeftOfParts, HasFaultAt, IsQuiet, LeavesVolumes, ListsFaulty, AreListedOf, IsOnLogger, recovered_out, segments_out, flight_in, has_station, is_kept_home, part_named}
+pub use Rattle.rack.specs.Closes.{CameBackFaulty, HasFaultyPart, IsClosedVolume, RecoversTo, IsClosedSpindle, SharePools, HasFaultIn, AreClosedVolumes, AreLeftOfParts, HasFaultAt, IsQuiet, LeavesUnopened, LeavesVolumes, ListsFaulty, AreListedOf, IsOnLogger, recovered_out, segments_out, flight_in, has_station, is_kept_home, part_named}
 pub use Rattle.rack.specs.Opens.{KeepsAllSound, KeepsViews, LeavesFronts, BeganWith, HadSegmentBefore, IsGone, IsLeftHere, WereThere, HasFaulty, AreRefused, LeavesAll, RefusesVolume}
 pub use Rattle.rack.specs.Owners.{BeganInPlace, HadRefused, IsBegun, images_taken}
 pub use Rattle.rack.specs.PoolUses.{ArePools, PassesEmpty, TakesFew}

@@ -43,6 +43,7 @@ closed g c =
       told = said.parts;
       kept = said.kept;
       volumes = said.volumes;
+      unopened = said.unopened;
       sound = said.sound;
       cause = said.cause;
       counts = said.counts;
