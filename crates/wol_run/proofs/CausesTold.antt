@@ -466,7 +466,7 @@ module _ {D : Type 0} (tells : Bool) (state : D → State) (read : Option Config
             of_versions v s only write told =
                 let spent = spent_of tells (λ bytes. bytes) config how start run.now before.bay after.bay r before.sink.faults run.over.sink_then before.sink.bytes run.over.printed_then of v s only write told in
                 row.no_version for_config
-                (record { config = config; is_read = has; command = command; is = is; how = how; start = start; replays = replays; now = run.now; lines = of.run; more = of.more; given = of.given; base = spent.base; begun = spent.begun; logged = spent.logged; few = spent.few; spent = spent.spent })
+                (record { config = config; is_read = has; command = command; is = is; how = how; start = start; replays = replays; now = run.now; lines = of.run; more = of.more; given = of.given; rest = run.rest; ahead = of.ahead (λ none. let no : s ∷ [] ≡ [] = sym only ∙ none in cc); base = spent.base; begun = spent.begun; logged = spent.logged; few = spent.few; spent = spent.spent })
 
             of_end : (x : Result (Unit {0}) Stop) → x ≡ r → EndsFor (λ bytes. bytes) config start run.now of.run of.last before.bay.faults after.bay.faults before.sink.faults run.over.sink_then x → Ends x → Cause status
             of_end x same (whole d none all) ends = at_status 0 status ends.0 (row.done command is (ended run.now of.run config run.rest all))

@@ -30,7 +30,7 @@ use Rattle.wol_run.specs.Replaying.{lines_of, options_as, trace_of}
 use Rattle.wol_run.specs.Run.{Does, IsCleaningOf, IsComparisonOf, IsFormat, IsListingOf, IsLookFor, IsReplayOf, IsServingOf, IsViewChangeOf, Run}
 use Rattle.wol_run.specs.Serving.{EndsAtClient}
 use Rattle.wol_run.specs.Settings.{IsConfigured, OfRead}
-use Rattle.wol_run.specs.Tops.{HasCause, IsDoneOrMemory, TellsFault, TellsNoMemory, TellsStatus}
+use Rattle.wol_run.specs.Tops.{AreCalm, HasCause, IsDoneOrMemory, TellsFault, TellsNoMemory, TellsStatus}
 use Rattle.wol_run.proofs.Asked.{of_asked, uses_alike}
 use Rattle.wol_run.proofs.CausesTold.{clean_cause, comparison_cause, format_cause, gen_cause, look_cause, replay_cause, serving_cause, view_cause}
 use Rattle.wol_run.proofs.Compared.{uncompared}
@@ -170,11 +170,11 @@ module _ {D : Type 0} (tells : Bool) (state : D → State) (words : List (List �
 
 -- they were run to their end
 pub solo_done_promise : {D : Type 0} (tells : Bool) (state : D → State) (words : List (List ℕ)) (before after : Outside) → (before.sink.faults < after.sink.faults → ⊥) → (own : Volume) → IsCommand words (Solo own) → after.config ≡ before.config
-    → IsAtEnd after.trace.bytes → {T : Type 0} (x : T) → RunsInBay (target_of own) before.trace.bytes after.trace.bytes before.bay.told after.bay.told (Ok x) before.sink.bytes after.sink.bytes → Run tells state words before after 0
-solo_done_promise tells state words before after calm own is config end x run = of_command tells state words before after 0 None tt (Solo own) is
-    (told_done x (target_of own) _ _ _ _ _ _ _ _ _ _ run) (row.done (Solo own) is (λ uses. end)) (λ less. absurd (calm less))
+    → IsAtEnd after.trace.bytes → AreCalm before.bay.faults after.bay.faults before.trace.faults after.trace.faults → {T : Type 0} (x : T) → RunsInBay (target_of own) before.trace.bytes after.trace.bytes before.bay.told after.bay.told (Ok x) before.sink.bytes after.sink.bytes → Run tells state words before after 0
+solo_done_promise tells state words before after calm own is config end still x run = of_command tells state words before after 0 None tt (Solo own) is
+    (told_done x (target_of own) _ _ _ _ _ _ _ _ _ _ still run) (row.done (Solo own) is (λ uses. end)) (λ less. absurd (calm less))
     (record { config = λ none. config; trace = λ none. absurd (true≢false (none (Solo own) is)); bay = λ none. absurd (true≢false (none (Solo own) is)) })
-    (λ order still. inl (inl refl))
+    (λ order calm_. inl (inl refl))
 
 -- there was no memory to read the words, and the sink alone was used
 module _ {D : Type 0} (tells : Bool) (state : D → State) (words : List (List ℕ)) (before : Outside) (sink : Stream) (status : ℕ) (ends : TellsNoMemory status before.sink.bytes sink.bytes) where
@@ -182,7 +182,7 @@ module _ {D : Type 0} (tells : Bool) (state : D → State) (words : List (List �
   after = record before { sink = sink }
 
   does_none : (command : Command) → Does tells state None before after status command
-  does_none (Solo volume) = told_fault (target_of volume) before.trace.bytes before.trace.bytes before.bay.told before.bay.told before.bay.faults before.bay.faults before.trace.faults before.trace.faults status _ _ _ (Unit {0}) solo_fault.NoMemory tt ends
+  does_none (Solo volume) = told_fault (target_of volume) before.trace.bytes before.trace.bytes before.bay.told before.bay.told before.bay.faults before.bay.faults before.trace.faults before.trace.faults status _ _ _ (Unit {0}) solo_fault.NoMemory (refl, refl) ends
       (not_made (Unit {0}) bay_fault.NoMemory (target_of volume) before.trace.bytes before.bay.told before.bay.told before.sink.bytes refl)
   does_none Format = told_untouched _ _ _ _ _ status _ _ fault.Memory tt refl (inr ends)
   does_none (Replay options) = unreplayed _ _ _ _ _ _ _ _ _ fault.Memory tt refl (inr ends)

@@ -8,17 +8,19 @@ use Rattle.solo.specs.declared.fault.Fault.{Fault}
 use Rattle.solo.specs.declared.fault.Fault.TheVariants as fault
 use Rattle.solo.specs.Images.{PartCameBackFaulty, RunsInBay}
 use Rattle.solo.specs.Runs.{EndsBy}
-use Rattle.wol_run.specs.Tops.{HasBadLine, HasCause, HasMoreLines, RunsSolo, TellsFault, TellsStatus}
+use Rattle.wol_run.specs.Tops.{AreCalm, HasBadLine, HasCause, HasMoreLines, RunsSolo, TellsFault, TellsStatus}
 
 -- what a fault comes of
-pub has_cause : (e : Fault) (told told' : Option Told) (bay bay' source source' : ℕ) → (e ≡ fault.Disk → Rose bay bay' × PartCameBackFaulty told told') → (e ≡ fault.Bay → Rose bay bay') → (e ≡ fault.Source → Rose source source') → HasCause e told told' bay bay' source source'
-has_cause fault.Bay told told' bay bay' source source' disk image trace = image refl
-has_cause fault.Disk told told' bay bay' source source' disk image trace = disk refl
-has_cause fault.Source told told' bay bay' source source' disk image trace = trace refl
-has_cause fault.Sink told told' bay bay' source source' disk image trace = tt
-has_cause fault.NoMemory told told' bay bay' source source' disk image trace = tt
-has_cause fault.Spent told told' bay bay' source source' disk image trace = tt
-has_cause (fault.BadLine line why) told told' bay bay' source source' disk image trace = tt
+module _ (told told' : Option Told) (bay bay' source source' : ℕ) where
+  pub has_cause : (e : Fault) → (e ≡ fault.Disk → Rose bay bay' × PartCameBackFaulty told told') → (e ≡ fault.Bay → Rose bay bay') → (e ≡ fault.Source → Rose source source')
+      → ((e ≡ fault.Bay → ⊥) → (e ≡ fault.Disk → ⊥) → bay' ≡ bay) → ((e ≡ fault.Source → ⊥) → source' ≡ source) → HasCause e told told' bay bay' source source'
+  has_cause fault.Bay disk image trace still unread = (image refl, unread (λ is. cc is))
+  has_cause fault.Disk disk image trace still unread = ((disk refl).0, (disk refl).1, unread (λ is. cc is))
+  has_cause fault.Source disk image trace still unread = (trace refl, still (λ is. cc is) (λ is. cc is))
+  has_cause fault.Sink disk image trace still unread = (still (λ is. cc is) (λ is. cc is), unread (λ is. cc is))
+  has_cause fault.NoMemory disk image trace still unread = (still (λ is. cc is) (λ is. cc is), unread (λ is. cc is))
+  has_cause fault.Spent disk image trace still unread = (still (λ is. cc is) (λ is. cc is), unread (λ is. cc is))
+  has_cause (fault.BadLine line why) disk image trace still unread = (still (λ is. cc is) (λ is. cc is), unread (λ is. cc is))
 
 -- ---- Texts
 
@@ -29,9 +31,9 @@ no_memory_instead line why target trace left array old new values (lines, more, 
 
 module _ (target : Target) (trace left : Option (List ℕ)) (told told' : Option Told) (bay bay' source source' status : ℕ) (old mid new : Option (List ℕ)) where
   pub told_fault : (T : Type 0) (e : Fault) → HasCause e told told' bay bay' source source' → TellsFault e status mid new → RunsInBay {T = T} target trace left told told' (Err e) old mid → RunsSolo target trace left told told' bay bay' source source' status old new
-  told_fault T (fault.BadLine line why) cause (inl tells) (array, begins, values, images, ends) = (array, begins, values, inr (fault.BadLine line why, tt, (images, mid, ends, tells)))
+  told_fault T (fault.BadLine line why) cause (inl tells) (array, begins, values, images, ends) = (array, begins, values, inr (fault.BadLine line why, cause, (images, mid, ends, tells)))
   told_fault T (fault.BadLine line why) cause (inr tells) (array, begins, values, images, ends) =
-      (array, begins, values, inr (fault.NoMemory, tt, (inr images, mid, no_memory_instead line why target trace left array old mid values ends, tells)))
+      (array, begins, values, inr (fault.NoMemory, cause, (inr images, mid, no_memory_instead line why target trace left array old mid values ends, tells)))
   told_fault T fault.Bay cause tells (array, begins, values, images, ends) = (array, begins, values, inr (fault.Bay, cause, (images, mid, ends, tells)))
   told_fault T fault.Disk cause tells (array, begins, values, images, ends) = (array, begins, values, inr (fault.Disk, cause, (images, mid, ends, tells)))
   told_fault T fault.Sink cause tells (array, begins, values, images, ends) = (array, begins, values, inr (fault.Sink, cause, (images, mid, ends, tells)))
@@ -39,8 +41,9 @@ module _ (target : Target) (trace left : Option (List ℕ)) (told told' : Option
   told_fault T fault.NoMemory cause tells (array, begins, values, images, ends) = (array, begins, values, inr (fault.NoMemory, cause, (images, mid, ends, tells)))
   told_fault T fault.Spent cause tells (array, begins, values, images, ends) = (array, begins, values, inr (fault.Spent, cause, (images, mid, ends, tells)))
 
-pub told_done : {T : Type 0} (x : T) (target : Target) (trace left : Option (List ℕ)) (told told' : Option Told) (bay bay' source source' : ℕ) (old new : Option (List ℕ)) → RunsInBay target trace left told told' (Ok x) old new → RunsSolo target trace left told told' bay bay' source source' 0 old new
-told_done x target trace left told told' bay bay' source source' old new (array, begins, values, images, ends) = (array, begins, values, inl (refl, images, ends))
+pub told_done : {T : Type 0} (x : T) (target : Target) (trace left : Option (List ℕ)) (told told' : Option Told) (bay bay' source source' : ℕ) (old new : Option (List ℕ)) → AreCalm bay bay' source source' → RunsInBay target trace left told told' (Ok x) old new
+    → RunsSolo target trace left told told' bay bay' source source' 0 old new
+told_done x target trace left told told' bay bay' source source' old new calm (array, begins, values, images, ends) = (array, begins, values, inl (calm, (refl, images, ends)))
 
 -- ---- What the statuses of the trace come of
 

@@ -80,7 +80,7 @@ module _ {D : Type 0} (tells : Bool) (state : D → State) (asked : Asked) (left
       }
 
     are_told : (result : Result (Option Trouble) Stop) (sink sink' : ℕ) (mid : Option (List ℕ)) → (i : Inspects tells state config asked old new result sink sink' printed mid) → AreTold tells state asked config old new i.told
-    are_told result sink sink' mid i = record { out = i.out; count = i.count; missing = i.missing; there = i.there; few = i.few; each = i.each; leaves = leaves; others = others }
+    are_told result sink sink' mid i = record { out = i.out; count = i.count; missing = i.missing; there = i.there; fronts = i.fronts; few = i.few; each = i.each; leaves = leaves; others = others }
 
     -- all volumes were told
     pub look_whole : (first : Option Trouble) (sink sink' : ℕ) → Inspects tells state config asked old new (Ok first) sink sink' printed now → status ≡ status_of_first first

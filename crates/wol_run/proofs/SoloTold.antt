@@ -35,10 +35,10 @@ module _ {D : Type 0} (tells : Bool) (state : D → State) (words : List (List �
   solo_cause e (inr (inr nine)) cause runs = at_status tells state None words before after 9 status nine row.no_memory
   solo_cause (fault.BadLine line why) (inl same) cause runs =
       at_status tells state None words before after 3 status same (row.bad_line for_trace (comes_of_bad_line T (fault.BadLine line why) status (target_of own) before.trace.bytes after.trace.bytes before.bay.told after.bay.told before.sink.bytes mid (inl same) same runs))
-  solo_cause fault.Bay (inl same) cause runs = at_status tells state None words before after 4 status same (row.part_failed for_bay cause)
+  solo_cause fault.Bay (inl same) cause runs = at_status tells state None words before after 4 status same (row.part_failed for_bay cause.0)
   solo_cause fault.Disk (inl same) cause runs = at_status tells state None words before after 4 status same (row.part_failed for_bay cause.0)
   solo_cause fault.Sink (inl same) cause runs = at_status tells state None words before after 7 status same (row.sink_failed (sink same))
-  solo_cause fault.Source (inl same) cause runs = at_status tells state None words before after 8 status same (row.source_failed (inr cause))
+  solo_cause fault.Source (inl same) cause runs = at_status tells state None words before after 8 status same (row.source_failed (inr cause.0))
   solo_cause fault.NoMemory (inl same) cause runs = at_status tells state None words before after 9 status same row.no_memory
   solo_cause fault.Spent (inl same) cause runs =
       at_status tells state None words before after 10 status same (row.more_lines for_trace (comes_of_lines T fault.Spent status (target_of own) before.trace.bytes after.trace.bytes before.bay.told after.bay.told before.sink.bytes mid (inl same) same runs))
@@ -50,10 +50,10 @@ module _ (T : Type 0) (target : Target) (trace left : Option (List ℕ)) (told t
   solo_complete e (inr (inl seven)) cause runs = absurd (sink_calm seven)
   solo_complete e (inr (inr nine)) cause runs = inr nine
   solo_complete (fault.BadLine line why) (inl same) cause runs = absurd (order.good (comes_of_bad_line T (fault.BadLine line why) status target trace left told told' old mid (inl same) same runs))
-  solo_complete fault.Bay (inl same) cause runs = absurd (bay_calm cause)
+  solo_complete fault.Bay (inl same) cause runs = absurd (bay_calm cause.0)
   solo_complete fault.Disk (inl same) cause runs = absurd (bay_calm cause.0)
   solo_complete fault.Sink (inl same) cause runs = absurd (sink_calm same)
-  solo_complete fault.Source (inl same) cause runs = absurd (source_calm cause)
+  solo_complete fault.Source (inl same) cause runs = absurd (source_calm cause.0)
   solo_complete fault.NoMemory (inl same) cause runs = inr same
   solo_complete fault.Spent (inl same) cause runs = absurd (order.few (comes_of_lines T fault.Spent status target trace left told told' old mid (inl same) same runs))
 

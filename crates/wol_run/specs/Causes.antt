@@ -1,6 +1,6 @@
 -- Why the program ended with its status: a row for each, in the order of their numbers. `read` is
 -- the configuration that was read, where one was.
-use Rattle.std.specs.Prelude.{◌≡◌, ◌≢◌, ◌≤◌, ◌<◌, ◌⊎◌, ◌+◌, ◌^◌, ◌++◌, ℕ, Bool, true, List, Option, None, Some, IfSome, IsTrue, slice_get}
+use Rattle.std.specs.Prelude.{◌≡◌, ◌≢◌, ◌≤◌, ◌<◌, ◌⊎◌, ◌+◌, ◌^◌, ◌++◌, ℕ, Bool, true, List, Option, None, Some, IfSome, IsTrue, length, slice_get}
 use Rattle.std.specs.Io.KnownBytes.{IsAtEnd}
 use Rattle.wol_disk.specs.Disk.{Rose, State}
 use Rattle.wol_model.specs.Trace.{TraceLine, requests}
@@ -35,7 +35,7 @@ use Rattle.view_commands.specs.declared.order.Verb.{Verb}
 use Rattle.view_commands.specs.declared.order.ViewRefusal.{ViewRefusal}
 use Rattle.wol_run.specs.Commands.{changes_view, runs_trace, uses_bay, uses_config}
 use Rattle.wol_run.specs.Outside.{Outside}
-use Rattle.wol_run.specs.Replaying.{GivenLines, lines_of, options_as, trace_of}
+use Rattle.wol_run.specs.Replaying.{GivenLines, HasLeft, lines_of, options_as, trace_of}
 use Rattle.wol_run.specs.Serving.{HasBadBytes, served_as}
 use Rattle.wol_run.specs.Settings.{HasNoConfig}
 use Rattle.wol_run.specs.Tops.{HasBadLine, HasMoreLines}
@@ -77,7 +77,8 @@ replayed_by (Soak asked options) trace = Some (options_as options, lines_of aske
 replayed_by command trace = None
 
 -- A volume had no version left for a write: the next one at opening, and a number below that of the
--- writes that some first lines ask of it, come to 2^63 or more.
+-- writes that some first lines ask of it, come to 2^63 or more. These are the lines that were read,
+-- but for one at most.
 pub record HasNoVersion (tells : Bool) (read : Option Config) (words : List (List ℕ))
     (before after : Outside) : Type 0 where
   pub config : Config
@@ -91,6 +92,8 @@ pub record HasNoVersion (tells : Bool) (read : Option Config) (words : List (Lis
   pub lines : List (Option TraceLine)
   pub more : List (Option TraceLine)
   pub given : HasGiven (λ bytes. bytes) (targets_of config) start now (lines ++ more)
+  pub rest : HasLeft now after.trace.bytes
+  pub ahead : length more ≤ 1
   pub base : Base
   pub begun : IsTrue tells
       → IsTold (λ entry exit. IsBegun config (images_read config entry) base)

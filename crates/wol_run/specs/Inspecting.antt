@@ -6,7 +6,7 @@ use Rattle.wol_config.specs.declared.config.Config.{Config}
 use Rattle.report.specs.Troubles.{trouble_status}
 use Rattle.report.specs.declared.trouble.Trouble.{Trouble}
 use Rattle.inspection.specs.Lines.{Telling, first_trouble, text_of}
-use Rattle.inspection.specs.Runs.{IsToldOf}
+use Rattle.inspection.specs.Runs.{IsToldOf, LeavesFrontsOut}
 use Rattle.inspection.specs.declared.asked.Asked.{Asked}
 use Rattle.wol_config.specs.declared.config.VolumeConf.{VolumeConf}
 use Rattle.volume_images.specs.Left.{IsTold}
@@ -25,8 +25,9 @@ status_of_first None = 0
 status_of_first (Some trouble) = trouble_status trouble
 
 -- These volumes, the first ones in order, were told so. Where any was told, an image that is out
--- was there and may be opened, and one that isn't was refused. Each image that is left recovers to
--- what an image at entry did, no label or view was changed, and sound images stay sound.
+-- was there and may be opened, and keeps its label and view as they were read; and one that isn't
+-- was refused. Each image that is left recovers to what an image at entry did, no label or view was
+-- changed, and sound images stay sound.
 pub record AreTold {D : Type 0} (tells : Bool) (state : D → State) (asked : Asked) (config : Config)
     (old new : BayState) (told : List Telling) : Type 0 where
   pub out : List (Option (ImageRest D))
@@ -36,6 +37,7 @@ pub record AreTold {D : Type 0} (tells : Bool) (state : D → State) (asked : As
       × RefusesVolume tells state config out old new k v f
   pub there : told ≢ [] → IsTrue tells
       → IfSome old.told (λ t. WereThere config out t)
+  pub fronts : told ≢ [] → IsTrue tells → IsTold (LeavesFrontsOut config out) old.told new.told
   pub few : length told ≤ length config.volumes.items
   pub each : (k : ℕ) (t : Telling) → slice_get told k ≡ Some t
       → IsToldOf tells state config asked out old new k t

@@ -1,5 +1,5 @@
 -- What a run of the program leaves, by its exit status.
-use Rattle.std.specs.Prelude.{◌≡◌, ℕ, ◌≤◌, ◌<◌, ◌⊎◌, ⊤, List, Option, ◌^◌, ◌∷◌, length, Err}
+use Rattle.std.specs.Prelude.{◌≡◌, ℕ, ◌≤◌, ◌<◌, ◌⊎◌, List, Option, ◌^◌, ◌∷◌, length, Err}
 use Rattle.std.specs.Io.KnownBytes.{Appends}
 use Rattle.wol_disk.specs.Disk.{Block, Rose, Values}
 use Rattle.wol_io.specs.Streams.{AppendsFront}
@@ -47,17 +47,22 @@ TellsFault fault.Spent status printed new = EndsWith (fault_text fault.Spent) 10
 abbrev pub TellsStatus : Fault → (status : ℕ) → Type 0
 TellsStatus e status = (status ≡ status_of e) ⊎ (status ≡ 7) ⊎ (status ≡ 9)
 
+-- the counts of the bay and of the trace are as they were
+abbrev pub AreCalm : (bay bay' source source' : ℕ) → Type 0
+AreCalm bay bay' source source' = (bay' ≡ bay) × (source' ≡ source)
+
 -- what a fault comes of: a count that rose, and of a failed call of the image's one part also that
--- the bay lists it
+-- the bay lists it; each other count is as it was
 abbrev pub HasCause : Fault → (told told' : Option Told) → (bay bay' source source' : ℕ) → Type 0
-HasCause fault.Bay told told' bay bay' source source' = Rose bay bay'
+HasCause fault.Bay told told' bay bay' source source' = Rose bay bay' × (source' ≡ source)
 HasCause fault.Disk told told' bay bay' source source' =
-    Rose bay bay' × PartCameBackFaulty told told'
-HasCause fault.Source told told' bay bay' source source' = Rose source source'
-HasCause fault.Sink told told' bay bay' source source' = ⊤
-HasCause fault.NoMemory told told' bay bay' source source' = ⊤
-HasCause fault.Spent told told' bay bay' source source' = ⊤
-HasCause (fault.BadLine line why) told told' bay bay' source source' = ⊤
+    Rose bay bay' × PartCameBackFaulty told told' × (source' ≡ source)
+HasCause fault.Source told told' bay bay' source source' = Rose source source' × (bay' ≡ bay)
+HasCause fault.Sink told told' bay bay' source source' = AreCalm bay bay' source source'
+HasCause fault.NoMemory told told' bay bay' source source' = AreCalm bay bay' source source'
+HasCause fault.Spent told told' bay bay' source source' = AreCalm bay bay' source source'
+HasCause (fault.BadLine line why) told told' bay bay' source source' =
+    AreCalm bay bay' source source'
 
 -- a run that was done: the whole text was printed, and the image is there
 abbrev pub IsDone : Target → (trace : Option (List ℕ)) → (array : Option (List Block))
@@ -75,13 +80,14 @@ IsFaulty e target trace left array told told' values status old new =
     × EndsBy e target trace left array old printed values
     × EndsWith (fault_text e) (status_of e) status printed new
 
--- a run of `solo`
+-- a run of `solo`: no call of the bay, of a part or of the trace failed where it was done
 abbrev pub RunsSolo : Target → (trace left : Option (List ℕ)) → (told told' : Option Told)
     → (bay bay' source source' : ℕ) → (status : ℕ) → (old new : Option (List ℕ)) → Type 0
 RunsSolo target trace left told told' bay bay' source source' status old new =
     (array : Option (List Block)) × BeginsBlank target told array
     × (values : Option (List (Values Block)))
-    × (IsDone target trace array told told' values status old new
+    × (AreCalm bay bay' source source'
+    × IsDone target trace array told told' values status old new
     ⊎ ((e : Fault) × HasCause e told told' bay bay' source source'
     × IsFaulty e target trace left array told told' values status old new))
 

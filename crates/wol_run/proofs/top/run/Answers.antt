@@ -64,14 +64,18 @@ returns-in-Serve-clause-promise g c =
 
 -- the lines of one volume were run to their end
 pub returns-in-Ok-run-clause-promise : goal.returns-in-Ok-run-clause-promise
-returns-in-Ok-run-clause-promise g c = solo_done_promise _ _ _ _ _ (λ less. absurd (let same = c.in-Ok-run.ensures.sink.calm (λ is. cc is) in omega (arith, same, less))) c.in-Solo.volume (subst (IsCommand _) c.in-Solo.is c.in-Ok.ensures.ok) refl c.in-Ok-run.ensures.end (tt {0}) c.in-Ok-run.ensures.content
+returns-in-Ok-run-clause-promise g c =
+    solo_done_promise _ _ _ _ _ (λ less. absurd (let same = c.in-Ok-run.ensures.sink.calm (λ is. cc is) in omega (arith, same, less))) c.in-Solo.volume (subst (IsCommand _) c.in-Solo.is c.in-Ok.ensures.ok) refl c.in-Ok-run.ensures.end
+    (c.in-Ok-run.ensures.bay.calm (λ is. elim is [ inl one ↦ cc one | inr one ↦ cc one ]), c.in-Ok-run.ensures.source.calm (λ is. cc is)) (tt {0}) c.in-Ok-run.ensures.content
 
 -- .. or a fault ended them
 pub returns-in-Err-clause-promise : goal.returns-in-Err-clause-promise
 returns-in-Err-clause-promise g c =
     let e = c.in-Err.fault in
     let bay = g.B.Bay.state c.args.bay.now in
-    let cause = has_cause e bay.told (g.B.Bay.state c.run.new.bay).told bay.faults (g.B.Bay.state c.run.new.bay).faults (g.S.Source.faults c.args.trace.now) (g.S.Source.faults c.run.new.trace) (λ is. (c.in-Err.ensures.bay.cause (inr (ap Err is)), c.in-Err.ensures.faulty (ap Err is))) (λ is. c.in-Err.ensures.bay.cause (inl (ap Err is))) (λ is. c.in-Err.ensures.source.cause (ap Err is)) in
+    let cause = has_cause bay.told (g.B.Bay.state c.run.new.bay).told bay.faults (g.B.Bay.state c.run.new.bay).faults (g.S.Source.faults c.args.trace.now) (g.S.Source.faults c.run.new.trace) e
+    (λ is. (c.in-Err.ensures.bay.cause (inr (ap Err is)), c.in-Err.ensures.faulty (ap Err is))) (λ is. c.in-Err.ensures.bay.cause (inl (ap Err is))) (λ is. c.in-Err.ensures.source.cause (ap Err is))
+    (λ no_bay no_disk. c.in-Err.ensures.bay.calm (λ is. elim is [ inl one ↦ no_bay (cc one) | inr one ↦ no_disk (cc one) ])) (λ no. c.in-Err.ensures.source.calm (λ is. no (cc is))) in
     solo_fault_promise _ _ _ _ _ _
     (λ seven. elim (c.tell.ensures.cause seven) [
       | inl is ↦ rose_later _ _ _ (c.in-Err.ensures.sink.cause (ap Err is)) c.tell.ensures.later
