@@ -73,7 +73,7 @@ returns-in_err-freed-clause-cut g c =
     let is = same_Some st.segment o (sym st.there ∙ get-set items p o o there) in
     could_not o st.after there (st.held ∙ set-set items p o st.after) st.stays.shape (ap is_err (err_from_is_err_and c.from_residual-in_err-freed.result c.from_residual-in_err-freed.ensures.1).1)
     (stayed state o st.after c.args.pos (record_head c.args.head.now) c.args.keep c.requires.keep
-        (omega (arith, c.valid.ensures, c.left_valid.ensures, c.if-left_valid-gt0.false)) (subst (λ (h : HeldSegment g.row.D.Denot). NotFreed state h st.after) is st.stays))
+    (omega (arith, c.valid.ensures, c.left_valid.ensures, c.if-left_valid-gt0.false)) (subst (λ (h : HeldSegment g.row.D.Denot). NotFreed state h st.after) is st.stays))
 
 pub returns-clause-cut : goal.returns-clause-cut
 returns-clause-cut g c =
@@ -82,4 +82,4 @@ returns-clause-cut g c =
     let fr = c.in_ok-freed.ensures.ok in let f = c.in_ok-freed.freed in
     let is = same_Some fr.segment o (sym fr.there ∙ get-set items p o o there) in
     freed o f there (fr.gone ∙ remove-set items p o) refl (gave_up state o f c.args.pos (record_head c.args.head.now) c.args.keep c.requires.keep
-        (omega (arith, c.valid.ensures, c.left_valid.ensures, c.if-left_valid-gt0.false)) (subst (λ (h : HeldSegment g.row.D.Denot). Freed state h f) is fr.freed))
+    (omega (arith, c.valid.ensures, c.left_valid.ensures, c.if-left_valid-gt0.false)) (subst (λ (h : HeldSegment g.row.D.Denot). Freed state h f) is fr.freed))
