@@ -9,7 +9,7 @@ use Rattle.turn_lock.specs.LockIds.{LockId}
 use Rattle.seg_pool.specs.declared.base.PoolBase.{PoolBase}
 use Rattle.wol_disk.specs.Disk.{State, Block, IsDisk, LeavesOnly, Rose}
 use Rattle.wol_disk.proofs.Calls.{now_leaves}
-use Rattle.wol_model.specs.History.{Wrote, Broke, worker, writes}
+use Rattle.wol_model.specs.History.{Wrote, Broke, worker}
 use Rattle.wol_model.specs.Index.{listed_in}
 use Rattle.wol_model.specs.Log.{Record, IsLog, HasFirstOf, written, end_of}
 use Rattle.spin_model.specs.declared.spun.Spun.{Spun}

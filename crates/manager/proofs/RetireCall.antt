@@ -15,8 +15,8 @@ use Rattle.wol_promise.proofs.OneMore.{last_more}
 use Rattle.log_segment.specs.Segment.{valid_of}
 use Rattle.log_segment.specs.declared.free.FreeSegment.{FreeSegment}
 use Rattle.block_cells.specs.declared.record.Rec.{Rec}
-use Rattle.redirect_map.specs.Index.{Contents, IsIndex, entry_at}
-use Rattle.logger.specs.Lanes.{IsLane, HoldsAll, IsSameLane, HasUsed, held_in, taken_in, pool_of, logger_of}
+use Rattle.redirect_map.specs.Index.{Contents, entry_at}
+use Rattle.logger.specs.Lanes.{held_in, taken_in, pool_of, logger_of}
 use Rattle.logger.specs.Trims.{IsRetirable, KeepsSoMany, Retired, gone, held_still}
 use Rattle.logger.specs.declared.lane.HeldSegment.{HeldSegment}
 use Rattle.logger.specs.declared.lane.Lane.{Lane}
@@ -32,7 +32,7 @@ use Rattle.volume_parts.proofs.Calm.{calm_among}
 use Rattle.listed_records.proofs.Elements.{get_removed, all_at, map_set, get_of}
 use Rattle.manager.proofs.DropCall.{IsFound, HasTurned, keeps_pieces, passed_still, removed_indexes}
 use Rattle.manager.proofs.DropReady.{ready_broken}
-use Rattle.listed_records.proofs.Entries.{Found, still_filter}
+use Rattle.listed_records.proofs.Entries.{still_filter}
 use Rattle.manager.proofs.Calm.{segment_rose}
 use Rattle.manager.proofs.FetchRec.{spot_at}
 use Rattle.manager.proofs.Frames.{none_passed}

@@ -100,7 +100,7 @@ put_image old new first mask blocks bs is image =
     let Q : Option (List (Values Block)) → Type 0 = λ o. IsImageOf o (reads found.0) in
     (reads found.0, subst Q (sym found.1) (image_reads found.0), found.2 ∙ sym (after_puts (reads found.0) first mask blocks))
 
-partly_image : (old : Option (List (Values Block))) (first mask : ℕ) (blocks c : List Block) → IsPartlyPut old (put_block first mask blocks) c → (home : List Block) × IsImageOf old home × IsBlend home (after home (puts_from 0 first mask blocks)) c
+pub partly_image : (old : Option (List (Values Block))) (first mask : ℕ) (blocks c : List Block) → IsPartlyPut old (put_block first mask blocks) c → (home : List Block) × IsImageOf old home × IsBlend home (after home (puts_from 0 first mask blocks)) c
 partly_image old first mask blocks c put = (put.0, put.1, (let P : List Block → Type 0 = λ l. IsBlend put.0 l c in subst P (sym (after_puts put.0 first mask blocks)) put.2))
 
 -- a block that is put: its place in the mask and among the blocks
@@ -188,7 +188,7 @@ module _ {D : Type 0} (tells : Bool) (state : D → State) (m : Manager D) (b : 
   module _ (part : Spun D) (spindle : PassOf Spindle SpindleBase) (index : Contents) (volume : volume_of part ≡ volume_of m.home) (size : (state_of state part).size ≡ (state_of state m.home).size) (pass : IsSamePass m.spindle spindle) where
     -- the blocks are home, and the index says so
     pub put_keeps : index.entries ≡ changed version (with_put mask) m.index.entries
-        → (state_of state part).values ≡ option_map (λ vs. only (overlaid (reads vs) (put_block e.listed.first mask blocks))) (state_of state m.home).values
+        → (IsTrue tells → (state_of state part).values ≡ option_map (λ vs. only (overlaid (reads vs) (put_block e.listed.first mask blocks))) (state_of state m.home).values)
         → IsReady state (record m { home = part; spindle = spindle; index = index; home_up = true }) → Keeps tells state (record m { home = part; spindle = spindle; index = index; home_up = true }) b notes
     put_keeps entries is ready = record {
       logs = kp.logs;
@@ -197,7 +197,7 @@ module _ {D : Type 0} (tells : Bool) (state : D → State) (m : Manager D) (b : 
           (subst (Upholds (parts_of tells state) b.volume.began (record (seen m kp.logs) { home = part; home_up = true; indexed = put_home at.front e at.back (λ blk. in_mask e.listed.first mask blk) }) notes (writes (entries_of notes))) (sym (unbroken tells state m b notes kp up))
           (other_flags (parts_of tells state) b.volume.began (record (seen m kp.logs) { home = part; indexed = put_home at.front e at.back (λ blk. in_mask e.listed.first mask blk) }) true m.ups.items notes (writes (entries_of notes)) None
           (home_put (parts_of tells state) b.volume.began (seen m kp.logs) part size volume (puts_from 0 e.listed.first mask blocks) notes (writes (entries_of notes)) at.front e at.back (λ blk. in_mask e.listed.first mask blk) (upholds_up tells state m b notes kp up) (ap down_of up) at.is due_in data_of all_put
-          (λ x may. let from = put_image (state_of state m.home).values (state_of state part).values e.listed.first mask blocks x is may.1 in (from.0, (may.0, from.1), from.2))) refl));
+          (λ x may. let from = put_image (state_of state m.home).values (state_of state part).values e.listed.first mask blocks x (is may.0) may.1 in (from.0, (may.0, from.1), from.2))) refl));
       in_use = kp.in_use;
       passed = kp.passed;
       taken = kp.taken;

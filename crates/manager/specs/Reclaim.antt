@@ -1,9 +1,12 @@
 -- What the steps of reclaim do to a manager, by their answers.
-use Rattle.std.specs.Prelude.{⊤, ◌≡◌, ◌∷◌, [], ◌++◌, ℕ, Bool, true, List, filter, slice_set, None, Some, Result, Ok, Err, IsOk, IsTrue, OnOk, OnErr}
+use Rattle.std.specs.Prelude.{⊤, ◌≡◌, ◌∷◌, [], ◌++◌, ℕ, Bool, true, List, filter, length, option_map, ◌+◌, slice_set, None, Some, Result, Ok, Err, IsOk, IsTrue, OnOk, OnErr}
 use Rattle.std.specs.Option.{ForSome}
-use Rattle.wol_disk.specs.Disk.{State, Block}
+use Rattle.wol_disk.specs.Disk.{State, Block, reads, settled}
+use Rattle.spin_model.specs.Spun.{state_of}
+use Rattle.wol_model.specs.Blocks.{overlaid}
 use Rattle.wol_model.specs.History.{Broke, writes}
-use Rattle.wol_model.specs.Index.{Indexed}
+use Rattle.wol_model.specs.Index.{Indexed, listed_in, is_due}
+use Rattle.wol_model.specs.Log.{has_bit}
 use Rattle.wol_promise.specs.Ruled.{Noted, entries_of, last_look}
 use Rattle.wol_promise.specs.Stands.{IsDataOf}
 use Rattle.redirect_map.specs.Index.{entry_at, changed}
@@ -20,7 +23,7 @@ use Rattle.manager.specs.declared.part.StepFault.{StepFault}
 use Rattle.manager.specs.declared.part.StepFault.TheVariants.{DiskFault, Down}
 pub use Rattle.volume_parts.specs.Offers.{IsUsed, IsTrimmedLane}
 pub use Rattle.listed_records.specs.Changes.{put_block, with_put, with_kept, given_of, lies_elsewhere, NoneLiveIn, GoesIn, stays_behind}
-pub use Rattle.volume_parts.specs.Accesses.{IsPartlyPut, IsPut}
+pub use Rattle.volume_parts.specs.Accesses.{IsPartlyPut, IsPut, IsLaid, IsSynced}
 
 -- ---- Answers
 
@@ -112,6 +115,49 @@ pub record HasStored {D T : Type 0} (state : D → State) (version mask : ℕ) (
       (λ e. IsPut state old.home new.home (put_block e.listed.first mask blocks) res)
   pub ok : OnOk res (new.index.entries ≡ changed version (with_put mask) old.index.entries)
   pub err : OnErr res (new.index ≡ old.index)
+
+-- ---- Blocks that are put home in groups: laid there, synced together, and then marked
+
+-- Of the manager nothing changed but home, to which these blocks were written without a sync, and
+-- which counts as awake.
+pub record HasLaid {D T : Type 0} (state : D → State) (version mask : ℕ) (blocks : List Block)
+    (old new : Manager D) (res : Result T StepFault) : Type 0 where
+  pub rest : new ≡ record old
+      { home = new.home; spindle = new.spindle; home_up = true; down = new.down }
+  pub used : HasUsedOnce old.spindle new.spindle
+  pub home : ForSome (entry_at old.index.entries version)
+      (λ e. IsLaid state old.home new.home (put_block e.listed.first mask blocks) res)
+
+-- Nothing changed but home, which was synced and counts as awake.
+pub record HasSynced {D T : Type 0} (state : D → State) (old new : Manager D)
+    (res : Result T StepFault) : Type 0 where
+  pub rest : new ≡ record old
+      { home = new.home; spindle = new.spindle; home_up = true; down = new.down }
+  pub used : HasUsedOnce old.spindle new.spindle
+  pub home : IsSynced state old.home new.home res
+
+-- the blocks of the mask are due in the record of this version
+abbrev pub AreDue : List Indexed → (version mask : ℕ) → Type 0
+AreDue es version mask = ForSome (entry_at es version) (λ e. (i : ℕ) → has_bit mask i ≡ true
+    → is_due (listed_in es) e.listed (e.listed.first + i) ≡ true)
+
+-- Home reads as if the blocks of this version were there in the places of the mask: to put them
+-- there would change nothing. A crash may leave some of them.
+abbrev pub AreLaid : {D : Type 0} → (tells : Bool) → (D → State) → Manager D → (version mask : ℕ)
+    → ManagerBase → List Noted → Type 0
+AreLaid tells state m version mask b notes =
+    IsTrue tells → ForSome (entry_at m.index.entries version)
+    (λ e. (blocks : List Block) × (length blocks ≡ length e.listed.keep)
+    × IsDataOf b.volume.began (writes (entries_of notes)) version e.listed.first blocks
+    × (option_map (λ vs. overlaid (reads vs) (put_block e.listed.first mask blocks))
+    (state_of state m.home).values ≡ option_map reads (state_of state m.home).values))
+
+-- they are there, and home is synced
+abbrev pub AreHome : {D : Type 0} → (tells : Bool) → (D → State) → Manager D → (version mask : ℕ)
+    → ManagerBase → List Noted → Type 0
+AreHome tells state m version mask b notes = AreLaid tells state m version mask b notes
+    × (IsTrue tells → (state_of state m.home).values
+    ≡ option_map settled (state_of state m.home).values)
 
 -- ---- Blocks that are given up
 

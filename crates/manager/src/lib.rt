@@ -26,6 +26,7 @@
 #![tactic(auto)]
 
 mod base;
+mod laying;
 mod manager;
 mod object;
 mod part;

@@ -10,7 +10,7 @@ ghost use Rattle.manager.specs.Writing.{HaveAnswered, HasLook, NeedsHome, NeedsL
 ghost use Rattle.manager.specs.declared.part.Part.{Part};
 ghost use Rattle.spin_model.specs.Spun.{state_of};
 ghost use Rattle.std.specs.List.{list_any, range_with_len};
-ghost use Rattle.std.specs.Prelude.{◌≡◌, ◌↔◌, ◌+◌, ◌≤◌, ◌<◌, ◌^◌, true, false, None, Some, Err, IsOk, OnOk, length, map};
+ghost use Rattle.std.specs.Prelude.{◌≡◌, ◌↔◌, ◌+◌, ◌≤◌, ◌<◌, ◌^◌, true, false, None, Some, Err, IsOk, IsSome, IfNone, IfSome, OnOk, length, map};
 ghost use Rattle.wol_model.specs.History.{worker};
 ghost use Rattle.wol_model.specs.Index.{listed_in, is_covered};
 
@@ -61,6 +61,43 @@ impl<D: Disk> Manager<D> {
                 Err(WriteRefusal::DiskFault(home))
             }
         }
+    }
+
+    /// Writes blocks home as one write with one sync, however many they are, where the rule of placing has them go there without
+    /// waking it: home is awake, and no record covers one of them. Else it does nothing, and answers nothing.
+    pub fn write_wide<R: Wait>(
+        &mut self,
+        rt: &R,
+        shared: &Shared<D>,
+        lbn: u64,
+        from: &[Block],
+    ) -> Option<Result<Place, WriteRefusal>>
+        requires ready { IsReady D.state self.old }
+        requires at { IsHome shared.now self.old }
+        requires few { length from.now < 2 ^ 32 }
+        requires fits { lbn + length from.now ≤ (state_of D.state self.old.home).size }
+        ensures ready { IsReady D.state self.new }
+        ensures at { IsHome shared.now self.new }
+        ensures nothing { IfNone result (self.new ≡ self.old) }
+        ensures home { IsSome result ↔ ((self.old.down ≡ None) × (self.old.home_up ≡ true)
+            × (list_any (is_covered (listed_in self.old.index.entries))
+            (range_with_len lbn (length from.now)) ≡ false)) }
+        ensures answer { IfSome result (IsHomeAnswer self.old.id) }
+        ensures stands { IfSome result (λ r. LeavesPassing D.tells D.state self.old self.new
+            (written self.old.next lbn from.now r) worker) }
+        ensures waking { IfSome result (λ r. HasUsedOnce self.old.spindle self.new.spindle) }
+        ensures fault { IfSome result (λ r. TellsFault D.state r self.old self.new) }
+        ensures calm { IfSome result (λ r. OnOk r (NoneRose D.state self.old self.new)) }
+        ensures any_moment { IfSome result (λ r. StopsWith D.tells D.state self.old self.new None
+            (in_flight self.old.next lbn from.now r)) }
+    {
+        if self.down.is_some() || !self.home_up {
+            return None;
+        }
+        if self.index.covered(lbn, from.len() as u32) {
+            return None;
+        }
+        Some(self.write_home(rt, shared, lbn, from))
     }
 
     /// Writes 1 to `most` blocks from block `lbn` on, at home or to the log of a logger, as the rule of placing says for

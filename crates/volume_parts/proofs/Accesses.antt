@@ -19,7 +19,7 @@ use Rattle.wol_promise.proofs.OneMore.{or_none}
 use Rattle.spin_model.specs.Spun.{state_of, volume_of}
 use Rattle.spin_model.specs.declared.spun.Spun.{Spun}
 use Rattle.listed_records.specs.Changes.{put_block}
-use Rattle.volume_parts.specs.Accesses.{IsPartlyPut, IsPut, IsTornFrom, Stored}
+use Rattle.volume_parts.specs.Accesses.{IsLaid, IsPartlyPut, IsPut, IsSynced, IsTornFrom, Stored}
 
 -- ---- lists
 
@@ -328,6 +328,75 @@ module _ {D : Type 0} (state : D → State) (sound : (d : D) → IsDisk (state d
       all_laid : (v : Option (List (Values Block))) → option_map only (option_map (λ vs. overlaid (reads vs) (upto o (first + length blocks))) v) ≡ option_map (λ vs. only (overlaid (reads vs) o)) v
       all_laid None = refl
       all_laid (Some vs) = ap (λ (f : ℕ → Option Block). Some (only (overlaid (reads vs) f))) (upto_end first mask blocks)
+
+  -- all runs were written, and no sync came behind them
+  pub laid_all : {T E : Type 0} (mid : Spun D) (res : Result T E) → (IsErr res → ⊥) → Putting state old mid (put_block first mask blocks) (first + length blocks) → IsLaid state old mid (put_block first mask blocks) res
+  laid_all mid res not p = record {
+    volume = p.volume;
+    size = p.size;
+    ok = on_ok_of res (λ no. p.content ∙ all_there (state_of state old).values);
+    images = p.images;
+    any_moment = p.any_moment;
+    cause = on_err_of res (λ is. absurd (not is));
+    calm = on_ok_of res (λ no. p.calm);
+  }
+    where
+      all_there : (v : Option (List (Values Block))) → option_map (λ vs. overlaid (reads vs) (upto o (first + length blocks))) v ≡ option_map (λ vs. overlaid (reads vs) o) v
+      all_there None = refl
+      all_there (Some vs) = ap (λ (f : ℕ → Option Block). Some (overlaid (reads vs) f)) (upto_end first mask blocks)
+
+-- one of the writes failed
+pub laid_failed : {D T E : Type 0} (state : D → State) (old new : Spun D) (over : ℕ → Option Block) (res : Result T E) → IsErr res → IsPut state old new over res → IsLaid state old new over res
+laid_failed state old new over res is p = record {
+  volume = p.volume;
+  size = p.size;
+  ok = on_ok_never _ res is;
+  images = p.images;
+  any_moment = p.any_moment;
+  cause = p.cause;
+  calm = p.calm;
+}
+
+-- the same of the same blocks
+pub laid_same : {D T E : Type 0} {res : Result T E} (state : D → State) (old new : Spun D) (over over' : ℕ → Option Block) → over ≡ over' → IsLaid state old new over res → IsLaid state old new over' res
+laid_same {D} {T} {E} {res} state old new over over' same p = subst (λ (f : ℕ → Option Block). IsLaid state old new f res) same p
+
+-- and of an answer of another type
+pub laid_like : {D T E U F : Type 0} (state : D → State) (old new : Spun D) (over : ℕ → Option Block) (r : Result T E) (s : Result U F) → is_ok r ≡ is_ok s → IsLaid state old new over r → IsLaid state old new over s
+laid_like state old new over r s like p = record {
+  volume = p.volume;
+  size = p.size;
+  ok = ok_like _ r s like p.ok;
+  images = p.images;
+  any_moment = p.any_moment;
+  cause = err_like _ r s like p.cause;
+  calm = ok_like _ r s like p.calm;
+}
+
+pub synced_like : {D T E U F : Type 0} (state : D → State) (old new : Spun D) (r : Result T E) (s : Result U F) → is_ok r ≡ is_ok s → IsSynced state old new r → IsSynced state old new s
+synced_like state old new r s like p = record {
+  volume = p.volume;
+  size = p.size;
+  ok = ok_like _ r s like p.ok;
+  images = p.images;
+  any_moment = p.any_moment;
+  cause = err_like _ r s like p.cause;
+  calm = ok_like _ r s like p.calm;
+}
+
+-- a sync
+pub synced_so : {D T E : Type 0} (state : D → State) (sound : (d : D) → IsDisk (state d)) (old new : Spun D) (res : Result T E)
+    → OnOk res ((state_of state new).values ≡ option_map settled (state_of state old).values) → OnErr res ((state_of state new).values ≡ (state_of state old).values) → Passes (state_of state old) (state_of state new) (IsErr res)
+    → volume_of new ≡ volume_of old → IsSynced state old new res
+synced_so state sound old new res synced kept passes volume = record {
+  volume = volume;
+  size = passes.same_size;
+  ok = synced;
+  images = λ c i. after_sync res (state_of state old).values (state_of state new).values c synced kept i;
+  any_moment = sync_goes_on res (started (sound old.inner) (λ c is. is)) (sound old.inner) synced kept passes;
+  cause = on_err_of res (λ is. passes.caused is);
+  calm = on_ok_of res (λ not. passes.calm not);
+}
 
 blend_left : (x y : List Block) → length y ≡ length x → IsBlend x y x
 blend_left [] [] e = tt

@@ -1,6 +1,6 @@
 -- What a write of a part does, and what it leaves at each moment.
 use Rattle.std.specs.Prelude.{◌≡◌, ◌∷◌, [], ◌++◌, ℕ, List, Option, option_map, Result, OnOk, OnErr}
-use Rattle.wol_disk.specs.Disk.{State, Block, Values, IsImageOf, IsBlend, LeavesOnly, Rose, only, put, reads}
+use Rattle.wol_disk.specs.Disk.{State, Block, Values, IsImageOf, IsBlend, LeavesOnly, Rose, only, put, reads, settled}
 use Rattle.wol_model.specs.Journal.{Needed, Done}
 use Rattle.turn_lock.specs.Passes.{pass_mine, pass_number}
 use Rattle.turn_lock.specs.declared.pass.PassOf.{PassOf}
@@ -47,5 +47,33 @@ pub record IsPut {D T E : Type 0} (state : D → State) (old new : Spun D) (over
       → IsPartlyPut (state_of state old).values over c
   pub any_moment : LeavesOnly (state_of state old) (state_of state new)
       (IsPartlyPut (state_of state old).values over)
+  pub cause : OnErr res (Rose (state_of state old).faults (state_of state new).faults)
+  pub calm : OnOk res ((state_of state new).faults ≡ (state_of state old).faults)
+
+-- A part before and after these blocks were written, without a sync: it reads as if they were there,
+-- and each image has some of them.
+pub record IsLaid {D T E : Type 0} (state : D → State) (old new : Spun D) (over : ℕ → Option Block)
+    (res : Result T E) : Type 0 where
+  pub volume : volume_of new ≡ volume_of old
+  pub size : (state_of state new).size ≡ (state_of state old).size
+  pub ok : OnOk res (option_map reads (state_of state new).values
+      ≡ option_map (λ vs. overlaid (reads vs) over) (state_of state old).values)
+  pub images : (c : List Block) → IsImageOf (state_of state new).values c
+      → IsPartlyPut (state_of state old).values over c
+  pub any_moment : LeavesOnly (state_of state old) (state_of state new)
+      (IsPartlyPut (state_of state old).values over)
+  pub cause : OnErr res (Rose (state_of state old).faults (state_of state new).faults)
+  pub calm : OnOk res ((state_of state new).faults ≡ (state_of state old).faults)
+
+-- a part before and after a sync: what it reads as is its only image, where that succeeded
+pub record IsSynced {D T E : Type 0} (state : D → State) (old new : Spun D) (res : Result T E) :
+    Type 0 where
+  pub volume : volume_of new ≡ volume_of old
+  pub size : (state_of state new).size ≡ (state_of state old).size
+  pub ok : OnOk res ((state_of state new).values ≡ option_map settled (state_of state old).values)
+  pub images : (c : List Block) → IsImageOf (state_of state new).values c
+      → IsImageOf (state_of state old).values c
+  pub any_moment : LeavesOnly (state_of state old) (state_of state new)
+      (IsImageOf (state_of state old).values)
   pub cause : OnErr res (Rose (state_of state old).faults (state_of state new).faults)
   pub calm : OnOk res ((state_of state new).faults ≡ (state_of state old).faults)

@@ -89,7 +89,7 @@ pub fn store_at<R: Wait, D: Disk>(
 }
 
 // How many blocks from this one on, in front of block `end`, are all in the mask or all outside it.
-fn run_from(mask: u128, at: usize, end: usize) -> usize
+pub(crate) fn run_from(mask: u128, at: usize, end: usize) -> usize
     requires there { at < end }
     requires few { end ≤ 128 }
     ensures some { 1 ≤ result }

@@ -11,6 +11,8 @@
 
 mod group;
 mod home;
+mod laying;
 
 pub use group::{list_group, put_group, together};
 pub use home::{fetch_at, put_at, store_at};
+pub use laying::{lay_at, sync_at};

@@ -83,7 +83,7 @@ returns-in-Ok-clause-keeps g c b notes known keeps =
     put_keeps g.D.Disk.tells g.D.Disk.state m b notes keeps (never_some m.down c.in_default.not-Some) c.args.version c.args.mask c.args.from.now f.entry at (c.requires.count f.entry f.is) (c.requires.due f.entry f.is)
     (λ told. known told f.entry f.is) c.put_at.new.part c.put_at.new.spindle c.set_homed.new.self put.volume put.size p.same
     (noted_home m.index.entries c.set_homed.new.self.entries c.args.version f.entry c.homed-homed.result c.args.mask c.in-Some-find.ensures.index f.is c.homed-homed.ensures.value c.set_homed.ensures.entries)
-    put.ok (returns-in-Ok-clause-ready g c)
+    (λ told. put.ok) (returns-in-Ok-clause-ready g c)
 
 pub returns-in-Ok-clause-any_moment : goal.returns-in-Ok-clause-any_moment
 returns-in-Ok-clause-any_moment g c = stops g (goal.at.returns-in-Ok-clause-any_moment g c).After-put_at
