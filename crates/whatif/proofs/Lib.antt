@@ -9,4 +9,5 @@ pub mod Seeing
 pub mod Turning
 pub mod New
 pub mod Sums
+pub mod Waiting
 pub mod Served

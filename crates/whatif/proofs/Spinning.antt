@@ -12,6 +12,8 @@ use Rattle.whatif.specs.declared.disk.Disk.{Disk}
 use Rattle.whatif.specs.Disks.{AreDisks, IsDisk, moments_of, standby_of}
 use Rattle.wol_model.specs.Blocks.{changed_at}
 use Rattle.whatif.specs.Machine.{accessed}
+use Rattle.whatif.specs.Waits.{last_up}
+use Rattle.std.specs.Option.{option_map_or}
 
 next_up_joined : (j k : List Turned) (to : ℕ) → next_up (j ++ k) to ≡ next_up j (next_up k to)
 next_up_joined [] k to = refl
@@ -43,6 +45,17 @@ sleeps_down j at = let a = sum_by-append (λ (t : Turned). cond (not (turns_up t
 
 pub sleeps_up : (j : List Turned) (at : ℕ) → sleeps (j ++ Up at ∷ []) ≡ sleeps j
 sleeps_up j at = let a = sum_by-append (λ (t : Turned). cond (not (turns_up t)) 1 0) j (Up at ∷ []) in omega (arith, a)
+
+-- the last time up of a journal that goes on
+pub last_up_down : (j : List Turned) (at : ℕ) → last_up (j ++ Down at ∷ []) ≡ last_up j
+last_up_down [] at = refl
+last_up_down (Up x ∷ j) at = ap (λ (o : Option ℕ). Some (option_map_or (λ (u : ℕ). u) o x)) (last_up_down j at)
+last_up_down (Down x ∷ j) at = last_up_down j at
+
+pub last_up_up : (j : List Turned) (at : ℕ) → last_up (j ++ Up at ∷ []) ≡ Some at
+last_up_up [] at = refl
+last_up_up (Up x ∷ j) at = ap (λ (o : Option ℕ). Some (option_map_or (λ (u : ℕ). u) o x)) (last_up_up j at)
+last_up_up (Down x ∷ j) at = last_up_up j at
 
 -- one disk is used
 pub disk_changed : (t : ℕ) (ds : List Disk) (ss : List SpindleState) (k : ℕ) (d e : Disk) → ((s : SpindleState) → IsDisk d s → IsDisk e (accessed t s)) → slice_get ds k ≡ Some d → AreDisks ds ss → AreDisks (slice_set ds k e) (changed_at k (accessed t) ss)
@@ -88,6 +101,7 @@ module _ (d : Disk) (s : SpindleState) (at timeout : ℕ) (is : IsDisk d s) wher
         needing = is.needing;
         wakes = wakes_down s.journal (s.last_use + timeout) ∙ is.wakes;
         sleeps = sleeps_down s.journal (s.last_use + timeout) ∙ ap (λ (n : ℕ). n + 1) is.sleeps;
+        raised = last_up_down s.journal (s.last_use + timeout) ∙ is.raised;
         standby = λ to. standby_down s.journal (s.last_use + timeout) to ∙ (λ i. (is.standby to ∙ (λ j. standby_of d (up j) to)) i + (to - (last i + timeout)));
       }
 
@@ -102,6 +116,7 @@ module _ (d : Disk) (s : SpindleState) (at timeout : ℕ) (is : IsDisk d s) wher
     wakes = is.wakes;
     sleeps = is.sleeps;
     standby = λ to. is.standby to ∙ kept d.awake to;
+    raised = is.raised;
   }))
     where
       kept : (t : Bool) (to : ℕ) → standby_of d t to ≡ standby_of (record d { moment = max at d.moment }) t to
@@ -121,7 +136,7 @@ done_again : (needing : List ℕ) → needing ≡ [] → filter (λ p. not (eqb 
 done_again needing is = ap (λ (l : List ℕ). filter (λ p. not (eqb p 0)) (0 ∷ l)) is
 
 -- it comes up for a use
-pub comes_up : (d e : Disk) (timeout : ℕ) (s : SpindleState) → e ≡ record d { awake = true; since = d.moment; wakes = d.wakes + 1; standby = d.standby + (d.moment - d.since) } → d.awake ≡ false → IsDisk d s
+pub comes_up : (d e : Disk) (timeout : ℕ) (s : SpindleState) → e ≡ record d { awake = true; since = d.moment; wakes = d.wakes + 1; standby = d.standby + (d.moment - d.since); up_at = Some d.moment } → d.awake ≡ false → IsDisk d s
     → IsDisk e (accessed timeout s)
 comes_up d e timeout s same down is = subst (λ (x : Disk). IsDisk x (accessed timeout s)) (sym same) (let up : s.awake ≡ false = is.awake ∙ down in record {
   from = is.from;
@@ -131,6 +146,7 @@ comes_up d e timeout s same down is = subst (λ (x : Disk). IsDisk x (accessed t
   needing = done_again s.needing is.needing;
   wakes = (λ i. wakes (cond (up i) s.journal (s.journal ++ Up s.now ∷ []))) ∙ wakes_up s.journal s.now ∙ ap (λ (n : ℕ). n + 1) is.wakes;
   sleeps = (λ i. sleeps (cond (up i) s.journal (s.journal ++ Up s.now ∷ []))) ∙ sleeps_up s.journal s.now ∙ is.sleeps;
+  raised = (λ i. last_up (cond (up i) s.journal (s.journal ++ Up s.now ∷ []))) ∙ last_up_up s.journal s.now ∙ ap Some is.moment;
   standby = λ to. (λ i. standby (cond (up i) s.journal (s.journal ++ Up s.now ∷ [])) to) ∙ standby_up s.journal s.now to ∙ is.standby s.now ∙ (λ i. standby_of d (down i) (is.moment i));
 })
 
@@ -144,6 +160,7 @@ is_used d e timeout s same awake is = subst (λ (x : Disk). IsDisk x (accessed t
   needing = done_again s.needing is.needing;
   wakes = (λ i. wakes (cond (up i) s.journal (s.journal ++ Up s.now ∷ []))) ∙ is.wakes;
   sleeps = (λ i. sleeps (cond (up i) s.journal (s.journal ++ Up s.now ∷ []))) ∙ is.sleeps;
+  raised = (λ i. last_up (cond (up i) s.journal (s.journal ++ Up s.now ∷ []))) ∙ is.raised;
   standby = λ to. (λ i. standby (cond (up i) s.journal (s.journal ++ Up s.now ∷ [])) to) ∙ is.standby to ∙ (λ i. standby_of d (awake i) to) ∙ sym (λ i. standby_of (record d { since = d.moment }) (awake i) to);
 })
 

@@ -1,8 +1,9 @@
 -- A disk's sums, and the journal that they are of.
-use Rattle.std.specs.Prelude.{◌≡◌, ℕ, ◌+◌, ◌-◌, ◌*◌, ◌<◌, ◌≤◌, Bool, true, false, List, [], map}
+use Rattle.std.specs.Prelude.{◌≡◌, ℕ, ◌+◌, ◌-◌, ◌*◌, ◌<◌, ◌≤◌, Bool, true, false, List, [], map, IfSome}
 use Rattle.std.specs.List.{AllByRecursion, AllZip}
 use Rattle.wol_model.specs.Journal.{SpindleState, wakes, sleeps, standby}
 use Rattle.whatif.specs.declared.disk.Disk.{Disk}
+use Rattle.whatif.specs.Waits.{last_up}
 
 -- the time in standby until a moment
 abbrev pub standby_of : Disk → (awake : Bool) → (to : ℕ) → ℕ
@@ -17,6 +18,7 @@ pub record IsKept (d : Disk) : Type 0 where
   pub sleeps : d.from + 10000 * d.sleeps ≤ d.since
   pub wakes : d.wakes ≤ d.sleeps
   pub asleep : d.awake ≡ false → d.wakes < d.sleeps
+  pub raised : IfSome d.up_at (λ u. u ≤ d.moment)
 
 -- the disk has the sums of this spindle, which nobody needs now
 pub record IsDisk (d : Disk) (s : SpindleState) : Type 0 where
@@ -28,6 +30,7 @@ pub record IsDisk (d : Disk) (s : SpindleState) : Type 0 where
   pub wakes : wakes s.journal ≡ d.wakes
   pub sleeps : sleeps s.journal ≡ d.sleeps
   pub standby : (to : ℕ) → standby s.journal to ≡ standby_of d d.awake to
+  pub raised : last_up s.journal ≡ d.up_at
 
 -- all disks
 abbrev pub AreDisks : List Disk → List SpindleState → Type 0

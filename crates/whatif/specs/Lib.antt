@@ -1,5 +1,6 @@
 pub mod Machine
 pub mod Policies
+pub mod Waits
 pub mod Disks
 pub mod Volumes
 pub mod Stands

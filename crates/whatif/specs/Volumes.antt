@@ -10,6 +10,7 @@ use Rattle.whatif.specs.declared.volume.Volume.{Volume}
 use Rattle.whatif.specs.Disks.{AreDisks}
 use Rattle.whatif.specs.Machine.{Reach, Action, next_due, next_to_go, all_accessed}
 use Rattle.whatif.specs.Machine as machine
+use Rattle.whatif.specs.Waits.{wait_on}
 
 abbrev pub reach_in : Volume → Reach
 reach_in v = record { own = v.own; loggers = v.loggers.items }
@@ -73,3 +74,9 @@ put_answer r l (Some logger) = Some (record { look = l; uses = logger ∷ r.own 
 abbrev pub give_answer : Look → Option ℕ → Option Action
 give_answer l None = None
 give_answer l (Some logger) = Some (record { look = l; uses = logger ∷ [] })
+
+-- a request that does this waits so long, where a disk takes `wake` to come up
+abbrev pub IsLate : (wake : ℕ) → (action : Reach → Look → Action) → (old : Volume) → (was : List Disk)
+    → (wait : ℕ) → Type 0
+IsLate wake action old was wait = (timeout : ℕ) (ss : List SpindleState) → AreDisks was ss
+    → wait ≡ wait_on timeout wake (action (reach_in old) (look_in old)).uses ss

@@ -4,6 +4,7 @@ ghost use Rattle.std.specs.Prelude.{◌≡◌, ◌<◌, ◌≤◌, ◌+◌, ◌-
 ghost use Rattle.whatif.specs.Disks.{AreDisks, IsDisk, IsKept, moments_of, standby_of};
 ghost use Rattle.wol_model.specs.Blocks.{changed_at};
 ghost use Rattle.whatif.specs.Machine.{accessed};
+ghost use Rattle.whatif.specs.Waits.{lag, lag_among};
 ghost use Rattle.wol_model.specs.Journal.{SpindleState, Started, Began, ArePowers, new_spindle, used, wakes, sleeps, units};
 
 use crate::policy::Compared;
@@ -23,6 +24,8 @@ pub(crate) struct Disk {
     pub sleeps: u64,
     /// The time in standby, without the one that goes on.
     pub standby: u64,
+    /// When it came up last, where it ever did.
+    pub up_at: Option<u64>,
 }
 
 impl Disk {
@@ -39,6 +42,7 @@ impl Disk {
             wakes: 0,
             sleeps: 0,
             standby: 0,
+            up_at: None,
         }
     }
 
@@ -87,8 +91,21 @@ impl Disk {
                 since: self.moment,
                 wakes: self.wakes + 1,
                 standby: self.standby + (self.moment - self.since),
+                up_at: Some(self.moment),
                 ..*self
             };
+        }
+    }
+
+    /// How long it lets wait now, where it takes so long to come up.
+    pub(crate) fn lag(&self, wake: u64) -> u64
+        requires kept { IsKept self.now }
+        ensures few { result ≤ wake }
+        ensures value { (s : SpindleState) → IsDisk self.now s → result ≡ lag wake s }
+    {
+        match self.up_at {
+            Some(at) => wake.saturating_sub(self.moment - at),
+            None => 0,
         }
     }
 
@@ -143,4 +160,14 @@ pub(crate) fn access_at(disks: &mut [Disk], disk: u32)
         → AreDisks disks.new (changed_at disk (accessed timeout) ss) }
 {
     disks[disk as usize].access();
+}
+
+/// How long the disk at a place lets wait now.
+pub(crate) fn lag_at(disks: &[Disk], disk: u32, wake: u64) -> u64
+    requires within { disk < length disks.now }
+    requires kept { AllByRecursion IsKept disks.now }
+    ensures few { result ≤ wake }
+    ensures value { (ss : List SpindleState) → AreDisks disks.now ss → result ≡ lag_among wake ss disk }
+{
+    disks[disk as usize].lag(wake)
 }

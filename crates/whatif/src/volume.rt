@@ -3,13 +3,13 @@ ghost use Rattle.std.specs.List.{AllByRecursion};
 ghost use Rattle.std.specs.Prelude.{◌≡◌, ◌<◌, ◌≤◌, ◌+◌, ◌-◌, ◌^◌, ◌&&◌, ℕ, not, false, List, length, slice_set, slice_index_or, OnOk, IfOk, None};
 ghost use Rattle.whatif.specs.Disks.{AreDisks, IsKept, moments_of};
 ghost use Rattle.whatif.specs.Machine.{Reach, answering, first_look, reading, seeing, source_of, write_of, writing};
-ghost use Rattle.whatif.specs.Volumes.{HasDone, IsVolume, IsWithin, look_in, reach_in, volume_in};
+ghost use Rattle.whatif.specs.Volumes.{HasDone, IsLate, IsVolume, IsWithin, look_in, reach_in, volume_in};
 ghost use Rattle.wol_model.specs.Index.{listed_in};
 ghost use Rattle.wol_model.specs.Journal.{SpindleState};
 ghost use Rattle.wol_model.specs.Placing.{Log};
 ghost use Rattle.wol_promise.specs.Policy.{placed, woken};
 
-use crate::disk::{Disk, access_at};
+use crate::disk::{Disk, access_at, lag_at};
 use crate::policy::Ask;
 use offload_policy::{Room, Step, place};
 use redirect_map::{Index, Rec};
@@ -131,8 +131,8 @@ impl Volume {
         }
     }
 
-    // Reads blocks, each from the disk that has it.
-    fn read(&mut self, disks: &mut [Disk], lbn: u64, count: u32)
+    // Reads blocks, each from the disk that has it. Answers how long it waits for them, where a disk takes `spin_up` to come up.
+    fn read(&mut self, disks: &mut [Disk], lbn: u64, count: u32, spin_up: u64) -> u64
         requires volume { IsVolume self.old }
         requires within { IsWithin (length disks.old) (reach_in self.old) }
         requires kept { AllByRecursion IsKept disks.old }
@@ -141,11 +141,15 @@ impl Volume {
         ensures kept { AllByRecursion IsKept disks.new }
         ensures moments { moments_of disks.new ≡ moments_of disks.old }
         ensures done { HasDone (reading lbn count) self.old self.new disks.old disks.new }
+        ensures late { IsLate spin_up (reading lbn count) self.old disks.old result }
     {
+        let mut wait: u64 = 0;
         for i in 0..count {
             let disk = self.wake_source(lbn + u64::from(i));
             access_at(disks, disk);
+            wait = wait.max(lag_at(disks, disk, spin_up));
         }
+        wait
     }
 
     // Adds a record to the log on the logger at this place of the view.
@@ -229,7 +233,7 @@ impl Volume {
     {
         match ask.kind {
             Kind::Read => {
-                self.read(disks, ask.lbn, ask.count);
+                let _wait = self.read(disks, ask.lbn, ask.count, 0);
                 Ok(())
             }
             Kind::Write => self.write(disks, ask.lbn, ask.count),

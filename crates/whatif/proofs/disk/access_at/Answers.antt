@@ -1,10 +1,10 @@
 -- One of several disks is used.
-use Rattle.std.proofs.Common.{◌≡◌, false, get_or}
+use Rattle.std.proofs.Common.{None, ◌≡◌, false, get_or}
 use Rattle.whatif.proofs.Spinning.{disk_changed, got, moments_kept}
 use Rattle.whatif.proofs.disk.access_at.Goals as goal
 
 pub returns-clause-moments : goal.returns-clause-moments
-returns-clause-moments c = moments_kept c.args.disks.now c.args.disk (get_or c.args.disks.now c.args.disk (record { from = 0; moment = 0; awake = false; since = 0; wakes = 0; sleeps = 0; standby = 0 })) c.access.new.self c.access.ensures.moment (got c.args.disks.now c.args.disk _ c.requires.within)
+returns-clause-moments c = moments_kept c.args.disks.now c.args.disk (get_or c.args.disks.now c.args.disk (record { from = 0; moment = 0; awake = false; since = 0; wakes = 0; sleeps = 0; standby = 0; up_at = None })) c.access.new.self c.access.ensures.moment (got c.args.disks.now c.args.disk _ c.requires.within)
 
 pub returns-clause-stands : goal.returns-clause-stands
-returns-clause-stands c = λ t ss are. disk_changed t c.args.disks.now ss c.args.disk (get_or c.args.disks.now c.args.disk (record { from = 0; moment = 0; awake = false; since = 0; wakes = 0; sleeps = 0; standby = 0 })) c.access.new.self (λ s is. c.access.ensures.stands t s is) (got c.args.disks.now c.args.disk _ c.requires.within) are
+returns-clause-stands c = λ t ss are. disk_changed t c.args.disks.now ss c.args.disk (get_or c.args.disks.now c.args.disk (record { from = 0; moment = 0; awake = false; since = 0; wakes = 0; sleeps = 0; standby = 0; up_at = None })) c.access.new.self (λ s is. c.access.ensures.stands t s is) (got c.args.disks.now c.args.disk _ c.requires.within) are

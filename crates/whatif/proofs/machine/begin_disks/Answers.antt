@@ -1,5 +1,5 @@
 -- One disk more had its moment.
-use Rattle.std.proofs.Common.{◌≡◌, ◌<◌, ◌≤◌, ◌+◌, ◌++◌, ℕ, suc, false, List, length, map, max, get_or, take, drop, refl, sym, ap, subst, ◌∙◌, arith}
+use Rattle.std.proofs.Common.{None, ◌≡◌, ◌<◌, ◌≤◌, ◌+◌, ◌++◌, ℕ, suc, false, List, length, map, max, get_or, take, drop, refl, sym, ap, subst, ◌∙◌, arith}
 use Rattle.std.specs.Prelude.{slice_set}
 use Rattle.std.specs.List.{AllByRecursion}
 use Rattle.wol_model.specs.Journal.{SpindleState, Began, used}
@@ -14,7 +14,7 @@ use Rattle.whatif.proofs.machine.begin_disks.Goals as goal
 pub loop-place-preserved : goal.loop-place-preserved
 loop-place-preserved c =
     let i = c.loop-place.invariant in let ds = c.loop-place.disks in let k = c.loop-place.place in let e = c.begin.new.self in
-    let none : Disk = record { from = 0; moment = 0; awake = false; since = 0; wakes = 0; sleeps = 0; standby = 0 } in
+    let none : Disk = record { from = 0; moment = 0; awake = false; since = 0; wakes = 0; sleeps = 0; standby = 0; up_at = None } in
     let f = λ (s : SpindleState). used c.args.timeout s 0 (Began c.args.at) in
     let lt : k < length ds = (let a = c.loop-place-test.true in let b = c.loop-place.auto.disks in omega (arith, a, b)) in
     let old : (get_or ds k none).moment ≤ c.args.at = moment_at ds k c.args.at none lt i.moments in

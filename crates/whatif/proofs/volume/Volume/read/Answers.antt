@@ -1,11 +1,13 @@
 -- Blocks are read one by one.
-use Rattle.std.proofs.Common.{◌≡◌, ◌<◌, ◌+◌, ℕ, List, length, map, refl, sym, ap, subst, ◌∙◌}
+use Rattle.std.proofs.Common.{◌≡◌, ◌<◌, ◌+◌, ℕ, List, length, map, refl, sym, ap, subst, ◌∙◌, max}
 use Rattle.std.specs.List.{range_with_len}
 use Rattle.wol_model.specs.Index.{Listed, listed_in}
 use Rattle.wol_promise.specs.Policy.{Look, woken}
 use Rattle.whatif.specs.Disks.{AreDisks}
 use Rattle.wol_model.specs.Blocks.{changed_at}
 use Rattle.whatif.specs.Machine.{Reach, accessed, all_accessed, source_of}
+use Rattle.whatif.specs.Waits.{lag_among, wait_on}
+use Rattle.whatif.proofs.Waiting.{late_more}
 use Rattle.whatif.specs.Volumes.{IsWithin, look_in, reach_in}
 use Rattle.whatif.proofs.Doing.{read_more, same_length, same_within, source_within}
 use Rattle.wol_promise.proofs.Woken.{woken_more, woken_none}
@@ -20,6 +22,7 @@ loop-i-init c = record {
   kept = c.requires.kept;
   moments = refl;
   used = λ t ss are. are;
+  late = λ t ss are. refl;
 }
 
 pub access_at-requires-clause-within : goal.access_at-requires-clause-within
@@ -39,4 +42,17 @@ loop-i-preserved c =
       kept = c.access_at.ensures.kept;
       moments = c.access_at.ensures.moments ∙ k.moments;
       used = λ t ss are. subst (AreDisks c.access_at.new.disks) (sym (read_more t (source_of (reach_in start) (listed_in start.index.entries)) c.args.lbn i ss)) (subst (λ (d : ℕ). AreDisks c.access_at.new.disks (changed_at d (accessed t) (all_accessed t (map (source_of (reach_in start) (listed_in start.index.entries)) (range_with_len c.args.lbn i)) ss))) source (c.access_at.ensures.stands t _ (k.used t ss are)));
+      late = λ t ss are.
+          let f : ℕ → ℕ = source_of (reach_in start) (listed_in start.index.entries) in
+          let then : AreDisks c.access_at.new.disks (changed_at c.wake_source-disk.result (accessed t) (all_accessed t (map f (range_with_len c.args.lbn i)) ss)) = c.access_at.ensures.stands t _ (k.used t ss are) in
+          c.max-wait.ensures
+          ∙ (λ j. max (k.late t ss are j) (c.lag_at.ensures.value _ then j))
+          ∙ (λ j. max (wait_on t c.args.spin_up (map f (range_with_len c.args.lbn i)) ss) (lag_among c.args.spin_up (changed_at (source j) (accessed t) (all_accessed t (map f (range_with_len c.args.lbn i)) ss)) (source j)))
+          ∙ sym (late_more t c.args.spin_up f c.args.lbn i ss);
     }
+
+pub lag_at-requires-clause-within : goal.lag_at-requires-clause-within
+lag_at-requires-clause-within c =
+    let v = c.loop-i.self in
+    let same = same_length c.loop-i.disks c.access_at.new.disks c.access_at.ensures.moments in
+    subst (λ (n : ℕ). c.wake_source-disk.result < n) same (subst (λ (d : ℕ). d < length c.loop-i.disks) (sym c.wake_source-disk.ensures.source) (source_within (length c.loop-i.disks) (reach_in v) (listed_in v.index.entries) (c.args.lbn + c.from.result) c.loop-i.invariant.within))

@@ -5,6 +5,7 @@ use Rattle.wol_model.specs.Journal.{SpindleState}
 use Rattle.wol_promise.specs.Policy.{woken}
 use Rattle.whatif.specs.Disks.{AreDisks, IsKept, moments_of}
 use Rattle.whatif.specs.Machine.{all_accessed, source_of}
+use Rattle.whatif.specs.Waits.{wait_on}
 use Rattle.whatif.specs.Volumes.{IsVolume, IsWithin, look_in, reach_in}
 use Rattle.whatif.proofs.volume.Volume.read.Given as goal
 
@@ -18,4 +19,6 @@ invariant-loop-i l = record {
   moments : moments_of l.disks ≡ moments_of l.initial.disks;
   used : (t : ℕ) (ss : List SpindleState) → AreDisks l.initial.disks ss
       → AreDisks l.disks (all_accessed t (map (source_of (reach_in l.initial.self) (listed_in l.initial.self.index.entries)) (range_with_len l.lbn l.i)) ss);
+  late : (t : ℕ) (ss : List SpindleState) → AreDisks l.initial.disks ss
+      → l.wait ≡ wait_on t l.spin_up (map (source_of (reach_in l.initial.self) (listed_in l.initial.self.index.entries)) (range_with_len l.lbn l.i)) ss;
 }

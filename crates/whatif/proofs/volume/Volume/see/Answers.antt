@@ -1,5 +1,5 @@
 -- The disk of one logger more was looked at.
-use Rattle.std.proofs.Common.{◌≡◌, ◌<◌, ◌≤◌, ◌+◌, ◌++◌, ℕ, suc, false, List, length, map, get_or, take, drop, refl, sym, ap, subst, ◌∙◌, arith}
+use Rattle.std.proofs.Common.{None, ◌≡◌, ◌<◌, ◌≤◌, ◌+◌, ◌++◌, ℕ, suc, false, List, length, map, get_or, take, drop, refl, sym, ap, subst, ◌∙◌, arith}
 use Rattle.std.specs.Prelude.{slice_get, slice_set, slice_index_or, Some}
 use Rattle.std.specs.List.{AllByRecursion}
 use Rattle.whatif.specs.declared.disk.Disk.{Disk}
@@ -13,7 +13,7 @@ use Rattle.whatif.proofs.volume.Volume.see.Goals as goal
 pub loop-lane-preserved : goal.loop-lane-preserved
 loop-lane-preserved c =
     let i = c.loop-lane.invariant in let home = c.see_home.new.self in let was = c.loop-lane.self in let k = c.loop-lane.lane in let disk = c.index.result.now in
-    let none : Disk = record { from = 0; moment = 0; awake = false; since = 0; wakes = 0; sleeps = 0; standby = 0 } in
+    let none : Disk = record { from = 0; moment = 0; awake = false; since = 0; wakes = 0; sleeps = 0; standby = 0; up_at = None } in
     let lt : k < length home.loggers.items = (let a = c.loop-lane-test.true in let b = c.len-lane-end.ensures in omega (arith, a, b)) in
     let at : slice_get home.loggers.items k ≡ Some disk = got_at home.loggers.items k disk lt (c.index.ensures ∙ ap (λ (w : Volume). slice_index_or w.loggers.items k disk) i.rest) in
     let loggers : AllByRecursion (λ d. d < length c.args.disks.now) home.loggers.items = subst (λ (w : Volume). AllByRecursion (λ d. d < length c.args.disks.now) w.loggers.items) (sym c.see_home.ensures.rest) c.requires.within.loggers in
@@ -29,7 +29,7 @@ loop-lane-preserved c =
 pub returns-clause-seen : goal.returns-clause-seen
 returns-clause-seen c = λ ss are.
     let i = c.loop-lane.invariant in let v = c.args.self.now in
-    let none : Disk = record { from = 0; moment = 0; awake = false; since = 0; wakes = 0; sleeps = 0; standby = 0 } in
+    let none : Disk = record { from = 0; moment = 0; awake = false; since = 0; wakes = 0; sleeps = 0; standby = 0; up_at = None } in
     seen_all v c.see_home.new.self c.loop-lane.self ss c.loop-lane.lane c.see_home.ensures.rest
     (c.see_home.ensures.flag ∙ c.is_awake.ensures ∙ sym (up_of c.args.disks.now ss v.own (get_or c.args.disks.now v.own none) are (got c.args.disks.now v.own none c.requires.within.own)))
     i.rest (i.seen ss are) (let a = c.loop-lane-test.false in let b = c.len-lane-end.ensures in omega (arith, a, b)) c.see_home.ensures.volume.flags

@@ -1,0 +1,46 @@
+-- How long disks let wait.
+use Rattle.std.proofs.Common.{◌≡◌, ◌≤◌, ◌+◌, ℕ, zero, suc, List, [], ◌∷◌, ◌++◌, map, length, Option, None, Some, refl, sym, ap, subst, ◌∙◌, arith, max}
+use Rattle.std.proofs.lemmas.Option.{none-some, same_Some}
+use Rattle.std.specs.Prelude.{slice_get}
+use Rattle.std.specs.List.{range_with_len}
+use Rattle.std.proofs.lemmas.List.{map-append}
+use Rattle.wol_promise.proofs.Lists.{range_push}
+use Rattle.wol_model.specs.Journal.{SpindleState}
+use Rattle.wol_model.specs.Blocks.{changed_at}
+use Rattle.whatif.specs.declared.disk.Disk.{Disk}
+use Rattle.whatif.specs.Disks.{AreDisks, IsDisk}
+use Rattle.whatif.specs.Machine.{accessed, all_accessed}
+use Rattle.whatif.specs.Waits.{lag, lag_among, wait_on}
+
+-- what is so of the disk at a place is so of the spindle there
+pub lag_of : (wake n : ℕ) (ds : List Disk) (ss : List SpindleState) (k : ℕ) (d : Disk) → AreDisks ds ss → slice_get ds k ≡ Some d → ((s : SpindleState) → IsDisk d s → n ≡ lag wake s) → n ≡ lag_among wake ss k
+lag_of wake n [] ss k d zip is so = absurd (none-some d is)
+lag_of wake n (x ∷ ds) [] k d zip is so = absurd zip
+lag_of wake n (x ∷ ds) (s ∷ ss) zero d zip is so = so s (subst (λ (y : Disk). IsDisk y s) (same_Some x d is) zip.0)
+lag_of wake n (x ∷ ds) (s ∷ ss) (suc k) d zip is so = lag_of wake n ds ss k d zip.1 is so
+
+max_all : (a b c : ℕ) → max a (max b c) ≡ max (max a b) c
+max_all a b c = omega arith
+
+-- disks that are used after others
+pub wait_more : (t wake : ℕ) (us vs : List ℕ) (ss : List SpindleState) → wait_on t wake (us ++ vs) ss ≡ max (wait_on t wake us ss) (wait_on t wake vs (all_accessed t us ss))
+wait_more t wake [] vs ss = omega arith
+wait_more t wake (u ∷ us) vs ss =
+    let after = changed_at u (accessed t) ss in
+    ap (max (lag_among wake after u)) (wait_more t wake us vs after)
+    ∙ max_all (lag_among wake after u) (wait_on t wake us after) (wait_on t wake vs (all_accessed t us after))
+
+max_none : (n : ℕ) → max n 0 ≡ n
+max_none n = omega arith
+
+-- one more block is read
+pub late_more : (t wake : ℕ) (f : ℕ → ℕ) (first i : ℕ) (ss : List SpindleState) → wait_on t wake (map f (range_with_len first (i + 1))) ss
+    ≡ max (wait_on t wake (map f (range_with_len first i)) ss) (lag_among wake (changed_at (f (first + i)) (accessed t) (all_accessed t (map f (range_with_len first i)) ss)) (f (first + i)))
+late_more t wake f first i ss =
+    let more : i + 1 ≡ suc i = omega arith in
+    let before = wait_on t wake (map f (range_with_len first i)) ss in
+    ap (λ (n : ℕ). wait_on t wake (map f (range_with_len first n)) ss) more
+    ∙ ap (λ (l : List ℕ). wait_on t wake (map f l) ss) (range_push first i)
+    ∙ ap (λ (l : List ℕ). wait_on t wake l ss) (map-append f (range_with_len first i) ((first + i) ∷ []))
+    ∙ wait_more t wake (map f (range_with_len first i)) (f (first + i) ∷ []) ss
+    ∙ ap (max before) (max_none (lag_among wake (changed_at (f (first + i)) (accessed t) (all_accessed t (map f (range_with_len first i)) ss)) (f (first + i))))

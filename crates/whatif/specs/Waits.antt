@@ -1,0 +1,90 @@
+-- Who waits for a disk to come up, and how long. Times are in units of 100 ns; `wake` is how long a disk takes to come up.
+use Rattle.std.specs.Prelude.{ℕ, ◌+◌, ◌-◌, ◌*◌, ◌/◌, max, Bool, true, false, not, nat_le, nat_lt, List, [], ◌∷◌, ◌++◌, map, length, Option, None, Some, slice_get, position, sum_by}
+use Rattle.std.specs.List.{range_with_len, filter, count_by}
+use Rattle.std.specs.Option.{option_map_or}
+use Rattle.wol_model.specs.declared.journal.Turned.{Turned}
+use Rattle.wol_model.specs.declared.journal.Turned.TheVariants.{Down, Up}
+use Rattle.wol_model.specs.declared.trace.Kind.{Kind}
+use Rattle.wol_model.specs.Trace.{is_write}
+use Rattle.wol_model.specs.Blocks.{changed_at}
+use Rattle.wol_model.specs.Journal.{SpindleState}
+use Rattle.whatif.specs.declared.policy.Ask.{Ask}
+use Rattle.whatif.specs.Machine.{Volume, Machine, Setting, Asked, accessed, answering, asking, turned, begun, after_window}
+
+-- ---- One disk
+
+-- the moment of the last Up, if there is one
+abbrev pub last_up : List Turned → Option ℕ
+last_up [] = None
+last_up (Down at ∷ rest) = last_up rest
+last_up (Up at ∷ rest) = Some (option_map_or (λ (u : ℕ). u) (last_up rest) at)
+
+-- what is left at a moment of a coming up
+abbrev pub lag_behind : (wake moment : ℕ) → Option ℕ → ℕ
+lag_behind wake moment None = 0
+lag_behind wake moment (Some up) = wake - (moment - up)
+
+-- how long a disk lets wait now
+abbrev pub lag : (wake : ℕ) → SpindleState → ℕ
+lag wake s = lag_behind wake s.now (last_up s.journal)
+
+-- .. that at a place among others
+abbrev pub lag_among : (wake : ℕ) → List SpindleState → (d : ℕ) → ℕ
+lag_among wake ss d = option_map_or (lag wake) (slice_get ss d) 0
+
+-- ---- Requests
+
+-- the longest wait for disks that are used one after another, each right behind its use
+abbrev pub wait_on : (timeout wake : ℕ) → (uses : List ℕ) → List SpindleState → ℕ
+wait_on timeout wake [] ss = 0
+wait_on timeout wake (d ∷ uses) ss =
+    max (lag_among wake (changed_at d (accessed timeout) ss) d)
+    (wait_on timeout wake uses (changed_at d (accessed timeout) ss))
+
+-- a request that was answered, and its wait
+pub record Waited : Type 0 where
+  pub volume : ℕ
+  pub kind : Kind
+  pub wait : ℕ
+
+-- the disks that a request uses
+abbrev pub uses_of : Ask → Machine → List ℕ
+uses_of a m = option_map_or
+    (λ (v : Volume). (answering a.kind a.lbn a.count v.reach v.look).uses) (slice_get m.volumes a.volume) []
+
+-- requests have their turns, one after another
+abbrev pub waits_among : (timeout wake : ℕ) → List Ask → Machine → List Waited
+waits_among timeout wake [] m = []
+waits_among timeout wake (a ∷ asks) m =
+    record { volume = a.volume; kind = a.kind; wait = wait_on timeout wake (uses_of a m) m.spindles }
+    ∷ waits_among timeout wake asks (turned timeout (asking a) m)
+
+-- .. in windows, one after another
+abbrev pub waits_in : Setting → (wake : ℕ) → List Asked → Machine → List Waited
+waits_in s wake [] m = []
+waits_in s wake (w ∷ ws) m =
+    waits_among s.timeout wake w.asks (begun s w.moment m) ++ waits_in s wake ws (after_window s w m)
+
+-- ---- What is told of them
+
+-- those of reads, or of writes
+abbrev pub of_kind : (writes : Bool) → List Waited → List Waited
+of_kind true ws = filter (λ (w : Waited). is_write w.kind) ws
+of_kind false ws = filter (λ (w : Waited). not (is_write w.kind)) ws
+
+-- how many wait longer than k tenths of a coming up
+abbrev pub over : (wake k : ℕ) → List Waited → ℕ
+over wake k ws = count_by (λ (w : Waited). nat_lt (k * wake) (10 * w.wait)) ws
+
+-- the least number of tenths that at most one in `share` of them waits longer than
+abbrev pub late : (wake share : ℕ) → List Waited → ℕ
+late wake share ws = option_map_or (λ (k : ℕ). k)
+    (position (λ (k : ℕ). nat_le (share * over wake k ws) (length ws)) (range_with_len 0 10)) 10
+
+-- the same in ms, rounded up
+abbrev pub late_ms : (wake share : ℕ) → List Waited → ℕ
+late_ms wake share ws = (late wake share ws * (wake / 10000) + 9) / 10
+
+-- all waits together, in ms
+abbrev pub sum_ms : List Waited → ℕ
+sum_ms ws = sum_by (λ (w : Waited). w.wait) ws / 10000
