@@ -1,5 +1,5 @@
 -- What is left of the logs of a volume.
-use Rattle.std.specs.Prelude.{ℕ, List, Option, Contains}
+use Rattle.std.specs.Prelude.{ℕ, List, Contains}
 use Rattle.wol_bay.specs.Bay.{Told}
 use Rattle.wol_config.specs.declared.config.Config.{Config}
 use Rattle.wol_model.specs.Extents.{AreDistinct, covers_of}
@@ -7,9 +7,8 @@ use Rattle.wol_model.specs.Images.{Images, all_segments}
 use Rattle.wol_model.specs.Index.{Listed}
 use Rattle.wol_model.specs.Recovered.{extents_of}
 use Rattle.volume_images.specs.Volumes.{AreLeft, shapes_of}
-use Rattle.rack.specs.Closes.{IsOnLogger, segments_out}
-use Rattle.rack_parts.specs.declared.rack.ImageRest.{ImageRest}
-use Rattle.open_rack.specs.Sessions.{LeavesRecords, LeavesRecordsIn}
+use Rattle.rack.specs.Closes.{IsOnLogger}
+use Rattle.open_rack.specs.Sessions.{LeavesRecords}
 
 -- whatever images a crash leaves, each of these records lies in a log of volume v on a logger of
 -- this view
@@ -22,23 +21,10 @@ abbrev pub LeavesDistinct : Config → (v : ℕ) → Told → Type 0
 LeavesDistinct config v left = (images : Images) → AreLeft config left images
     → AreDistinct (covers_of (extents_of v (all_segments (shapes_of config) images)))
 
--- .. in those of the images that are out with these
-abbrev pub LeavesDistinctIn : {D : Type 0} → Config → List (Option (ImageRest D)) → (v : ℕ) → Told
-    → Type 0
-LeavesDistinctIn config out v left = (images : Images) → AreLeft config left images
-    → AreDistinct (covers_of (extents_of v (segments_out config out images)))
-
 -- Whatever images a crash leaves, the records of volume v that keep a block in them are the listed
 -- ones, each once, in logs on the loggers of its view.
 pub record LeavesLogs (config : Config) (v : ℕ) (view : List ℕ) (listed : List Listed)
     (left : Told) : Type 0 where
   pub records : LeavesRecords config v listed left
   pub distinct : LeavesDistinct config v left
-  pub on_loggers : LeavesOnLoggers config v view listed left
-
--- so it is in those of the images that are out with these
-pub record LeavesLogsIn {D : Type 0} (config : Config) (out : List (Option (ImageRest D))) (v : ℕ)
-    (view : List ℕ) (listed : List Listed) (left : Told) : Type 0 where
-  pub records : LeavesRecordsIn config out v listed left
-  pub distinct : LeavesDistinctIn config out v left
   pub on_loggers : LeavesOnLoggers config v view listed left

@@ -1,11 +1,11 @@
 -- What looking at all volumes of a bay comes to.
-use Rattle.std.specs.Prelude.{◌≡◌, ◌≢◌, ◌⊎◌, ◌≤◌, ℕ, Bool, List, [], length, Option, None, Some, Result, Ok, Err, IfSome, slice_get, IsTrue}
-use Rattle.std.specs.List.{AllByRecursion}
+use Rattle.std.specs.Prelude.{◌≡◌, ◌≢◌, ◌⊎◌, ◌≤◌, ℕ, Bool, true, List, [], length, Option, None, Some, Result, Ok, Err, IfSome, slice_get, IsTrue}
 use Rattle.wol_disk.specs.Disk.{State, Rose}
-use Rattle.wol_model.specs.Images.{recovered_from}
-use Rattle.wol_bay.specs.Bay.{Told, BayState}
+use Rattle.wol_model.specs.Images.{Images, accepted, recovered_from}
+use Rattle.wol_bay.specs.Bay.{BayState}
 use Rattle.wol_promise.specs.Manager.{Base}
 use Rattle.wol_promise.specs.Policy.{PartName}
+use Rattle.wol_promise.specs.Ruled.{last_look}
 use Rattle.wol_config.specs.Documents.{names_of}
 use Rattle.wol_config.specs.declared.config.Config.{Config}
 use Rattle.wol_config.specs.declared.config.VolumeConf.{VolumeConf}
@@ -21,18 +21,17 @@ use Rattle.report.specs.Troubles.{trouble_status}
 use Rattle.report.specs.declared.trouble.Trouble.{Trouble}
 use Rattle.troubles.specs.Troubles.{trouble_of, trouble_of_part}
 use Rattle.volume_images.specs.Left.{IsTold}
-use Rattle.volume_images.specs.Volumes.{shapes_of}
-use Rattle.rack.specs.Closes.{CameBackFaulty, HasFaultyPart, part_named}
-use Rattle.rack.specs.Opens.{LeavesFront, RefusesVolume, WereThere}
-use Rattle.rack.specs.Owners.{images_taken, IsBegun, StandAsRead}
+use Rattle.volume_images.specs.Volumes.{images_read, shapes_of}
+use Rattle.rack_closing.specs.BayRuns.{Histories, History, IsUnbroken, QuietRun}
+use Rattle.rack.specs.Closes.{CameBackFaulty, is_kept_home, part_named}
+use Rattle.rack.specs.Opens.{RefusesVolume}
+use Rattle.rack.specs.Owners.{StandAsRead}
 use Rattle.rack.specs.Racks.{NamesVolumes}
-use Rattle.rack.specs.Rests.{IsImageOut, image_here}
 pub use Rattle.open_rack.specs.Sessions.{MayComplete}
 use Rattle.rack_parts.specs.declared.rack.ImageRest.{ImageRest}
 use Rattle.rack_parts.specs.declared.volume_fault.VolumeFault.{VolumeFault}
 use Rattle.rack_parts.specs.declared.volume_fault.VolumeFault.TheVariants.{Refused}
 use Rattle.inspection.specs.Lines.{Telling, PrintsBy, trouble_line}
-use Rattle.inspection.specs.Logs.{LeavesLogsIn}
 use Rattle.inspection.specs.declared.asked.Asked.{Asked}
 use Rattle.inspection.specs.declared.asked.Asked.TheVariants.{Check, Dump}
 use Rattle.inspection.specs.declared.calls.Stop.{Stop}
@@ -41,36 +40,29 @@ use Rattle.inspection.specs.declared.calls.Stop.TheVariants.{Memory}
 -- The lines of a volume in order. `check`: that of the array that the images recover to, of so many
 -- records as keep blocks in them, and so many segments as its manager holds. `dump`: those of the
 -- manager's records.
-abbrev pub AreLinesOf : {D : Type 0} → Config → Asked → (out : List (Option (ImageRest D))) → Told
-    → (number : ℕ) → Base → Manager D → (text : List ℕ) → Type 0
-AreLinesOf config Check out t number b m text =
+abbrev pub AreLinesOf : {D : Type 0} → Config → Asked → Images → (number : ℕ) → Base → Manager D
+    → (text : List ℕ) → Type 0
+AreLinesOf config Check images number b m text =
     text ≡ check_text (name_at (names_of config.volumes.items) number)
-    (recovered_from (shapes_of config) (images_taken config out t) number) (length b.records)
-    (held_segments m)
-AreLinesOf config Dump out t number b m text = IsDump config number m [] text
+    (recovered_from (shapes_of config) images number) (length b.records) (held_segments m)
+AreLinesOf config Dump images number b m text = IsDump config number m [] text
 
--- A volume in order: a manager that stands for what the images as they read recover to, where an
--- image that was refused gives no segments, and its lines. Each of its records stands where those
--- images have it: in the segment and at the block that `dump` names. The records with which it was
--- opened are left, each once, in logs on the loggers of its view.
+-- The lines of a volume are told by a manager that stands for what it began with. Each of its
+-- records stands where these images have it: in the segment and at the block that `dump` names.
 pub record IsInOrder {D : Type 0} (tells : Bool) (state : D → State) (config : Config)
-    (asked : Asked) (out : List (Option (ImageRest D))) (t left : Told) (number : ℕ)
-    (text : List ℕ) : Type 0 where
+    (asked : Asked) (images : Images) (number : ℕ) (h : History) (text : List ℕ) : Type 0 where
   pub base : ManagerBase
+  pub began : base.volume.began ≡ h.base
   pub manager : Manager D
-  pub owner : base.volume.began.owner ≡ number
-  pub began : IsBegun config (images_taken config out t) base.volume.began
-  pub loggers_out : AllByRecursion (λ l. IsImageOut out l) base.volume.began.view
   pub stands : Stands tells state manager base []
-  pub places : StandAsRead config (images_taken config out t) number base.volume.began.view
-      manager.index.entries
-  pub lines_ : AreLinesOf config asked out t number base.volume.began manager text
-  pub logs : LeavesLogsIn config out number base.volume.began.view base.volume.began.look.listed left
+  pub places : StandAsRead config images number h.base.view manager.index.entries
+  pub lines_ : AreLinesOf config asked images number h.base manager text
 
 -- a volume that wasn't opened, with the line of its fault, which is the first cause
 pub record TellsRefusal {D : Type 0} (tells : Bool) (state : D → State) (config : Config)
-    (out : List (Option (ImageRest D))) (old new : BayState) (number : ℕ) (t : Telling) :
-    Type 0 where
+    (out : List (Option (ImageRest D))) (histories : Histories) (old new : BayState) (number : ℕ)
+    (t : Telling) : Type 0 where
+  pub closed : histories number ≡ None
   pub conf : VolumeConf
   pub is_conf : slice_get config.volumes.items number ≡ Some conf
   pub fault : VolumeFault
@@ -84,64 +76,62 @@ pub record TellsRefusal {D : Type 0} (tells : Bool) (state : D → State) (confi
   pub trouble : t.trouble ≡ Some (trouble_of fault)
   pub text : t.text ≡ trouble_line config number (trouble_of fault)
 
--- A volume a call of whose disks failed, with the line of a part: it had been opened, and that part
--- of it came back with a fault.
-pub record TellsPart {D : Type 0} (tells : Bool) (config : Config)
-    (out : List (Option (ImageRest D))) (old new : BayState) (number : ℕ) (t : Telling) :
+-- a volume that was opened, a call of whose disks failed, with the line of the part that is down
+pub record TellsPart (config : Config) (histories : Histories) (number : ℕ) (t : Telling) :
     Type 0 where
+  pub history : History
+  pub opened : histories number ≡ Some history
+  pub broken : IsUnbroken history → ⊥
   pub name : PartName
-  pub base : Base
-  pub owner : base.owner ≡ number
-  pub is_out : IsImageOut out number
-  pub began : IsTrue tells
-      → IfSome old.told (λ images. IsBegun config (images_taken config out images) base)
-  pub loggers_out : AllByRecursion (λ l. IsImageOut out l) base.view
-  pub faulty : IsTold (HasFaultyPart tells config number base.view name) old.told new.told
-  pub rose : Rose old.faults new.faults
+  pub down : (last_look history.base.look history.notes).down ≡ Some name
   pub trouble : t.trouble ≡ Some (trouble_of_part (part_named number name))
   pub text : t.text ≡ trouble_line config number (trouble_of_part (part_named number name))
 
--- a volume in order, with its lines where the bay told its images
+-- A volume in order, with its lines where the bay told its images: those that weren't refused, as
+-- they were read. No call failed, and it lists the records with which it was opened.
 pub record TellsLines {D : Type 0} (tells : Bool) (state : D → State) (config : Config)
-    (asked : Asked) (out : List (Option (ImageRest D))) (old new : BayState) (number : ℕ)
+    (asked : Asked) (refused : ℕ → Bool) (histories : Histories) (old : BayState) (number : ℕ)
     (t : Telling) : Type 0 where
-  pub lines_ : IsTrue tells
-      → IsTold (λ entry left. IsInOrder tells state config asked out entry left number t.text)
-      old.told new.told
+  pub history : History
+  pub opened : histories number ≡ Some history
+  pub unbroken : IsUnbroken history
+  pub listed : (last_look history.base.look history.notes).listed ≡ history.base.look.listed
+  pub lines_ : IsTrue tells → IfSome old.told
+      (λ entry. IsInOrder tells state config asked (accepted refused (images_read config entry))
+      number history t.text)
   pub trouble : t.trouble ≡ None
 
 -- what is told of a volume
 abbrev pub IsToldOf : {D : Type 0} → (tells : Bool) → (D → State) → Config → Asked
-    → (out : List (Option (ImageRest D))) → (old new : BayState) → (number : ℕ) → Telling → Type 0
-IsToldOf tells state config asked out old new number t =
-    TellsRefusal tells state config out old new number t
-    ⊎ TellsLines tells state config asked out old new number t
-    ⊎ TellsPart tells config out old new number t
+    → (out : List (Option (ImageRest D))) → (refused : ℕ → Bool) → Histories → (old new : BayState)
+    → (number : ℕ) → Telling → Type 0
+IsToldOf tells state config asked out refused histories old new number t =
+    TellsRefusal tells state config out histories old new number t
+    ⊎ TellsLines tells state config asked refused histories old number t
+    ⊎ TellsPart config histories number t
 
--- whatever images a crash leaves, label and view of each image that is out are as they were read
-abbrev pub LeavesFrontsOut : {D : Type 0} → Config → (out : List (Option (ImageRest D)))
-    → (entry left : Told) → Type 0
-LeavesFrontsOut config out entry left =
-    (k : ℕ) (v : VolumeConf) → slice_get config.volumes.items k ≡ Some v → IsImageOut out k
-    → LeavesFront config k entry left
+-- All volumes were looked at: a run of the bay in which nothing was written, and what was told of
+-- the first of them, or of all. Where any was told, the images that weren't refused are these, and
+-- each other has a cause.
+pub record Looked {D : Type 0} (tells : Bool) (state : D → State) (config : Config) (asked : Asked)
+    (old new : BayState) (told : List Telling) : Type 0 where
+  pub run : QuietRun tells config old new
+  pub open run use {refused, histories}
+  pub out : List (Option (ImageRest D))
+  pub are_out : told ≢ [] → refused ≡ is_kept_home out
+  pub missing : told ≢ [] → (k : ℕ) (v : VolumeConf) → slice_get config.volumes.items k ≡ Some v
+      → refused k ≡ true
+      → (f : VolumeFault) × RefusesVolume tells state config out old new k v f
+  pub few : length told ≤ length config.volumes.items
+  pub each : (k : ℕ) (t : Telling) → slice_get told k ≡ Some t
+      → IsToldOf tells state config asked out refused histories old new k t
 
--- Looking at all volumes: what was told of the first of them, or of all, and how it was printed.
+-- .. and how it was printed
 pub record Inspects {D : Type 0} (tells : Bool) (state : D → State) (config : Config)
     (asked : Asked) (old new : BayState) (result : Result (Option Trouble) Stop)
     (faults faults' : ℕ) (printed printed' : Option (List ℕ)) : Type 0 where
-  pub out : List (Option (ImageRest D))
   pub told : List Telling
-  pub count : told ≢ [] → length out ≡ length config.volumes.items
-  -- where any volume was told, an image that is out was there and may be opened as it reads, and
-  -- one that isn't was refused
-  pub there : told ≢ [] → IsTrue tells → IfSome old.told (λ t. WereThere config out t)
-  pub missing : told ≢ [] → (k : ℕ) (v : VolumeConf) → slice_get config.volumes.items k ≡ Some v
-      → image_here out k ≡ None
-      → (f : VolumeFault) × RefusesVolume tells state config out old new k v f
-  pub fronts : told ≢ [] → IsTrue tells → IsTold (LeavesFrontsOut config out) old.told new.told
-  pub few : length told ≤ length config.volumes.items
-  pub each : (k : ℕ) (t : Telling) → slice_get told k ≡ Some t
-      → IsToldOf tells state config asked out old new k t
+  pub looked : Looked tells state config asked old new told
   pub prints : PrintsBy result config told faults faults' printed printed'
 
 -- all volumes are in order, or there was no memory

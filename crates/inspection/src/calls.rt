@@ -3,7 +3,7 @@ ghost use Rattle.inspection.specs.Lines.{PrintsVolumes, first_of};
 ghost use Rattle.inspection.specs.Racks.{CanLook};
 ghost use Rattle.inspection.specs.Runs.{Completes, Inspects, MayComplete};
 ghost use Rattle.inspection.specs.declared.calls.Stop.TheVariants.{Sink as sink_failed, Memory as no_memory};
-ghost use Rattle.rack.specs.Opens.{KeepsAllSound, KeepsOthers, KeepsViews, LeavesAll};
+ghost use Rattle.rack.specs.Opens.{KeepsAllSound};
 ghost use Rattle.std.specs.Prelude.{◌≡◌, ◌≤◌, ◌<◌, Err, IsTrue};
 ghost use Rattle.volume_images.specs.Left.{IsTold};
 ghost use Rattle.volume_images.specs.Volumes.{NoneOut};
@@ -115,18 +115,9 @@ where
         (B.state bay.new) result (K.faults out.old) (K.faults out.new) (K.taken out.old)
         (K.taken out.new) }
     ensures later { K.faults out.old ≤ K.faults out.new }
-    ensures counts { (B.state bay.old).faults ≤ (B.state bay.new).faults }
-    // each image left in the bay recovers to what one at entry did, also after a stop within, and where a call of a disk failed
-    ensures left { IsTrue B.Part.tells → IsTold
-        (LeavesAll B.Part.tells B.Part.state config.now (B.state bay.old) (B.state bay.new))
-        (B.state bay.old).told (B.state bay.new).told }
+    // images that a crash might have left sound before are sound behind it
     ensures sound { IsTrue B.Part.tells
         → IsTold (KeepsAllSound config.now) (B.state bay.old).told (B.state bay.new).told }
-    // no label or view is changed
-    ensures views { IsTrue B.Part.tells
-        → IsTold (KeepsViews config.now) (B.state bay.old).told (B.state bay.new).told }
-    // images of names that aren't configured are as they were
-    ensures others { IsTold (KeepsOthers config.now) (B.state bay.old).told (B.state bay.new).told }
     ensures complete { MayComplete B.Part.tells config.now (B.state bay.old) (B.state bay.new)
         (K.faults out.old) (K.faults out.new) → Completes result }
 {

@@ -17,7 +17,7 @@ use Rattle.volume_images.specs.Left.{IsTold}
 use Rattle.volume_images.specs.Volumes.{NoneOut, images_read, shape_in, shapes_of}
 use Rattle.rack.specs.Closes.{AreLeftOfParts, CameBackFaulty, HasFaultAt, HasFaultIn, IsQuiet, LeavesOpen, LeavesUnopened, LeavesVolumes, ListsFaulty, has_station, is_kept_home}
 use Rattle.rack.specs.Closing.{LeavesNoneOut}
-use Rattle.rack.specs.Opens.{AreRefused, BeganWith, HasFaulty, KeepsAllSound, LeavesAll, RefusesVolume, WereThere}
+use Rattle.rack.specs.Opens.{AreRefused, BeganWith, HasFaulty, KeepsAllSound, KeepsOthers, LeavesAll, RefusesVolume, WereThere}
 use Rattle.rack.specs.Rests.{out_names, IsImageOut, image_here}
 use Rattle.rack.specs.Owners.{HadRefused}
 use Rattle.rack.specs.Racks.{IsOpenBase, IsRack, IsStation, base_of_station}
@@ -31,6 +31,7 @@ use Rattle.rack.proofs.FailedParts.{part_came_back, part_failed}
 use Rattle.rack_closing.proofs.NewFaults.{told_each, told_with}
 use Rattle.rack.proofs.StillThere.{kept_home, there_left}
 use Rattle.rack.proofs.ImagesSent.{none_named}
+use Rattle.rack_closing.specs.RackRuns.{BeganIn, RunsRack}
 use Rattle.open_rack.specs.Again.{IsRackAgain}
 use Rattle.open_rack.specs.Sessions.{IsClosed, IsOpened, OpensAndCloses}
 use Rattle.open_rack.proofs.RacksAgain.{began_again, rest_again, views_again}
@@ -151,6 +152,17 @@ module _ {D : Type 0} (tells : Bool) (state : D → State) (config : Config) (ol
   had : IsTrue tells → IsTold (HadRefused config q.rest.images.items) old.told bay.told
   had telling = subst (λ (w : Rest D). IsTold (HadRefused config w.images.items) old.told bay.told) (sym (rest_again state config r q again)) (opened.kept telling)
 
+  -- the rack that came back began with the bay's images
+  pub began_in : IsTold (KeepsOthers config) old.told bay.told → BeganIn tells state config old bay q
+  began_in others = record {
+    began = λ telling. if_some (λ t. BeganWith state config t q × WereThere config q.rest.images.items t) (λ t. BeganWith state config t q) old.told (λ t both. both.0) (began telling);
+    there = λ telling. if_some (λ t. BeganWith state config t q × WereThere config q.rest.images.items t) (λ t. WereThere config q.rest.images.items t) old.told (λ t both. both.1) (began telling);
+    kept = had;
+    faulty = opened.faulty;
+    others = others;
+    counts = sooner;
+  }
+
   then_kept : (t x y : Told) → HadRefused config q.rest.images.items t x → HadRefused config q.rest.images.items x y → HadRefused config q.rest.images.items t y
   then_kept t x y first then k v conf none c may = first k v conf none c (then k v conf none c may)
 
@@ -204,8 +216,8 @@ module _ {D : Type 0} (tells : Bool) (state : D → State) (config : Config) (ol
         → IsTold (λ x y. HadRefused config q.rest.images.items t x → LeavesVolumes config q t y) bay.told new.told)
         → ((t : Told) → IsTrue tells → BeganWith state config t q → WereThere config q.rest.images.items t
         → IsTold (λ x y. HadRefused config q.rest.images.items t x → LeavesUnopened config q t y) bay.told new.told)
-        → OpensAndCloses tells state config did old new spindles
-    opens_and_closes did spindles done closed failed complete risen left_open volumes unopened = record {
+        → RunsRack tells config old new q → OpensAndCloses tells state config did old new spindles
+    opens_and_closes did spindles done closed failed complete risen left_open volumes unopened runs = record {
       bay = bay;
       before = r;
       after = q;
@@ -214,6 +226,7 @@ module _ {D : Type 0} (tells : Bool) (state : D → State) (config : Config) (ol
       again = again;
       users = (opened.rack.users.0, views_again state config r q again opened.rack.users.0 opened.rack.users.1);
       closed = closed;
+      runs = runs;
       sooner = sooner;
       later = later;
       refused = refused_since;

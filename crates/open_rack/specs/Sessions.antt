@@ -18,6 +18,7 @@ use Rattle.rack.specs.Opens.{AreRefused, BeganWith, LeavesAll, RefusesVolume, We
 use Rattle.rack.specs.Owners.{HadRefused}
 use Rattle.rack.specs.Racks.{AreUnused, IsRack, IsUnused, KeepToViews}
 use Rattle.rack.specs.Rests.{IsImageOut, image_here}
+use Rattle.rack_closing.specs.RackRuns.{RunsRack}
 use Rattle.rack_parts.specs.declared.rack.ImageRest.{ImageRest}
 use Rattle.rack_parts.specs.declared.rack.Rack.{Rack}
 use Rattle.rack_parts.specs.declared.volume_fault.VolumeFault.{VolumeFault}
@@ -87,6 +88,8 @@ pub record OpensAndCloses {D : Type 0} (tells : Bool) (state : D → State) (con
   -- a volume used the disks of its own image and of its view alone, and the pools of its view
   pub users : (views : ℕ → List ℕ) × KeepToViews views after
   pub closed : IsClosed tells state config bay new after spindles
+  -- the run of the bay, in which each station has its history
+  pub runs : RunsRack tells config old new after
   pub sooner : old.faults ≤ bay.faults
   pub later : bay.faults ≤ new.faults
   -- a volume without a station was refused for its fault, and that of a disk is counted

@@ -1,6 +1,7 @@
 // All volumes of a bay are opened, and closed behind a work.
 ghost use Rattle.open_rack.specs.Sessions.{OpensAndCloses};
 ghost use Rattle.rack.specs.Opens.{KeepsAllSound, KeepsOthers, KeepsViews, LeavesAll};
+ghost use Rattle.rack_closing.specs.BayRuns.{QuietRun};
 ghost use Rattle.std.specs.Prelude.{◌≡◌, ◌≤◌, IfOk, OnErr, IsTrue};
 ghost use Rattle.volume_images.specs.Left.{IsTold};
 ghost use Rattle.volume_images.specs.Volumes.{NoneOut};
@@ -59,6 +60,9 @@ pub fn with_open<R: Wait, B: Bay, S, K, W: Work<R, B::Part, S, K>>(
         (B.state bay.old).told (B.state bay.new).told) }
     ensures views { OnErr result (IsTrue B.Part.tells
         → IsTold (KeepsViews config.now) (B.state bay.old).told (B.state bay.new).told) }
+    // the run of the bay, in which nothing was written; else it is told with what the work did
+    ensures run { OnErr result
+        (QuietRun B.Part.tells config.now (B.state bay.old) (B.state bay.new)) }
     ensures unread { OnErr result (given.new ≡ given.old) }
     ensures unwritten { OnErr result (out.new ≡ out.old) }
 {

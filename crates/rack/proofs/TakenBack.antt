@@ -9,11 +9,18 @@ use Rattle.rack.proofs.Terms.{RefusesVolume, WereThere, AreAsked, HasSentOut, sa
 use Rattle.wol_model.specs.Recovered.{extents_in}
 use Rattle.wol_model.proofs.Images.{idle_none}
 use Rattle.rack_parts.proofs.Members.{a_value, here_within}
+use Rattle.rack_closing.specs.BayRuns.{BayLeft, KeepsHome, QuietRun, SegmentFate, kept as left_as_was, used}
+use Rattle.rack_closing.specs.Opens.{KeepsOthers, front_of}
+use Rattle.rack_closing.proofs.BayRuns.{left_of_less, no_history, run_of_none}
+use Rattle.rack_closing.proofs.KeptLogs.{image_slice}
+use Rattle.rack_closing.proofs.LoggersNamed.{image_is_read}
+use Rattle.volume_images.specs.Accepted.{head_place}
+use Rattle.volume_images.specs.Volumes.{images_read}
 use Rattle.rack_closing.proofs.Places.{some_at, both_slices, slice_join}
 use Rattle.rack_closing.proofs.Names.{names_differ}
 use Rattle.rack_closing.proofs.CutParts.{reads_range}
 use Rattle.rack_closing.proofs.KeptImages.{IsKeptImage, AreTwo, IsBefore, kept_before, before_same, before_all}
-use Rattle.rack_closing.proofs.LeftImage.{IsLeftNow, left_image, may_at, volume_at}
+use Rattle.rack_closing.proofs.LeftImage.{IsLeftNow, left_image, may_at, out_taken, volume_at}
 use Rattle.rack_closing.proofs.NewFaults.{told_each}
 use Rattle.rack_closing.proofs.SameRecovered.{SegmentsKeep, keeping}
 use Rattle.rack_closing.proofs.SoundBefore.{sound_before}
@@ -87,8 +94,11 @@ module _ {D : Type 0} (tells : Bool) (state : D → State) (config : Config) (b 
   pub views_back : IsTold LeavesNoMore b.told b'.told → IsTold (KeepsViews config) b.told b'.told
   views_back = told_less views_less
 
-  pub brought_back : outs b' ≡ outs b → (IsTrue tells → IsTold LeavesNoMore b.told b'.told) → BringsAllBack tells state config b b'
-  brought_back home less = record { home = home; left = λ telling. left_back (less telling); sound = λ telling. sound_back (less telling); views = λ telling. views_back (less telling) }
+  pub run_back : (IsTrue tells → IsTold LeavesNoMore b.told b'.told) → IsTold (KeepsOthers config) b.told b'.told → b.faults ≤ b'.faults → QuietRun tells config b b'
+  run_back less others counts = run_of_none tells config b b' (λ k. true) (λ telling. told_less {P = BayLeft config (λ k. true) no_history} (left_of_less config) (less telling)) others counts
+
+  pub brought_back : outs b' ≡ outs b → (IsTrue tells → IsTold LeavesNoMore b.told b'.told) → IsTold (KeepsOthers config) b.told b'.told → b.faults ≤ b'.faults → BringsAllBack tells state config b b'
+  brought_back home less others counts = record { run = run_back less others counts; home = home; left = λ telling. left_back (less telling); sound = λ telling. sound_back (less telling); views = λ telling. views_back (less telling) }
 
 -- nothing was done
 pub nothing_done : (o : Option Told) → IsTold LeavesNoMore o o
@@ -411,6 +421,58 @@ module _ {D : Type 0} (tells : Bool) (state : D → State) (config : Config) (b 
                   own))
                   segment.2
 
+          -- so each has its fate
+          back_fate : (k i : ℕ) (logger : VolumeConf) (entry : Image) (blocks : List Block) → slice_get config.volumes.items k ≡ Some logger → at_name logger.name t.images ≡ Some entry → image_of images k ≡ Some blocks → i < logger.segments
+              → SegmentFate (length (shapes_of config)) no_history k (blocks_of_segment (shape_in config logger) entry i) (segment_of (shape_in config logger) blocks i)
+          back_fate k i logger entry blocks found was here lt = go (not_taken k) refl
+            where
+              go : (o : Bool) → not_taken k ≡ o → SegmentFate (length (shapes_of config)) no_history k (blocks_of_segment (shape_in config logger) entry i) (segment_of (shape_in config logger) blocks i)
+              go true e =
+                  let may = subst (λ (c : Option (List Block)). MayLeave (at_name logger.name t.images) c) here (still k logger found e) in
+                  let both = subst (λ (o : Option Image). MayLeave o (Some blocks)) was may in
+                  left_as_was (image_slice entry.blocks blocks (head_place (shape_in config logger) i) (head_place (shape_in config logger) (i + 1)) both.1)
+              go false e =
+                  let kept_ = kept k logger found e in
+                  let same : kept_.now ≡ blocks = same_Some kept_.now blocks (sym kept_.is ∙ here) in
+                  let image : kept_.entered.image ≡ entry = same_Some kept_.entered.image entry (sym kept_.entered.there ∙ was) in
+                  let segment = kept_.segments i lt in
+                  let had : IsImage (blocks_of_segment (shape_in config logger) entry i) segment.0 = subst (λ (x : Image). IsImage (blocks_of_segment (shape_in config logger) x i) segment.0) image segment.1 in
+                  subst (λ (c : List Block). SegmentFate (length (shapes_of config)) no_history k (blocks_of_segment (shape_in config logger) entry i) (segment_of (shape_in config logger) c i)) same
+                  (⊎_elim
+                  (λ (as_was : segment_of (shape_in config logger) kept_.now i ≡ segment.0). left_as_was (subst (IsImage (blocks_of_segment (shape_in config logger) entry i)) (sym as_was) had))
+                  (λ idle. used segment.0 had (inl idle.1) (inl idle.0))
+                  segment.2)
+
+          -- label, view and home are as they might have been
+          back_home : (v : ℕ) → KeepsHome config v t images
+          back_home v conf entry blocks found was here = go (not_taken v) refl
+            where
+              go : (o : Bool) → not_taken v ≡ o → IsImage (slice_range entry.blocks 0 (2 + conf.home)) (slice_range blocks 0 (2 + conf.home))
+              go true e =
+                  let may = subst (λ (c : Option (List Block)). MayLeave (at_name conf.name t.images) c) here (still v conf found e) in
+                  let both = subst (λ (o : Option Image). MayLeave o (Some blocks)) was may in
+                  image_slice entry.blocks blocks 0 (2 + conf.home) both.1
+              go false e =
+                  let kept_ = kept v conf found e in
+                  let same : kept_.now ≡ blocks = same_Some kept_.now blocks (sym kept_.is ∙ here) in
+                  let image : kept_.entered.image ≡ entry = same_Some kept_.entered.image entry (sym kept_.entered.there ∙ was) in
+                  subst (λ (i : Image). IsImage (slice_range i.blocks 0 (2 + conf.home)) (slice_range blocks 0 (2 + conf.home))) image
+                  (subst (IsImage (slice_range kept_.entered.image.blocks 0 (2 + conf.home))) (kept_.front.2 ∙ ap (λ (c : List Block). slice_range c 0 (2 + conf.home)) same) kept_.front.1)
+
+          -- an image that was out is there
+          there_again : (k : ℕ) (conf : VolumeConf) → slice_get config.volumes.items k ≡ Some conf → not_taken k ≡ false → IsThere (shapes_of config) images k
+          there_again k conf at taken = let kept_ = kept k conf at taken in (shape_in config conf, kept_.now, shape_is k conf at, kept_.is, kept_.sized)
+
+          -- label and view of an image that was out are as they read
+          front_again : (k : ℕ) (conf : VolumeConf) → slice_get config.volumes.items k ≡ Some conf → not_taken k ≡ false → option_map front_of (image_of images k) ≡ option_map front_of (image_of (images_read config t) k)
+          front_again k conf at taken =
+              let x = some_or (image_here out k) (λ e. let same = same_here k in let f = ap is_some e in cc (same, f, taken)) in
+              let ba = is_back k conf x.0 at x.1 in
+              let whole = again k (shape_in config conf) x.0 (shape_is k conf at) x.1 in
+              let now = left_image state tell_all sound config t2 images left k (shape_in config conf) x.0 (shape_is k conf at) whole.rest given.more (λ v of. given.back k v x.0 (omega arith) of x.1) in
+              let label = ba.entry.cut.label (slice_range now.0 0 2) (subst (λ (p : Spun D). IsImageOf (state_of state p).values (slice_range now.0 0 2)) ba.restored.same.label now.2.label) in
+              ap (option_map front_of) now.1 ∙ ap (λ (c : List Block). Some c) label ∙ sym (ap (option_map front_of) (image_is_read config t k conf ba.entry.image at ba.entry.there ba.entry.says.whole))
+
           back_sound : ((was : Images) → AreLeft config t was → AreSound (shapes_of config) was) → AreSound (shapes_of config) images
           back_sound all =
               sound_before KeepsFront KeepsSegment (shapes_of config) images before.0 (left.count ∙ sym before.1.left.count) each keeps_front keeps_extents (keeps_sound (shapes_of config))
@@ -441,6 +503,21 @@ module _ {D : Type 0} (tells : Bool) (state : D → State) (config : Config) (b 
           logs = λ v conf at or images left k i logger before blocks found was here lt own. back_logs telling (tell_all telling) sound t t1 t2 is stayed given images left v k i logger before blocks found was here lt own;
           there = λ images left v all. back_there telling (tell_all telling) sound t t1 t2 is stayed given images left v all;
         })
+
+        pub run_again : IsTold (KeepsOthers config) b.told b2.told → b.faults ≤ b2.faults → QuietRun tells config b b2
+        run_again others more = run_of_none tells config b b2 not_taken (λ telling. back_told {P = BayLeft config not_taken no_history} (λ t t1 t2 is stayed given. record {
+          accepted_ = λ k v at taken. were_there telling (tell_all telling) sound t t1 t2 is stayed given k v at (out_taken i.out.items k taken);
+          kept = λ k v at gone c may. refused_kept telling (tell_all telling) sound t t1 t2 is stayed given k v at gone c may;
+          begun = λ v h at. absurd (none-some h at);
+          each = λ images left. record {
+            fronts = λ k lt taken. let (conf, at) = some_at config.volumes.items k lt in front_again telling (tell_all telling) sound t t1 t2 is stayed given images left k conf at taken;
+            segments = λ k j logger before blocks found was here lt. back_fate telling (tell_all telling) sound t t1 t2 is stayed given images left k j logger before blocks found was here lt;
+            there = λ k lt taken. let (conf, at) = some_at config.volumes.items k lt in there_again telling (tell_all telling) sound t t1 t2 is stayed given images left k conf at taken;
+            homes = λ v none. back_home telling (tell_all telling) sound t t1 t2 is stayed given images left v;
+            opened = λ v h at. absurd (none-some h at);
+            others = λ v none. let x = back_recovers telling (tell_all telling) sound t t1 t2 is stayed given images left v in (x.0, x.1, x.2.all (inl refl));
+          };
+        })) others more
 
         pub sound_again : IsTrue tells → IsTold (KeepsAllSound config) b.told b2.told
         sound_again telling = back_told (λ t t1 t2 is stayed given all images left. back_sound telling (tell_all telling) sound t t1 t2 is stayed given images left all)

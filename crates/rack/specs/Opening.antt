@@ -33,6 +33,7 @@ use Rattle.rack_parts.specs.Locks.{AreSpindlesOf}
 use Rattle.rack_parts.specs.Parts.{holder_by, IsIssuedPool, Supplies, IsOwnedPlace, segment_in}
 use Rattle.rack_parts.specs.Racks.{IsClosable, NamesVolumes, AreUnused, KeepToViews}
 use Rattle.rack_parts.specs.Closing.{IsComplete}
+use Rattle.rack_closing.specs.BayRuns.{QuietRun}
 use Rattle.rack_closing.specs.Opens.{HadBefore, IsAsRead, BeganWith, HasFaulty, KeepsOthers, KeepsAllSound, KeepsViews, LeavesAll, RefusesVolume}
 use Rattle.rack.specs.declared.all.Taken.{Taken}
 use Rattle.rack_parts.specs.declared.heads_said.Said.{Said}
@@ -235,6 +236,7 @@ pub record BringsAllBack {D : Type 0} (tells : Bool) (state : D → State) (conf
   pub left : IsTrue tells → IsTold (LeavesAll tells state config b b') b.told b'.told
   pub sound : IsTrue tells → IsTold (KeepsAllSound config) b.told b'.told
   pub views : IsTrue tells → IsTold (KeepsViews config) b.told b'.told
+  pub run : QuietRun tells config b b'
 
 -- ---- The rack while its volumes are opened, of which the first n were tried
 

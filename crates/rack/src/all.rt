@@ -2,6 +2,7 @@
 ghost use Rattle.manager.specs.declared.part.Part.{Part};
 ghost use Rattle.manager_recovery.specs.declared.refusal.OpenRefusal.TheVariants.{DiskFault};
 ghost use Rattle.rack.specs.Opening.{IsTaken, BringsAllBack};
+ghost use Rattle.rack_closing.specs.BayRuns.{QuietRun};
 ghost use Rattle.rack_closing.specs.Closes.{HasFaultAt, HasFaultIn};
 ghost use Rattle.rack_closing.specs.Opens.{AreViewsAsRead, BeganWith, WereThere, AreRefused, LeavesAll, HasFaulty, KeepsOthers, KeepsAllSound, KeepsViews};
 ghost use Rattle.rack_closing.specs.Owners.{HadRefused};
@@ -140,6 +141,9 @@ pub fn open_all<R: Wait, B: Bay>(
     // and no label or view was changed
     ensures views { OnErr result (IsTrue B.Part.tells
         → IsTold (KeepsViews config.now) (B.state bay.old).told (B.state bay.new).told) }
+    // the run of the bay, in which nothing was done with its volumes
+    ensures run { OnErr result
+        (QuietRun B.Part.tells config.now (B.state bay.old) (B.state bay.new)) }
     ensures others { IsTold (KeepsOthers config.now) (B.state bay.old).told (B.state bay.new).told }
     ensures counts { (B.state bay.old).faults ≤ (B.state bay.new).faults }
 {

@@ -296,7 +296,7 @@ array_out config out images v is_out =
     ap (λ (i : Option (List Block)). recovered v (home_in (slice_get (shapes_of config) v) i) (all_segments (shapes_of config) (accepted (is_kept_home out) images))) (accepted_same (is_kept_home out) images v (ap not is_out))
 
 -- the only cut of nothing is the array
-cut_none : (a : List Block) (ws flight : List Write) (x : List Block) → ws ≡ [] → flight ≡ [] → IsCut a ws flight x → x ≡ a
+pub cut_none : (a : List Block) (ws flight : List Write) (x : List Block) → ws ≡ [] → flight ≡ [] → IsCut a ws flight x → x ≡ a
 cut_none a ws flight x none empty (whole k few is) =
     let first : k ≡ 0 = (let long = ap length empty in omega (arith, few, long)) in
     is ∙ ap (λ (m : ℕ). after a (ws ++ take m flight)) first ∙ ap (λ (vs : List Write). after a (vs ++ [])) none ∙ after_none a

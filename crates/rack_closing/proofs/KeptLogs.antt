@@ -47,7 +47,7 @@ image_drop (suc n) [] (x ∷ c) is = absurd is
 image_drop (suc n) (v ∷ vs) [] is = absurd is
 image_drop (suc n) (v ∷ vs) (x ∷ c) is = image_drop n vs c is.1
 
-image_slice : (vs : List (Values Block)) (c : List Block) (a b : ℕ) → IsImage vs c → IsImage (slice_range vs a b) (slice_range c a b)
+pub image_slice : (vs : List (Values Block)) (c : List Block) (a b : ℕ) → IsImage vs c → IsImage (slice_range vs a b) (slice_range c a b)
 image_slice vs c a b is = image_take (b - a) (drop a vs) (drop a c) (image_drop a vs c is)
 
 -- ---- Images that may be left only as before

@@ -270,7 +270,7 @@ module _ {D : Type 0} {state : D → State} {config : Config} {b : BayState} {r 
       let s = of_map (λ (t : Station D). base_of_station t) r.stations.items m.0 m.1 in
       closed s.0 s.1 (sym m.2 ∙ ap (λ (x : ManagerBase). x.volume.began.owner) (sym s.2) ∙ (All-contains (λ u. IsStation u) r.stations.items s.0 can.stations s.1).id)
 
-  front_was : (k : ℕ) (v : VolumeConf) → slice_get config.volumes.items k ≡ Some v → (o : IsOut k v)
+  pub front_was : (k : ℕ) (v : VolumeConf) → slice_get config.volumes.items k ≡ Some v → (o : IsOut k v)
       → (was : List Block) × IsImage (slice_range o.entered.image.blocks 0 (2 + v.home)) was × Fronts k (slice_range o.now 0 (2 + v.home)) was
   front_was k v at o = ⊎_elim
       (λ s. (slice_range (reads bs) 0 n, reads_among bs 0 n, (λ i lt. at_front n i (reads bs) (omega (arith, lt)) ∙ sym (at_front 2 i (reads bs) lt) ∙ ap (λ (l : List Block). slice_get l i) (sym o.label) ∙ at_front 2 i o.now lt ∙ sym (at_front n i o.now (omega (arith, lt))), λ closed. absurd (closed s.0 s.1 (sym s.2)))))

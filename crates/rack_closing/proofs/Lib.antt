@@ -25,3 +25,5 @@ pub mod SoundVolumes
 pub mod OwnedSegments
 pub mod SameSegments
 pub mod Cases
+pub mod BayRuns
+pub mod RunLaws

@@ -5,7 +5,11 @@ use Rattle.rack_closing.proofs.Basics.{All-from_recursion, Some}
 use Rattle.rack_closing.proofs.Terms.{Write, Operation, Broke, Wrote, Read, Kept, worker, helper, keeper, flight_of, flight_from, writes, written_by, entries_of, pass_number, pass_mine, AreWhole}
 use Rattle.rack_closing.proofs.Terms.{notes_of, Station, IsStation, IsUnbroken, IsQuiet}
 use Rattle.wol_promise.specs.Code.{noted_of}
+use Rattle.wol_promise.specs.Ruled.{Noted}
 use Rattle.turn_lock.specs.Histories.{Entry, own}
+use Rattle.turn_lock.specs.Passes.{IsPartOf}
+use Rattle.rack_closing.specs.BayRuns.{History, WritesNothing}
+use Rattle.rack_closing.specs.RackRuns.{IsHistoryOf}
 use Rattle.rack_parts.proofs.SpindlesClosed.{self_equal}
 
 abbrev flight_in : List Entry → Option (List Write)
@@ -37,22 +41,29 @@ by_pass Q (e ∷ es) each = go (operation_of e) refl (λ so. by_pass Q es so)
     go Kept is later = passing Kept is (λ rest. refl) later
 
 -- what is so of the entries of each pass of a station is so of those of any number
-by_station : {D : Type 0} (Q : List Entry → Type 0) → Q [] → (s : Station D) (es : List Entry) → IsStation s → AreWhole es (s.worker ∷ s.helper ∷ s.keeper ∷ [])
+by_station : {D : Type 0} (Q : List Entry → Type 0) → Q [] → (s : Station D) (es : List Entry) → IsStation s → IsPartOf es s.worker → IsPartOf es s.helper → IsPartOf es s.keeper → ((n : ℕ) → n ≢ worker → n ≢ helper → n ≢ keeper → own n es ≡ [])
     → Q (pass_mine s.worker) → Q (pass_mine s.helper) → Q (pass_mine s.keeper) → (n : ℕ) → Q (own n es)
-by_station {D} Q nothing s es station whole worked helped kept n = one (cases_eq n worker) (cases_eq n helper) (cases_eq n keeper)
+by_station {D} Q nothing s es station works helps keeps no_more worked helped kept n = one (cases_eq n worker) (cases_eq n helper) (cases_eq n keeper)
   where
     one : (n ≡ worker) ⊎ (n ≢ worker) → (n ≡ helper) ⊎ (n ≢ helper) → (n ≡ keeper) ⊎ (n ≢ keeper) → Q (own n es)
-    one (inl e) x y = subst Q (sym (ap (λ (k : ℕ). own k es) (e ∙ sym station.worker_.number_is) ∙ (whole.parts 0 s.worker (omega arith)).mine)) worked
-    one (inr w) (inl e) y = subst Q (sym (ap (λ (k : ℕ). own k es) (e ∙ sym station.helper_.number_is) ∙ (whole.parts 1 s.worker (omega arith)).mine)) helped
-    one (inr w) (inr h) (inl e) = subst Q (sym (ap (λ (k : ℕ). own k es) (e ∙ sym station.keeper_.number_is) ∙ (whole.parts 2 s.worker (omega arith)).mine)) kept
-    one (inr w) (inr h) (inr k) = subst Q (sym (whole.no_more n (All-from_recursion (λ p. pass_number p ≢ n) (s.worker ∷ s.helper ∷ s.keeper ∷ [])
-        (λ e. w (sym e ∙ station.worker_.number_is), (λ e. h (sym e ∙ station.helper_.number_is), (λ e. k (sym e ∙ station.keeper_.number_is), tt)))))) nothing
+    one (inl e) x y = subst Q (sym (ap (λ (k : ℕ). own k es) (e ∙ sym station.worker_.number_is) ∙ works.mine)) worked
+    one (inr w) (inl e) y = subst Q (sym (ap (λ (k : ℕ). own k es) (e ∙ sym station.helper_.number_is) ∙ helps.mine)) helped
+    one (inr w) (inr h) (inl e) = subst Q (sym (ap (λ (k : ℕ). own k es) (e ∙ sym station.keeper_.number_is) ∙ keeps.mine)) kept
+    one (inr w) (inr h) (inr k) = subst Q (sym (no_more n w h k)) nothing
+
+-- so of a whole history
+by_whole : {D : Type 0} (Q : List Entry → Type 0) → Q [] → (s : Station D) (es : List Entry) → IsStation s → AreWhole es (s.worker ∷ s.helper ∷ s.keeper ∷ [])
+    → Q (pass_mine s.worker) → Q (pass_mine s.helper) → Q (pass_mine s.keeper) → (n : ℕ) → Q (own n es)
+by_whole Q nothing s es station whole =
+    by_station Q nothing s es station (whole.parts 0 s.worker (omega arith)) (whole.parts 1 s.worker (omega arith)) (whole.parts 2 s.worker (omega arith))
+    (λ n w h k. whole.no_more n (All-from_recursion (λ p. pass_number p ≢ n) (s.worker ∷ s.helper ∷ s.keeper ∷ [])
+    (λ e. w (sym e ∙ station.worker_.number_is), (λ e. h (sym e ∙ station.helper_.number_is), (λ e. k (sym e ∙ station.keeper_.number_is), tt)))))
 
 pub unbroken : {D : Type 0} (s : Station D) (es : List Entry) → IsStation s → AreWhole es (s.worker ∷ s.helper ∷ s.keeper ∷ []) → IsUnbroken s → flight_in es ≡ None
-unbroken s es station whole quiet = by_pass (λ o. o ≡ None) es (by_station (λ xs. flight_in xs ≡ None) refl s es station whole quiet.0 quiet.1 quiet.2)
+unbroken s es station whole quiet = by_pass (λ o. o ≡ None) es (by_whole (λ xs. flight_in xs ≡ None) refl s es station whole quiet.0 quiet.1 quiet.2)
 
 pub unflown : {D : Type 0} (s : Station D) (es : List Entry) → IsStation s → AreWhole es (s.worker ∷ s.helper ∷ s.keeper ∷ []) → IsQuiet s → unwrap_or (flight_in es) [] ≡ []
-unflown s es station whole quiet = by_pass (λ o. unwrap_or o [] ≡ []) es (by_station (λ xs. unwrap_or (flight_in xs) [] ≡ []) refl s es station whole quiet.0.0 quiet.0.1 quiet.0.2)
+unflown s es station whole quiet = by_pass (λ o. unwrap_or o [] ≡ []) es (by_whole (λ xs. unwrap_or (flight_in xs) [] ≡ []) refl s es station whole quiet.0.0 quiet.0.1 quiet.0.2)
 
 -- ---- And one in which no pass wrote has no writes
 
@@ -80,4 +91,16 @@ none_by_pass (e ∷ es) each =
     made = subst (λ (t : Bool). written_in (cond t (e ∷ own e.0 es) (own e.0 es)) ≡ []) (self_equal e.0) (each e.0)
 
 pub unwritten : {D : Type 0} (s : Station D) (es : List Entry) → IsStation s → AreWhole es (s.worker ∷ s.helper ∷ s.keeper ∷ []) → IsQuiet s → writes (entries_of (notes_of es)) ≡ []
-unwritten s es station whole quiet = none_by_pass es (by_station (λ xs. written_in xs ≡ []) refl s es station whole quiet.1.0 quiet.1.1 quiet.1.2)
+unwritten s es station whole quiet = none_by_pass es (by_whole (λ xs. written_in xs ≡ []) refl s es station whole quiet.1.0 quiet.1.1 quiet.1.2)
+
+-- a station to which nothing was written has a history that wrote nothing
+pub writes_nothing : {D : Type 0} (s : Station D) (h : History) → IsStation s → IsHistoryOf s h → IsQuiet s → WritesNothing h
+writes_nothing {D} s h station its quiet = record {
+  none = subst (λ (ns : List Noted). writes (entries_of ns) ≡ []) (sym its.notes)
+      (none_by_pass its.entries (all (λ xs. written_in xs ≡ []) refl quiet.1.0 quiet.1.1 quiet.1.2));
+  calm = subst (λ (ns : List Noted). unwrap_or (flight_of (entries_of ns)) [] ≡ []) (sym its.notes)
+      (by_pass (λ o. unwrap_or o [] ≡ []) its.entries (all (λ xs. unwrap_or (flight_in xs) [] ≡ []) refl quiet.0.0 quiet.0.1 quiet.0.2));
+}
+  where
+    all : (Q : List Entry → Type 0) → Q [] → Q (pass_mine s.worker) → Q (pass_mine s.helper) → Q (pass_mine s.keeper) → (n : ℕ) → Q (own n its.entries)
+    all Q nothing = by_station Q nothing s its.entries station its.worker_part its.helper_part its.keeper_part its.no_more

@@ -15,6 +15,8 @@ use Rattle.manager.specs.declared.part.Part.{Part}
 use Rattle.manager.specs.declared.station.Station.{Station}
 use Rattle.manager_recovery.specs.declared.refusal.OpenRefusal.TheVariants.{LabelDiffers, LoggerMissing, OutsideView, Damaged, Twins, DiskFault, NoMemory}
 use Rattle.volume_images.specs.Volumes.{shapes_of, images_read, AreLeft}
+use Rattle.rack_closing.specs.BayRuns.{History, HoldsVolume, WasBegun, WritesNothing}
+use Rattle.rack_closing.specs.Owners.{recovered_but}
 use Rattle.rack_closing.specs.Closes.{IsClosedVolume, AreLeftOfParts, HasFaultIn}
 use Rattle.rack_closing.specs.Opens.{BeganWith, RefusesVolume, AreRefused, KeepsAllSound}
 use Rattle.rack_parts.specs.Racks.{base_of_station, IsRack, NamesVolumes}
@@ -65,6 +67,16 @@ OpensAgain tells state = OfOpenedAgain tells state
 abbrev pub OpensCut : {D : Type 0} → (tells : Bool) → (D → State) → Type 0
 OpensCut tells state = OfOpenedAgain tells state
     (λ was es now. IsCut was (writes es) (unwrap_or (flight_of es) []) now)
+
+-- ---- Runs of bays
+
+-- An open volume to which nothing was written recovers to what the images at entry recover to as they
+-- were read, those that are refused giving no segments.
+abbrev pub QuietKeeps : Type 0
+QuietKeeps = (config : Config) (refused : ℕ → Bool) (h : History) (entry : Told) (images : Images)
+    → WasBegun config refused entry h → HoldsVolume config refused h images → WritesNothing h
+    → recovered_but (shapes_of config) refused images h.base.owner
+    ≡ recovered_but (shapes_of config) refused (images_read config entry) h.base.owner
 
 -- ---- Sound images
 

@@ -8,3 +8,5 @@ pub mod PoolUses
 pub mod Opens
 pub mod Closes
 pub mod Laws
+pub mod BayRuns
+pub mod RackRuns

@@ -2,13 +2,14 @@
 ghost use Rattle.rack_closing.specs.Closes.{IsClosedSpindle, AreClosedVolumes, IsQuiet, AreLeftOfParts, HasFaultIn, ListsFaulty, LeavesOpen, LeavesUnopened, LeavesVolumes};
 ghost use Rattle.rack_closing.specs.Opens.{BeganWith, WereThere, KeepsOthers, KeepsAllSound};
 ghost use Rattle.rack_closing.specs.Owners.{HadRefused};
+ghost use Rattle.rack_closing.specs.RackRuns.{BeganIn, RunsRack};
 ghost use Rattle.rack_parts.specs.Closing.{LeavesNoneOut};
 ghost use Rattle.rack_parts.specs.Racks.{IsClosable};
 ghost use Rattle.spin_model.specs.Spindles.{SpindleView};
 ghost use Rattle.std.specs.Prelude.{◌≡◌, ◌<◌, ◌≤◌, ℕ, length, Some, All, IsTrue, slice_get};
 ghost use Rattle.volume_images.specs.Left.{IsTold};
 ghost use Rattle.volume_images.specs.Volumes.{shapes_of};
-ghost use Rattle.wol_bay.specs.Bay.{Told, outs};
+ghost use Rattle.wol_bay.specs.Bay.{BayState, Told, outs};
 ghost use Rattle.wol_config.specs.Configs.{IsValid};
 ghost use Rattle.wol_disk.specs.Disk.{Rose};
 
@@ -65,6 +66,10 @@ pub fn close_all<B: Bay>(rack: Rack<B::Part>, bay: &mut B, config: &Config) -> V
     // the parts that came back with a fault are listed
     ensures faulty { IsTold (ListsFaulty B.Part.state config.now rack.rest) (B.state bay.old).told
         (B.state bay.new).told }
+    // the run of the bay since it was as the rack was opened of it
+    ensures run { (first : BayState)
+        → BeganIn B.Part.tells B.Part.state config.now first (B.state bay.old) rack
+        → RunsRack B.Part.tells config.now first (B.state bay.new) rack }
     ensures counts { (B.state bay.old).faults ≤ (B.state bay.new).faults }
     ensures cause { HasFaultIn B.Part.state rack.rest
         → Rose (B.state bay.old).faults (B.state bay.new).faults }

@@ -1,5 +1,5 @@
 // Laws of racks that are opened over one bay, one after the other.
-ghost use Rattle.rack_closing.specs.Laws.{ReadsAreLeft, OpensAgain, OpensCut, OpensAllAgain, RefusesSound};
+ghost use Rattle.rack_closing.specs.Laws.{ReadsAreLeft, OpensAgain, OpensCut, OpensAllAgain, QuietKeeps, RefusesSound};
 
 use wol_disk::Disk;
 
@@ -14,4 +14,9 @@ pub fn reopening_laws<D: Disk>()
 /// Sound images show no damage, also where a call fails.
 pub fn sound_images_laws<D: Disk>()
     ensures sound { RefusesSound D.tells D.state }
+{}
+
+/// Where nothing was written to an open volume, it keeps its array.
+pub fn bay_run_laws()
+    ensures quiet { QuietKeeps }
 {}

@@ -13,4 +13,4 @@ mod closing;
 mod laws;
 
 pub use closing::close_all;
-pub use laws::{reopening_laws, sound_images_laws};
+pub use laws::{bay_run_laws, reopening_laws, sound_images_laws};

@@ -80,7 +80,9 @@ use Rattle.wol_run.specs.Causes.{AskFor, HasRefusal, IsCause, IsClosedFor, repla
 use Rattle.wol_run.specs.Causes as row
 use Rattle.wol_run.specs.Cleaning.{IsCleaning}
 use Rattle.wol_run.specs.Commands.{changes_view, runs_trace, uses_bay, uses_config}
-use Rattle.wol_run.specs.Inspecting.{AreTold, IsLook, LooksFor, status_of_first}
+use Rattle.inspection.specs.Runs.{Looked}
+use Rattle.rack_closing.specs.BayRuns.{BayLeft}
+use Rattle.wol_run.specs.Inspecting.{IsLook, LooksFor, status_of_first}
 use Rattle.wol_run.specs.Outside.{Outside}
 use Rattle.wol_run.specs.Comparing.{IsComparison}
 use Rattle.wol_run.specs.Replaying.{EndsReplay, GivenLines, HasLeft, IsReplay, trace_of}
@@ -268,31 +270,39 @@ module _ {D : Type 0} (tells : Bool) (state : D → State) (read : Option Config
       none_in : {A : Type 0} (j : ℕ) (x : A) → slice_get [] j ≡ Some x → ⊥
       none_in j x is = absurd (let no : None ≡ Some x = is in cc)
 
+      -- where any volume was told, each image that was handed out was there
+      all_there : (config : Config) (what : Asked) (told : List Telling) (are : Looked tells state config what before.bay after.bay told) → are.refused ≡ is_kept_home are.out → IsTrue tells → IfSome before.bay.told (λ t. WereThere config are.out t)
+      all_there config what told are same telling = at_entry (BayLeft config are.refused are.histories) (λ t. WereThere config are.out t) before.bay.told after.bay.told
+          (λ entry exit left k v at out. left.accepted_ k v at (ap (λ (f : ℕ → Bool). f k) same ∙ ap not out)) (are.run.left telling)
+
       -- a volume that was told in order was opened
-      was_opened : (config : Config) (what : Asked) (told : List Telling) (are : AreTold tells state what config before.bay after.bay told) (j : ℕ) (u : Telling) → slice_get told j ≡ Some u → u.trouble ≡ None
+      was_opened : (config : Config) (what : Asked) (told : List Telling) (are : Looked tells state config what before.bay after.bay told) → are.refused ≡ is_kept_home are.out → (j : ℕ) (u : Telling) → slice_get told j ≡ Some u → u.trouble ≡ None
           → IsTrue tells → IfSome before.bay.told (λ images. WasOpened config (is_kept_home are.out) images j)
-      was_opened config what told are j u here none telling = elim (are.each j u here) [
+      was_opened config what told are same j u here none telling = elim (are.each j u here) [
         | inl refusal ↦ absurd (let no : None ≡ Some (trouble_of refusal.fault) = sym none ∙ refusal.trouble in cc)
         | inr (inl order) ↦
-            at_entry _ _ before.bay.told after.bay.told (λ images left o. record {
-              base = o.base.volume.began;
-              owner = o.owner;
-              begun = o.began;
-              loggers = all_map (IsImageOut are.out) (λ l. is_kept_home are.out l ≡ false) (λ l out. ap not out) o.base.volume.began.view o.loggers_out;
-            }) (order.lines_ telling)
+            at_entry (BayLeft config are.refused are.histories) (λ images. WasOpened config (is_kept_home are.out) images j) before.bay.told after.bay.told (λ entry exit left.
+            let was = left.begun j order.history order.opened in
+            subst (λ (f : ℕ → Bool). WasOpened config f entry j) same (record {
+              base = order.history.base;
+              owner = (are.run.runs j order.history order.opened).owner;
+              begun = was.begun;
+              loggers = was.loggers;
+            })) (are.run.left telling)
         | inr (inr part) ↦ absurd (let no : None ≡ Some _ = sym none ∙ part.trouble in cc)
       ]
 
-      look_trouble : (config : Config) → read ≡ Some config → (what : Asked) (told : List Telling) → AreTold tells state what config before.bay after.bay told
+      look_trouble : (config : Config) → read ≡ Some config → (what : Asked) (told : List Telling) → Looked tells state config what before.bay after.bay told
           → (o : Trouble) → IsFirst told o → Cause (trouble_status o)
       look_trouble config has what told are o (k, t, here, is_o, earlier) = elim (are.each k t here) [
         | inl refusal ↦
             let same : trouble_of refusal.fault ≡ o = same_Some (trouble_of refusal.fault) o (sym refusal.trouble ∙ is_o) in
-            let some : told ≢ [] = λ empty. none_in k t (rw empty at here) in
+            let same_out = are.are_out (λ empty. none_in k t (rw empty at here)) in
+            let missing = λ j v conf none. are.missing (λ empty. none_in k t (rw empty at here)) j v conf (ap (λ (f : ℕ → Bool). f j) same_out ∙ ap (λ (x : Option (ImageRest D)). not (is_some x)) none) in
             subst (λ (x : Trouble). Cause (trouble_status x)) same
-            (refused_cause config has k refusal.conf are.out refusal.fault refusal.is_conf (are.missing some) (are.there some) refusal.refuses (λ j less. (let (u, there, none) = earlier j less in was_opened config what told are j u there none)) refusal.rose)
+            (refused_cause config has k refusal.conf are.out refusal.fault refusal.is_conf missing (all_there config what told are same_out) refusal.refuses (λ j less. (let (u, there, none) = earlier j less in was_opened config what told are same_out j u there none)) refusal.rose)
         | inr (inl order) ↦ absurd (let no : None ≡ Some o = sym order.trouble ∙ is_o in cc)
-        | inr (inr part) ↦ subst (λ (x : Trouble). Cause (trouble_status x)) (same_Some (trouble_of_part (part_named k part.name)) o (sym part.trouble ∙ is_o)) (part_cause for_bay (part_named k part.name) part.rose)
+        | inr (inr part) ↦ subst (λ (x : Trouble). Cause (trouble_status x)) (same_Some (trouble_of_part (part_named k part.name)) o (sym part.trouble ∙ is_o)) (part_cause for_bay (part_named k part.name) ((are.run.runs k part.history part.opened).cause part.broken))
       ]
 
       pub look_cause : runs_trace command ≡ false → (what : Asked) → IsLookFor tells state read before after status what → Cause status

@@ -9,15 +9,15 @@ use Rattle.wol_config.specs.declared.config.Config.{Config}
 use Rattle.report.specs.Faults.{status_of}
 use Rattle.report.specs.declared.fault.Fault.{Fault}
 use Rattle.report.specs.declared.trouble.Trouble.{Trouble}
-use Rattle.replay.specs.NotOpened.{LeavesViews}
+use Rattle.std.specs.Prelude.{IsTrue}
 use Rattle.inspection.specs.Lines.{Telling, first_trouble, text_of}
-use Rattle.inspection.specs.Runs.{Inspects}
+use Rattle.inspection.specs.Runs.{Inspects, Looked}
 use Rattle.inspection.specs.declared.asked.Asked.{Asked}
 use Rattle.inspection.specs.declared.calls.Stop.{Stop}
 use Rattle.inspection.specs.declared.calls.Stop.TheVariants.{Sink, Memory}
 use Rattle.volume_images.specs.Left.{IsTold}
-use Rattle.rack.specs.Opens.{KeepsOthers}
-use Rattle.wol_run.specs.Inspecting.{AreTold, HasLooked, IsCutLook, RunsLook, status_of_first}
+use Rattle.rack.specs.Opens.{KeepsAllSound}
+use Rattle.wol_run.specs.Inspecting.{HasLooked, IsCutLook, RunsLook, status_of_first}
 use Rattle.wol_run.specs.Settings.{IsUnread, line_of_fault}
 use Rattle.wol_run.specs.Statuses.{no_memory_text}
 use Rattle.wol_run.specs.Tops.{EndsWith, TellsNoMemory}
@@ -42,10 +42,10 @@ module _ {D : Type 0} (tells : Bool) (state : D → State) (asked : Asked) (left
     ends = ends;
   }
 
-  module _ (config : Config) (leaves : LeavesViews tells state config old new) (others : IsTold (KeepsOthers config) old.told new.told) where
-    module _ (told : List Telling) (are : AreTold tells state asked config old new told) where
+  module _ (config : Config) (sound : IsTrue tells → IsTold (KeepsAllSound config) old.told new.told) where
+    module _ (told : List Telling) (are : Looked tells state config asked old new told) where
       abbrev looked : HasLooked tells state asked config old new
-      looked = record { told = told; are = are }
+      looked = record { told = told; are = are; sound = sound }
 
       look_told : (first : Option Trouble) → length told ≡ length config.volumes.items → first ≡ first_trouble told → Appends printed now (text_of told) → status ≡ status_of_first first
           → RunsLook tells state asked (Some config) left faults faults' old new status printed now
@@ -79,19 +79,16 @@ module _ {D : Type 0} (tells : Bool) (state : D → State) (asked : Asked) (left
         ends = then_memory mid first ends;
       }
 
-    are_told : (result : Result (Option Trouble) Stop) (sink sink' : ℕ) (mid : Option (List ℕ)) → (i : Inspects tells state config asked old new result sink sink' printed mid) → AreTold tells state asked config old new i.told
-    are_told result sink sink' mid i = record { out = i.out; count = i.count; missing = i.missing; there = i.there; fronts = i.fronts; few = i.few; each = i.each; leaves = leaves; others = others }
-
     -- all volumes were told
     pub look_whole : (first : Option Trouble) (sink sink' : ℕ) → Inspects tells state config asked old new (Ok first) sink sink' printed now → status ≡ status_of_first first
         → RunsLook tells state asked (Some config) left faults faults' old new status printed now
-    look_whole first sink sink' i same = look_told i.told (are_told (Ok first) sink sink' now i) first i.prints.0 i.prints.1 i.prints.3 same
+    look_whole first sink sink' i same = look_told i.told i.looked first i.prints.0 i.prints.1 i.prints.3 same
 
     -- the sink failed
     pub look_failed : (sink sink' : ℕ) → Inspects tells state config asked old new (Err Sink) sink sink' printed now → status ≡ 7 → RunsLook tells state asked (Some config) left faults faults' old new status printed now
-    look_failed sink sink' i seven = look_stopped i.told (are_told (Err Sink) sink sink' now i) i.prints.1 seven
+    look_failed sink sink' i seven = look_stopped i.told i.looked i.prints.1 seven
 
     -- there was no memory
     pub look_cut : (sink sink' : ℕ) (mid : Option (List ℕ)) → Inspects tells state config asked old new (Err Memory) sink sink' printed mid → TellsNoMemory status mid now
         → RunsLook tells state asked (Some config) left faults faults' old new status printed now
-    look_cut sink sink' mid i ends = look_memory i.told (are_told (Err Memory) sink sink' mid i) mid i.prints.1 ends
+    look_cut sink sink' mid i ends = look_memory i.told i.looked mid i.prints.1 ends

@@ -2,14 +2,11 @@ use Rattle.std.proofs.Common.{inr, refl}
 use Rattle.std.proofs.lemmas.Result.{err_from_is_err_and}
 use Rattle.open_rack.specs.Sessions.{IsClosed, IsOpened, OpensAndCloses}
 use Rattle.open_rack.proofs.RacksAgain.{closable_again, rest_again}
-use Rattle.open_rack.proofs.ViewsKept.{views_kept}
-use Rattle.open_rack.proofs.Since.{home_again, none_out_still, opens_and_closes, sound_since}
+use Rattle.open_rack.proofs.Since.{began_in, home_again, none_out_still, opens_and_closes, sound_since}
 use Rattle.rack.proofs.FailedParts.{gained_parts}
-use Rattle.rack.proofs.ImagesSent.{others_then}
 use Rattle.inspection.specs.Lines.{PrintsVolumes}
 use Rattle.inspection.proofs.Completing.{look_completes}
 use Rattle.inspection.proofs.Opened.{can_look}
-use Rattle.inspection.proofs.Quiet.{all_quiet}
 use Rattle.inspection.proofs.SameRacks.{again_same}
 use Rattle.inspection.proofs.Whole.{inspected, nothing_told}
 use Rattle.inspection.proofs.calls.inspect.Given as given
@@ -32,6 +29,7 @@ session g c =
     opens_and_closes tells state config old bay new c.in_ok-rack.rack c.print_volumes-answer.new.rack (again_same _ _ p.same) (opened g c) o.counts e.counts e.kept o.refused
     (gained_parts state config c.print_volumes-answer.new.rack.rest bay.told new.told e.faulty)
     _ _ p closed o.failed o.complete e.cause e.left e.volumes e.unopened
+    (e.run old (began_in tells state config old bay new c.in_ok-rack.rack c.print_volumes-answer.new.rack (again_same _ _ p.same) (opened g c) o.counts e.counts e.kept c.open_all.ensures.others))
 
 pub returns-in_err-rack-clause-none_out : goal.returns-in_err-rack-clause-none_out
 returns-in_err-rack-clause-none_out g c = none_out_still c.args.config.now (g.B.Bay.state c.args.bay.now) (g.B.Bay.state c.open_all.new.bay) c.in_err-rack.ensures.home c.requires.home
@@ -39,7 +37,7 @@ returns-in_err-rack-clause-none_out g c = none_out_still c.args.config.now (g.B.
 pub returns-in_err-rack-clause-content : goal.returns-in_err-rack-clause-content
 returns-in_err-rack-clause-content g c =
     let p = err_from_is_err_and c.from_residual.result c.from_residual.ensures.1 in
-    rw (p.1, p.2) (nothing_told _ _ _ _ _ _ _ _ _ refl)
+    rw (p.1, p.2) (nothing_told _ _ _ _ _ _ _ _ _ refl c.in_err-rack.ensures.run)
 
 pub returns-in_err-rack-clause-complete : goal.returns-in_err-rack-clause-complete
 returns-in_err-rack-clause-complete g c =
@@ -67,23 +65,11 @@ returns-clause-sound g c =
     λ telling. sound_since g.B.Part.Disk.tells g.B.Part.Disk.state c.args.config.now (g.B.Bay.state c.args.bay.now) (g.B.Bay.state c.open_all.new.bay) (g.B.Bay.state c.close_all.new.bay) c.in_ok-rack.rack c.print_volumes-answer.new.rack
     (again_same _ _ c.print_volumes-answer.ensures.same) (opened g (goal.at.returns-clause-sound g c).After-close_all) o.counts e.counts e.kept telling (λ t began there. e.sound t telling began there)
 
-pub returns-clause-others : goal.returns-clause-others
-returns-clause-others g c =
-    others_then c.args.config.now (g.B.Bay.state c.args.bay.now).told (g.B.Bay.state c.open_all.new.bay).told (g.B.Bay.state c.close_all.new.bay).told c.open_all.ensures.others c.close_all.ensures.others
-
 pub returns-clause-content : goal.returns-clause-content
 returns-clause-content g c = let s = session g (goal.at.returns-clause-content g c).After-close_all in inspected _ _ _ _ _ _ _ _ s _ _ _ _ _ s.done
 
 pub returns-clause-later : goal.returns-clause-later
 returns-clause-later g c = (session g (goal.at.returns-clause-later g c).After-close_all).done.later
-
--- a look writes nothing
-pub returns-clause-left : goal.returns-clause-left
-returns-clause-left g c = let s = session g (goal.at.returns-clause-left g c).After-close_all in λ telling. s.left telling (all_quiet _ _ s.done.same.each s.opened.fresh)
-
--- whatever it did
-pub returns-clause-views : goal.returns-clause-views
-returns-clause-views g c = let s = session g (goal.at.returns-clause-views g c).After-close_all in views_kept _ _ _ _ _ _ _ s
 
 pub returns-clause-complete : goal.returns-clause-complete
 returns-clause-complete g c = let s = session g (goal.at.returns-clause-complete g c).After-close_all in look_completes _ _ _ _ _ _ _ _ s _ _ _ _ _ s.done

@@ -2,7 +2,7 @@ use Rattle.open_rack.specs.Sessions.{IsClosed, IsOpened}
 use Rattle.open_rack.proofs.RacksAgain.{closable_again, rest_again}
 use Rattle.rack.proofs.FailedParts.{gained_parts}
 use Rattle.rack.proofs.ImagesSent.{others_then}
-use Rattle.open_rack.proofs.Since.{home_again, none_out_still, opens_and_closes, sound_since}
+use Rattle.open_rack.proofs.Since.{began_in, home_again, none_out_still, opens_and_closes, sound_since}
 use Rattle.open_rack.proofs.opened.with_open.Given as given
 use Rattle.open_rack.proofs.opened.with_open.Goals.{After-close_all-spindles}
 use Rattle.open_rack.proofs.opened.with_open.Goals as goal
@@ -44,6 +44,7 @@ returns-clause-did g c =
     opens_and_closes tells state config old bay new c.in_ok-rack.rack c.run-answer.new.rack c.run-answer.ensures.again (opened g (goal.at.returns-clause-did g c).After-close_all-spindles) o.counts e.counts e.kept o.refused
     (gained_parts state config c.run-answer.new.rack.rest bay.told new.told e.faulty)
     _ _ c.run-answer.ensures.did closed o.failed o.complete e.cause e.left e.volumes e.unopened
+    (e.run old (began_in tells state config old bay new c.in_ok-rack.rack c.run-answer.new.rack c.run-answer.ensures.again (opened g (goal.at.returns-clause-did g c).After-close_all-spindles) o.counts e.counts e.kept c.open_all.ensures.others))
 
 pub returns-clause-others : goal.returns-clause-others
 returns-clause-others g c =

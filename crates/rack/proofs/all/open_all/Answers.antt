@@ -1,10 +1,11 @@
-use Rattle.rack.proofs.Basics.{ℕ, List, Option, length, sym, ap, ◌∙◌, subst, All}
+use Rattle.rack.proofs.Basics.{arith, ℕ, List, Option, length, sym, ap, ◌∙◌, subst, All}
 use Rattle.rack.proofs.Terms.{PassOf, Spindle, SpindleBase, IsUnused, KeepToViews, view_at, IsOpeningRack, HasBegun, HaveFaults, Said}
 use Rattle.rack_parts.proofs.LocksIssued.{on_err}
+use Rattle.rack_closing.proofs.RunLaws.{quiet_run}
 use Rattle.rack_closing.proofs.SoundVolumes.{opens_all}
 use Rattle.rack.proofs.FailedParts.{gained_parts, part_failed}
 use Rattle.rack.proofs.ImagesSent.{others_same, others_then}
-use Rattle.rack.proofs.TakenBack.{left_back, nothing_done, views_back}
+use Rattle.rack.proofs.TakenBack.{left_back, nothing_done, run_back, views_back}
 use Rattle.rack.proofs.OpenedAll.{opened_out, opened_home, opened_others, opened_faulty, opened_unfaulty, opened_kept, opened_failed, opened_there, opened_views, closed_left, closed_sound, closed_views, quiet_stations, fresh_passes, count_spindles, count_pools, told_at, begun_first, refused_first, taken_opening, many}
 use Rattle.rack.proofs.all.open_all.Goals as goal
 
@@ -125,3 +126,20 @@ returns-in-Ok-open_volumes-clause-others g c =
 pub returns-clause-others : goal.returns-clause-others
 returns-clause-others g c =
     others_then c.args.config.now (g.B.Bay.state c.args.bay.now).told (g.B.Bay.state c.take_out.new.bay).told (g.B.Bay.state c.close_all-spindles.new.bay).told (opened_others g.B.Part.Disk.tells g.B.Part.Disk.state c.args.config.now c.requires.config (g.B.Bay.state c.args.bay.now) (g.B.Bay.state c.take_out.new.bay) c.in-Ok.taken c.in-Ok.ensures.taken c.filled-rack.result c.filled-rack.ensures.images c.open_volumes.new.rack c.open_volumes.ensures.same_out) c.close_all-spindles.ensures.others
+
+pub returns-in_err-lists-clause-run : goal.returns-in_err-lists-clause-run
+returns-in_err-lists-clause-run g c =
+    let old = g.B.Bay.state c.args.bay.now in
+    on_err c.from_residual.result _ (run_back g.B.Part.Disk.tells g.B.Part.Disk.state c.args.config.now old old (λ telling. nothing_done old.told) (others_same c.args.config.now old.told) (omega arith))
+
+pub returns-clause-run : goal.returns-clause-run
+returns-clause-run g c = quiet_run g.B.Part.Disk.tells c.args.config.now (g.B.Bay.state c.args.bay.now) (g.B.Bay.state c.close_all-spindles.new.bay) c.open_volumes.new.rack (c.close_all-spindles.ensures.run (g.B.Bay.state c.args.bay.now) (record {
+  began = λ telling. told_at (g.B.Bay.state c.args.bay.now).told
+      (λ old is. c.open_volumes.ensures.began telling old (subst (λ (l : List (Option Said)). HasBegun g.B.Part.Disk.state c.args.config.now old l 0 c.filled-rack.result) (sym c.as_slice.ensures.value) (begun_first g.B.Part.Disk.tells g.B.Part.Disk.state c.args.config.now c.requires.config (g.B.Bay.state c.args.bay.now) (g.B.Bay.state c.take_out.new.bay) c.in-Ok.taken c.in-Ok.ensures.taken c.filled-rack.result c.filled-rack.ensures.rest c.filled-rack.ensures.images c.filled-rack.ensures.faults telling old is)));
+  there = λ telling. told_at (g.B.Bay.state c.args.bay.now).told (opened_there g.B.Part.Disk.tells g.B.Part.Disk.state c.args.config.now c.requires.config (g.B.Bay.state c.args.bay.now) (g.B.Bay.state c.take_out.new.bay) c.in-Ok.taken c.in-Ok.ensures.taken c.filled-rack.result c.filled-rack.ensures.images c.open_volumes.new.rack c.open_volumes.ensures.same_out telling);
+  kept = λ telling. opened_kept g.B.Part.Disk.tells g.B.Part.Disk.state c.args.config.now c.requires.config (g.B.Bay.state c.args.bay.now) (g.B.Bay.state c.take_out.new.bay) c.in-Ok.taken c.in-Ok.ensures.taken c.filled-rack.result c.filled-rack.ensures.images c.open_volumes.new.rack c.open_volumes.ensures.same_out;
+  faulty = opened_faulty g.B.Part.Disk.tells g.B.Part.Disk.state c.args.config.now c.requires.config (g.B.Bay.state c.args.bay.now) (g.B.Bay.state c.take_out.new.bay) c.in-Ok.taken c.in-Ok.ensures.taken c.filled-rack.result c.filled-rack.ensures.images c.open_volumes.new.rack c.open_volumes.ensures.same_out;
+  others = opened_others g.B.Part.Disk.tells g.B.Part.Disk.state c.args.config.now c.requires.config (g.B.Bay.state c.args.bay.now) (g.B.Bay.state c.take_out.new.bay) c.in-Ok.taken c.in-Ok.ensures.taken c.filled-rack.result c.filled-rack.ensures.images c.open_volumes.new.rack c.open_volumes.ensures.same_out;
+  counts = c.take_out.ensures.counts;
+})) (c.in-Err-open_volumes.ensures.stopped (g.B.Bay.state c.take_out.new.bay) (subst (λ (l : List (Option Said)). IsOpeningRack g.B.Part.Disk.state c.args.config.now (g.B.Bay.state c.take_out.new.bay) l 0 c.filled-rack.result) (sym c.as_slice.ensures.value)
+    (taken_opening g.B.Part.Disk.tells g.B.Part.Disk.state c.args.config.now c.requires.config (g.B.Bay.state c.args.bay.now) (g.B.Bay.state c.take_out.new.bay) c.in-Ok.taken c.in-Ok.ensures.taken c.requires.home c.filled-rack.result c.filled-rack.ensures.rest c.filled-rack.ensures.images c.filled-rack.ensures.faults))).closable.stations (quiet_stations c.open_volumes.new.rack.stations.items c.open_volumes.ensures.fresh)

@@ -3,7 +3,7 @@ use Rattle.rack.proofs.Terms.{Spindle, SpindleBase, IsHome, VolumeConf, IsWholeL
 use Rattle.std.specs.Prelude.{vec_len}
 use Rattle.rack_parts.proofs.LocksIssued.{on_err}
 use Rattle.rack.proofs.ImagesSent.{names_out, others_same, others_then, back_others, sent_others}
-use Rattle.rack.proofs.TakenBack.{brought_back, nothing_done, left_again, sound_again, views_again, may_issue, again, whole_again, same_here, home_again}
+use Rattle.rack.proofs.TakenBack.{brought_back, nothing_done, left_again, run_again, sound_again, views_again, may_issue, again, whole_again, same_here, home_again}
 use Rattle.rack.proofs.all.take_out.Goals as goal
 
 pub issue_pools-requires-clause-each : goal.issue_pools-requires-clause-each
@@ -60,15 +60,18 @@ returns-in-Ok-issue_pools-clause-taken g c =
 pub returns-in_err-spindles-clause-back : goal.returns-in_err-spindles-clause-back
 returns-in_err-spindles-clause-back g c =
     let old = g.B.Bay.state c.args.bay.now in
-    on_err c.from_residual.result _ (brought_back g.B.Part.Disk.tells g.B.Part.Disk.state c.args.config.now old old refl (λ telling. nothing_done old.told))
+    on_err c.from_residual.result _ (brought_back g.B.Part.Disk.tells g.B.Part.Disk.state c.args.config.now old old refl (λ telling. nothing_done old.told) (others_same c.args.config.now old.told) (omega arith))
 
 pub returns-in-Err-clause-back : goal.returns-in-Err-clause-back
 returns-in-Err-clause-back g c =
     let back = c.in-Err.ensures.err in
-    brought_back g.B.Part.Disk.tells g.B.Part.Disk.state c.args.config.now (g.B.Bay.state c.args.bay.now) (g.B.Bay.state c.open_images.new.bay) back.outs back.left
+    brought_back g.B.Part.Disk.tells g.B.Part.Disk.state c.args.config.now (g.B.Bay.state c.args.bay.now) (g.B.Bay.state c.open_images.new.bay) back.outs back.left c.open_images.ensures.others back.counts
 
 pub returns-in-Err-issue_pools-clause-back : goal.returns-in-Err-issue_pools-clause-back
 returns-in-Err-issue_pools-clause-back g c = record {
+  run = run_again g.B.Part.Disk.tells g.B.Part.Disk.state c.args.config.now (g.B.Bay.state c.args.bay.now) (g.B.Bay.state c.open_images.new.bay) c.in-Ok.images c.in-Ok.ensures.asked c.issue_pools.new.images c.as_mut_slice.result.now c.as_slice.result.now c.issue_pools.ensures.images c.as_mut_slice.ensures.value c.as_slice.ensures.value c.in-Err-issue_pools.ensures.restores c.requires.config (g.B.Bay.state c.give_back.new.bay) c.in-Ok.ensures.out c.give_back.ensures.back c.give_back.ensures.counts (λ telling d. g.met.B.Part.Disk.told telling d) g.met.B.Part.Disk.sound
+      (others_then c.args.config.now (g.B.Bay.state c.args.bay.now).told (g.B.Bay.state c.open_images.new.bay).told (g.B.Bay.state c.give_back.new.bay).told (sent_others c.args.config.now c.in-Ok.images.out.items (length c.args.config.now.volumes.items) (g.B.Bay.state c.args.bay.now) (g.B.Bay.state c.open_images.new.bay) c.in-Ok.ensures.out) (back_others c.args.config.now _ g.B.Part.Disk.state (g.B.Bay.state c.open_images.new.bay).told (g.B.Bay.state c.give_back.new.bay).told c.give_back.ensures.back))
+      (let a = c.in-Ok.ensures.out.counts in let b = c.give_back.ensures.counts in omega (arith, a, b));
   home = home_again g.B.Part.Disk.tells g.B.Part.Disk.state c.args.config.now (g.B.Bay.state c.args.bay.now) (g.B.Bay.state c.open_images.new.bay) c.in-Ok.images c.in-Ok.ensures.asked c.issue_pools.new.images c.as_mut_slice.result.now c.as_slice.result.now c.issue_pools.ensures.images c.as_mut_slice.ensures.value c.as_slice.ensures.value c.in-Err-issue_pools.ensures.restores c.requires.home c.in-Ok.ensures.out (g.B.Bay.state c.give_back.new.bay) c.give_back.ensures.home;
   left = left_again g.B.Part.Disk.tells g.B.Part.Disk.state c.args.config.now (g.B.Bay.state c.args.bay.now) (g.B.Bay.state c.open_images.new.bay) c.in-Ok.images c.in-Ok.ensures.asked c.issue_pools.new.images c.as_mut_slice.result.now c.as_slice.result.now c.issue_pools.ensures.images c.as_mut_slice.ensures.value c.as_slice.ensures.value c.in-Err-issue_pools.ensures.restores c.requires.config (g.B.Bay.state c.give_back.new.bay) c.in-Ok.ensures.out c.give_back.ensures.back c.give_back.ensures.counts (λ telling d. g.met.B.Part.Disk.told telling d) g.met.B.Part.Disk.sound;
   sound = sound_again g.B.Part.Disk.tells g.B.Part.Disk.state c.args.config.now (g.B.Bay.state c.args.bay.now) (g.B.Bay.state c.open_images.new.bay) c.in-Ok.images c.in-Ok.ensures.asked c.issue_pools.new.images c.as_mut_slice.result.now c.as_slice.result.now c.issue_pools.ensures.images c.as_mut_slice.ensures.value c.as_slice.ensures.value c.in-Err-issue_pools.ensures.restores c.requires.config (g.B.Bay.state c.give_back.new.bay) c.in-Ok.ensures.out c.give_back.ensures.back c.give_back.ensures.counts (λ telling d. g.met.B.Part.Disk.told telling d) g.met.B.Part.Disk.sound;

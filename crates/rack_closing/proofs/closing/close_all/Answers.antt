@@ -18,6 +18,9 @@ use Rattle.rack_closing.proofs.LeftVolumes.{fault_through, listed_through, left_
 use Rattle.rack_closing.proofs.FinalImages.{left_quiet}
 use Rattle.rack_closing.proofs.KeptLogs.{logs_closed, unopened_closed}
 use Rattle.rack_closing.proofs.SoundClosed.{left_sound}
+use Rattle.rack_closing.proofs.BayRuns.{rack_run}
+use Rattle.rack_closing.specs.Closes.{AreClosedVolumes}
+use Rattle.std.specs.Prelude.{IsTrue}
 use Rattle.rack_closing.proofs.closing.close_all.Goals as goal
 
 pub close_stations-requires : goal.close_stations-requires
@@ -65,7 +68,13 @@ returns g c =
     let cause = subst (λ w. HasFaultHere state w.items 0 → Rose old.faults new.faults) images c.give_back.ensures.cause in
     let given : (R : Told → Told → Type 0) → ((o n : Told) → GivesBack state config c.close_pools.new.self.images.items 0 o n → R o n) → IsTold R old.told new.told
     = told_end state config c.close_pools.new.self c.close_spindles.new.self old.told new.told images c.give_back.ensures.back in
+    let volumes : AreClosedVolumes g.B.Part.Disk.tells config old new rack = volumes_closed e c.close_pools.ensures.uses old new (given (GivesBack state config c.close_pools.new.self.images.items 0) (λ o n back. back)) cause in
+    let parts : IsTrue g.B.Part.Disk.tells → IsTold (λ o n. AreLeftOfParts state config rack n) old.told new.told
+    = λ told. given (λ o n. AreLeftOfParts state config rack n) (λ o n back images left k z m at here. left_parts (record { ending = e; told = told; given = back; left = left }) k z m at here) in
+    let kept : IsTrue g.B.Part.Disk.tells → IsTold (HadRefused config rack.rest.images.items) old.told new.told = λ told. given (HadRefused config rack.rest.images.items) (left_kept e) in
+    let others : IsTold (KeepsOthers config) old.told new.told = given (KeepsOthers config) (λ o n back name not. back.others name (λ k v le at there. not k v at)) in
     record {
+      run = λ first in_. rack_run g.B.Part.Disk.tells state config first old new rack c.requires.config c.requires.rack in_ volumes.0 volumes.1 kept parts others c.give_back.ensures.counts;
       home = none_out e (outs old) (outs new) (subst (λ w. LeavesNoneOut config w.items (outs old) (outs new)) images c.give_back.ensures.home);
       count = let list : c.reverse.new.self.items ≡ reverse c.close_spindles.new.self.rooms.closed.items = c.reverse.ensures.items in
           let n = ap length list ∙ length-reverse c.close_spindles.new.self.rooms.closed.items in
@@ -98,8 +107,8 @@ returns g c =
                 is.made t.id (λ same. absurd (omega (arith, below, keeper, same)))));
             keeper_part = λ q there. subst (λ x. IsPartOf is.entries x) (same_Some p.0 q (sym p.1 ∙ there)) is.keeper_part;
           };
-      stations = volumes_closed e c.close_pools.ensures.uses old new (given (GivesBack state config c.close_pools.new.self.images.items 0) (λ o n back. back)) cause;
-      parts = λ told. given (λ o n. AreLeftOfParts state config rack n) (λ o n back images left k z m at here. left_parts (record { ending = e; told = told; given = back; left = left }) k z m at here);
+      stations = volumes;
+      parts = parts;
       left = λ entry told began quiet. given (λ o n. LeavesOpen config rack entry n)
           (λ o n back images left. all_member (λ s. Rattle.rack_closing.specs.Closes.recovered_out config rack.rest.images.items images s.id ≡ Rattle.rack_closing.specs.Closes.recovered_out config rack.rest.images.items (Rattle.volume_images.specs.Volumes.images_read config entry) s.id) rack.stations.items
           (λ s has. left_quiet (record { ending = e; told = told; given = back; left = left }) entry began quiet s has));
@@ -116,8 +125,8 @@ returns g c =
           });
       sound = λ entry told began there. given (λ o n. HadRefused config rack.rest.images.items entry o → KeepsAllSound config entry n)
           (λ o n back had all images left. left_sound (record { ending = e; told = told; given = back; left = left }) entry began there had all);
-      kept = λ told. given (HadRefused config rack.rest.images.items) (left_kept e);
-      others = given (KeepsOthers config) (λ o n back name not. back.others name (λ k v le at there. not k v at));
+      kept = kept;
+      others = others;
       faulty = given (ListsFaulty state config rack.rest) (λ o n back. record { more = back.more; more_is = back.faulty; each = listed_through e o n back });
       counts = c.give_back.ensures.counts;
       cause = λ fault. cause (fault_through e fault);

@@ -8,15 +8,15 @@ returns-in-Err-clause-content g c = record { read = None; has = tt; is = look_un
 
 pub returns-in-Ok-inspect-clause-content : goal.returns-in-Ok-inspect-clause-content
 returns-in-Ok-inspect-clause-content g c =
-    record { read = Some c.in-Ok.config; has = c.in-Ok.ensures.ok; is = look_whole _ _ _ _ _ _ _ _ _ _ _ c.in-Ok.config (record { bay = record { left = c.in-Ok-inspect.ensures.left; sound = c.in-Ok-inspect.ensures.sound }; views = c.in-Ok-inspect.ensures.views }) c.in-Ok-inspect.ensures.others c.in-Ok-inspect.first _ _ c.in-Ok-inspect.ensures.content c.status_of_first.ensures }
+    record { read = Some c.in-Ok.config; has = c.in-Ok.ensures.ok; is = look_whole _ _ _ _ _ _ _ _ _ _ _ c.in-Ok.config c.in-Ok-inspect.ensures.sound c.in-Ok-inspect.first _ _ c.in-Ok-inspect.ensures.content c.status_of_first.ensures }
 
 pub returns-in-Err-Sink-clause-content : goal.returns-in-Err-Sink-clause-content
 returns-in-Err-Sink-clause-content g c =
-    record { read = Some c.in-Ok.config; has = c.in-Ok.ensures.ok; is = look_failed _ _ _ _ _ _ _ _ _ _ _ c.in-Ok.config (record { bay = record { left = c.in-Err-Sink.ensures.left; sound = c.in-Err-Sink.ensures.sound }; views = c.in-Err-Sink.ensures.views }) c.in-Err-Sink.ensures.others _ _ (rw c.in-Err-Sink.field-0-is at c.in-Err-Sink.ensures.content) refl }
+    record { read = Some c.in-Ok.config; has = c.in-Ok.ensures.ok; is = look_failed _ _ _ _ _ _ _ _ _ _ _ c.in-Ok.config c.in-Err-Sink.ensures.sound _ _ (rw c.in-Err-Sink.field-0-is at c.in-Err-Sink.ensures.content) refl }
 
 pub returns-clause-content : goal.returns-clause-content
 returns-clause-content g c =
-    record { read = Some c.in-Ok.config; has = c.in-Ok.ensures.ok; is = look_cut _ _ _ _ _ _ _ _ _ _ _ c.in-Ok.config (record { bay = record { left = c.in-Err-Memory.ensures.left; sound = c.in-Err-Memory.ensures.sound }; views = c.in-Err-Memory.ensures.views }) c.in-Err-Memory.ensures.others _ _ _ (rw c.in-Err-Memory.field-0-is at c.in-Err-Memory.ensures.content) c.end_with.ensures.content }
+    record { read = Some c.in-Ok.config; has = c.in-Ok.ensures.ok; is = look_cut _ _ _ _ _ _ _ _ _ _ _ c.in-Ok.config c.in-Err-Memory.ensures.sound _ _ _ (rw c.in-Err-Memory.field-0-is at c.in-Err-Memory.ensures.content) c.end_with.ensures.content }
 
 pub returns-in-Err-clause-complete : goal.returns-in-Err-clause-complete
 returns-in-Err-clause-complete g c free =
