@@ -144,6 +144,39 @@ check_clauses() {
     done < <(awk '/^### Crate / { gsub(/[^a-z_]/, "", $3); print $3 }' docs/PROOF.md)
 }
 
+# the session of NBD clients in docs/USAGE.md, as it stands there, where they are installed: each line that is shown is among those printed
+check_session() {
+    local tool line shown row at=$folder/session front
+    for tool in socat nbdinfo nbdcopy qemu-io qemu-img mkfs.ext2 debugfs; do
+        command -v "$tool" >/dev/null || { echo "tests/documents.sh: no $tool, so the session of NBD clients wasn't tried" >&2; return 0; }
+    done
+    mkdir -p "$at/letters"
+    cp samples/wol.toml "$at"
+    echo "a letter that is kept" >"$at/letters/first"
+    print_example "$at" "wol format" >/dev/null
+    (cd "$at" && exec socat UNIX-LISTEN:usr0.sock,mode=600,fork EXEC:"$top/build/wol serve usr0" 2>socat.log) &
+    front=$!
+    while read -r line; do
+        for _ in {1..300}; do # (until the session before has ended, and the socket is there)
+            [ -S "$at/usr0.sock" ] && print_example "$at" "wol check" | grep -q '^usr0 ok' && break
+            sleep 0.1
+        done
+        (cd "$at" && PATH=$PATH:/sbin:/usr/sbin eval "${line//\/run\/wol/$at}") >"$at/printed" 2>/dev/null </dev/null || echo "docs/USAGE.md, as it was run, fails: $line"
+        shown=$(awk -v line="    \$ $line" '$0 == line { inside = 1; next } inside && (/^    \$/ || !/^    /) { exit } inside { print substr($0, 5) }' docs/USAGE.md)
+        while IFS= read -r row; do
+            [ -n "$row" ] || continue
+            row=${row//\/run\/wol/$at}
+            grep -qF -- "${row##*  }" "$at/printed" || echo "docs/USAGE.md, as it was run, shows what isn't printed by $line: $row"
+        done <<<"$shown"
+    done < <(sed -n 's/^    \$ \(\(nbdinfo\|nbdcopy\|qemu-\|mkfs\|cmp\).*\)/\1/p' docs/USAGE.md)
+    kill "$front"
+    wait "$front" || true
+    line=$(sed -n 's/^    \$ \(printf .*wol nbd.*\)/\1/p' docs/USAGE.md)
+    shown=$(awk -v line="    \$ printf" 'index($0, line) == 1 { getline; print substr($0, 5); exit }' docs/USAGE.md)
+    ln -s "$top/build/wol" "$at/wol"
+    [ "$shown" = "$(cd "$at" && PATH=$at:$PATH && eval "$line" 2>/dev/null)" ] || echo "docs/USAGE.md shows another reply of: $line"
+}
+
 # what `make install` puts down: the documents keep their folders, so that no link is dead, and `make uninstall` takes all of it away
 check_installed() {
     local document link
@@ -199,6 +232,7 @@ check_outputs() {
     check_clauses
     if [ -x build/wol ]; then
         check_outputs
+        check_session
         check_installed
     else
         echo "tests/documents.sh: no build/wol, so outputs weren't compared" >&2
