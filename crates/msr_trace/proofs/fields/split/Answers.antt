@@ -1,5 +1,5 @@
 use Rattle.msr_trace.proofs.Splitting.{line_record, no_special}
-use Rattle.msr_trace.proofs.fields.split_alone.Goals as goal
+use Rattle.msr_trace.proofs.fields.split.Goals as goal
 
 pub unreachable-requires : goal.unreachable-requires
 unreachable-requires c =
