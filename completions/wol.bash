@@ -15,10 +15,12 @@ _wol() {
     case $before in
     --reclaim) words="off between beside" ;;
     --workers) words="1 2 4 8 16 32 64" ;;
+    --wait) words="0 10 60" ;;
     *)
         case ${COMP_WORDS[1]} in
         replay | soak) words="--workers --reclaim --each" ;;
-        serve | nbd | view-add | view-remove) words=$(_wol_volumes) ;;
+        serve) words="--wait $(_wol_volumes)" ;;
+        nbd | view-add | view-remove) words=$(_wol_volumes) ;;
         esac
         ;;
     esac
