@@ -1,6 +1,6 @@
 #!/usr/bin/env bash
-# What timeouts, spin-ups, writes and reads do to the energy of a week of 36 volumes (samples/week): the table of docs/USAGE.md, "wol
-# whatif".
+# What timeouts, spin-ups, writes and reads do to the energy of a week of 36 volumes (samples/week): the first table is that of
+# docs/USAGE.md, "wol whatif". The second, of the first 250,000 lines, says how many reads and writes wait for a disk.
 # usage: bench/timeouts.sh [FOLDER]     a folder with 1 GB (/tmp if left out). The program is build/wol, as `make build` leaves it
 set -eu
 cd "$(dirname "$0")/.."
@@ -35,4 +35,23 @@ for change in "a quarter of the writes,--writes,0.25" "four times the writes,--w
     IFS=, read -r what option factor <<<"$change"
     python3 "$week/week.py" "$option" "$factor" >changed.csv
     saved "$what" changed.csv
+done
+
+head -n 250000 week.csv >hours.csv
+cp "$week/wol.toml" .
+echo
+echo "| timeout | policy | saved | reads that wait | writes that wait |"
+echo "|---|---|---|---|---|"
+for seconds in 10 30 60 120 300; do
+    "$program" whatif --long --timeout ${seconds}000 <hours.csv | awk -v what="$seconds s" '
+        $2 == "wakes" { energy[$1] = $7 }
+        $2 == "reads" { reads[$1] = 100 * $5 / $3 }
+        $2 == "writes" { writes[$1] = 100 * $5 / $3 }
+        END {
+            split("spindown all", policy)
+            for (k = 1; k <= 2; k++) {
+                it = policy[k]
+                printf "| %s | `%s` | %.1f %% | %.2f %% | %.2f %% |\n", k == 1 ? what : "", it, 100 - 100 * energy[it] / energy["always"], reads[it], writes[it]
+            }
+        }'
 done

@@ -16,9 +16,11 @@ _wol() {
     --reclaim) words="off between beside" ;;
     --workers) words="1 2 4 8 16 32 64" ;;
     --wait) words="0 10 60" ;;
+    --timeout) words="10000 30000 60000 120000 300000" ;;
     *)
         case ${COMP_WORDS[1]} in
         replay | soak) words="--workers --reclaim --each" ;;
+        whatif) words="--long --volumes --timeout" ;;
         serve) words="--wait $(_wol_volumes)" ;;
         nbd | view-add | view-remove) words=$(_wol_volumes) ;;
         esac
