@@ -12,6 +12,7 @@
 #include <fcntl.h>
 #include <pthread.h>
 #include <stdarg.h>
+#include <stdatomic.h>
 #include <stdint.h>
 #include <stdio.h>
 #include <stdlib.h>
@@ -35,7 +36,8 @@ struct opening {
 
 static struct opening openings[FILES];
 static pthread_mutex_t lock = PTHREAD_MUTEX_INITIALIZER;
-static long at, made;
+static atomic_long made;
+static long at;
 static int drops, shares;
 static uint64_t choice;
 static int counter = -1;
@@ -184,13 +186,17 @@ static int told_now(int file) {
     return is_late;
 }
 
-/* A sync takes a while, in which others may sync, over this opening too: one that fails is told before that or behind it. */
+/* A sync takes a while, in which others write and sync, over this opening too: one that fails is told before that or behind it. */
 static int synced(int file) {
     if (!is_image(file)) return next_sync(file);
     struct head head = {0, 0, 0};
+    long number = atomic_fetch_add(&made, 1) + 1;
+    int fails = number == at, is_early = fails && at % 2;
+    usleep(fails ? 500 : 50);
     pthread_mutex_lock(&lock);
-    int kept = kept_of(file, &head), fails = ++made == at, is_early = fails && at % 2;
-    if (counter >= 0) (void)!next_write(counter, &made, sizeof made, 0);
+    number = made;
+    if (counter >= 0) (void)!next_write(counter, &number, sizeof number, 0);
+    int kept = kept_of(file, &head);
     settle(file, kept, &head, fails);
     head.failed += fails;
     (void)!next_write(kept, &head, sizeof head, 0);

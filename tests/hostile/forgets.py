@@ -125,10 +125,14 @@ RACING = "segment_blocks = 16\nawake_mw = 8000\nstandby_mw = 1000\nwake_mj = 500
 
 
 def racing_trace(rng: random.Random) -> tuple[bytes, list[Request]]:
-    """Windows of writes of all four volumes to the log while their own disks are down, with a read behind each write."""
+    """Windows in which a disk is up whose log takes the writes of four volumes, with a read behind each write."""
     text, asked, moment, line = [], [], 128166372000000000, 0
     for _ in range(4):
         moment += 700_000_000
+        line += 1
+        text.append(f"{moment},e,0,Read,0,{BLOCK},100\n")
+        asked.append(Request(line, 4, False, 0, 1))
+        moment += 10_000_000
         for _ in range(20):
             for number in range(4):
                 lbn = rng.randrange(40)
