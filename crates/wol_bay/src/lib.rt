@@ -14,6 +14,8 @@ mod fault;
 mod faulty;
 mod files;
 mod held;
+mod image_file;
+mod kept_copies;
 mod lengths;
 mod memory;
 mod names;
