@@ -1,12 +1,13 @@
 //! The parts of a volume, home and the lanes to its logs, as its manager uses them, and what is known of them.
 //!
 //! `home.rt` reads blocks of home under the lock of its spindle (`fetch_at`), and writes and syncs blocks there (`store_at`), or those
-//! of a mask (`put_at`); `group.rt` decides which first items of a run go to a log together (`together`), has a lane write them
-//! (`put_group`), and lists their records (`list_group`). Of `specs/`: `Accesses` says what a write does to a part, `Reads` what
-//! reads do; `Items` has what items stand for, `Joining` which of them join, `Listing` how they are listed; `Lanes` has what holds of
-//! lanes between calls, `Held` the segments that they hold, as the promise sees them, `Offers`, `Puts` and `Claims` what writes do to
-//! them. In `proofs/`: `Accesses`, `PartReads` and `Calm` for parts before and after a call, `Lanes` and `Held` for one lane or segment
-//! that is another, `Records` and `Places` for items that go to a log together, `Claims` for a segment that was claimed.
+//! of a mask (`put_at`, and by `laying.rt` in two calls, `lay_at` and `sync_at`); `group.rt` decides which first items of a run go to a
+//! log together (`together`), has a lane write them (`put_group`), and lists their records (`list_group`). Of `specs/`: `Accesses` says
+//! what a write does to a part, `Reads` what reads do; `Items` has what items stand for, `Joining` which of them join, `Listing` how
+//! they are listed; `Lanes` has what holds of lanes between calls, `Held` the segments that they hold, as the promise sees them,
+//! `Offers`, `Puts` and `Claims` what writes do to them. In `proofs/`: `Accesses`, `PartReads` and `Calm` for parts before and after a
+//! call, `Lanes` and `Held` for one lane or segment that is another, `Records` and `Places` for items that go to a log together,
+//! `Claims` for a segment that was claimed.
 #![tactic(auto)]
 
 mod group;
