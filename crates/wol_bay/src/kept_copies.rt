@@ -1,5 +1,5 @@
 // What the system keeps of an image's file.
-use sqlite_std_file::Unknown;
+use sqlite_std_file::{OpenError, Unknown};
 use std::fs;
 use std::io::{self, ErrorKind};
 
@@ -12,15 +12,18 @@ use std::io::{self, ErrorKind};
 pub fn drop_copies(rt: &HostRuntime, path: &str) -> io::Result<()> {
     let path = fs::canonicalize(rt, path)?;
     let log = format!(in rt.alloc(); "{}-wal", path.as_str())?;
-    let is_dropped = sqlite_std_file::open(rt, path.as_str(), Unknown).is_ok();
+    let dropped = match sqlite_std_file::open(rt, path.as_str(), Unknown) {
+        Ok(_) => Ok(()),
+        Err(OpenError::Io(e)) => Err(e),
+        Err(OpenError::OutOfMemory) => Err(io::Error::from(ErrorKind::OutOfMemory)),
+        Err(OpenError::Busy | OpenError::HotJournal) => {
+            Err(io::Error::from(ErrorKind::Unsupported))
+        }
+    };
     if let Ok(found) = fs::symlink_metadata(rt, log.as_str()) {
         if found.is_file() && found.len() == 0 {
             fs::remove_file(rt, log.as_str())?;
         }
     }
-    if is_dropped {
-        Ok(())
-    } else {
-        Err(io::Error::from(ErrorKind::Unsupported))
-    }
+    dropped
 }
