@@ -10,7 +10,7 @@ ARCHIVE := wol-$(VERSION)-$(shell uname -s | tr A-Z a-z)-$(shell uname -m)
 ROOT = $(DESTDIR)$(PREFIX)
 DOCUMENTS = $(ROOT)/share/doc/wol
 
-.PHONY: look build demo week test edits hostile clients bench dist install uninstall clean
+.PHONY: look build demo week test edits clauses hostile clients bench dist install uninstall clean
 
 # Four policies on a sample trace, compiled by `rt try` with no proof. It runs in an empty folder, which is removed.
 look:
@@ -68,6 +68,10 @@ test:
 edits:
 	@test -n "$(CRATES)" || { echo "make edits: say of which crates: make edits CRATES=\"energy report\" (all: CRATES=\"\$$(ls tests/edits)\", many hours)" >&2; exit 1; }
 	tests/edits.sh $(CRATES)
+
+# docs/CLAUSES.md, of the sources: a second. The gate refuses another one.
+clauses:
+	@docs/clauses.py >docs/CLAUSES.md.new && mv docs/CLAUSES.md.new docs/CLAUSES.md
 
 # Kills among writes, clients that leave, refused calls, losses of power, no memory, and spoiled input, in their long form: under an hour.
 hostile: build
