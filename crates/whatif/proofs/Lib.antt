@@ -11,3 +11,5 @@ pub mod New
 pub mod Sums
 pub mod Waiting
 pub mod Served
+pub mod Counting
+pub mod Waited

@@ -12,6 +12,8 @@ pub enum Policy {
     Host,
     /// The same, and all volumes log for one another.
     All,
+    /// The same, and the volumes that its view names log for a volume, in the view's order.
+    Views,
 }
 
 /// What one request asks of a volume.

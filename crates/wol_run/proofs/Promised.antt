@@ -90,7 +90,7 @@ module _ {D : Type 0} (tells : Bool) (state : D â†’ State) (words : List (List â
   of_replayed P gives Dump did = tt
   of_replayed P gives (Gen what) did = tt
   of_replayed P gives (Soak what options) did = gives _ did
-  of_replayed P gives WhatIf did = tt
+  of_replayed P gives (WhatIf options) did = tt
   of_replayed P gives (ViewAdd names) did = tt
   of_replayed P gives (ViewRemove names) did = tt
   of_replayed P gives Clean did = tt
@@ -134,7 +134,7 @@ module _ {D : Type 0} (tells : Bool) (state : D â†’ State) (words : List (List â
     unconfigured_none Dump uses did = look_unconfigured asked.Dump did
     unconfigured_none (Gen what) uses did = untold did.text did.wanted did.allowed did.ends
     unconfigured_none (Soak what options) uses did = replay_unconfigured (options_as options, lines_of what) did
-    unconfigured_none WhatIf uses did = untold did.text did.wanted did.line_ did.ends
+    unconfigured_none (WhatIf options) uses did = untold did.text did.wanted did.line_ did.ends
     unconfigured_none (ViewAdd names) uses did = not_begun_unconfigured did
     unconfigured_none (ViewRemove names) uses did = not_begun_unconfigured did
     unconfigured_none Clean uses did = not_begun_unconfigured did

@@ -23,10 +23,10 @@ returns-clause-run c = λ p c' from ws run.
     let was : Stands c.as_mut_slice.result.now c.as_mut_slice-2.result.now (machine_after p c' from ws) =
     subst (λ (l : List Disk). Stands c.as_mut_slice.result.now l (machine_after p c' from ws)) (sym c.as_mut_slice-2.ensures.value)
     (subst (λ (l : List Volume). Stands l m.disks.items (machine_after p c' from ws)) (sym c.as_mut_slice.ensures.value) run.stands) in
-    let stands = c.in_ok-run.ensures.run p c' from ws run.timeout run.sleeps was in record {
-      timeout = run.timeout;
+    let stands = c.in_ok-run.ensures.run p c' from ws run.rules was in record {
+      rules = run.rules;
       powers = run.powers;
-      sleeps = run.sleeps;
+      told = c.in_ok-run.ensures.waits p c' from ws run.rules was run.told;
       stands = rw (volumes, disks) stands;
     }
 
@@ -38,5 +38,6 @@ returns-clause-machine c =
       few = (let a = ap length volumes in let b = c.run.auto.volumes in let d = c.as_mut_slice.ensures.value in let e = ap length d in let f = c.requires.machine.few in omega (arith, a, b, e, f));
       timeout = c.requires.machine.timeout;
       powers = c.requires.machine.powers;
+      told = c.in_ok-run.ensures.told;
       ready = rw (volumes, disks) c.in_ok-run.ensures.ready;
     }
