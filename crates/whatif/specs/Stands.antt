@@ -8,13 +8,13 @@ use Rattle.whatif.specs.declared.policy.Policy.{Policy}
 use Rattle.whatif.specs.declared.policy.Ask.{Ask}
 use Rattle.whatif.specs.declared.machine.Machine.{Machine}
 use Rattle.whatif.specs.declared.machine.Rules.{Rules}
-use Rattle.whatif.specs.declared.waits.Told.{Told}
+use Rattle.whatif.specs.declared.waits.Tallies.{Tallies}
 use Rattle.whatif.specs.declared.disk.Disk.{Disk}
 use Rattle.whatif.specs.declared.volume.Volume.{Volume}
 use Rattle.whatif.specs.Machine.{Asked, Turn, after_turns, first_volume}
 use Rattle.whatif.specs.Machine as machine
 use Rattle.whatif.specs.Policies.{machine_after, goes_down, reach_of, waits_by}
-use Rattle.whatif.specs.Waits.{AreFew, AreTold, Waited, waits_among}
+use Rattle.whatif.specs.Waits.{AreFewIn, AreTallied, Waited, waits_among}
 use Rattle.whatif.specs.Disks.{AreDisks, IsKept, moments_of}
 use Rattle.whatif.specs.Volumes.{IsVolume, IsWithin, reach_in, volume_in}
 
@@ -44,9 +44,10 @@ HaveTurned turns vs ds ws es = (timeout : ℕ) (m : machine.Machine) → Stands 
 
 -- .. and requests, of whom this is told
 abbrev pub HaveWaited : (wake : ℕ) → List Ask → (vs : List Volume) → (ds : List Disk)
-    → (old new : Told) → Type 0
+    → (old new : Tallies) → Type 0
 HaveWaited wake asks vs ds old new = (timeout : ℕ) (m : machine.Machine) (ws : List Waited)
-    → Stands vs ds m → AreTold wake ws old → AreTold wake (ws ++ waits_among timeout wake asks m) new
+    → Stands vs ds m → AreTallied wake ws old
+    → AreTallied wake (ws ++ waits_among timeout wake asks m) new
 
 -- all volumes, of which nothing is logged yet
 pub record AreNew (p : Policy) (confs : List VolumeConf) (vs : List Volume) : Type 0 where
@@ -61,7 +62,7 @@ pub record IsMachine (m : Machine) : Type 0 where
   pub timeout : 10000 ≤ m.rules.timeout
   pub powers : ArePowers m.powers
   pub ready : AreReady m.volumes.items m.disks.items m.asked m.moment
-  pub told : AreFew m.asked m.told
+  pub tallies : AreFewIn (length m.volumes.items) m.asked m.tallies
 
 -- a request of one of so many volumes
 pub record IsAsk (volumes : ℕ) (a : Ask) : Type 0 where
@@ -82,4 +83,4 @@ pub record HasRun (p : Policy) (c : Config) (from : ℕ) (ws : List Asked) (m : 
   pub rules : AreRules p c m.rules
   pub powers : m.powers ≡ c.powers
   pub stands : Stands m.volumes.items m.disks.items (machine_after p c from ws)
-  pub told : AreTold c.wake (waits_by p c from ws) m.told
+  pub tallies : AreTallied c.wake (waits_by p c from ws) m.tallies

@@ -1,6 +1,6 @@
 -- Who waits for a disk to come up, and how long. Times are in units of 100 ns; `wake` is how long a disk takes to come up.
-use Rattle.std.specs.Prelude.{◌≡◌, ℕ, ◌+◌, ◌-◌, ◌*◌, ◌/◌, ◌^◌, ◌<◌, ◌≤◌, max, Bool, true, false, not, nat_le, nat_lt, List, [], ◌∷◌, ◌++◌, map, length, Option, None, Some, slice_get, slice_index, unwrap_or, position, sum, count_by}
-use Rattle.std.specs.List.{range_with_len, filter}
+use Rattle.std.specs.Prelude.{◌≡◌, ℕ, ◌+◌, ◌-◌, ◌*◌, ◌/◌, ◌^◌, ◌<◌, ◌≤◌, max, Bool, true, false, not, nat_le, nat_lt, List, [], ◌∷◌, ◌++◌, map, length, Option, None, Some, slice_get, slice_index, slice_index_or, ◌==◌, unwrap_or, position, sum, count_by}
+use Rattle.std.specs.List.{AllByRecursion, range_with_len, filter}
 use Rattle.std.specs.Option.{option_map_or}
 use Rattle.wol_model.specs.declared.journal.Turned.{Turned}
 use Rattle.wol_model.specs.declared.journal.Turned.TheVariants.{Down, Up}
@@ -9,6 +9,7 @@ use Rattle.wol_model.specs.Trace.{is_write}
 use Rattle.wol_model.specs.Blocks.{changed_at}
 use Rattle.wol_model.specs.Journal.{SpindleState}
 use Rattle.whatif.specs.declared.policy.Ask.{Ask}
+use Rattle.whatif.specs.declared.waits.Tallies.{Tallies}
 use Rattle.whatif.specs.declared.waits.Told.{Told}
 use Rattle.whatif.specs.declared.waits.Waits.{Waits}
 use Rattle.whatif.specs.Machine.{Volume, Machine, Setting, Asked, accessed, answering, asking, turned, begun, after_window}
@@ -106,6 +107,16 @@ pub record AreTold (wake : ℕ) (ws : List Waited) (t : Told) : Type 0 where
   pub reads : IsTold wake (waits_of false ws) t.reads
   pub writes : IsTold wake (waits_of true ws) t.writes
 
+-- the requests of a volume
+abbrev pub of_volume : (volume : ℕ) → List Waited → List Waited
+of_volume volume ws = filter (λ (w : Waited). w.volume == volume) ws
+
+-- .. and this of these requests, and of those of each volume
+pub record AreTallied (wake : ℕ) (ws : List Waited) (t : Tallies) : Type 0 where
+  pub all : AreTold wake ws t.all
+  pub each : (k : ℕ) (d : Told) → k < length t.each.items
+      → AreTold wake (of_volume k ws) (slice_index_or t.each.items k d)
+
 -- so many requests were told of at most
 pub record IsFew (asked : ℕ) (t : Waits) : Type 0 where
   pub count : t.count ≤ asked
@@ -115,3 +126,8 @@ pub record IsFew (asked : ℕ) (t : Waits) : Type 0 where
 pub record AreFew (asked : ℕ) (t : Told) : Type 0 where
   pub reads : IsFew asked t.reads
   pub writes : IsFew asked t.writes
+
+pub record AreFewIn (volumes asked : ℕ) (t : Tallies) : Type 0 where
+  pub count : length t.each.items ≡ volumes
+  pub all : AreFew asked t.all
+  pub each : AllByRecursion (AreFew asked) t.each.items

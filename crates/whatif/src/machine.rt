@@ -6,7 +6,7 @@ ghost use Rattle.whatif.specs.Machine.{Asked, all_sleeps, all_units, all_wakes, 
 ghost use Rattle.whatif.specs.Policies.{HaveViews, compared, goes_down, machine_after, waits_by};
 ghost use Rattle.whatif.specs.Stands.{AreNew, AreReady, AreRules, HasRun, HaveTurned, HaveWaited, IsAmong, IsAsk, IsMachine, Stands};
 ghost use Rattle.whatif.specs.Volumes.{volume_in};
-ghost use Rattle.whatif.specs.Waits.{AreFew, AreTold};
+ghost use Rattle.whatif.specs.Waits.{AreFewIn, AreTallied, AreTold};
 ghost use Rattle.whatif.specs.declared.policy.Policy.{Policy};
 ghost use Rattle.wol_config.specs.Configs.{IsValid};
 ghost use Rattle.wol_config.specs.declared.config.Config.{Config};
@@ -16,7 +16,7 @@ use crate::disk::Disk;
 use crate::policy::{Ask, Compared, Policy};
 use crate::views::loggers_of;
 use crate::volume::Volume;
-use crate::waits::Told;
+use crate::waits::{Tallies, Told};
 use std::alloc::Global;
 use wol_config::{Config, VolumeConf};
 use wol_disk::NoMemory;
@@ -46,7 +46,7 @@ pub struct Machine {
     // How many requests were asked.
     asked: u64,
     // What is told of their waits.
-    told: Told,
+    tallies: Tallies,
     live: bool,
 }
 
@@ -120,25 +120,25 @@ fn show_disks(volumes: &mut [Volume], disks: &[Disk], asked: u64)
 fn serve(
     volumes: &mut [Volume],
     disks: &mut [Disk],
-    told: &mut Told,
+    tallies: &mut Tallies,
     ask: &Ask,
     wake: u64,
     asked: u64,
     moment: u64,
 ) -> Result<(), NoMemory>
     requires ready { AreReady volumes.old disks.old asked moment }
-    requires told { AreFew asked told.old }
+    requires tallies { AreFewIn (length volumes.old) asked tallies.old }
     requires ask { IsAsk (length volumes.old) ask.now }
     requires few { asked + 1 < 2 ^ 63 }
     ensures ready { OnOk result (AreReady volumes.new disks.new (asked + 1) moment) }
-    ensures told { OnOk result (AreFew (asked + 1) told.new) }
+    ensures tallies { OnOk result (AreFewIn (length volumes.old) (asked + 1) tallies.new) }
     ensures turn { OnOk result
         (HaveTurned (asking ask.now ∷ []) volumes.old disks.old volumes.new disks.new) }
     ensures waits { OnOk result
-        (HaveWaited wake (ask.now ∷ []) volumes.old disks.old told.old told.new) }
+        (HaveWaited wake (ask.now ∷ []) volumes.old disks.old tallies.old tallies.new) }
 {
     let wait = volumes[ask.volume as usize].serve(disks, ask, wake)?;
-    told.add(ask.kind, wait, wake, asked);
+    tallies.add(ask, wait, wake, asked);
     Ok(())
 }
 
@@ -146,26 +146,27 @@ fn serve(
 fn serve_all(
     volumes: &mut [Volume],
     disks: &mut [Disk],
-    told: &mut Told,
+    tallies: &mut Tallies,
     asks: &[Ask],
     wake: u64,
     asked: u64,
     moment: u64,
 ) -> Result<(), NoMemory>
     requires ready { AreReady volumes.old disks.old asked moment }
-    requires told { AreFew asked told.old }
+    requires tallies { AreFewIn (length volumes.old) asked tallies.old }
     requires asks { AllByRecursion (IsAsk (length volumes.old)) asks.now }
     requires few { asked + length asks.now < 2 ^ 63 }
     ensures ready { OnOk result (AreReady volumes.new disks.new (asked + length asks.now) moment) }
-    ensures told { OnOk result (AreFew (asked + length asks.now) told.new) }
+    ensures tallies { OnOk result
+        (AreFewIn (length volumes.old) (asked + length asks.now) tallies.new) }
     ensures turns { OnOk result
         (HaveTurned (map asking asks.now) volumes.old disks.old volumes.new disks.new) }
     ensures waits { OnOk result
-        (HaveWaited wake asks.now volumes.old disks.old told.old told.new) }
+        (HaveWaited wake asks.now volumes.old disks.old tallies.old tallies.new) }
 {
     for place in 0..asks.len() {
         let before = asked + place as u64;
-        serve(volumes, disks, told, &asks[place], wake, before, moment)?;
+        serve(volumes, disks, tallies, &asks[place], wake, before, moment)?;
     }
     Ok(())
 }
@@ -196,32 +197,33 @@ fn reclaim_all(volumes: &mut [Volume], disks: &mut [Disk], asked: u64, moment: u
 fn run(
     volumes: &mut [Volume],
     disks: &mut [Disk],
-    told: &mut Told,
+    tallies: &mut Tallies,
     asks: &[Ask],
     rules: &Rules,
     at: u64,
     asked: u64,
 ) -> Result<(), NoMemory>
     requires ready { AreReady volumes.old disks.old asked at }
-    requires told { AreFew asked told.old }
+    requires tallies { AreFewIn (length volumes.old) asked tallies.old }
     requires timeout { 10000 ≤ rules.now.timeout }
     requires asks { AllByRecursion (IsAsk (length volumes.old)) asks.now }
     requires few { asked + length asks.now < 2 ^ 63 }
     ensures ready { OnOk result (AreReady volumes.new disks.new (asked + length asks.now) at) }
-    ensures told { OnOk result (AreFew (asked + length asks.now) told.new) }
+    ensures tallies { OnOk result
+        (AreFewIn (length volumes.old) (asked + length asks.now) tallies.new) }
     ensures run { OnOk result ((p : Policy) (c : Config) (from : ℕ) (ws : List Asked)
         → AreRules p c rules.now → Stands volumes.old disks.old (machine_after p c from ws)
         → Stands volumes.new disks.new
         (machine_after p c from (ws ++ record { moment = at; asks = asks.now } ∷ []))) }
     ensures waits { OnOk result ((p : Policy) (c : Config) (from : ℕ) (ws : List Asked)
         → AreRules p c rules.now → Stands volumes.old disks.old (machine_after p c from ws)
-        → AreTold c.wake (waits_by p c from ws) told.old
-        → AreTold c.wake
-        (waits_by p c from (ws ++ record { moment = at; asks = asks.now } ∷ [])) told.new) }
+        → AreTallied c.wake (waits_by p c from ws) tallies.old
+        → AreTallied c.wake
+        (waits_by p c from (ws ++ record { moment = at; asks = asks.now } ∷ [])) tallies.new) }
 {
     begin_if(disks, rules.sleeps, at, rules.timeout);
     show_disks(volumes, disks, asked);
-    serve_all(volumes, disks, told, asks, rules.wake, asked, at)?;
+    serve_all(volumes, disks, tallies, asks, rules.wake, asked, at)?;
     reclaim_all(volumes, disks, asked + asks.len() as u64, at);
     Ok(())
 }
@@ -270,6 +272,7 @@ impl Machine {
     {
         let volumes = volumes_of(alloc, policy, config.volumes.as_slice())?;
         let disks = vec![in alloc; Disk::new(from); volumes.len()]?;
+        let tallies = Tallies::new(alloc, volumes.len())?;
         Ok(Machine {
             rules: Rules {
                 timeout: config.timeout,
@@ -281,7 +284,7 @@ impl Machine {
             disks,
             moment: from,
             asked: 0,
-            told: Told::new(),
+            tallies,
             live: true,
         })
     }
@@ -307,7 +310,7 @@ impl Machine {
         run(
             self.volumes.as_mut_slice(),
             self.disks.as_mut_slice(),
-            &mut self.told,
+            &mut self.tallies,
             asks,
             &self.rules,
             at,
@@ -332,7 +335,7 @@ impl Machine {
         ensures { (p : Policy) (c : Config) (from : ℕ) (ws : List Asked) → HasRun p c from ws self.now
             → AreTold c.wake (waits_by p c from ws) result }
     {
-        self.told
+        self.tallies.all
     }
 
     /// What all disks used until `to`, where the account ends, in units of 100 ns.

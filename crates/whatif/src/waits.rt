@@ -1,8 +1,11 @@
 // What is told of the waits of requests.
-ghost use Rattle.std.specs.Prelude.{◌≡◌, ◌<◌, ◌≤◌, ◌+◌, ◌*◌, ◌/◌, ◌^◌, ◌++◌, ◌∷◌, [], ℕ, List, length, nat_le, nat_lt, position, slice_index, unwrap_or, if◌then◌else◌};
-ghost use Rattle.whatif.specs.Waits.{AreFew, AreTold, IsFew, IsTold, Waited, is_over, late, late_ms, sum_ms};
+ghost use Rattle.std.specs.Prelude.{◌≡◌, ◌≢◌, ◌<◌, ◌≤◌, ◌+◌, ◌*◌, ◌^◌, ◌++◌, ◌∷◌, [], ℕ, List, length, nat_le, position, slice_index, unwrap_or, IfOk};
+ghost use Rattle.whatif.specs.Waits.{AreFew, AreFewIn, AreTallied, AreTold, IsFew, IsTold, Waited, is_over, late_ms};
 ghost use Rattle.wol_model.specs.declared.trace.Kind.{Kind};
 
+use crate::policy::Ask;
+use std::alloc::Global;
+use wol_disk::NoMemory;
 use wol_model::Kind;
 
 /// The waits of the requests of one kind.
@@ -24,11 +27,26 @@ pub struct Told {
     pub writes: Waits,
 }
 
+/// The waits of the requests of all volumes, and of each.
+#[derive(Drop)]
+pub(crate) struct Tallies {
+    pub all: Told,
+    pub each: Vec<Told>,
+}
+
 // Whether a wait is longer than so many tenths of the time that a disk takes to come up.
 fn is_over(wake: u64, tenths: u64, wait: u64) -> bool
     ensures { result ≡ is_over wake tenths wait }
 {
     u128::from(tenths) * u128::from(wake) < 10 * u128::from(wait)
+}
+
+// By how many tenths a wait may be late: none where there is no wait.
+fn tenths_of(wait: u64) -> usize
+    ensures most { result ≤ 10 }
+    ensures all { wait ≢ 0 → result ≡ 10 }
+{
+    if wait == 0 { 0 } else { 10 }
 }
 
 impl Waits {
@@ -44,7 +62,7 @@ impl Waits {
         }
     }
 
-    // A request more waited so long, where a disk takes `wake` to come up.
+    // A request more waited so long, where a disk takes `wake` to come up. One that doesn't wait is late by no tenth.
     fn add(&mut self, wait: u64, wake: u64, asked: u64)
         requires few { IsFew asked self.old }
         requires room { asked < 2 ^ 63 }
@@ -52,7 +70,7 @@ impl Waits {
         ensures told { (waits : List ℕ) → IsTold wake waits self.old
             → IsTold wake (waits ++ wait ∷ []) self.new }
     {
-        for k in 0..10 {
+        for k in 0..tenths_of(wait) {
             self.over[k] += u64::from(is_over(wake, k as u64, wait));
         }
         self.count += 1;
@@ -71,11 +89,7 @@ impl Waits {
         ensures { result ≡ unwrap_or
             (position (λ n. nat_le (share * n) self.now.count) self.now.over) 10 }
     {
-        match self
-            .over
-            .iter()
-            .position(|n| is_rare(share, *n, self.count))
-        {
+        match first_rare(&self.over, share, self.count) {
             Some(tenths) => tenths as u64,
             None => 10,
         }
@@ -127,5 +141,32 @@ impl Told {
             Kind::Read => self.reads.add(wait, wake, asked),
             Kind::Write => self.writes.add(wait, wake, asked),
         }
+    }
+}
+
+impl Tallies {
+    /// No request was made of these volumes.
+    pub(crate) fn new(alloc: Global, volumes: usize) -> Result<Tallies, NoMemory>
+        ensures told { IfOk result (λ t. (wake : ℕ) → AreTallied wake [] t) }
+        ensures few { IfOk result (AreFewIn volumes 0) }
+    {
+        Ok(Tallies {
+            all: Told::new(),
+            each: vec![in alloc; Told::new(); volumes]?,
+        })
+    }
+
+    /// A request more waited so long, where a disk takes `wake` to come up.
+    pub(crate) fn add(&mut self, ask: &Ask, wait: u64, wake: u64, asked: u64)
+        requires few { AreFewIn (length self.old.each.items) asked self.old }
+        requires room { asked < 2 ^ 63 }
+        requires volume { ask.now.volume < length self.old.each.items }
+        ensures few { AreFewIn (length self.old.each.items) (asked + 1) self.new }
+        ensures told { (ws : List Waited) → AreTallied wake ws self.old → AreTallied wake
+            (ws ++ record { volume = ask.now.volume; kind = ask.now.kind; wait = wait } ∷ [])
+            self.new }
+    {
+        self.all.add(ask.kind, wait, wake, asked);
+        self.each[ask.volume as usize].add(ask.kind, wait, wake, asked);
     }
 }

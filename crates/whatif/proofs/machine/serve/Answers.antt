@@ -2,7 +2,6 @@
 use Rattle.std.proofs.Common.{◌≡◌, ◌<◌, ◌≤◌, ◌+◌, ℕ, List, [], ◌∷◌, Ok, length, get_or, refl, sym, ap, subst, ◌∙◌, arith}
 use Rattle.std.specs.Prelude.{slice_get, slice_set, Some}
 use Rattle.whatif.specs.Machine.{answering}
-use Rattle.whatif.specs.Waits.{AreTold, Waited}
 use Rattle.whatif.proofs.Lists.{got_or}
 use Rattle.whatif.proofs.Served.{served_ready, served_turn}
 use Rattle.whatif.proofs.Waited.{one_waited}
@@ -21,5 +20,5 @@ returns-clause-turn c =
 pub returns-clause-waits : goal.returns-clause-waits
 returns-clause-waits c =
     let v = get_or c.args.volumes.now c.args.ask.now.volume c.index-volumes-ask.result in let a = c.args.ask.now in
-    one_waited c.args.wake c.in_ok-wait.wait c.args.volumes.now c.args.disks.now a v c.args.told.now c.add.new.self (got_or c.args.volumes.now a.volume c.index-volumes-ask.result c.requires.ask.volume) c.in_ok-wait.ensures.late
-    (λ ws volume are. c.add.ensures.told ws volume are)
+    one_waited c.args.wake c.in_ok-wait.wait c.args.volumes.now c.args.disks.now a v c.args.tallies.now c.add.new.self (got_or c.args.volumes.now a.volume c.index-volumes-ask.result c.requires.ask.volume) c.in_ok-wait.ensures.late
+    (λ ws are. c.add.ensures.told ws are)
