@@ -1,6 +1,8 @@
 #!/usr/bin/env bash
-# Compares the documents with the sources and, where build/wol is there, with what the program prints.
+# Compares the documents with the sources and, where build/wol is there, with what the program prints; tests/trace.sh tries what they say
+# of traces.
 # usage: tests/documents.sh     it prints each thing that is wrong, and ends with 1 where there is one
+# needs: awk
 set -eu
 cd "$(dirname "$0")/.."
 export LC_ALL=C.UTF-8
@@ -51,7 +53,7 @@ told() {
 
 check_sizes() {
     local document
-    [ "$(wc -c <README.md)" -le 7168 ] || echo "README.md has over 7 KiB"
+    [ "$(wc -c <README.md)" -le 8192 ] || echo "README.md has over 8 KiB"
     for document in "${documents[@]}"; do
         [ "$(wc -L <"$document")" -le 200 ] || echo "$document has a line over 200 columns"
         awk -v document="$document" '
@@ -142,13 +144,60 @@ check_clauses() {
     done < <(awk '/^### Crate / { gsub(/[^a-z_]/, "", $3); print $3 }' docs/PROOF.md)
 }
 
+# the session of NBD clients in docs/USAGE.md, as it stands there, where they are installed: each line that is shown is among those printed
+check_session() {
+    local tool line shown row at=$folder/session front
+    for tool in socat nbdinfo nbdcopy qemu-io qemu-img mkfs.ext2 debugfs; do
+        command -v "$tool" >/dev/null || { echo "tests/documents.sh: no $tool, so the session of NBD clients wasn't tried" >&2; return 0; }
+    done
+    mkdir -p "$at/letters"
+    cp samples/wol.toml "$at"
+    echo "a letter that is kept" >"$at/letters/first"
+    print_example "$at" "wol format" >/dev/null
+    (cd "$at" && exec socat UNIX-LISTEN:usr0.sock,mode=600,fork EXEC:"$top/build/wol serve usr0" 2>socat.log) &
+    front=$!
+    while read -r line; do
+        for _ in {1..300}; do # (until the session before has ended, and the socket is there)
+            [ -S "$at/usr0.sock" ] && print_example "$at" "wol check" | grep -q '^usr0 ok' && break
+            sleep 0.1
+        done
+        (cd "$at" && PATH=$PATH:/sbin:/usr/sbin eval "${line//\/run\/wol/$at}") >"$at/printed" 2>/dev/null </dev/null || echo "docs/USAGE.md, as it was run, fails: $line"
+        shown=$(awk -v line="    \$ $line" '$0 == line { inside = 1; next } inside && (/^    \$/ || !/^    /) { exit } inside { print substr($0, 5) }' docs/USAGE.md)
+        while IFS= read -r row; do
+            [ -n "$row" ] || continue
+            row=${row//\/run\/wol/$at}
+            grep -qF -- "${row##*  }" "$at/printed" || echo "docs/USAGE.md, as it was run, shows what isn't printed by $line: $row"
+        done <<<"$shown"
+    done < <(sed -n 's/^    \$ \(\(nbdinfo\|nbdcopy\|qemu-\|mkfs\|cmp\).*\)/\1/p' docs/USAGE.md)
+    kill "$front"
+    wait "$front" || true
+    line=$(sed -n 's/^    \$ \(printf .*wol nbd.*\)/\1/p' docs/USAGE.md)
+    shown=$(awk -v line="    \$ printf" 'index($0, line) == 1 { getline; print substr($0, 5); exit }' docs/USAGE.md)
+    ln -s "$top/build/wol" "$at/wol"
+    [ "$shown" = "$(cd "$at" && PATH=$at:$PATH && eval "$line" 2>/dev/null)" ] || echo "docs/USAGE.md shows another reply of: $line"
+}
+
+# what `make install` puts down: the documents keep their folders, so that no link is dead, and `make uninstall` takes all of it away
+check_installed() {
+    local document link
+    command -v make >/dev/null || { echo "tests/documents.sh: no make, so make install wasn't tried" >&2; return 0; }
+    make -s install PREFIX="$folder/installed" >/dev/null || echo "make install fails"
+    while read -r document; do
+        sed -n 's/[^]]*](\([^):#]*\)[^)]*)/\1\n/gp' "$document" | sed -n '/^[A-Za-z0-9_.@/-]\{1,\}$/p' | while read -r link; do
+            [ -e "$(dirname "$document")/$link" ] || echo "installed, ${document#"$folder"/installed/} has a dead link: $link"
+        done
+    done < <(find "$folder/installed" -name '*.md')
+    make -s uninstall PREFIX="$folder/installed" >/dev/null || echo "make uninstall fails"
+    find "$folder/installed" -type f | sed 's/^/make uninstall leaves /'
+}
+
 # print_example FOLDER LINE: what the program prints on a line as `wol replay <samples/offload.csv`
 print_example() (
     input=/dev/null
     read -ra words <<<"${2%%<*}"
     case $2 in *'<'*) input=${2##*<} ;; esac
     cd "$1"
-    "$top/build/wol" "${words[@]:1}" <"$input" || true
+    "$top/build/wol" "${words[@]:1}" <"$input" 2>/dev/null || true
 )
 
 # each example of docs/USAGE.md, one after the other in one folder, and those of README.md
@@ -166,7 +215,7 @@ check_outputs() {
             [ "$shown" = "$printed" ] || echo "README.md shows another output of: $line"
             ;;
         esac
-    done < <(sed -n 's/^    \$ \(wol.*\)/\1/p' docs/USAGE.md)
+    done < <(sed -n 's/^    \$ \(wol [^|]*\)$/\1/p' docs/USAGE.md)
     print_example "$folder/plain" "wol format" >/dev/null
     total=$(print_example "$folder/plain" "wol replay <$top/samples/offload.csv" | tail -n 1)
     joules=$(cut -d ' ' -f 7 <<<"$total" | sed 's/...$//; s/\(...\)$/,\1/')
@@ -183,6 +232,8 @@ check_outputs() {
     check_clauses
     if [ -x build/wol ]; then
         check_outputs
+        check_session
+        check_installed
     else
         echo "tests/documents.sh: no build/wol, so outputs weren't compared" >&2
     fi

@@ -5,6 +5,7 @@
 #   tests/streams.sh [PROGRAM [WORD..]]      the program, and words to put before each command's (default: build/wol)
 #
 # It prints a line for each test that fails, and how many passed. It ends with 1 if any failed.
+# needs: timeout mkfifo
 set -u
 cd "$(dirname "$0")/.." || exit 1
 top=$PWD
