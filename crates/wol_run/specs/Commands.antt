@@ -21,13 +21,13 @@ runs_trace command = false
 -- whether it uses the source of the trace, for that or for a client's requests
 abbrev pub uses_trace : Command → Bool
 uses_trace (Nbd name) = true
-uses_trace (Serve name) = true
+uses_trace (Serve name patience) = true
 uses_trace command = runs_trace command
 
 -- whether it serves a client
 abbrev pub serves_client : Command → Bool
 serves_client (Nbd name) = true
-serves_client (Serve name) = true
+serves_client (Serve name patience) = true
 serves_client command = false
 
 -- whether it uses the configuration

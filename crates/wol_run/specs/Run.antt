@@ -158,7 +158,8 @@ module _ {D : Type 0} (tells : Bool) (state : D → State) (read : Option Config
   -- nbd: a session of requests and their replies, and what the images recover to after it
   Does (Nbd name) = IsServingOf tells state read before after status (AtOnce, served_by name)
   -- serve: the same behind a handshake on the volume, of which nothing is told before it is open
-  Does (Serve name) = IsServingOf tells state read before after status (Handshake, served_by name)
+  Does (Serve name patience) =
+      IsServingOf tells state read before after status (Handshake, served_by name)
 
 -- ---- What a run needs
 
@@ -198,7 +199,7 @@ ReadsInOrder tells Clean before =
     × HaveVersionsToClean before.config.bytes images.entry
 ReadsInOrder tells (Nbd name) before =
     IsConfigured before.config.bytes × HasSoundImages tells before.config.bytes before.bay
-ReadsInOrder tells (Serve name) before =
+ReadsInOrder tells (Serve name patience) before =
     IsConfigured before.config.bytes × HasSoundImages tells before.config.bytes before.bay
 
 -- the command is done, or out of memory; or a view can't be changed as the words ask, or a client's

@@ -92,7 +92,7 @@ where
         Command::ViewRemove(names) => change_view(rt, alloc, Verb::Remove, names, config, out, bay),
         Command::Clean => clean(rt, alloc, config, out, bay),
         Command::Nbd(name) => serve(rt, alloc, Beginning::AtOnce, name, config, trace, out, bay),
-        Command::Serve(name) => serve(
+        Command::Serve(name, _patience) => serve(
             rt,
             alloc,
             Beginning::Handshake,
