@@ -20,7 +20,7 @@ fn needed_after_a_nap(alloc: Global) -> Result<(bool, Spindle), NoMemory>
     ensures asleep { IfOk result (λ r. r.0 ≡ false) }
     ensures journal { IfOk result (λ r. r.1.journal ≡ Down 600000000 ∷ Up 1000000000 ∷ []) }
 {
-    let mut spindle = Spindle::new(alloc, 3, 600_000_000);
+    let mut spindle = Spindle::new(3, 600_000_000);
     spindle.start(0);
     let awake = spindle.begin(1_000_000_000)?;
     let token = spindle.need();
@@ -77,7 +77,7 @@ fn one_window<R: Wait>(
     requires volume { volume_of part.old ≡ 5 }
     requires size { 2 ≤ (mem_state (disk_of part.old)).size }
 {
-    match TurnLock::new(alloc, Spindle::new(alloc, 5, 100), 1, 1) {
+    match TurnLock::new(alloc, Spindle::new(5, 100), 1, 1) {
         Ok((lock, mut passes)) => {
             start_turn(rt, &lock, &mut passes[1], 20);
             let awake = begin_turn(rt, &lock, &mut passes[1], 130);
