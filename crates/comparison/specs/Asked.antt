@@ -1,5 +1,5 @@
 -- What a trace asks of its volumes, window by window, and what is printed of it.
-use Rattle.std.specs.Prelude.{ℕ, Bool, true, false, ◌-◌, List, [], ◌∷◌, ◌++◌, length, map, Option, is_none, count_by, codes, decimal}
+use Rattle.std.specs.Prelude.{ℕ, Bool, true, false, ◌||◌, if◌then◌else◌, ◌-◌, List, [], ◌∷◌, ◌++◌, length, map, Option, is_none, count_by, codes, decimal}
 use Rattle.wol_model.specs.Trace as trace
 use Rattle.wol_model.specs.Trace.{TraceLine, Window, ended, is_skipped, started, timed, windows}
 use Rattle.wol_config.specs.declared.config.Config.{Config}
@@ -9,7 +9,8 @@ use Rattle.trace_windows.specs.Requests.{asked, requests_in}
 use Rattle.trace_windows.specs.declared.request.Request.{Request}
 use Rattle.whatif.specs.declared.policy.Ask.{Ask}
 use Rattle.whatif.specs.Machine.{Asked}
-use Rattle.whatif.specs.Lines.{long_text, whatif_text}
+use Rattle.whatif.specs.Lines.{details_text, whatif_text}
+use Rattle.whatif.specs.declared.policy.Details.{Details}
 use Rattle.report.specs.Words.{line_of}
 use Rattle.wol_config.specs.Configs.{most_of}
 
@@ -44,10 +45,19 @@ counts_of config ls =
     counts_text (length ls) (count_by is_none ls) (count_by (is_skipped (targets_of config)) ls)
     (ended (timed ls) - started (timed ls))
 
--- what is told of a trace: the four lines; or what was read, and all lines of each policy. The account
--- begins with its first line and ends with its last
-abbrev pub comparison_of : (long : Bool) → Config → List (Option TraceLine) → List ℕ
-comparison_of false config ls =
-    whatif_text config (started (timed ls)) (asked_by config ls) (ended (timed ls))
-comparison_of true config ls = counts_of config ls
-    ++ long_text config (started (timed ls)) (asked_by config ls) (ended (timed ls))
+-- whether more is told than a line of each of the four policies
+abbrev pub tells_more : Details → Bool
+tells_more details = details.long || details.volumes
+
+-- what comes ahead of the policies: with the waits what was read
+abbrev pub ahead : (long : Bool) → Config → List (Option TraceLine) → List ℕ
+ahead true config ls = counts_of config ls
+ahead false config ls = []
+
+-- what is told of a trace: the four lines, or all that is asked for. The account begins with its first
+-- line and ends with its last
+abbrev pub comparison_of : Details → Config → List (Option TraceLine) → List ℕ
+comparison_of details config ls = ahead details.long config ls
+    ++ (if tells_more details
+    then details_text details config (started (timed ls)) (asked_by config ls) (ended (timed ls))
+    else whatif_text config (started (timed ls)) (asked_by config ls) (ended (timed ls)))

@@ -2,7 +2,7 @@
 ghost use Rattle.comparison.specs.Side.{AreAt, AreTogether, HaveRun, IsAt, MayRunAt, RanOn};
 ghost use Rattle.std.specs.List.{AllByRecursion};
 ghost use Rattle.std.specs.Prelude.{◌≡◌, ◌<◌, ◌≤◌, ◌+◌, ◌^◌, ◌++◌, ◌∷◌, [], ℕ, true, List, length, IfOk, IfSome, OnOk, is_some, if◌then◌else◌};
-ghost use Rattle.whatif.specs.Lines.{long_policy_text, long_text, policy_text, whatif_text};
+ghost use Rattle.whatif.specs.Lines.{details_text, policy_text, whatif_text};
 ghost use Rattle.whatif.specs.Machine.{Asked};
 ghost use Rattle.whatif.specs.Policies.{compared};
 ghost use Rattle.whatif.specs.Stands.{HasRun, IsAsk, IsMachine};
@@ -10,10 +10,9 @@ ghost use Rattle.wol_config.specs.Configs.{IsValid};
 ghost use Rattle.wol_config.specs.declared.config.Config.{Config};
 
 use std::alloc::Global;
-use whatif::{Ask, Machine, Policy, policy_line, waits_line};
+use whatif::{Ask, Details, Machine, Policy, policy_line};
 use wol_config::Config;
 use wol_disk::NoMemory;
-use wol_model::Kind;
 
 /// A machine of each policy.
 #[derive(Drop)]
@@ -22,24 +21,24 @@ pub(crate) struct Machines {
     pub spin_down: Machine,
     pub host: Machine,
     pub all: Machine,
-    /// The machine by the views of the configuration, where all is told.
+    /// The machine by the views of the configuration, where more is told than a line of each.
     pub views: Option<Machine>,
 }
 
-// A further machine, where all is told.
+// A further machine, where more is told than a line of each.
 fn views_for(
     alloc: Global,
     config: &Config,
-    long: bool,
+    more: bool,
     from: u64,
 ) -> Result<Option<Machine>, NoMemory>
     requires { IsValid config.now }
-    ensures some { IfOk result (λ o. is_some o ≡ long) }
+    ensures some { IfOk result (λ o. is_some o ≡ more) }
     ensures at { IfOk result
         (λ o. IfSome o (IsAt (length config.now.volumes.items) from 0)) }
     ensures run { IfOk result (λ o. IfSome o (HasRun Policy.Views config.now from [])) }
 {
-    if !long {
+    if !more {
         return Ok(None);
     }
     Ok(Some(Machine::new(alloc, Policy::Views, config, from)?))
@@ -66,34 +65,12 @@ fn tell(policy: Policy, machine: Machine, to: u64, out: &mut Vec<u8>) -> Result<
         → out.new.items
         ≡ out.old.items ++ policy_text policy (compared policy config from ws to)) }
 {
-    let sums = machine.finish(to);
-    policy_line(policy, &sums, out)
-}
-
-// Appends all lines of a machine whose account ends at `to`; a disk takes `wake` to come up.
-fn tell_all(
-    policy: Policy,
-    machine: Machine,
-    to: u64,
-    wake: u64,
-    out: &mut Vec<u8>,
-) -> Result<(), NoMemory>
-    requires machine { IsMachine machine }
-    requires live { machine.live ≡ true }
-    requires later { machine.moment ≤ to }
-    ensures ok { OnOk result ((config : Config) (from : ℕ) (ws : List Asked) → wake ≡ config.wake
-        → HasRun policy config from ws machine
-        → out.new.items ≡ out.old.items ++ long_policy_text policy config from ws to) }
-{
-    let told = machine.told();
-    tell(policy, machine, to, out)?;
-    waits_line(policy, Kind::Read, &told.reads, wake, out)?;
-    waits_line(policy, Kind::Write, &told.writes, wake, out)
+    policy_line(policy, &machine.used_until(to), out)
 }
 
 impl Machines {
-    /// Whether all is told.
-    pub(crate) fn is_long(&self) -> bool
+    /// Whether more than a line of each is told.
+    pub(crate) fn tells_more(&self) -> bool
         ensures { result ≡ is_some self.now.views }
     {
         self.views.is_some()
@@ -103,11 +80,11 @@ impl Machines {
     pub(crate) fn new(
         alloc: Global,
         config: &Config,
-        long: bool,
+        more: bool,
         from: u64,
     ) -> Result<Machines, NoMemory>
         requires { IsValid config.now }
-        ensures some { IfOk result (λ ms. is_some ms.views ≡ long) }
+        ensures some { IfOk result (λ ms. is_some ms.views ≡ more) }
         ensures at { IfOk result (AreAt (length config.now.volumes.items) from 0) }
         ensures run { IfOk result (HaveRun config.now from []) }
     {
@@ -116,7 +93,7 @@ impl Machines {
             spin_down: Machine::new(alloc, Policy::SpinDown, config, from)?,
             host: Machine::new(alloc, Policy::Host, config, from)?,
             all: Machine::new(alloc, Policy::All, config, from)?,
-            views: views_for(alloc, config, long, from)?,
+            views: views_for(alloc, config, more, from)?,
         })
     }
 
@@ -140,16 +117,22 @@ impl Machines {
         window_if(&mut self.views, at, asks)
     }
 
-    /// Appends what is told of each: a line, or all lines where the views have a machine too. The accounts end at `to`, and a
-    /// disk takes `wake` to come up, in units of 100 ns.
-    pub(crate) fn tell(self, to: u64, wake: u64, out: &mut Vec<u8>) -> Result<(), NoMemory>
+    /// Appends what is told of each: a line, or all that is asked for where the views have a machine too. The accounts end at `to`,
+    /// in units of 100 ns.
+    pub(crate) fn tell(
+        self,
+        config: &Config,
+        details: Details,
+        to: u64,
+        out: &mut Vec<u8>,
+    ) -> Result<(), NoMemory>
         requires together { AreTogether self }
         requires later { self.always.moment ≤ to }
-        ensures { OnOk result ((config : Config) (from : ℕ) (ws : List Asked) → wake ≡ config.wake
-            → HaveRun config from ws self
+        requires count { length config.now.volumes.items ≡ length self.always.volumes.items }
+        ensures { OnOk result ((from : ℕ) (ws : List Asked) → HaveRun config.now from ws self
             → out.new.items ≡ out.old.items
-            ++ (if is_some self.views then long_text config from ws to
-            else whatif_text config from ws to)) }
+            ++ (if is_some self.views then details_text details config.now from ws to
+            else whatif_text config.now from ws to)) }
     {
         let Machines {
             always,
@@ -158,20 +141,16 @@ impl Machines {
             all,
             views,
         } = self;
-        match views {
-            None => {
-                tell(Policy::Always, always, to, out)?;
-                tell(Policy::SpinDown, spin_down, to, out)?;
-                tell(Policy::Host, host, to, out)?;
-                tell(Policy::All, all, to, out)
-            }
-            Some(views) => {
-                tell_all(Policy::Always, always, to, wake, out)?;
-                tell_all(Policy::SpinDown, spin_down, to, wake, out)?;
-                tell_all(Policy::Host, host, to, wake, out)?;
-                tell_all(Policy::All, all, to, wake, out)?;
-                tell_all(Policy::Views, views, to, wake, out)
-            }
-        }
+        let Some(views) = views else {
+            tell(Policy::Always, always, to, out)?;
+            tell(Policy::SpinDown, spin_down, to, out)?;
+            tell(Policy::Host, host, to, out)?;
+            return tell(Policy::All, all, to, out);
+        };
+        always.tell(Policy::Always, config, details, to, out)?;
+        spin_down.tell(Policy::SpinDown, config, details, to, out)?;
+        host.tell(Policy::Host, config, details, to, out)?;
+        all.tell(Policy::All, config, details, to, out)?;
+        views.tell(Policy::Views, config, details, to, out)
     }
 }

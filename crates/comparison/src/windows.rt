@@ -1,5 +1,5 @@
 // The windows of a trace, run one after another by each policy.
-ghost use Rattle.comparison.specs.Asked.{ask_of, asked_by, asked_of, comparison_of, counts_text};
+ghost use Rattle.comparison.specs.Asked.{ask_of, asked_by, asked_of, comparison_of, counts_text, tells_more};
 ghost use Rattle.comparison.specs.Side.{HasBegun, HasTaken, HasTakenSome, IsBehind, MayRun};
 ghost use Rattle.msr_trace.specs.Lines.{Fits, trace_line};
 ghost use Rattle.std.specs.List.{AllByRecursion};
@@ -16,7 +16,7 @@ use report::Word::{Number, Text};
 use report::append_line;
 use std::alloc::Global;
 use trace_windows::{Batch, Cutter, Request, Tally};
-use whatif::Ask;
+use whatif::{Ask, Details};
 use wol_config::Config;
 use wol_disk::NoMemory;
 
@@ -90,14 +90,14 @@ fn heading(alloc: Global, long: bool, tally: &Tally) -> Result<Vec<u8>, NoMemory
 
 impl Comparison {
     /// No window was run.
-    pub(crate) fn new(alloc: Global, config: &Config, long: bool) -> Result<Comparison, NoMemory>
+    pub(crate) fn new(alloc: Global, config: &Config, more: bool) -> Result<Comparison, NoMemory>
         requires { IsValid config.now }
-        ensures long { IfOk result (λ s. is_some s.machines.views ≡ long) }
+        ensures more { IfOk result (λ s. is_some s.machines.views ≡ more) }
         ensures behind { IfOk result (IsBehind config.now []) }
         ensures none { IfOk result (λ s. s.machines.always.asked ≡ 0) }
     {
         Ok(Comparison {
-            machines: Machines::new(alloc, config, long, 0)?,
+            machines: Machines::new(alloc, config, more, 0)?,
             started: false,
             asks: Vec::new(alloc),
         })
@@ -110,12 +110,12 @@ impl Comparison {
         ensures begun { OnOk result ((ws : List Asked) → IsBehind config.now ws self.old
             → HasBegun config.now moment ws self.new) }
         ensures few { OnOk result (self.new.machines.always.asked ≤ self.old.machines.always.asked) }
-        ensures long { OnOk result
+        ensures more { OnOk result
             (is_some self.new.machines.views ≡ is_some self.old.machines.views) }
     {
         if !self.started {
-            let long = self.machines.is_long();
-            self.machines = Machines::new(alloc, config, long, moment)?;
+            let more = self.machines.tells_more();
+            self.machines = Machines::new(alloc, config, more, moment)?;
             self.started = true;
         }
         Ok(())
@@ -132,7 +132,7 @@ impl Comparison {
             → IsBehind config.now (ws ++ asked_of batch.now ∷ []) self.new) }
         ensures few { OnOk result
             (self.new.machines.always.asked ≤ self.old.machines.always.asked + 131073) }
-        ensures long { OnOk result
+        ensures more { OnOk result
             (is_some self.new.machines.views ≡ is_some self.old.machines.views) }
     {
         let moment = batch.moment();
@@ -157,7 +157,7 @@ impl Comparison {
             → HasTaken config.now (ls ++ option_map (λ l. trace_line l.now) line.entry ∷ [])
             cutter.new self.new) }
         ensures lines { OnOk result (cutter.new.tally.lines ≡ cutter.old.tally.lines + 1) }
-        ensures long { OnOk result
+        ensures more { OnOk result
             (is_some self.new.machines.views ≡ is_some self.old.machines.views) }
     {
         if cutter.take(config, line)? {
@@ -172,7 +172,7 @@ impl Comparison {
         requires valid { IsValid config.now }
         requires lines { cutter.now.tally.lines ≤ 2 ^ 32 }
         requires some { HasTakenSome config.now cutter.now self.old }
-        ensures long { OnOk result
+        ensures more { OnOk result
             (is_some self.new.machines.views ≡ is_some self.old.machines.views) }
         ensures behind { OnOk result ((ls : List _) → HasTaken config.now ls cutter.now self.old
             → IsBehind config.now (asked_by config.now ls) self.new) }
@@ -184,23 +184,25 @@ impl Comparison {
         self.run(alloc, config, last)
     }
 
-    /// What is told of each policy, where no further line comes: the last window is run too, if there is one.
+    /// What is told, where no further line comes: the last window is run too, if there is one.
     pub(crate) fn finish(
         mut self,
         alloc: Global,
         config: &Config,
+        details: Details,
         cutter: &Cutter,
     ) -> Result<Vec<u8>, NoMemory>
         requires valid { IsValid config.now }
         requires lines { cutter.now.tally.lines ≤ 2 ^ 32 }
         requires some { HasTakenSome config.now cutter.now self }
+        requires more { is_some self.machines.views ≡ tells_more details }
         ensures { IfOk result (λ text. (ls : List _) → HasTaken config.now ls cutter.now self
-            → text.items ≡ comparison_of (is_some self.machines.views) config.now ls) }
+            → text.items ≡ comparison_of details config.now ls) }
     {
         self.run_last(alloc, config, cutter)?;
         let tally = cutter.tally();
-        let mut text = heading(alloc, self.machines.is_long(), &tally)?;
-        self.machines.tell(tally.ended, config.wake, &mut text)?;
+        let mut text = heading(alloc, details.long, &tally)?;
+        self.machines.tell(config, details, tally.ended, &mut text)?;
         Ok(text)
     }
 }

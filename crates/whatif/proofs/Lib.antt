@@ -13,3 +13,4 @@ pub mod Waiting
 pub mod Served
 pub mod Counting
 pub mod Waited
+pub mod Lined

@@ -20,7 +20,7 @@ use Rattle.whatif.specs.Policies.{HaveViews, loggers_of, machine_after, reach_of
 use Rattle.whatif.specs.Stands.{Stands}
 use Rattle.whatif.specs.Volumes.{look_in, reach_in, volume_in}
 
-range_more : (k : ℕ) → range_with_len 0 (k + 1) ≡ range_with_len 0 k ++ k ∷ []
+pub range_more : (k : ℕ) → range_with_len 0 (k + 1) ≡ range_with_len 0 k ++ k ∷ []
 range_more k =
     let more : k + 1 ≡ suc k = omega arith in let none : 0 + k ≡ k = omega arith in
     ap (λ (n : ℕ). range_with_len 0 n) more ∙ range_push 0 k ∙ (λ i. range_with_len 0 k ++ none i ∷ [])

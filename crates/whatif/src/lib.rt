@@ -5,7 +5,8 @@
 //! No image is read or written: a `Machine` keeps, for each volume, an index of the blocks that are logged, and for each disk
 //! its sums. `policy.rt` has the policies and what is asked and told, `views.rt` who logs for whom, `disk.rt` one disk,
 //! `volume.rt` one volume, `reclaim.rt` what it puts home and gives up, `machine.rt` the machine, `waits.rt` what it tells of
-//! waits, `lines.rt` the lines that are printed. `specs/Machine` is the machine of one thread, as the definition that the contracts cite.
+//! waits, `lines.rt` the lines that are printed and
+//! `telling.rt` all lines of a policy. `specs/Machine` is the machine of one thread, as the definition that the contracts cite.
 #![tactic(auto)]
 
 mod disk;
@@ -14,12 +15,12 @@ mod lines;
 mod machine;
 mod policy;
 mod reclaim;
+mod telling;
 mod views;
 mod volume;
 mod waits;
 
 pub use laws::policy_laws;
-pub use lines::{policy_line, waits_line};
+pub use lines::policy_line;
 pub use machine::Machine;
-pub use policy::{Ask, Compared, Policy};
-pub use waits::{Told, Waits};
+pub use policy::{Ask, Compared, Details, Policy};

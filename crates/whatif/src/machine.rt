@@ -2,6 +2,7 @@
 ghost use Rattle.std.specs.List.{AllByRecursion, range_with_len};
 ghost use Rattle.std.specs.Prelude.{◌≡◌, ◌<◌, ◌≤◌, ◌+◌, ◌^◌, ◌++◌, ◌∷◌, [], ℕ, true, false, List, length, map, OnOk, OnErr, IfOk, if◌then◌else◌};
 ghost use Rattle.whatif.specs.Disks.{AreDisks, AreKeptTo, IsKept, moments_of};
+ghost use Rattle.whatif.specs.Lines.{volumes_text};
 ghost use Rattle.whatif.specs.Machine.{Asked, all_sleeps, all_units, all_wakes, asking, seeing, tidying};
 ghost use Rattle.whatif.specs.Policies.{HaveViews, compared, goes_down, machine_after, waits_by};
 ghost use Rattle.whatif.specs.Stands.{AreNew, AreReady, AreRules, HasRun, HaveTurned, HaveWaited, IsAmong, IsAsk, IsMachine, Stands};
@@ -14,6 +15,7 @@ ghost use Rattle.wol_model.specs.Journal.{SpindleState, Began, ArePowers, used};
 
 use crate::disk::Disk;
 use crate::policy::{Ask, Compared, Policy};
+use crate::telling::volume_lines;
 use crate::views::loggers_of;
 use crate::volume::Volume;
 use crate::waits::{Tallies, Told};
@@ -339,13 +341,33 @@ impl Machine {
     }
 
     /// What all disks used until `to`, where the account ends, in units of 100 ns.
-    pub fn finish(self, to: u64) -> Compared
-        requires machine { IsMachine self }
-        requires live { self.live ≡ true }
-        requires later { self.moment ≤ to }
-        ensures { (p : Policy) (c : Config) (from : ℕ) (ws : List Asked) → HasRun p c from ws self
+    pub fn used_until(&self, to: u64) -> Compared
+        requires machine { IsMachine self.now }
+        requires live { self.now.live ≡ true }
+        requires later { self.now.moment ≤ to }
+        ensures { (p : Policy) (c : Config) (from : ℕ) (ws : List Asked) → HasRun p c from ws self.now
             → result ≡ compared p c from ws to }
     {
         sum_up(self.disks.as_slice(), to, &self.powers)
+    }
+
+    // Appends the line of each volume. The account ends at `to`, in units of 100 ns.
+    pub(crate) fn volume_lines(
+        &self,
+        policy: Policy,
+        volumes: &[VolumeConf],
+        to: u64,
+        out: &mut Vec<u8>,
+    ) -> Result<(), NoMemory>
+        requires machine { IsMachine self.now }
+        requires later { self.now.moment ≤ to }
+        requires count { length volumes.now ≡ length self.now.volumes.items }
+        ensures { (c : Config) (from : ℕ) (ws : List Asked) → HasRun policy c from ws self.now
+            → volumes.now ≡ c.volumes.items
+            → OnOk result (out.new.items ≡ out.old.items ++ volumes_text policy c from ws to) }
+    {
+        let disks = self.disks.as_slice();
+        let told = self.tallies.each.as_slice();
+        volume_lines(policy, volumes, disks, told, &self.powers, to, out)
     }
 }

@@ -1,11 +1,10 @@
 -- The lines of a trace that came to its end.
-use Rattle.std.proofs.Common.{◌≡◌, ◌≤◌, ℕ, Bool, cond, ◌++◌, refl, sym, ap, subst, ◌∙◌}
+use Rattle.std.proofs.Common.{◌≡◌, ◌≤◌, ℕ, sym, ap, subst, ◌∙◌}
 use Rattle.trace_windows.specs.declared.tally.Tally.{Tally}
 use Rattle.comparison.specs.Asked.{asked_by}
 use Rattle.comparison.specs.Side.{beginning}
 use Rattle.comparison.proofs.Taking.{end_later}
 use Rattle.std.specs.Prelude.{is_some}
-use Rattle.whatif.specs.Lines.{long_text, whatif_text}
 use Rattle.comparison.proofs.Telling.{headed, told}
 use Rattle.comparison.proofs.windows.Comparison.finish.Goals as goal
 
@@ -15,14 +14,16 @@ tell-requires-clause-later c =
     subst (λ (n : ℕ). c.run_last.new.self.machines.always.moment ≤ n) (sym t.taken.cut.ended ∙ ap (λ (x : Tally). x.ended) (sym c.tally-tally.ensures.value))
     (end_later c.args.config.now t.lines c.run_last.new.self (c.in_ok-run_last.ensures.behind t.lines t.taken))
 
+pub tell-requires-clause-count : goal.tell-requires-clause-count
+tell-requires-clause-count c =
+    let t = c.requires.some in sym (c.in_ok-run_last.ensures.behind t.lines t.taken).at.always.count
+
 pub returns : goal.returns
 returns c = λ ls taken.
     let config = c.args.config.now in let behind = c.in_ok-run_last.ensures.behind ls taken in
-    let same = c.is_long.ensures in
-    let kept = c.in_ok-run_last.ensures.long in
     let tally : c.tally-tally.result ≡ c.args.cutter.now.tally = c.tally-tally.ensures.value in
-    told (is_some c.args.self.machines.views) config ls c.tally-tally.result.ended c.in_ok-text.text.items c.tell.new.out.items
-    (c.in_ok-tell.ensures config (beginning (asked_by config ls)) (asked_by config ls) refl behind.run
-    ∙ ap (λ (b : Bool). c.in_ok-text.text.items ++ cond b (long_text config (beginning (asked_by config ls)) (asked_by config ls) c.tally-tally.result.ended) (whatif_text config (beginning (asked_by config ls)) (asked_by config ls) c.tally-tally.result.ended)) kept)
-    (c.in_ok-text.ensures ∙ headed config ls taken.given c.args.cutter.now c.tally-tally.result c.is_long.result (is_some c.args.self.machines.views) taken.cut (same ∙ kept) tally)
+    told c.args.details (is_some c.run_last.new.self.machines.views) config ls c.tally-tally.result.ended c.in_ok-text.text.items c.tell.new.out.items
+    (c.in_ok-run_last.ensures.more ∙ c.requires.more)
+    (c.in_ok-tell.ensures (beginning (asked_by config ls)) (asked_by config ls) behind.run)
+    (c.in_ok-text.ensures ∙ headed config ls taken.given c.args.cutter.now c.tally-tally.result c.args.details.long taken.cut tally)
     (ap (λ (x : Tally). x.ended) tally ∙ taken.cut.ended)
