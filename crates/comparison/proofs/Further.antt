@@ -41,3 +41,7 @@ run_too None None at asks policy config from ws ran has = tt
 run_too (Some m) (Some n) at asks policy config from ws ran has = ran.run policy config from ws has
 run_too None (Some n) at asks policy config from ws ran has = absurd ran
 run_too (Some m) None at asks policy config from ws ran has = absurd ran
+
+pub on_ok : {T E : Type 0} (r : Result T E) (P Q : Type 0) → (P → Q) → OnOk r P → OnOk r Q
+on_ok (Ok x) P Q f is = f is
+on_ok (Err e) P Q f is = tt

@@ -46,7 +46,7 @@ fn views_for(
 
 // The machine runs a window of requests, if there is one.
 fn window_if(machine: &mut Option<Machine>, at: u64, asks: &[Ask]) -> Result<(), NoMemory>
-    requires may { IfSome machine.old (MayRunAt at asks.now) }
+    requires { IfSome machine.old (MayRunAt at asks.now) }
     ensures { OnOk result (RanOn at asks.now machine.old machine.new) }
 {
     match machine {

@@ -14,3 +14,5 @@ pub mod Served
 pub mod Counting
 pub mod Waited
 pub mod Lined
+pub mod Longest
+pub mod Risers

@@ -1,6 +1,6 @@
 -- Lines that are appended one after another.
 use Rattle.std.proofs.Common.{◌≡◌, ◌<◌, ◌≤◌, ◌+◌, ◌/◌, ◌^◌, ℕ, zero, suc, Bool, true, false, cond, List, [], ◌∷◌, ◌++◌, map, length, get_or, Option, None, Some, refl, sym, ap, subst, ◌∙◌, append_assoc, append-nil, arith}
-use Rattle.std.specs.Prelude.{slice_get, slice_index, codes, decimal}
+use Rattle.std.specs.Prelude.{Result, Ok, Err, OnOk, slice_get, slice_index, codes, decimal}
 use Rattle.std.specs.List.{flat_map, range_with_len}
 use Rattle.std.specs.Option.{option_map_or}
 use Rattle.std.proofs.lemmas.Grind.{flat_map-append}
@@ -27,14 +27,14 @@ use Rattle.whatif.proofs.New.{range_more}
 first_told : (wake : ℕ) (ws : List ℕ) (over_ : List ℕ) (none : ℕ) → over_ ≡ map (λ k. over wake k ws) (range_with_len 0 10) → none ≡ slice_index over_ 0 → none ≡ over wake 0 ws
 first_told wake ws over_ none is zero_ = zero_ ∙ ap (λ (l : List ℕ). slice_index l 0) is
 
-pub volume_told : (p : Policy) (name title : List ℕ) (u : Used) (wake : ℕ) (ws : List Waited) (t : Told) (reads writes : ℕ) → AreTold wake ws t → title ≡ name_of p → reads ≡ slice_index t.reads.over 0 → writes ≡ slice_index t.writes.over 0
-    → line_of (title ∷ codes "volume" ∷ name ∷ codes "wakes" ∷ decimal u.wakes ∷ codes "sleeps" ∷ decimal u.sleeps ∷ codes "awake" ∷ decimal u.awake ∷ codes "standby" ∷ decimal u.standby ∷ codes "energy" ∷ decimal (u.units / 10000000)
+pub volume_told : (p : Policy) (name shown title : List ℕ) (u : Used) (wake : ℕ) (ws : List Waited) (t : Told) (reads writes : ℕ) → AreTold wake ws t → shown ≡ name → title ≡ name_of p → reads ≡ slice_index t.reads.over 0 → writes ≡ slice_index t.writes.over 0
+    → line_of (title ∷ codes "volume" ∷ shown ∷ codes "wakes" ∷ decimal u.wakes ∷ codes "sleeps" ∷ decimal u.sleeps ∷ codes "awake" ∷ decimal u.awake ∷ codes "standby" ∷ decimal u.standby ∷ codes "energy" ∷ decimal (u.units / 10000000)
     ∷ codes "reads" ∷ decimal t.reads.count ∷ codes "wait" ∷ decimal reads ∷ codes "writes" ∷ decimal t.writes.count ∷ codes "wait" ∷ decimal writes ∷ []) ≡ volume_text p name u wake ws
 unfolding volume_text
-volume_told p name title u wake ws t reads writes are of r w =
+volume_told p name shown title u wake ws t reads writes are same of r w =
     let first = first_told wake (waits_of false ws) t.reads.over reads are.reads.over_ r in
     let second = first_told wake (waits_of true ws) t.writes.over writes are.writes.over_ w in
-    λ i. line_of (of i ∷ codes "volume" ∷ name ∷ codes "wakes" ∷ decimal u.wakes ∷ codes "sleeps" ∷ decimal u.sleeps ∷ codes "awake" ∷ decimal u.awake ∷ codes "standby" ∷ decimal u.standby ∷ codes "energy" ∷ decimal (u.units / 10000000)
+    λ i. line_of (of i ∷ codes "volume" ∷ same i ∷ codes "wakes" ∷ decimal u.wakes ∷ codes "sleeps" ∷ decimal u.sleeps ∷ codes "awake" ∷ decimal u.awake ∷ codes "standby" ∷ decimal u.standby ∷ codes "energy" ∷ decimal (u.units / 10000000)
     ∷ codes "reads" ∷ decimal (are.reads.count i) ∷ codes "wait" ∷ decimal (first i) ∷ codes "writes" ∷ decimal (are.writes.count i) ∷ codes "wait" ∷ decimal (second i) ∷ [])
 
 -- ---- lines of volumes
@@ -56,6 +56,10 @@ disk_found (x ∷ ds) (s ∷ ss) zero d lt are = record { state = s; is = are.0;
 disk_found (x ∷ ds) (s ∷ ss) (suc k) d lt are = let rest = disk_found ds ss k d (omega arith) are.1 in record { state = rest.state; is = rest.is; at = rest.at }
 
 -- ---- all lines of a policy
+
+pub on_ok : {T E : Type 0} (r : Result T E) (P Q : Type 0) → (P → Q) → OnOk r P → OnOk r Q
+on_ok (Ok x) P Q f is = f is
+on_ok (Err e) P Q f is = tt
 
 pub both_told : (p : Policy) (wake : ℕ) (ws : List Waited) (a o1 o2 : List ℕ) → o1 ≡ a ++ waits_text p Read wake (waits_of false ws) → o2 ≡ o1 ++ waits_text p Write wake (waits_of true ws) → o2 ≡ a ++ both_text p wake ws
 unfolding both_text

@@ -5,7 +5,7 @@ ghost use Rattle.std.specs.Prelude.{◌≡◌, ◌⊎◌, true};
 ghost use Rattle.wol_config.specs.Configs.{IsValid};
 ghost use Rattle.wol_disk.specs.Disk.{Rose};
 ghost use Rattle.wol_run.specs.Commands.{IsTimeout};
-ghost use Rattle.wol_run.specs.Comparing.{IsComparison, RunsWhatIf, with_timeout};
+ghost use Rattle.wol_run.specs.Comparing.{IsComparison, RunsWhatIf, details_of, with_timeout};
 ghost use Rattle.wol_run.specs.Completing.{IsGoodTrace};
 ghost use Rattle.wol_run.specs.Replaying.{HasLeft, HasSource, seen, trace_of};
 ghost use Rattle.wol_run.specs.Settings.{IsConfigured, OfRead};
@@ -17,6 +17,7 @@ use command_words::WhatIfOptions;
 use msr_trace::Lines;
 use replay::{Given, Stop};
 use std::alloc::Global;
+use whatif::Details;
 use wol_config::Config;
 use wol_io::{Sink, Source};
 
@@ -32,6 +33,16 @@ fn with_timeout(mut config: Config, timeout_ms: Option<u32>) -> Config
     };
     config.timeout = u64::from(ms) * 10_000;
     config
+}
+
+// What is told beside the four lines.
+fn details_of(options: &WhatIfOptions) -> Details
+    ensures { result ≡ details_of options.now }
+{
+    Details {
+        long: options.long,
+        volumes: options.volumes,
+    }
 }
 
 /// Compares the policies on a trace for the volumes of the configuration that a source has, prints what the options ask for, and
@@ -65,7 +76,7 @@ pub fn compare<C: Source, S: Source, K: Sink>(
         Err(fault) => return tell_fault(alloc, out, &[], &fault),
     };
     let lines = Lines::<&mut S>::new(alloc, trace);
-    let (status, lines) = compare_lines(alloc, &config, options.long, lines, out);
+    let (status, lines) = compare_lines(alloc, &config, details_of(&options), lines, out);
     let _trace = lines.into_source();
     status
 }
@@ -74,14 +85,14 @@ pub fn compare<C: Source, S: Source, K: Sink>(
 fn compare_lines<S: Source, K: Sink>(
     alloc: Global,
     config: &Config,
-    long: bool,
+    details: Details,
     lines: Lines<S>,
     out: &mut K,
 ) -> (u8, Lines<S>)
     requires valid { IsValid config.now }
     requires none { lines.given ≡ 0 }
     requires live { lines.live ≡ true }
-    ensures content { IsComparison long config.now (seen S.left (Given.Trace lines))
+    ensures content { IsComparison details config.now (seen S.left (Given.Trace lines))
         (S.left result.1.source) (K.faults out.old) (K.faults out.new) result.0 (K.taken out.old)
         (K.taken out.new) }
     ensures source { result.0 ≡ 8 → Rose (S.faults lines.source) (S.faults result.1.source) }
@@ -92,7 +103,7 @@ fn compare_lines<S: Source, K: Sink>(
     ensures sink { TellsSink (K.faults out.old) (K.faults out.new) result.0 }
 {
     let mut given = Given::Trace(lines);
-    let status = compare_given(alloc, config, long, &mut given, out);
+    let status = compare_given(alloc, config, details, &mut given, out);
     match given {
         Given::Trace(lines) => (status, lines),
         Given::Generated { .. } => unreachable!(),
@@ -104,14 +115,14 @@ fn compare_lines<S: Source, K: Sink>(
 fn compare_given<S: Source, K: Sink>(
     alloc: Global,
     config: &Config,
-    long: bool,
+    details: Details,
     given: &mut Given<S>,
     out: &mut K,
 ) -> u8
     requires valid { IsValid config.now }
     requires new { IsNew given.old }
     ensures content { (rest : _) → HasLeft (seen S.left given.new) rest
-        → IsComparison long config.now (seen S.left given.old) rest (K.faults out.old)
+        → IsComparison details config.now (seen S.left given.old) rest (K.faults out.old)
         (K.faults out.new) result (K.taken out.old) (K.taken out.new) }
     ensures source { result ≡ 8 → Rose (faults_of S.faults given.old)
         (faults_of S.faults given.new) }
@@ -121,7 +132,7 @@ fn compare_given<S: Source, K: Sink>(
     ensures same_borrow { borrow_of S.borrow given.new ≡ borrow_of S.borrow given.old }
     ensures sink { TellsSink (K.faults out.old) (K.faults out.new) result }
 {
-    match comparison::compare(alloc, config, long, given, out) {
+    match comparison::compare(alloc, config, details, given, out) {
         Ok(()) => 0,
         Err(Stop::Sink) => 7,
         Err(Stop::Fault(fault)) => tell_fault(alloc, out, &config.volumes, &fault),

@@ -7,9 +7,9 @@ use Rattle.whatif.proofs.waits.Waits.add.Goals as goal
 
 pub returns-clause-told : goal.returns-clause-told
 returns-clause-told c = λ waits is.
-    let i = c.loop-k.invariant in let past = c.loop-k-test.false in let most = c.tenths_of.ensures.most in let all = c.tenths_of.ensures.all in
+    let i = c.loop-k.invariant in let past = c.loop-k-test.false in let most = c.tenths_of-k-end.ensures.most in let all = c.tenths_of-k-end.ensures.all in
     told_more c.args.wake c.args.wait waits c.args.self.now _ is i.long
-    (λ k lt. elim (cases_lt k c.tenths_of.result) [
+    (λ k lt. elim (cases_lt k c.tenths_of-k-end.result) [
       | inl within ↦ i.below k (omega (arith, within, past))
       | inr beyond ↦
           let none : c.args.wait ≡ 0 = omega (arith, beyond, lt, all) in
