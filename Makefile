@@ -10,7 +10,7 @@ ARCHIVE := wol-$(VERSION)-$(shell uname -s | tr A-Z a-z)-$(shell uname -m)
 ROOT = $(DESTDIR)$(PREFIX)
 DOCUMENTS = $(ROOT)/share/doc/wol
 
-.PHONY: look build demo week test edits hostile clients bench dist install uninstall clean
+.PHONY: look build demo week test edits clauses hostile clients bench dist install uninstall clean
 
 # Four policies on a sample trace, compiled by `rt try` with no proof. It runs in an empty folder, which is removed.
 look:
@@ -69,13 +69,21 @@ edits:
 	@test -n "$(CRATES)" || { echo "make edits: say of which crates: make edits CRATES=\"energy report\" (all: CRATES=\"\$$(ls tests/edits)\", many hours)" >&2; exit 1; }
 	tests/edits.sh $(CRATES)
 
+# docs/CLAUSES.md, of the sources: a second. The gate refuses another one.
+clauses:
+	@docs/clauses.py >docs/CLAUSES.md.new && mv docs/CLAUSES.md.new docs/CLAUSES.md
+
 # Kills among writes, clients that leave, refused calls, losses of power, no memory, and spoiled input, in their long form: under an hour.
 hostile: build
 	python3 tests/hostile/kills.py build/wol --kills 1000
 	python3 tests/hostile/sessions.py build/wol --sessions 2000 --kills 200
 	python3 tests/hostile/files.py build/wol --rounds 20
 	python3 tests/hostile/calls.py build/wol --tries 100 --rounds 5
+	python3 tests/hostile/forgets.py build/wol --losses 2000 --races 1000
+	python3 tests/hostile/full_disk.py build/wol --rounds 40
 	python3 tests/hostile/memory.py build/wol --tries 100
+	python3 tests/hostile/accounts.py build/wol --configs 60 --lines 100000
+	python3 tests/hostile/drains.py build/wol --rounds 200
 	python3 tests/hostile/mutations.py build/wol --images 100000 --lines 1000000 --configs 20000
 
 # Real NBD clients, those that are installed, against `wol serve`, and 100 kills among writes. It fails on none that is missing.
@@ -85,6 +93,10 @@ clients: build
 bench: build
 	bench/all.sh
 	bench/turns.sh
+	bench/cost.sh
+	bench/drain.sh
+	bench/serve.sh
+	bench/opening.sh
 
 # The program, its man page, its completions, the tools of contrib and the documents, which keep their folders, so that their links hold.
 # It builds nothing, so it can run as another user.

@@ -2,7 +2,7 @@
 # Compares the documents with the sources and, where build/wol is there, with what the program prints; tests/trace.sh tries what they say
 # of traces.
 # usage: tests/documents.sh     it prints each thing that is wrong, and ends with 1 where there is one
-# needs: awk
+# needs: awk python3
 set -eu
 cd "$(dirname "$0")/.."
 export LC_ALL=C.UTF-8
@@ -23,18 +23,13 @@ statuses() {
     sed -n 's/.*IsCause \([0-9]\{1,2\}\)$/\1/p' crates/wol_run/specs/Causes.antt
 }
 
-# labels CRATE FUNCTION: the labels of the clauses of a public function; of one whose clause is the record `Run`, the fields of that
+# labels CRATE FUNCTION: the labels of the clauses of a public function
 labels() {
-    local clauses
-    clauses=$(awk -v name="$2" '
+    awk -v name="$2" '
         $0 ~ "pub fn " name "[<(]" { inside = 1 }
         inside && /^ *[{]$/ { inside = 0 }
         inside && /^ *(requires|ensures) / { print }
-    ' crates/"$1"/src/*.rt)
-    sed -n '/{ Run /d; s/^ *\(requires\|ensures\) \([a-z_]\{1,\}\) {.*/\2/p' <<<"$clauses"
-    if grep -q '{ Run ' <<<"$clauses"; then
-        awk '/^pub record Run / { inside = 1 } inside && /^  pub [a-z_]+ :/ { print $2 }' crates/"$1"/specs/Run.antt
-    fi
+    ' crates/"$1"/src/*.rt | sed -n 's/^ *\(requires\|ensures\) \([a-z_]\{1,\}\) {.*/\2/p'
 }
 
 # ---- What the documents say
@@ -55,6 +50,7 @@ check_sizes() {
     local document
     [ "$(wc -c <README.md)" -le 8192 ] || echo "README.md has over 8 KiB"
     for document in "${documents[@]}"; do
+        [ "$document" != docs/CLAUSES.md ] || continue
         [ "$(wc -L <"$document")" -le 200 ] || echo "$document has a line over 200 columns"
         awk -v document="$document" '
             function end_paragraph() { if (words > 120) print document ":" start ": a paragraph of " words " words"; words = 0 }
@@ -103,7 +99,7 @@ check_crates() {
     local crate
     while read -r crate; do
         grep -q "\b$crate\b" docs/ARCHITECTURE.md || echo "docs/ARCHITECTURE.md has no layer for $crate"
-        grep -q "\b$crate\b" docs/PROOF.md || echo "docs/PROOF.md doesn't have $crate"
+        grep -qh "\b$crate\b" docs/PROOF.md docs/CLAUSES.md || echo "neither docs/PROOF.md nor docs/CLAUSES.md has $crate"
         grep -q "^| $crate |" CONTRIBUTING.md || echo "CONTRIBUTING.md has no row for $crate"
     done < <(sed -n 's/^\([a-z_]*\)[ :].*/\1/p' crates.txt | grep -v '_tests$')
 }
@@ -121,22 +117,23 @@ check_versions() {
 }
 
 check_clauses() {
-    local crate function have label rows
-    for function in wol_run::run replay::replay inspection::inspect rack::open_all rack_closing::close_all request_workers::window \
-        $(sed -n 's/^    pub fn \([a-z_]*\).*/manager::Manager::\1/p' crates/manager/src/*.rt); do
+    local crate function have label
+    docs/clauses.py | cmp -s - docs/CLAUSES.md || echo "docs/CLAUSES.md isn't what the sources say: make clauses makes it"
+    # the contract of the program is one record, of which each field has a row
+    for label in $(awk '/^pub record Run / { inside = 1 } inside && /^  pub [a-z_]+ :/ { print $2 }' crates/wol_run/specs/Run.antt); do
+        section docs/PROOF.md '### `wol_run::run`' | told | grep -qx "$label" || echo "docs/PROOF.md has no row for $label of wol_run::run"
+    done
+    while read -r function; do
         crate=${function%%::*}
+        [ -d "crates/$crate" ] || { echo "docs/PROOF.md has a part on $function, and there is no such crate"; continue; }
         have=$(labels "$crate" "${function##*::}" | sort -u)
-        [ -n "$have" ] || continue
-        rows=$(section docs/PROOF.md "### \`$function\`" | told)
-        for label in $have; do
-            grep -qx "$label" <<<"$rows" || echo "docs/PROOF.md has no row for the clause $label of $function"
-        done
-        # behind the table of clauses there may be one of the fields of a record that a clause names
-        for label in $rows; do
-            grep -qx "$label" <<<"$have" || grep -qh "^  pub $label :" crates/"$crate"/specs/*.antt \
+        [ -n "$have" ] || echo "docs/PROOF.md has a part on $function, which has no clause"
+        # a row may also be of a field of a record that a clause names
+        for label in $(section docs/PROOF.md "### \`$function\`" | told); do
+            grep -qx "$label" <<<"$have" || grep -qh "^  pub $label :" crates/*/specs/*.antt \
                 || echo "docs/PROOF.md has a row for $label of $function, which has no such clause"
         done
-    done
+    done < <(sed -n 's/^### `\([a-z_]*::[A-Za-z_:]*\)`.*/\1/p' docs/PROOF.md)
     while read -r crate; do
         for label in $(section docs/PROOF.md "### Crate \`$crate\`" | told); do
             grep -qE "\b(requires|ensures|ghost|fn|struct|enum|trait) $label\b" crates/"$crate"/src/*.rt || echo "docs/PROOF.md names $label of $crate, which isn't there"

@@ -96,6 +96,28 @@ examples() {
     expect "USAGE: the others keep their records" 6 "$(wol dump | grep -c ^record)"
 }
 
+# What docs/USAGE.md says of the order of the tables.
+ordered() {
+    local order name
+    fresh ordered
+    awk 'BEGIN {
+        for (t = 0; t <= 36000; t++) {
+            if (t % 40 == 0) printf "%d0000000,d,0,Read,%d,4096,0\n", 1000 + t, t / 40 * 4096
+            k = t % 100 == 0 ? 1 : t % 100 == 33 ? 2 : t % 100 == 66 ? 3 : 0
+            if (k) printf "%d0000000,%s,0,Write,%d,4096,0\n", 1000 + t, substr("abc", k, 1), int(t / 100) * 4096
+            if (t == 500) print "15000000000,a,0,Read,4194304,4096,0"
+        }
+    }' >trace.csv
+    for order in "a b c d" "d c b a"; do
+        grep -v '^#' "$top/samples/wol.toml" | sed '/^\[\[volume/,$d' >wol.toml
+        for name in $order; do
+            printf '[[volume]]\nname = "%s"\nhost = "%s"\ndisk = 0\nhome_blocks = 16384\nsegments = 0\nview = []\n' "$name" "$name" >>wol.toml
+        done
+        wol whatif <trace.csv | wol-report | sed -n 's/^off-load among all.* \([0-9.]* %\).*/\1/p' >>saved
+    done
+    expect "USAGE: the order of the tables decides" "$(grep -o '[0-9.]* % in ten hours\|^[0-9.]* % where d stands first' "$top/docs/USAGE.md" | grep -o '^[0-9.]* %')" "$(cat saved)"
+}
+
 merged() {
     fresh merged
     split
@@ -256,6 +278,7 @@ reported() {
 
 recipe
 examples
+ordered
 merged
 configured
 noted
