@@ -1,5 +1,6 @@
 -- One volume more has its line.
-use Rattle.std.proofs.Common.{◌≡◌, ◌<◌, ◌++◌, ℕ, List, [], length, get_or, Option, sym, ap, ◌∙◌, arith}
+use Rattle.std.proofs.Common.{◌≡◌, ◌<◌, ◌++◌, ℕ, List, [], length, get_or, Option, sym, ap, subst, ◌∙◌, arith}
+use Rattle.std.specs.List.{flat_map, range_with_len}
 use Rattle.std.specs.Option.{option_map_or}
 use Rattle.wol_config.specs.declared.config.VolumeConf.{VolumeConf}
 use Rattle.wol_model.specs.Journal.{SpindleState}
@@ -26,3 +27,9 @@ loop-place-preserved c = λ wake ss ws are each.
     lines_more (λ j. volume_text c.args.policy (name_at vs j) (used_at powers to ss j) wake (of_volume j ws)) k c.args.out.now.items c.loop-place.out.items c.volume_line.new.out.items (c.loop-place.invariant wake ss ws are each)
     (c.in_ok-volume_line.ensures.ok wake (of_volume k ws) (each k _ of_told)
     ∙ (λ i. c.loop-place.out.items ++ volume_text c.args.policy (name i) (used i) wake (of_volume k ws)))
+
+pub returns : goal.returns
+returns c = λ wake ss ws are each.
+    let end : c.loop-place.place ≡ length c.args.volumes.now = (let a = c.loop-place-test.false in let b = c.loop-place.auto.place-end in omega (arith, a, b)) in
+    subst (λ (n : ℕ). c.loop-place.out.items ≡ c.args.out.now.items ++ flat_map (λ k. volume_text c.args.policy (name_at c.args.volumes.now k) (used_at c.args.powers.now c.args.to ss k) wake (of_volume k ws)) (range_with_len 0 n)) end
+    (c.loop-place.invariant wake ss ws are each)

@@ -15,4 +15,4 @@ returns-clause-told c = λ waits is.
           let none : c.args.wait ≡ 0 = omega (arith, beyond, lt, all) in
           i.beyond k (let bound = c.loop-k.auto.k-end in omega (arith, beyond, bound)) ∙ never_over c.args.wake k c.args.wait (get_or c.args.self.now.over k 0) none
     ])
-    (let count = i.count in omega (arith, count)) (let sum = i.sum in omega (arith, sum))
+    (let count = i.count in omega (arith, count)) (let sum = i.sum in let from = c.from-2.ensures in omega (arith, sum, from))
