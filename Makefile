@@ -79,6 +79,8 @@ hostile: build
 	python3 tests/hostile/sessions.py build/wol --sessions 2000 --kills 200
 	python3 tests/hostile/files.py build/wol --rounds 20
 	python3 tests/hostile/calls.py build/wol --tries 100 --rounds 5
+	python3 tests/hostile/forgets.py build/wol --losses 2000 --races 1000
+	python3 tests/hostile/full_disk.py build/wol --rounds 40
 	python3 tests/hostile/memory.py build/wol --tries 100
 	python3 tests/hostile/accounts.py build/wol --configs 60 --lines 100000
 	python3 tests/hostile/drains.py build/wol --rounds 200
@@ -94,6 +96,7 @@ bench: build
 	bench/cost.sh
 	bench/drain.sh
 	bench/serve.sh
+	bench/opening.sh
 
 # The program, its man page, its completions, the tools of contrib and the documents, which keep their folders, so that their links hold.
 # It builds nothing, so it can run as another user.

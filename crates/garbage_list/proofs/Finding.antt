@@ -1,14 +1,15 @@
 -- The first record of a list that passes a test is the one of least version.
 use Rattle.std.proofs.Common.{◌≡◌, ⊎_elim, ◌<◌, ◌≤◌, ◌+◌, ℕ, zero, suc, Bool, true, false, cond, ◌&&◌, List, [], ◌∷◌, map, length, Option, None, Some, refl, sym, ap, ◌∙◌, subst, arith, eqb}
-use Rattle.std.specs.Prelude.{slice_get, option_map, IfSome, IsSomeAnd, slice_index_or}
+use mathlib.Core.Path.{fun_ext}
+use Rattle.std.specs.Prelude.{slice_get, option_map, IfSome, IsSomeAnd, slice_index_or, nat_le, if◌then◌else◌}
 use Rattle.std.specs.List.{AllByRecursion, find}
-use Rattle.std.proofs.lemmas.Bool.{false≢true, cases_lt, eqb-true}
+use Rattle.std.proofs.lemmas.Bool.{false≢true, cases_lt, eqb-true, le-leb, lt-leb}
 use Rattle.wol_model.specs.Index.{Indexed, AreRising}
 use Rattle.block_cells.specs.declared.record.Rec.{Rec}
 use Rattle.redirect_map.specs.Index.{has_version, entry_at, HasVersion, IsRecordOf, IsAnswer, IsIndex}
 use Rattle.redirect_map.proofs.Seen.{all_more, all_before_map, all_at, all_from_places}
 use Rattle.redirect_map.proofs.Versions.{entry_at-own}
-use Rattle.garbage_list.specs.Least.{told_of, is_awake, HasLane, IsNext}
+use Rattle.garbage_list.specs.Least.{told_of, from_on, is_awake, HasLane, IsNext}
 
 -- none before the first that passes does
 least_of : (test : Indexed → Bool) (es : List Indexed) (e : Indexed) → AreRising (map (λ (d : Indexed). d.listed.version) es) → find test es ≡ Some e → AllByRecursion (λ d. test d ≡ true → e.listed.version ≤ d.listed.version) es
@@ -62,18 +63,40 @@ asleep_or_none lanes q x none = at (is_awake lanes x) none
     at true off = off refl
     at false off = refl
 
-pub none_below : (lanes : List Bool) (q : Indexed → Bool) (from v : ℕ) (es : List Indexed) → AllByRecursion (λ d. d.listed.version < from → (is_awake lanes d && q d) ≡ false) es
-    → AllByRecursion (λ d. from ≤ d.listed.version → d.listed.version < v → is_awake lanes d ≡ true → q d ≡ false) es → AllByRecursion (λ d. d.listed.version < v → (is_awake lanes d && q d) ≡ false) es
-none_below lanes q from v [] before more = tt
-none_below lanes q from v (x ∷ xs) before more =
-    ((λ less. ⊎_elim before.0 (λ start. asleep_or_none lanes q x (λ on. more.0 start less on)) (cases_lt x.listed.version from)), none_below lanes q from v xs before.1 more.1)
+and_false : (t b : Bool) → b ≡ false → (t && b) ≡ false
+and_false true b is = is
+and_false false b is = refl
 
-pub none_left : (lanes : List Bool) (q : Indexed → Bool) (from : ℕ) (es : List Indexed) → AllByRecursion (λ d. d.listed.version < from → (is_awake lanes d && q d) ≡ false) es
-    → AllByRecursion (λ d. from ≤ d.listed.version → is_awake lanes d ≡ true → q d ≡ false) es → find (λ d. is_awake lanes d && q d) es ≡ None
-none_left lanes q from [] before more = refl
-none_left lanes q from (x ∷ xs) before more =
-    ap (λ (t : Bool). cond t (Some x) (find (λ d. is_awake lanes d && q d) xs)) (⊎_elim before.0 (λ start. asleep_or_none lanes q x (λ on. more.0 start on)) (cases_lt x.listed.version from))
-    ∙ none_left lanes q from xs before.1 more.1
+pub none_below : (start : ℕ) (lanes : List Bool) (q : Indexed → Bool) (from v : ℕ) (es : List Indexed) → AllByRecursion (λ d. d.listed.version < from → from_on start (λ e. is_awake lanes e && q e) d ≡ false) es
+    → AllByRecursion (λ d. from ≤ d.listed.version → d.listed.version < v → is_awake lanes d ≡ true → q d ≡ false) es → AllByRecursion (λ d. d.listed.version < v → from_on start (λ e. is_awake lanes e && q e) d ≡ false) es
+none_below start lanes q from v [] before more = tt
+none_below start lanes q from v (x ∷ xs) before more =
+    ((λ less. ⊎_elim before.0 (λ on. and_false (nat_le start x.listed.version) (is_awake lanes x && q x) (asleep_or_none lanes q x (λ up. more.0 on less up))) (cases_lt x.listed.version from)), none_below start lanes q from v xs before.1 more.1)
+
+pub none_left : (start : ℕ) (lanes : List Bool) (q : Indexed → Bool) (from : ℕ) (es : List Indexed) → AllByRecursion (λ d. d.listed.version < from → from_on start (λ e. is_awake lanes e && q e) d ≡ false) es
+    → AllByRecursion (λ d. from ≤ d.listed.version → is_awake lanes d ≡ true → q d ≡ false) es → find (from_on start (λ d. is_awake lanes d && q d)) es ≡ None
+none_left start lanes q from [] before more = refl
+none_left start lanes q from (x ∷ xs) before more =
+    ap (λ (t : Bool). cond t (Some x) (find (from_on start (λ d. is_awake lanes d && q d)) xs))
+    (⊎_elim before.0 (λ on. and_false (nat_le start x.listed.version) (is_awake lanes x && q x) (asleep_or_none lanes q x (λ up. more.0 on up))) (cases_lt x.listed.version from))
+    ∙ none_left start lanes q from xs before.1 more.1
+
+-- none lies before the first version that is looked at
+pub none_before : (start : ℕ) (test : Indexed → Bool) (es : List Indexed) → AllByRecursion (λ d. d.listed.version < start → from_on start test d ≡ false) es
+none_before start test [] = tt
+none_before start test (x ∷ xs) = ((λ less. ap (λ (t : Bool). t && test x) (lt-leb start x.listed.version less)), none_before start test xs)
+
+-- what is told of a version from the first one on that is looked at
+pub told_on : (start : ℕ) (test : Indexed → Bool) (v : ℕ) (o : Option Indexed) → start ≤ v → IfSome o (λ e. e.listed.version ≡ v) → told_of (from_on start test) v o ≡ told_of test v o
+told_on start test v None le is = refl
+told_on start test v (Some e) le is = λ i. if le-leb start e.listed.version (omega (arith, is)) i && test e then Some v else None
+
+-- from 0 on all are looked at
+same_from_zero : (test : Indexed → Bool) (e : Indexed) → from_on 0 test e ≡ test e
+same_from_zero test e = ap (λ (t : Bool). t && test e) (le-leb 0 e.listed.version (omega arith))
+
+pub next_of_all : (test : Indexed → Bool) (es : List Indexed) (answer : Option ℕ) → IsNext (from_on 0 test) es answer → IsNext test es answer
+next_of_all test es answer n = subst (λ (t : Indexed → Bool). IsNext t es answer) (fun_ext (λ e. same_from_zero test e)) n
 
 pub none_last : (test : Indexed → Bool) (v last : ℕ) (es : List Indexed) → last ≤ v → AllByRecursion (λ d. d.listed.version ≤ last) es → AllByRecursion (λ d. d.listed.version < v → test d ≡ false) es → AllByRecursion (λ d. d.listed.version ≡ v → test d ≡ false) es
     → find test es ≡ None

@@ -1,5 +1,5 @@
 -- The records within reach that have something to give up, or to put home.
-use Rattle.std.specs.Prelude.{◌≡◌, None, Some, if◌then◌else◌, ◌<◌, ◌≤◌, ℕ, Bool, true, false, ◌&&◌, List, length, find, Option, option_map, IfSome, IsSomeAnd, slice_index_or}
+use Rattle.std.specs.Prelude.{◌≡◌, None, Some, if◌then◌else◌, ◌<◌, ◌≤◌, ℕ, Bool, true, false, ◌&&◌, List, length, find, Option, option_map, IfSome, IsSomeAnd, slice_index_or, nat_le}
 use Rattle.std.specs.List.{AllByRecursion}
 use Rattle.wol_model.specs.Index.{listed_in, Indexed}
 use Rattle.redirect_map.specs.declared.going.Sought.{Sought}
@@ -25,6 +25,10 @@ can_go = has_awake Going
 -- or its lane is true, and a block of it is due
 abbrev pub can_go_home : List Bool → List Indexed → Indexed → Bool
 can_go_home = has_awake Due
+
+-- the record's version is this one or a greater one, and the record passes
+abbrev pub from_on : ℕ → (Indexed → Bool) → Indexed → Bool
+from_on from test e = nat_le from e.listed.version && test e
 
 -- the version of the first record that passes
 abbrev pub first_version : (Indexed → Bool) → List Indexed → Option ℕ

@@ -6,5 +6,5 @@
 mod find;
 mod masks;
 
-pub use find::{next_due, next_to_go};
+pub use find::{next_due, next_due_from, next_to_go};
 pub use masks::{due, may_go};

@@ -19,7 +19,7 @@ use Rattle.log_segment.specs.Segment.{Holds, owner_of}
 use Rattle.logger.specs.Lanes.{held_in, logger_of, lane_owner, segments_in, pool_of, IsHeld}
 use Rattle.logger.specs.declared.lane.HeldSegment.{HeldSegment}
 use Rattle.logger.specs.declared.lane.Lane.{Lane}
-use Rattle.manager.specs.Reading.{IsReadThrough}
+use Rattle.manager.specs.Reading.{IsReadThrough, LaneRead}
 use Rattle.manager.specs.Seen.{all_held, parts_of, down_of}
 use Rattle.manager.specs.Stands.{Keeps, IsReady, IsReadyLane}
 use Rattle.manager.specs.Stops.{ImageSince, HeldSince, was_held, was_free, Stops}
@@ -30,30 +30,41 @@ use Rattle.volume_parts.proofs.Held.{IsSameHeld, same_held, same_member, rezip, 
 use Rattle.volume_parts.proofs.Lanes.{same_place}
 use Rattle.manager.proofs.Moments.{stops_so, whole_now}
 use Rattle.manager.proofs.ReadKeeps.{held_read}
-use Rattle.listed_records.proofs.Elements.{zip_all}
+use Rattle.volume_parts.proofs.Elements.{zip_all}
 
 -- ---- the call
 
 module _ {D : Type 0} (tells : Bool) (state : D → State) (sound : (d : D) → IsDisk (state d)) (told : IsTrue tells) (old : Manager D) (b : ManagerBase) (notes : List Noted) (k : Keeps tells state old b notes) where
-  module _ (new : Manager D) (read : IsReadThrough state old new) (ready : IsReady state new) (up : old.down ≡ None) where
-    abbrev pub held : List (Held (Spun D))
-    held = all_held 0 old.lanes.items k.logs
+  abbrev pub held : List (Held (Spun D))
+  held = all_held 0 old.lanes.items k.logs
 
-    abbrev pub held' : List (Held (Spun D))
-    held' = all_held 0 new.lanes.items k.logs
+  -- these lanes are those of before, which were read
+  module _ (lanes : List (Lane D)) (lanes_read : AllZip (LaneRead state) old.lanes.items lanes) (up : old.down ≡ None) where
+    abbrev held_by : List (Held (Spun D))
+    held_by = all_held 0 lanes k.logs
 
-    pub moved : AllZip (IsMoved state b.volume.began.owner) held held'
-    moved = moved_lanes state tells b.volume.began.owner (old.down ≡ None) told up 0 old.lanes.items new.lanes.items k.logs read.lanes
+    pub moved_by : AllZip (IsMoved state b.volume.began.owner) held held_by
+    moved_by = moved_lanes state tells b.volume.began.owner (old.down ≡ None) told up 0 old.lanes.items lanes k.logs lanes_read
         (all_map (IsReadyLane state old.id old.most) (λ (l : Lane D). AllByRecursion (λ (h : HeldSegment D). owner_of h.segment ≡ b.volume.began.owner) (held_in l))
         (λ l is. all_map (IsHeld state (logger_of l) (lane_owner l) (segments_in l) (pool_of l)) (λ (h : HeldSegment D). owner_of h.segment ≡ b.volume.began.owner) (λ h held. held.owned ∙ is.owner ∙ k.locks.owner) (held_in l) is.lane.each) old.lanes.items k.ready.ready.each) k.held
 
-    pub logs : AreLogs (HeldSince state held None) b.volume.began.owner held'
-    logs = zip_all (IsMoved state b.volume.began.owner) (Contains held) (λ (t : Held (Spun D)). (bs : List Block) → HeldSince state held None t bs → IsLog bs b.volume.began.owner t.records) of_moved held held' moved (each_member held)
+    pub logs_by : AreLogs (HeldSince state held None) b.volume.began.owner held_by
+    logs_by = zip_all (IsMoved state b.volume.began.owner) (Contains held) (λ (t : Held (Spun D)). (bs : List Block) → HeldSince state held None t bs → IsLog bs b.volume.began.owner t.records) of_moved held held_by moved_by (each_member held)
       where
         of_moved : (s t : Held (Spun D)) → IsMoved state b.volume.began.owner s t → Contains held s → (bs : List Block) → HeldSince state held None t bs → IsLog bs b.volume.began.owner t.records
         of_moved s t is has bs (was_held o was same image) = is.leaves.each bs
             (subst (λ (p : Spun D). ImageSince state p t.part bs) (ap (λ (w : Held (Spun D)). w.part) (same_place held o s k.upholds.places.apart was has (same ∙ is.place))) image)
         of_moved s t is has bs (was_free p none other image) = absurd (let no : None ≡ Some p = none in cc)
+
+  module _ (new : Manager D) (read : IsReadThrough state old new) (ready : IsReady state new) (up : old.down ≡ None) where
+    abbrev pub held' : List (Held (Spun D))
+    held' = all_held 0 new.lanes.items k.logs
+
+    pub moved : AllZip (IsMoved state b.volume.began.owner) held held'
+    moved = moved_by new.lanes.items read.lanes up
+
+    pub logs : AreLogs (HeldSince state held None) b.volume.began.owner held'
+    logs = logs_by new.lanes.items read.lanes up
 
     home_kept : (home : List Block) → ImageSince state old.home new.home home → HoldsArray b.volume.began.array (writes (entries_of notes)) old.next home (extents_held held') (is_homed_in old.index.entries)
     home_kept home image = subst (λ (rs : List Extent). HoldsArray b.volume.began.array (writes (entries_of notes)) old.next home rs (is_homed_in old.index.entries)) (sym (moved_extents state b.volume.began.owner held held' moved))

@@ -3,8 +3,9 @@
 ghost use Rattle.manager.specs.Causes.{NoneRose};
 ghost use Rattle.manager.specs.Reclaim.{OnTried, OnKept, OnFailed, TellsStep, KeepsOn, BreaksOff, StopsSince, Always, AreDue, AreLaid, AreOf, AreHome, HasLaid, HasSynced, with_put};
 ghost use Rattle.manager.specs.Stands.{Keeps, IsReady, IsHome};
+ghost use Rattle.manager.specs.Stops.{HoldsOn};
 ghost use Rattle.manager.specs.declared.base.ManagerBase.{ManagerBase};
-ghost use Rattle.redirect_map.specs.Index.{entry_at, changed, HasVersion};
+ghost use Rattle.redirect_map.specs.Index.{entry_at, changed, HasVersion, IsIndex};
 ghost use Rattle.std.specs.Option.{ForSome};
 ghost use Rattle.std.specs.Prelude.{◌≡◌, ℕ, List, true, None, length, OnOk, IsTrue};
 ghost use Rattle.wol_promise.specs.Ruled.{Noted};
@@ -59,6 +60,10 @@ impl<D: Disk> Manager<D> {
         ensures any_moment { OnTried result
             (IsTrue D.tells → StopsSince D.tells D.state self.old self.new
             (AreOf D.tells self.old.index.entries version from.now)) }
+
+        // With more steps of this kind, a stop at any moment since an earlier one leaves what stood then.
+        ensures since { OnTried result (HoldsOn D.tells D.state self.old self.new
+            (AreOf D.tells self.old.index.entries version from.now)) }
     {
         if let Some(part) = self.down {
             return Err(StepFault::Down(part));
@@ -103,6 +108,7 @@ impl<D: Disk> Manager<D> {
         ensures broke { OnFailed result (BreaksOff D.tells D.state self.old self.new Always) }
         ensures any_moment { OnTried result
             (IsTrue D.tells → StopsSince D.tells D.state self.old self.new Always) }
+        ensures since { OnTried result (HoldsOn D.tells D.state self.old self.new Always) }
     {
         if let Some(part) = self.down {
             return Err(StepFault::Down(part));
@@ -130,6 +136,7 @@ impl<D: Disk> Manager<D> {
         ensures unchanged { self.new ≡ record self.old { index = self.new.index } }
         ensures marked { self.new.index.entries
             ≡ changed version (with_put mask) self.old.index.entries }
+        ensures index { IsIndex self.old.index.entries }
         ensures keeps { KeepsOn D.tells D.state self.old self.new
             (AreHome D.tells D.state self.old version mask) }
     {

@@ -4,6 +4,7 @@ ghost use Rattle.manager.specs.Causes.{NoneRose};
 ghost use Rattle.manager.specs.Reading.{IsReadThrough};
 ghost use Rattle.manager.specs.Reclaim.{OnTried, OnKept, OnFailed, TellsStep, KeepsOn, BreaksOff, StopsSince, Always, AreOf, HasFetched, HasStored, HasDropped, HasDroppedSegment, NoneLiveIn};
 ghost use Rattle.manager.specs.Stands.{Keeps, IsReady, IsHome};
+ghost use Rattle.manager.specs.Stops.{HoldsOn};
 ghost use Rattle.manager.specs.declared.base.ManagerBase.{ManagerBase};
 ghost use Rattle.redirect_map.specs.Index.{entry_at, HasVersion};
 ghost use Rattle.std.specs.Option.{ForSome};
@@ -15,10 +16,9 @@ ghost use Rattle.wol_promise.specs.Ruled.{Noted};
 use crate::read::spot_of;
 use crate::{Manager, Part, StepFault};
 use garbage_list::may_go;
-use listed_records::{forget, head_of};
 use logger::Shared;
 use std::sync::Wait;
-use volume_parts::put_at;
+use volume_parts::{forget, head_of, put_at};
 use wol_disk::{Block, Disk, Failed};
 
 impl<D: Disk> Manager<D> {
@@ -51,6 +51,7 @@ impl<D: Disk> Manager<D> {
         ensures broke { OnFailed result (BreaksOff D.tells D.state self.old self.new Always) }
         ensures any_moment { OnTried result
             (IsTrue D.tells → StopsSince D.tells D.state self.old self.new Always) }
+        ensures since { OnTried result (HoldsOn D.tells D.state self.old self.new Always) }
     {
         if let Some(part) = self.down {
             return Err(StepFault::Down(part));

@@ -146,6 +146,13 @@ impl Spindle {
         self.awake
     }
 
+    /// The last moment that came.
+    pub fn moment(&self) -> u64
+        ensures { result ≡ self.now.moment }
+    {
+        self.moment
+    }
+
     /// The sums over the disk's journal until `to`: how often it came up and went down, and its time in standby.
     pub fn sums_until(&self, to: u64) -> Sums
         requires { self.now.moment ≤ to }

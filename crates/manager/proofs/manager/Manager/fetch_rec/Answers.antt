@@ -1,7 +1,8 @@
 -- The record of a version is read, or can't be.
 use Rattle.std.proofs.Common.{ℕ, Some, refl, sym, ap, subst, ◌∙◌}
 use Rattle.manager.specs.Reclaim.{AreOf, HasFetched}
-use Rattle.listed_records.proofs.Entries.{found_of}
+use Rattle.volume_parts.proofs.Entries.{found_of}
+use Rattle.manager.proofs.HomeSince.{since_read}
 use Rattle.manager.proofs.FetchRec.{same_record, same_entry, version_of, fetched_down}
 use Rattle.manager.proofs.ReadKeeps.{keeps_read, stands_broken}
 use Rattle.manager.proofs.ReadStops.{stops_read}
@@ -61,3 +62,13 @@ returns-in-Err-clause-any_moment g c told was through b notes _ k =
     let m = c.args.self.now in let n = c.read_record.new.self in
     stops_read g.D.Disk.tells g.D.Disk.state g.met.D.Disk.sound told was b notes k n (through_then g.D.Disk.state g.met.D.Disk.sound was m n through c.read_record.ensures.read) c.read_record.ensures.ready
     (sym through.down ∙ never_some m.down c.in_default.not-Some)
+
+pub returns-in-Ok-clause-since : goal.returns-in-Ok-clause-since
+returns-in-Ok-clause-since g c was b notes _ since =
+    let r = c.read_record.ensures.read in
+    since_read g.D.Disk.tells g.D.Disk.state g.met.D.Disk.sound was c.args.self.now b notes since _ r.index r.lanes r.home
+
+pub returns-in-Err-clause-since : goal.returns-in-Err-clause-since
+returns-in-Err-clause-since g c was b notes _ since =
+    let r = c.read_record.ensures.read in
+    since_read g.D.Disk.tells g.D.Disk.state g.met.D.Disk.sound was c.args.self.now b notes since _ r.index r.lanes r.home

@@ -7,13 +7,15 @@ use Rattle.wol_promise.proofs.Lists.{all_member}
 use Rattle.std.specs.Prelude.{IsTrue}
 use Rattle.manager.specs.Reclaim.{put_block, AreOf, StopsSince}
 use Rattle.manager.specs.Stands.{IsInVolume}
+use Rattle.manager.specs.Stops.{HoldsOn, HoldsSince}
 use Rattle.manager.specs.declared.part.Part.TheVariants.{Home}
 use Rattle.manager.proofs.Calm.{none_home}
-use Rattle.listed_records.proofs.Entries.{found_of, entry_of_version, among, entry_in}
+use Rattle.volume_parts.proofs.Entries.{found_of, entry_of_version, among, entry_in}
 use Rattle.manager.proofs.Frames.{ready_homed}
 use Rattle.volume_parts.proofs.Accesses.{laid_same, laid_like}
 use Rattle.volume_parts.proofs.PartReads.{never_some}
 use Rattle.manager.proofs.StoreHome.{put_fails, put_stops}
+use Rattle.manager.proofs.HomeSince.{since_laid}
 use Rattle.manager.proofs.LaidHome.{agree_due, laid_still, laid_there, lay_keeps}
 use Rattle.manager.proofs.manager.Manager.lay_home.Given as given
 use Rattle.manager.proofs.manager.Manager.lay_home.Goals.{After-lay_at}
@@ -28,6 +30,15 @@ stops g c told was read b notes known keeps =
     let put = laid_same g.D.Disk.state m.home c.lay_at.new.part (put_block c.in-Some-find.record.lbn c.args.mask c.args.from.now) (put_block f.entry.listed.first c.args.mask c.args.from.now)
     (ap (λ (n : ℕ). put_block n c.args.mask c.args.from.now) f.record_.first) c.lay_at.ensures.laid in
     put_stops g.D.Disk.tells g.D.Disk.state g.met.D.Disk.sound told was m read c.requires.ready (sym read.down ∙ never_some m.down c.in_default.not-Some) b notes keeps c.args.version c.args.mask c.args.from.now f.entry at
+    (c.requires.count f.entry f.is) (c.requires.due f.entry f.is) (λ t. known t f.entry f.is) c.lay_at.new.part put.any_moment
+
+held_on : (g : given.Over) (c : After-lay_at g) → HoldsOn g.D.Disk.tells g.D.Disk.state c.args.self.now (record c.args.self.now { home = c.lay_at.new.part }) (AreOf g.D.Disk.tells c.args.self.now.index.entries c.args.version c.args.from.now)
+held_on g c was b notes known before =
+    let m = c.args.self.now in let f = found_of m.index.entries c.args.version c.in-Some-find.record c.in-Some-find.ensures.value in
+    let at = entry_of_version m.index.entries c.args.version f.entry c.in-Some-find.ensures.index.rising f.is in
+    let put = laid_same g.D.Disk.state m.home c.lay_at.new.part (put_block c.in-Some-find.record.lbn c.args.mask c.args.from.now) (put_block f.entry.listed.first c.args.mask c.args.from.now)
+    (ap (λ (n : ℕ). put_block n c.args.mask c.args.from.now) f.record_.first) c.lay_at.ensures.laid in
+    since_laid g.D.Disk.tells g.D.Disk.state g.met.D.Disk.sound was m b notes before c.args.version c.args.mask c.args.from.now f.entry at
     (c.requires.count f.entry f.is) (c.requires.due f.entry f.is) (λ t. known t f.entry f.is) c.lay_at.new.part put.any_moment
 
 pub lay_at-requires-clause-few : goal.lay_at-requires-clause-few
@@ -111,3 +122,13 @@ returns-in-Ok-clause-others g c v w b notes due known keeps was told d is =
           v w has.0 d (entry_of_version m.index.entries v d rising is) has.1 (due d is) has.2)
           laid.ok has.3,
     )
+
+pub returns-in-Ok-clause-since : goal.returns-in-Ok-clause-since
+returns-in-Ok-clause-since g c was b notes known before =
+    let s = held_on g (goal.at.returns-in-Ok-clause-since g c).After-lay_at was b notes known before in
+    record { up = s.up; index = s.index; lanes = s.lanes; home = s.home }
+
+pub returns-in-Err-clause-since : goal.returns-in-Err-clause-since
+returns-in-Err-clause-since g c was b notes known before =
+    let s = held_on g (goal.at.returns-in-Err-clause-since g c).After-lay_at was b notes known before in
+    record { up = s.up; index = s.index; lanes = s.lanes; home = s.home }

@@ -6,7 +6,7 @@ use Rattle.wol_model.specs.Log.{has_bit}
 use Rattle.wol_model.proofs.Counts.{both, either}
 use Rattle.block_cells.proofs.Bits.{has_bit-or}
 use Rattle.redirect_map.specs.Index.{entry_at}
-use Rattle.listed_records.proofs.Entries.{some_of, entry_of_version, noted_home}
+use Rattle.volume_parts.proofs.Entries.{some_of, entry_of_version, noted_home}
 use Rattle.manager.proofs.LaidHome.{mark_keeps, ready_marked}
 use Rattle.manager.proofs.manager.Manager.mark_home.Goals as goal
 
@@ -36,3 +36,6 @@ returns-clause-keeps g c b notes there keeps =
     let m = c.args.self.now in let f = entry_there (entry_at m.index.entries c.args.version) c.requires.there in
     let at = entry_of_version m.index.entries c.args.version f.0 c.find.ensures.index.rising f.1 in
     mark_keeps g.D.Disk.tells g.D.Disk.state m b notes keeps c.requires.up c.requires.awake c.args.version c.args.mask f.0 at f.1 (c.requires.due f.0 f.1) c.set_homed.new.self (returns-clause-marked g c) there (returns-clause-ready g c)
+
+pub returns-clause-index : goal.returns-clause-index
+returns-clause-index g c = c.find.ensures.index

@@ -1,6 +1,6 @@
 // A segment's records leave the index together, since newer records keep all their blocks.
-ghost use Rattle.listed_records.specs.Changes.{GoesIn, NoneLiveIn, lies_elsewhere, stays_behind};
-ghost use Rattle.listed_records.specs.Entries.{entries_at};
+ghost use Rattle.volume_parts.specs.Changes.{GoesIn, NoneLiveIn, lies_elsewhere, stays_behind};
+ghost use Rattle.volume_parts.specs.Entries.{entries_at};
 ghost use Rattle.redirect_map.specs.Index.{entry_at, IsIndex};
 ghost use Rattle.std.specs.List.{AllByRecursion};
 ghost use Rattle.std.specs.Prelude.{◌≡◌, ◌+◌, ◌<◌, ◌≤◌, ◌^◌, ◌==◌, ◌&&◌, if◌then◌else◌, true, false, filter, slice_index_or, IfSome, IfNone};

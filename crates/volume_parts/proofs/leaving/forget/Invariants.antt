@@ -1,7 +1,7 @@
 use Rattle.std.proofs.Common.{◌≡◌, ◌-◌, ◌^◌, filter}
-use Rattle.listed_records.specs.Entries.{entries_at}
-use Rattle.listed_records.proofs.Forgetting.{left_from}
-use Rattle.listed_records.proofs.leaving.forget.Given as goal
+use Rattle.volume_parts.specs.Entries.{entries_at}
+use Rattle.volume_parts.proofs.Forgetting.{left_from}
+use Rattle.volume_parts.proofs.leaving.forget.Given as goal
 
 abbrev pub invariant-records : goal.invariant-records
 invariant-records l = (l.index.entries ≡ filter (left_from l.lane l.segment l.from) l.initial.index.entries) × (entries_at l.lane l.segment l.index.entries ≡ l.left)

@@ -1,7 +1,7 @@
 use Rattle.std.proofs.Common.{ℕ, Bool, cond, ap, arith}
-use Rattle.listed_records.proofs.Forgetting.{forgetting_above, forgetting_counted, forgetting_end, forgetting_more, forgetting_none, one_goes}
-use Rattle.listed_records.proofs.leaving.forget.Goals as goal
-use Rattle.listed_records.proofs.leaving.forget.Goals.{then-forget_one, else-forget_one}
+use Rattle.volume_parts.proofs.Forgetting.{forgetting_above, forgetting_counted, forgetting_end, forgetting_more, forgetting_none, one_goes}
+use Rattle.volume_parts.proofs.leaving.forget.Goals as goal
+use Rattle.volume_parts.proofs.leaving.forget.Goals.{then-forget_one, else-forget_one}
 
 pub records-init : goal.records-init
 records-init c = (forgetting_none c.args.lane c.args.segment c.args.index.now.entries c.requires.covered, c.requires.count)

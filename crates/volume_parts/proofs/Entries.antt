@@ -19,11 +19,11 @@ use Rattle.block_cells.proofs.Marks.{in_mask-bit, marks_at, marked-marks_of}
 use Rattle.block_cells.specs.Masks.{in_mask, IsMask}
 use Rattle.block_cells.specs.declared.record.Rec.{Rec}
 use Rattle.redirect_map.proofs.Changing.{remarked-marks_of, remarked-or}
-use Rattle.listed_records.specs.Changes.{with_put, with_kept, given_of, NoneLiveIn, lies_elsewhere}
+use Rattle.volume_parts.specs.Changes.{with_put, with_kept, given_of, NoneLiveIn, lies_elsewhere}
 use Rattle.redirect_map.specs.Index.{entry_at, changed, has_version, with_homed, IsEntry, IsIndex, IsRecordOf, IsAnswer, given_up}
 use Rattle.log_segment.specs.Records.{IsProperPart}
 use Rattle.garbage_list.proofs.Going.{some_block, goes_covers, keep_is}
-use Rattle.listed_records.specs.Entries.{StandsAt, AreStill, entries_at}
+use Rattle.volume_parts.specs.Entries.{StandsAt, AreStill, entries_at}
 use Rattle.wol_promise.proofs.Wholes.{AreCovered}
 use Rattle.wol_model.proofs.Counts.{length_remarked}
 

@@ -20,9 +20,9 @@ use Rattle.block_cells.specs.declared.record.Rec.{Rec}
 use Rattle.block_cells.proofs.Bits.{some_bit}
 use Rattle.redirect_map.specs.Index.{IsAnswer, IsEntry, IsIndex, changed, entry_at, given_up, has_version}
 use Rattle.garbage_list.proofs.Going.{keep_is, some_block}
-use Rattle.listed_records.specs.Changes.{GoesIn, NoneLiveIn, lies_elsewhere, stays_behind, with_kept}
-use Rattle.listed_records.specs.Entries.{entries_at}
-use Rattle.listed_records.proofs.Entries.{count_mid, one_there, At, Found, among, entry_in, entry_of_version, some_of, given_is, given_list, keep_bits, keep_within, keeps_is, covered_where}
+use Rattle.volume_parts.specs.Changes.{GoesIn, NoneLiveIn, lies_elsewhere, stays_behind, with_kept}
+use Rattle.volume_parts.specs.Entries.{entries_at}
+use Rattle.volume_parts.proofs.Entries.{count_mid, one_there, At, Found, among, entry_in, entry_of_version, some_of, given_is, given_list, keep_bits, keep_within, keeps_is, covered_where}
 
 -- versions have a bound
 bounded : (es : List Indexed) → (n : ℕ) × AllByRecursion (λ (d : Indexed). d.listed.version < n) es

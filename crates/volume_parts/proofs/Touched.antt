@@ -18,7 +18,7 @@ use Rattle.wol_promise.proofs.LogWrites.{says_owner}
 use Rattle.wol_promise.proofs.Places.{places_with}
 use Rattle.wol_promise.proofs.SoundSegments.{logs_sound}
 use Rattle.wol_promise.proofs.Stops.{still_stops}
-use Rattle.listed_records.proofs.Elements.{zip_all, zip_each, became}
+use Rattle.volume_parts.proofs.Elements.{zip_all, zip_each, became}
 
 -- ---- held segments
 

@@ -1,8 +1,8 @@
 use Rattle.std.proofs.Common.{sym, subst, ◌∙◌}
 use Rattle.redirect_map.specs.Index.{IsAnswer, entry_at}
-use Rattle.listed_records.proofs.Entries.{found_of}
-use Rattle.listed_records.proofs.Forgetting.{all_goes, keeps_some, none_answered, one_counted, one_gone, one_none, one_past}
-use Rattle.listed_records.proofs.leaving.forget_one.Goals as goal
+use Rattle.volume_parts.proofs.Entries.{found_of}
+use Rattle.volume_parts.proofs.Forgetting.{all_goes, keeps_some, none_answered, one_counted, one_gone, one_none, one_past}
+use Rattle.volume_parts.proofs.leaving.forget_one.Goals as goal
 
 pub returns-in_default-clause-gone : goal.returns-in_default-clause-gone
 returns-in_default-clause-gone c =

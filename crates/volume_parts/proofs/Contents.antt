@@ -19,10 +19,10 @@ use Rattle.wol_promise.proofs.Lists.{member_map, member_of, member_front, member
 use Rattle.block_cells.specs.declared.record.Rec.{Rec}
 use Rattle.redirect_map.specs.Index.{cover_at}
 use Rattle.wol_promise.proofs.Woken.{covered_is, IsBareRun, IsLaneRun, count_all, count_none}
-use Rattle.listed_records.specs.Entries.{IsSource}
+use Rattle.volume_parts.specs.Entries.{IsSource}
 use Rattle.garbage_list.proofs.Nexts.{Answered, answered, unanswered}
 use Rattle.wol_promise.proofs.OneMore.{or_none}
-use Rattle.listed_records.specs.Changes.{put_block}
+use Rattle.volume_parts.specs.Changes.{put_block}
 
 -- ---- the newest of a list
 
