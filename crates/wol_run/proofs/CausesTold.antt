@@ -76,6 +76,7 @@ use Rattle.command_words.specs.Table.{Named}
 use Rattle.command_words.specs.declared.command.Command.{Command}
 use Rattle.command_words.specs.declared.command.Command.TheVariants.{Clean, Format, Gen, WhatIf}
 use Rattle.command_words.specs.declared.command.Generated.{Generated}
+use Rattle.command_words.specs.declared.command.WhatIfOptions.{WhatIfOptions}
 use Rattle.wol_run.specs.Causes.{AskFor, HasRefusal, IsCause, IsClosedFor, replayed_by}
 use Rattle.wol_run.specs.Causes as row
 use Rattle.wol_run.specs.Cleaning.{IsCleaning}
@@ -193,9 +194,9 @@ module _ {D : Type 0} (tells : Bool) (state : D → State) (read : Option Config
 
     -- ---- Policies that were compared
 
-    module _ (is : IsCommand words WhatIf) (source : status ≡ 8 → Rose before.config.faults after.config.faults ⊎ Rose before.trace.faults after.trace.faults) where
+    module _ (options : WhatIfOptions) (is : IsCommand words (WhatIf options)) (source : status ≡ 8 → Rose before.config.faults after.config.faults ⊎ Rose before.trace.faults after.trace.faults) where
       for_lines : AskFor words runs_trace
-      for_lines = record { command = WhatIf; is = is; does = refl }
+      for_lines = record { command = WhatIf options; is = is; does = refl }
 
       no_further : (now : GivenLines) (run : List (Option TraceLine)) (refusal : TraceFault) → refusal ≢ trace.NoMemory → Refuses (λ bytes. bytes) refusal (trace_of before.trace.bytes) now run
           → status ≡ status_of (fault_of_trace refusal) → Cause status
@@ -207,14 +208,14 @@ module _ {D : Type 0} (tells : Bool) (state : D → State) (read : Option Config
       module _ (config : Config) (run : IsComparison config (trace_of before.trace.bytes) after.trace.bytes before.sink.faults after.sink.faults status before.sink.bytes after.sink.bytes) where
         of_behind : (ls : List (Option TraceLine)) (x : Result (Unit {0}) Stop) → EndsBehind (λ bytes. bytes) config (trace_of before.trace.bytes) run.now before.sink.faults run.over.sink_then before.sink.bytes run.over.printed_then ls x
             → EndsReplay config x status run.over.printed_then after.sink.bytes → Cause status
-        of_behind ls x (behind.whole done all calm more) ends = at_status 0 status ends.0 (row.done WhatIf is (λ asks. at_end before.trace.bytes after.trace.bytes run.now ls config run.rest all))
+        of_behind ls x (behind.whole done all calm more) ends = at_status 0 status ends.0 (row.done (WhatIf options) is (λ asks. at_end before.trace.bytes after.trace.bytes run.now ls config run.rest all))
         of_behind ls x (behind.sink_failed all rose front) ends = of_sink ends.0
         of_behind ls x (behind.no_line refusal other refuses calm kept) ends = told_cause _ (fault_of_trace refusal) run.over.printed_then ends (no_further run.now ls refusal other refuses)
         of_behind ls x (behind.memory calm kept) ends = told_cause _ fault.Memory run.over.printed_then ends memory_cause
 
       pub comparison_cause : (o : Option Config) → IsComparisonOf o before after status → Cause status
       comparison_cause (Some config) run = of_behind config run run.compares.run run.over.result run.compares.ends run.over.ends
-      comparison_cause None unread = ended_cause unread.text unread.wanted _ unread.ends (unread_cause (record { command = WhatIf; is = is; does = refl }) unread.text unread.wanted unread.line_)
+      comparison_cause None unread = ended_cause unread.text unread.wanted _ unread.ends (unread_cause (record { command = WhatIf options; is = is; does = refl }) unread.text unread.wanted unread.line_)
 
     pub gen_cause : (what : Generated) → IsCommand words (Gen what) → IsListingOf read before after status what → Cause status
     gen_cause what is run = elim (ends_gen what read _ _ _ status _ _ run) [

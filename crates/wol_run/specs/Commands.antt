@@ -8,26 +8,26 @@ use Rattle.command_words.specs.declared.command.Command.TheVariants.{Solo, Nbd, 
 -- whether a command uses the bay
 abbrev pub uses_bay : Command → Bool
 uses_bay (Gen asked) = false
-uses_bay WhatIf = false
+uses_bay (WhatIf options) = false
 uses_bay command = true
 
 -- whether it runs the lines of the trace that it is given
 abbrev pub runs_trace : Command → Bool
 runs_trace (Solo volume) = true
 runs_trace (Replay options) = true
-runs_trace WhatIf = true
+runs_trace (WhatIf options) = true
 runs_trace command = false
 
 -- whether it uses the source of the trace, for that or for a client's requests
 abbrev pub uses_trace : Command → Bool
 uses_trace (Nbd name) = true
-uses_trace (Serve name) = true
+uses_trace (Serve name patience) = true
 uses_trace command = runs_trace command
 
 -- whether it serves a client
 abbrev pub serves_client : Command → Bool
 serves_client (Nbd name) = true
-serves_client (Serve name) = true
+serves_client (Serve name patience) = true
 serves_client command = false
 
 -- whether it uses the configuration

@@ -30,7 +30,7 @@ use Rattle.wol_run.specs.Tops.{IsDoneOrMemory, TellsNoMemory}
 -- how a command serves a client, and the volume of which name; none of another command
 abbrev pub served_as : Command → Option (Beginning × List ℕ)
 served_as (Nbd name) = Some (beginning.AtOnce, served_by name)
-served_as (Serve name) = Some (beginning.Handshake, served_by name)
+served_as (Serve name patience) = Some (beginning.Handshake, served_by name)
 served_as command = None
 
 -- the volume of this name was to be served

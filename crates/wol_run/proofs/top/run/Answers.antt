@@ -39,7 +39,7 @@ returns-in-Soak-clause-promise g c =
 
 pub returns-in-WhatIf-clause-promise : goal.returns-in-WhatIf-clause-promise
 returns-in-WhatIf-clause-promise g c =
-    comparison_promise _ _ _ _ _ _ c.compare.ensures.sink.cause c.compare.ensures.sink.calm (subst (IsCommand _) c.in-WhatIf.is c.in-Ok.ensures.ok) c.compare.ensures.content c.compare.ensures.source c.compare.ensures.complete refl
+    comparison_promise _ _ _ _ _ _ c.compare.ensures.sink.cause c.compare.ensures.sink.calm c.in-WhatIf.options (subst (IsCommand _) c.in-WhatIf.is c.in-Ok.ensures.ok) c.compare.ensures.content c.compare.ensures.source c.compare.ensures.complete refl
 
 pub returns-in-ViewAdd-clause-promise : goal.returns-in-ViewAdd-clause-promise
 returns-in-ViewAdd-clause-promise g c =
@@ -60,7 +60,7 @@ returns-in-Nbd-clause-promise g c =
 
 pub returns-in-Serve-clause-promise : goal.returns-in-Serve-clause-promise
 returns-in-Serve-clause-promise g c =
-    serve_promise _ _ _ _ _ _ c.serve-in-Serve.ensures.cause c.serve-in-Serve.ensures.calm c.serve-in-Serve.ensures.complete c.in-Serve.name (subst (IsCommand _) c.in-Serve.is c.in-Ok.ensures.ok) c.serve-in-Serve.ensures.content
+    serve_promise _ _ _ _ _ _ c.serve-in-Serve.ensures.cause c.serve-in-Serve.ensures.calm c.serve-in-Serve.ensures.complete c.in-Serve.name c.in-Serve.patience (subst (IsCommand _) c.in-Serve.is c.in-Ok.ensures.ok) c.serve-in-Serve.ensures.content
 
 -- the lines of one volume were run to their end
 pub returns-in-Ok-run-clause-promise : goal.returns-in-Ok-run-clause-promise
