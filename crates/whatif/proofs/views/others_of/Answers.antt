@@ -4,8 +4,8 @@ use Rattle.std.specs.List.{AllByRecursion}
 use Rattle.wol_promise.proofs.Lists.{all_push}
 use Rattle.whatif.specs.Policies.{allows}
 use Rattle.whatif.proofs.New.{filtered_no, filtered_yes}
-use Rattle.whatif.proofs.views.loggers_of.Goals.{then-logs_for+in_ok-push, else-logs_for}
-use Rattle.whatif.proofs.views.loggers_of.Goals as goal
+use Rattle.whatif.proofs.views.others_of.Goals.{then-logs_for+in_ok-push, else-logs_for}
+use Rattle.whatif.proofs.views.others_of.Goals as goal
 
 pub loop-logger-preserved : goal.loop-logger-preserved
 loop-logger-preserved c =

@@ -1,7 +1,7 @@
 use Rattle.std.proofs.Common.{◌≡◌, ◌<◌, ◌≤◌, length, not, ◌&&◌, eqb}
 use Rattle.std.specs.List.{AllByRecursion, filter, range_with_len}
 use Rattle.whatif.specs.Policies.{allows}
-use Rattle.whatif.proofs.views.loggers_of.Given as goal
+use Rattle.whatif.proofs.views.others_of.Given as goal
 
 abbrev pub invariant-loop-logger : goal.invariant-loop-logger
 invariant-loop-logger l = record {
