@@ -79,7 +79,11 @@ hostile: build
 	python3 tests/hostile/sessions.py build/wol --sessions 2000 --kills 200
 	python3 tests/hostile/files.py build/wol --rounds 20
 	python3 tests/hostile/calls.py build/wol --tries 100 --rounds 5
+	python3 tests/hostile/forgets.py build/wol --losses 2000 --races 1000
+	python3 tests/hostile/full_disk.py build/wol --rounds 40
 	python3 tests/hostile/memory.py build/wol --tries 100
+	python3 tests/hostile/accounts.py build/wol --configs 60 --lines 100000
+	python3 tests/hostile/drains.py build/wol --rounds 200
 	python3 tests/hostile/mutations.py build/wol --images 100000 --lines 1000000 --configs 20000
 
 # Real NBD clients, those that are installed, against `wol serve`, and 100 kills among writes. It fails on none that is missing.
@@ -89,6 +93,10 @@ clients: build
 bench: build
 	bench/all.sh
 	bench/turns.sh
+	bench/cost.sh
+	bench/drain.sh
+	bench/serve.sh
+	bench/opening.sh
 
 # The program, its man page, its completions, the tools of contrib and the documents, which keep their folders, so that their links hold.
 # It builds nothing, so it can run as another user.

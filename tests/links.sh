@@ -5,6 +5,7 @@
 #   tests/links.sh [PROGRAM [WORD..]]      the program, and words to put before each command's (default: build/wol)
 #
 # It prints a line for each test that fails, and how many passed. It ends with 1 if any failed.
+# needs: timeout
 set -u
 cd "$(dirname "$0")/.." || exit 1
 top=$PWD
@@ -137,5 +138,5 @@ echo mine >usr0.vol-wal
 expect "check beside a file of one's own" 0 "$(said check | grep -o '.$')"
 expect "that file" mine "$(cat usr0.vol-wal)"
 
-echo "$passed passed, $failed failed"
+echo "links: $passed passed, $failed failed"
 [ "$failed" -eq 0 ]

@@ -67,7 +67,8 @@ fn a_log_of_one_segment(rt: HostRuntime) -> Result<(), Fail> {
 
 #[test]
 fn a_disk_that_comes_up_in_two_and_a_half_seconds(rt: HostRuntime) -> Result<(), Fail> {
-    let text = format!(in rt.alloc(); "wake_ms = 2500\n{A_LOG_OF_ONE_SEGMENT}")?;
+    let mut text = String::from_str(rt.alloc(), "wake_ms = 2500\n")?;
+    text.push_str(A_LOG_OF_ONE_SEGMENT)?;
     let config = read_config(rt.alloc(), text.as_bytes())?;
     same(&config.wake, &25_000_000)?;
     Ok(())
