@@ -86,7 +86,7 @@ impl<'a, R: Clock + Eprint + Drop> Watching<'a, R> {
     }
 }
 
-impl<'a, R: Clock + Eprint> Watch for Watching<'a, R> {
+impl<'a, R: Clock + Eprint + Drop> Watch for Watching<'a, R> {
     fn see(&mut self, bytes: &[u8]) {
         for byte in bytes.iter().take(2) {
             if let Some(place) = self.front.get_mut(self.seen) {
