@@ -3,29 +3,28 @@
 
 PREFIX ?= /usr/local
 DESTDIR ?=
+CRATES ?=
 
-.PHONY: look build demo week test hostile clients bench install clean
+VERSION := $(shell sed -n 's/^## \([0-9.]*\).*/\1/p' CHANGELOG.md | head -n 1)
+ARCHIVE := wol-$(VERSION)-$(shell uname -s | tr A-Z a-z)-$(shell uname -m)
+ROOT = $(DESTDIR)$(PREFIX)
+DOCUMENTS = $(ROOT)/share/doc/wol
+
+.PHONY: look build demo week test edits clauses hostile clients bench dist install uninstall clean
 
 # Four policies on a sample trace, compiled by `rt try` with no proof. It runs in an empty folder, which is removed.
 look:
-	@echo "make look: this run is UNPROVED ('rt try'); 'make demo' shows the proved program. It compiles for 1 to 3 minutes."
+	@echo "make look: this run is UNPROVED ('rt try'), and some 300 times slower than the proved program ('make demo'). It compiles for 1 to 3 minutes."
 	@mkdir -p build
 	@cd crates/wol && rt try --data wol.toml=../../samples/wol.toml -- whatif <../../samples/offload.csv >../../build/look.out 2>../../build/look.log \
 	|| { cat ../../build/look.log >&2; exit 1; }
 	@echo "wol whatif <samples/offload.csv: what the disks of samples/wol.toml would use by four policies (energy in mJ)."
 	@cat build/look.out
 
-# The words `none` are no command, on which the proved and built program touches no file and ends with 1.
 build:
-	@echo "make build: proves the program's crates one after another, compiles it by LLVM, and leaves it at build/wol."
-	@echo "The first time that takes about an hour on 4 processors; later only what changed is proved. All messages: build/build.log"
-	@mkdir -p build
-	@rm -f crates/wol/out/wol
-	@cd crates/wol && rt run -- none </dev/null 2>&1 >/dev/null | tee ../../build/build.log | awk -v all="$$(grep '^[a-z]' ../../crates.txt | grep -vc '_tests\>')" \
-	'/^crate /{ name = $$2; sub(":", "", name) } /^logic=proved/{ printf "  %d of at most %d crates: %s is proved\n", ++done, all, name; fflush() }'
-	@test -x crates/wol/out/wol || { tail -n 40 build/build.log >&2; echo "make build: the program was not built" >&2; exit 1; }
-	@cp crates/wol/out/wol build/wol
-	@echo "build/wol is the proved program."
+	@echo "make build: proves the program's crates, as many at a time as there are processors and memory, and leaves the program at build/wol."
+	@echo "The first time that takes about half an hour on 4 processors, and an hour on 2; later only what changed is proved."
+	@.ci/build
 
 demo: build
 	@rm -rf demo
@@ -59,13 +58,20 @@ week:
 	@python3 samples/week/week.py >build/week/week.csv
 	@cd build/week && ../wol whatif <week.csv >whatif.txt
 	@cat build/week/whatif.txt
+	@cd build/week && ../../contrib/wol-report <whatif.txt
 
-# The gate, then the program that it built on closed streams, limits and odd files, and the documents against it.
+# The gate: all proofs and tests, then the program that it built on closed streams, limits and odd files, and the documents against it.
 test:
-	rt ci
-	@mkdir -p build
-	@cp crates/wol/out/wol build/wol
-	@for script in tests/*.sh; do echo "$$script"; "$$script" || exit 1; done
+	@.ci/run
+
+# The wrong bodies of tests/edits of some crates: make edits CRATES="energy report". A crate takes 2 to 40 minutes.
+edits:
+	@test -n "$(CRATES)" || { echo "make edits: say of which crates: make edits CRATES=\"energy report\" (all: CRATES=\"\$$(ls tests/edits)\", many hours)" >&2; exit 1; }
+	tests/edits.sh $(CRATES)
+
+# docs/CLAUSES.md, of the sources: a second. The gate refuses another one.
+clauses:
+	@docs/clauses.py >docs/CLAUSES.md.new && mv docs/CLAUSES.md.new docs/CLAUSES.md
 
 # Kills among writes, clients that leave, refused calls, losses of power, no memory, and spoiled input, in their long form: under an hour.
 hostile: build
@@ -73,7 +79,11 @@ hostile: build
 	python3 tests/hostile/sessions.py build/wol --sessions 2000 --kills 200
 	python3 tests/hostile/files.py build/wol --rounds 20
 	python3 tests/hostile/calls.py build/wol --tries 100 --rounds 5
+	python3 tests/hostile/forgets.py build/wol --losses 2000 --races 1000
+	python3 tests/hostile/full_disk.py build/wol --rounds 40
 	python3 tests/hostile/memory.py build/wol --tries 100
+	python3 tests/hostile/accounts.py build/wol --configs 60 --lines 100000
+	python3 tests/hostile/drains.py build/wol --rounds 200
 	python3 tests/hostile/mutations.py build/wol --images 100000 --lines 1000000 --configs 20000
 
 # Real NBD clients, those that are installed, against `wol serve`, and 100 kills among writes. It fails on none that is missing.
@@ -83,15 +93,44 @@ clients: build
 bench: build
 	bench/all.sh
 	bench/turns.sh
+	bench/cost.sh
+	bench/drain.sh
+	bench/serve.sh
+	bench/opening.sh
 
-# The program, its man page, its completions and the documents. It builds nothing, so it can run as another user.
+# The program, its man page, its completions, the tools of contrib and the documents, which keep their folders, so that their links hold.
+# It builds nothing, so it can run as another user.
 install:
 	@test -x build/wol || { echo "make install: no build/wol: run 'make build' first" >&2; exit 1; }
-	install -D -m 755 build/wol "$(DESTDIR)$(PREFIX)/bin/wol"
-	install -D -m 644 docs/wol.1 "$(DESTDIR)$(PREFIX)/share/man/man1/wol.1"
-	install -D -m 644 completions/wol.bash "$(DESTDIR)$(PREFIX)/share/bash-completion/completions/wol"
-	install -D -m 644 completions/_wol "$(DESTDIR)$(PREFIX)/share/zsh/site-functions/_wol"
-	install -D -m 644 -t "$(DESTDIR)$(PREFIX)/share/doc/wol" README.md docs/USAGE.md docs/FORMATS.md docs/GLOSSARY.md samples/wol.toml
+	install -D -m 755 build/wol "$(ROOT)/bin/wol"
+	install -m 755 -t "$(ROOT)/bin" contrib/wol-trace contrib/wol-report
+	install -D -m 644 docs/wol.1 "$(ROOT)/share/man/man1/wol.1"
+	install -D -m 644 completions/wol.bash "$(ROOT)/share/bash-completion/completions/wol"
+	install -D -m 644 completions/_wol "$(ROOT)/share/zsh/site-functions/_wol"
+	install -D -m 644 -t "$(DOCUMENTS)" README.md CHANGELOG.md CONTRIBUTING.md
+	install -D -m 644 -t "$(DOCUMENTS)/docs" docs/*.md
+	install -D -m 644 -t "$(DOCUMENTS)/docs/figures" docs/figures/*
+	install -D -m 644 -t "$(DOCUMENTS)/bench" bench/*.md
+	install -D -m 644 -t "$(DOCUMENTS)/samples" samples/*.*
+	install -D -m 644 -t "$(DOCUMENTS)/samples/week" samples/week/wol.toml
+	install -m 755 -t "$(DOCUMENTS)/samples/week" samples/week/week.py
+	install -D -m 755 -t "$(DOCUMENTS)/contrib" contrib/wol-trace contrib/wol-report contrib/plot.py
+	install -D -m 644 -t "$(DOCUMENTS)/contrib/systemd" contrib/systemd/*
+
+uninstall:
+	rm -f "$(ROOT)/bin/wol" "$(ROOT)/bin/wol-trace" "$(ROOT)/bin/wol-report" "$(ROOT)/share/man/man1/wol.1"
+	rm -f "$(ROOT)/share/bash-completion/completions/wol" "$(ROOT)/share/zsh/site-functions/_wol"
+	rm -rf "$(DOCUMENTS)"
+
+# What `make install` puts down, as an archive with a note of commit and kit and with checksums: it runs on Linux without the toolchain.
+dist: build
+	@rm -rf "build/$(ARCHIVE)" "build/$(ARCHIVE).tar.gz"
+	@$(MAKE) -s install DESTDIR= PREFIX="$(CURDIR)/build/$(ARCHIVE)" >/dev/null
+	@cp build/wol.txt "build/$(ARCHIVE)/BUILT"
+	@cd "build/$(ARCHIVE)" && find . -type f ! -name SHA256SUMS -print0 | sort -z | xargs -0 sha256sum >../SHA256SUMS && mv ../SHA256SUMS .
+	@tar -C build --sort=name --owner=0 --group=0 --numeric-owner -czf "build/$(ARCHIVE).tar.gz" "$(ARCHIVE)"
+	@rm -rf "build/$(ARCHIVE)"
+	@cd build && sha256sum "$(ARCHIVE).tar.gz" | tee "$(ARCHIVE).tar.gz.sha256"
 
 clean:
 	rm -rf build demo

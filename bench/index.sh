@@ -17,7 +17,7 @@ folder=$(mktemp -d)
 trap 'rm -rf "$folder"' EXIT
 bench=$folder/crates/index_bench
 mkdir -p "$bench/src" "$bench/specs" "$bench/proofs/steps"
-for crate in wol_disk wol_model wol_promise version_marks block_cells redirect_map garbage_list; do
+for crate in wol_disk wol_model wol_promise block_cells redirect_map garbage_list; do
     mkdir -p "$folder/crates/$crate"
     for part in src specs proofs; do
         cp -r "$top/crates/$crate/$part" "$folder/crates/$crate/"

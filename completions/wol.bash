@@ -1,22 +1,30 @@
-# Completion of the commands and options of wol for bash.
+# Completion of the commands, options and volumes of wol for bash. Names of volumes are those of wol.toml in the current folder.
 _wol() {
-    local word=${COMP_WORDS[COMP_CWORD]} before=${COMP_WORDS[COMP_CWORD - 1]}
+    local word=${COMP_WORDS[COMP_CWORD]} before=${COMP_WORDS[COMP_CWORD - 1]} words=""
     if [ "$COMP_CWORD" -eq 1 ]; then
-        mapfile -t COMPREPLY < <(compgen -W "format replay check dump whatif clean serve nbd gen soak view-add view-remove solo --help --version" -- "$word")
+        words="format replay check dump whatif clean serve nbd gen soak view-add view-remove solo --help --version"
+        mapfile -t COMPREPLY < <(compgen -W "$words" -- "$word")
         return
     fi
+    # bash takes the = of --reclaim=off for a word of its own
+    if [ "$word" = "=" ]; then
+        word=""
+    elif [ "$before" = "=" ]; then
+        before=${COMP_WORDS[COMP_CWORD - 2]}
+    fi
     case $before in
-    --reclaim)
-        mapfile -t COMPREPLY < <(compgen -W "off between beside" -- "$word")
-        return
-        ;;
-    --workers)
-        mapfile -t COMPREPLY < <(compgen -W "1 2 4 8 16 32 64" -- "$word")
-        return
+    --reclaim) words="off between beside" ;;
+    --workers) words="1 2 4 8 16 32 64" ;;
+    *)
+        case ${COMP_WORDS[1]} in
+        replay | soak) words="--workers --reclaim --each" ;;
+        serve | nbd | view-add | view-remove) words=$(_wol_volumes) ;;
+        esac
         ;;
     esac
-    case ${COMP_WORDS[1]} in
-    replay | soak) mapfile -t COMPREPLY < <(compgen -W "--workers --reclaim --each" -- "$word") ;;
-    esac
+    mapfile -t COMPREPLY < <(compgen -W "$words" -- "$word")
+}
+_wol_volumes() {
+    sed -n 's/^[[:space:]]*name[[:space:]]*=[[:space:]]*"\([a-z0-9_-]*\)".*/\1/p' wol.toml 2>/dev/null
 }
 complete -o default -F _wol wol

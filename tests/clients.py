@@ -1,10 +1,13 @@
+#!/usr/bin/env python3
 """Serves a volume to real NBD clients, as far as they are installed, and to one of its own that is killed in the middle of writes.
 
 usage: clients.py WOL [--kills N] [--mib N] [--seed S] [--folder F]
 
 It says which clients are missing, and fails on none of these: nbdinfo and nbdcopy (Debian's libnbd-bin), qemu-img and qemu-io
 (qemu-utils), over a socket of socat or, without socat, one of its own. A disk of N MiB is copied in and out by each client that copies,
-and is byte for byte the same. Then a client of its own writes over blocks, some of which lie in logs, and N times the program is killed
+and is byte for byte the same. Against the line of socat that docs/USAGE.md has, and against the units of contrib/systemd by
+systemd-socket-activate, fio, qemu-io and nbdcopy each come twice in a row, five times: each has to be served, though the session before
+may not have ended. Through nbdkit and qemu-nbd, as USAGE starts them, requests of single bytes pass. Then a client of its own writes over blocks, some of which lie in logs, and N times the program is killed
 with SIGKILL while it does: `wol check` is content, and each block holds what the last acknowledged write left, or what one behind it
 did. It prints MiB a second beside `cp`, and ends with 1 and the folder at the first thing that is wrong.
 """
@@ -13,6 +16,8 @@ import argparse
 import contextlib
 import os
 import random
+import re
+import shlex
 import shutil
 import signal
 import socket
@@ -24,6 +29,8 @@ import time
 from pathlib import Path
 
 CLIENTS = {"nbdinfo": "libnbd-bin", "nbdcopy": "libnbd-bin", "qemu-img": "qemu-utils", "qemu-io": "qemu-utils", "socat": "socat"}
+CLIENTS |= {"fio": "fio", "systemd-socket-activate": "systemd", "nbdkit": "nbdkit", "qemu-nbd": "qemu-utils"}
+TOP = Path(__file__).resolve().parent.parent
 NAME = "disk"
 BLOCK = 512
 REQUEST, REPLY, OPTION, ANSWER = 0x25609513, 0x67446698, b"IHAVEOPT", 0x3E889045565A9
@@ -146,6 +153,80 @@ def patterns(served: Served, mib: int) -> None:
     with served as uri:
         run = subprocess.run(["qemu-io", "-f", "raw", "-c", f"read {mib << 20} 4k", uri], capture_output=True, text=True, timeout=60)
     assert run.returncode != 0, "a read past the end is done"
+
+
+# ---- Sessions in a row
+
+
+def found_in(file: str, form: str) -> str:
+    found = re.search(form, (TOP / file).read_text(), re.M)
+    assert found, f"{file} has no line {form}"
+    return found[1]
+
+
+def fronts(wol: str, socket_at: str, missing: list[str]) -> dict[str, list[str]]:
+    """What starts a session for each connection, as docs/USAGE.md and contrib/systemd have it, with this program, volume and socket."""
+    serve = found_in("contrib/systemd/wol-usr0@.service", r"^ExecStart=-(.* serve usr0)$").replace("/usr/local/bin/wol", wol).replace("usr0", NAME)
+    line = found_in("docs/USAGE.md", r"^    cd /srv/wol && (socat .*)$")
+    words = {"/run/wol/usr0.sock": socket_at, "'": "", "wol serve usr0": f"{wol} serve {NAME}"}
+    for old, new in words.items():
+        line = line.replace(old, new)
+    first, listen, run = line.split(" ", 2)
+    both = {"socat": [first, listen, run], "systemd-socket-activate": ["systemd-socket-activate", "--accept", "--inetd", "-l", socket_at, *serve.split()]}
+    return {name: front for name, front in both.items() if name not in missing}
+
+
+@contextlib.contextmanager
+def listening(words: list[str], folder: Path, at: str):
+    """Something that listens at a socket meanwhile."""
+    with contextlib.suppress(FileNotFoundError):
+        os.unlink(at)
+    with open(folder / "front.log", "ab") as log:
+        listener = subprocess.Popen(words, cwd=folder, stdin=subprocess.DEVNULL, stdout=log, stderr=log)
+    try:
+        for _ in range(1000):
+            if os.path.exists(at):
+                break
+            time.sleep(0.01)
+        yield
+    finally:
+        listener.terminate()
+        listener.wait(60)
+
+
+def in_a_row(wol: str, folder: Path, mib: int, missing: list[str], rounds: int = 5) -> None:
+    """Each client twice in a row, at a listener that goes on."""
+    at = str(folder / "row.sock")
+    uri = f"nbd+unix:///?socket={at}"
+    fio = ["fio", "--name=row", "--ioengine=nbd", f"--uri={uri}", "--rw=randwrite", "--bs=4k", "--io_size=256k", "--iodepth=4", "--verify=crc32c"]
+    clients = {
+        "fio": [*fio, f"--size={mib}m", "--verify_state_save=0"],
+        "qemu-io": ["qemu-io", "-f", "raw", "-c", "write -P 0x21 0 64k", "-c", "read -P 0x21 0 64k", uri],
+        "nbdcopy": ["nbdcopy", "row.raw", uri],
+    }
+    (folder / "row.raw").write_bytes(random.Random("row").randbytes(1 << 20))
+    for front, words in fronts(wol, at, missing).items():
+        with listening(words, folder, at):
+            for name in (it for it in clients if it not in missing):
+                begin = time.monotonic()
+                for number in range(2 * rounds):
+                    run = subprocess.run(clients[name], cwd=folder, stdin=subprocess.DEVNULL, capture_output=True, text=True, timeout=600)
+                    said = f"{run.stdout}{run.stderr}"
+                    well = run.returncode == 0 and "verification failed" not in said
+                    assert well, f"{front}, {name}, session {number + 1} of {2 * rounds} in a row: {said[-600:]}\n{(folder / 'front.log').read_text()[-600:]}"
+                print(f"{front}: {2 * rounds} sessions of {name} in a row, {time.monotonic() - begin:.1f} s", flush=True)
+    for name in (it for it in ("nbdkit", "qemu-nbd") if not {it, "socat", "qemu-io"} & {*missing}):
+        through = found_in("docs/USAGE.md", rf"^ *`({name} -f [^`]*)`").replace("/run/wol/usr0.sock", at).replace("/run/wol/", f"{folder}/")
+        with listening(fronts(wol, at, missing)["socat"], folder, at), listening(shlex.split(through), folder, f"{folder}/front.sock"):
+            asked = ("qemu-io", "-f", "raw", "-c", "write -P 9 3 5", "-c", "read -P 9 3 5", f"nbd+unix:///?socket={folder}/front.sock")
+            assert "verification failed" not in call(*asked, folder=folder), f"{name} in front: other bytes are read"
+        print(f"{name} in front of it: single bytes are written and read", flush=True)
+    # (the last session may still be closing)
+    for _ in range(300):
+        if subprocess.run([wol, "check"], cwd=folder, stdin=subprocess.DEVNULL, capture_output=True).returncode == 0:
+            break
+        time.sleep(0.1)
+    call(wol, "check", folder=folder)
 
 
 # ---- A client of its own
@@ -320,6 +401,7 @@ def main() -> None:
         if "qemu-io" not in missing:
             patterns(served, asked.mib)
             print("qemu-io: patterns are verified, and a read past the end is refused", flush=True)
+        in_a_row(wol, folder, asked.mib, missing)
         bad_clients(wol, folder)
         print("bytes that are no handshake, a second session and bad requests are refused", flush=True)
         call(wol, "check", folder=folder)

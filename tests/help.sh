@@ -4,6 +4,7 @@
 #   tests/help.sh [PROGRAM [WORD..]]      the program, and words to put before each command's (default: build/wol)
 #
 # It prints a line for each test that fails, and how many passed. It ends with 1 if any failed.
+# needs: flock timeout
 set -u
 cd "$(dirname "$0")/.." || exit 1
 top=$PWD

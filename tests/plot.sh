@@ -1,6 +1,7 @@
 #!/usr/bin/env bash
 # Tests contrib/plot.py on the samples: its own sums are those of `whatif`, and the picture has a strip for each disk and policy.
 # usage: tests/plot.sh     the program is build/wol, as `make build` leaves it
+# needs: python3
 set -eu
 cd "$(dirname "$0")/.."
 top=$PWD
@@ -26,11 +27,11 @@ END
 try() {
     cp "$2" wol.toml
     "$program" whatif <"$3" >whatif.txt
-    python3 "$top/contrib/plot.py" --config wol.toml --whatif whatif.txt <"$3" >"$1.svg"
+    "$top/contrib/plot.py" --config wol.toml --whatif whatif.txt <"$3" >"$1.svg"
     strips "$1.svg" "$4"
     # a line of another energy is told
     sed 's/^all wakes \([0-9]*\) sleeps \([0-9]*\) energy .*/all wakes \1 sleeps \2 energy 1/' whatif.txt >other.txt
-    if python3 "$top/contrib/plot.py" --config wol.toml --whatif other.txt <"$3" >other.svg 2>other.log; then
+    if "$top/contrib/plot.py" --config wol.toml --whatif other.txt <"$3" >other.svg 2>other.log; then
         echo "$1: a line with another energy passed" >&2
         exit 1
     fi
@@ -39,5 +40,5 @@ try() {
 }
 
 try offload "$top/samples/wol.toml" "$top/samples/offload.csv" 3
-python3 "$top/samples/week/week.py" --days 0.1 >hours.csv
+"$top/samples/week/week.py" --days 0.1 >hours.csv
 try hours "$top/samples/week/wol.toml" hours.csv 36

@@ -5,6 +5,7 @@
 #   tests/streams.sh [PROGRAM [WORD..]]      the program, and words to put before each command's (default: build/wol)
 #
 # It prints a line for each test that fails, and how many passed. It ends with 1 if any failed.
+# needs: timeout mkfifo
 set -u
 cd "$(dirname "$0")/.." || exit 1
 top=$PWD
@@ -171,10 +172,9 @@ one_file_for_two_images() {
         expect "[format] after $link: images" "$(cat "$room/before")" "$(images .)"
     done
     fresh
-    ln -f usr0.vol "$room/elsewhere"
     ln -s nowhere other.vol
     out=$(wol format 2>/dev/null)
-    expect "[format] where a link leads to no image: status" 0 $?
+    expect "[format] where another link leads to no image: status" 0 $?
 }
 
 no_regular_configuration() {

@@ -8,13 +8,14 @@ LONGEST = 1_048_576
 TOKENS = [b"=", b"[", b"]]", b'"', b"\n", b"\r", b"-1", b"1e9", b"18446744073709551616", b"true", b"\xff", b"\x00", b"view"]
 TOKENS += [b"[[volume]]\n", b"[volume]\n", b"#", b"'''", b'"""', b",", b"{", b"}", b"\\u0041", b"\xc3\xa9", b"\xef\xbb\xbf", b".", b" = 1\n"]
 VALUES = ["0", "-0", "+1", "-1", "1", "4", "3", "65536", "65537", "1024", "1025", "4294967295", "4294967296", "4294967297", "0x10", "0o7", "1_0"]
-VALUES += ["1000000", "1000001", "1000000000", "1000000001", "86400000", "86400001", "9223372036854775807", "9223372036854775808"]
+VALUES += ["600000", "600001", "1000000", "1000001", "1000000000", "1000000001", "86400000", "86400001", "9223372036854775807", "9223372036854775808"]
 VALUES += ["1.0", "inf", "nan", "true", "'a'", '"a"', '"b"', '""', '"A"', '"a,b"', "'a b'", '"' + "a" * 32 + '"', '"' + "a" * 33 + '"']
 VALUES += ['"' + "a" * 64 + '"', '"' + "a" * 65 + '"', '"\\u00e9"', '"\\t"', '["a"]', '["b"]', '["a", "a"]', '["b", 1]', "[1]", "[]", "[[]]"]
 VALUES += ['["zz"]', "{}", "{a = 1}", "1979-05-27", "07:32:00", '"""a"""', "'''b'''", "1.e1", "01", "--1", "1__0"]
 
 TOP = [("segment_blocks", 4, 65_536), ("timeout_ms", 1, 86_400_000), ("awake_mw", 0, 1_000_000)]
-TOP += [("standby_mw", 0, 1_000_000), ("wake_mj", 0, 1_000_000_000)]
+TOP += [("standby_mw", 0, 1_000_000), ("wake_mj", 0, 1_000_000_000), ("wake_ms", 0, 600_000)]
+MAY_BE_MISSING = ("timeout_ms", "wake_ms")
 EACH = [("disk", 0, 2**32 - 1), ("home_blocks", 1, 2**32), ("segments", 0, 1024)]
 
 
@@ -54,7 +55,7 @@ def has_great_number(value: object) -> bool:
 
 def why_number(table: dict, key: str, least: int, most: int) -> str | None:
     if key not in table:
-        return None if key == "timeout_ms" else f"missing {key}"
+        return None if key in MAY_BE_MISSING else f"missing {key}"
     value = table[key]
     if type(value) is not int:
         return f"wrong kind {key}"

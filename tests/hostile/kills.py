@@ -30,7 +30,7 @@ MODES = ("off", "between", "beside")
 
 def random_config(rng: random.Random) -> str:
     names = ["a", "b", "c", "d"][: rng.randint(2, 4)]
-    rows = [f"segment_blocks = {rng.choice((4, 8, 16))}\nawake_mw = 8000\nstandby_mw = 1000\nwake_mj = 50000\n"]
+    rows = [f"segment_blocks = {rng.choice((4, 8, 16))}\nawake_mw = 8000\nstandby_mw = 1000\nwake_mj = 50000\nwake_ms = {rng.choice((0, 10_000))}\n"]
     for name in names:
         others = [it for it in names if it != name]
         view = ", ".join(f'"{it}"' for it in rng.sample(others, rng.randint(0, len(others))))

@@ -29,12 +29,12 @@ KEEPING = ("check", "dump", "gen", "whatif", "view-add", "view-remove", "clean",
 FREE = ("replay", "soak", "nbd")
 
 
-def made_library(folder: Path) -> Path | None:
-    """refuse.c as the program can load it, where there is a C compiler."""
+def made_library(folder: Path, source: str = "refuse.c") -> Path | None:
+    """This source as the program can load it, where there is a C compiler."""
     if not shutil.which("cc"):
         return None
-    library = folder / "refuse.so"
-    subprocess.run(["cc", "-O2", "-shared", "-fPIC", "-o", library, Path(__file__).with_name("refuse.c"), "-ldl"], check=True)
+    library = folder / Path(source).with_suffix(".so")
+    subprocess.run(["cc", "-O2", "-shared", "-fPIC", "-o", library, Path(__file__).with_name(source), "-ldl"], check=True)
     return library
 
 

@@ -12,6 +12,7 @@
 #include <stddef.h>
 #include <stdlib.h>
 #include <sys/mman.h>
+#include <sys/stat.h>
 #include <unistd.h>
 
 enum { BLOCK = 512 };
@@ -30,6 +31,7 @@ static long at, from, files, few;
 /* A block that was written and not yet synced, and what it was before. */
 struct unsynced {
     struct unsynced *next;
+    ino_t of;
     int file;
     off_t place;
     ssize_t size;
@@ -49,23 +51,31 @@ static uint64_t drawn(void) {
     return choice;
 }
 
+/* A file may be open several times, and be synced by another opening than it is written by. */
+static ino_t number_of(int file) {
+    struct stat found;
+    return fstat(file, &found) ? 0 : found.st_ino;
+}
+
 static void forget(int file) {
+    ino_t of = number_of(file);
     pthread_mutex_lock(&lock);
     for (struct unsynced **it = &unsynced; *it;) {
         struct unsynced *gone = *it;
-        if (gone->file == file) *it = gone->next;
+        if (gone->of == of) *it = gone->next;
         else it = &gone->next;
     }
     pthread_mutex_unlock(&lock);
 }
 
 static void remember(int file, off_t place, size_t size) {
+    ino_t of = number_of(file);
     pthread_mutex_lock(&lock);
     for (size_t done = 0; done < size; done += BLOCK) {
         struct unsynced *it = unsynced;
-        while (it && (it->file != file || it->place != place + (off_t)done)) it = it->next;
+        while (it && (it->of != of || it->place != place + (off_t)done)) it = it->next;
         if (it || !(it = __libc_malloc(sizeof *it))) continue;
-        *it = (struct unsynced){unsynced, file, place + (off_t)done, 0, {0}};
+        *it = (struct unsynced){unsynced, of, file, place + (off_t)done, 0, {0}};
         it->size = __pread64(file, it->old, BLOCK, it->place);
         unsynced = it;
     }

@@ -1,40 +1,57 @@
 -- Options in any order.
-use Rattle.std.proofs.Common.{◌≡◌, ◌<◌, ◌≤◌, ◌^◌, ℕ, false, refl, sym, subst, arith, cond, List, [], ◌∷◌, ◌++◌, map, append_assoc, append-nil, Some, None, option_map, codes}
+use Rattle.std.proofs.Common.{◌≡◌, ℕ, false, true, refl, sym, subst, List, [], ◌∷◌, ◌++◌, map, append_assoc, append-nil, Some, None, ap₂, codes}
 use Rattle.std.specs.Bool.{⊤}
-use Rattle.std.specs.Prelude.{decimal, unwrap_or}
 use Rattle.std.specs.List.{AllByRecursion, flat_map}
 use Rattle.std.specs.Str.{bytes_eq}
+use Rattle.clap.specs.Lexer.{long_of}
 use Rattle.clap.specs.Walk.{Held, arg_by_id, arg_by_long, has_row, reacted}
 use Rattle.clap.specs.Simple.{Shape}
 use Rattle.clap.specs.Words.{Row, Text}
-use Rattle.command_words.specs.Table.{AreAllDifferent, AreDifferent, Given, each, each_in, mode_in, mode_text, next_word, reclaim, same_word, words_of, workers, workers_in}
-use Rattle.command_words.proofs.Rows.{given_row, has_more, row_of_name}
+use Rattle.command_words.specs.Table.{AreAllDifferent, Place, next_word, option_words, same_word}
+use Rattle.command_words.proofs.Rows.{given_row, has_more}
 use Rattle.command_words.proofs.Steps.{Holds, Leads, by_name, by_next, by_same, filled, filled_holds, leads_nowhere, leads_on, reacted_holds, standing, switch, switched_holds, valued}
-use Rattle.command_words.proofs.Words.{plain_decimal, plain_mode}
+use Rattle.command_words.proofs.Words.{IsPlain}
 
--- the subcommand has the options of a run over a trace
-pub record TakesOptions (s : Shape) : Type 0 where
-  pub workers_long : arg_by_long s.rules (codes "workers") ≡ Some (valued (codes "workers") (Some (codes "workers")) None false)
-  pub workers_id : arg_by_id s.rules (codes "workers") ≡ Some (valued (codes "workers") (Some (codes "workers")) None false)
-  pub reclaim_long : arg_by_long s.rules (codes "reclaim") ≡ Some (valued (codes "reclaim") (Some (codes "reclaim")) None false)
-  pub reclaim_id : arg_by_id s.rules (codes "reclaim") ≡ Some (valued (codes "reclaim") (Some (codes "reclaim")) None false)
-  pub each_long : arg_by_long s.rules (codes "each") ≡ Some (switch (codes "each"))
+-- an option as it is used: a name, with a value or without
+pub data Use : Type 0 where
+  flag : Text → Use
+  option : Place → Text → Text → Use
 
-abbrev pub row_of_given : Given → Row
-row_of_given (workers place n) = given_row (codes "workers") (decimal n)
-row_of_given (reclaim place mode) = given_row (codes "reclaim") (mode_text mode)
-row_of_given each = given_row (codes "each") (codes "true")
+abbrev pub name_of_use : Use → Text
+name_of_use (flag name) = name
+name_of_use (option place name value) = name
 
-abbrev pub name_of_given : Given → Text
-name_of_given (workers place n) = codes "workers"
-name_of_given (reclaim place mode) = codes "reclaim"
-name_of_given each = codes "each"
+abbrev pub row_of_use : Use → Row
+row_of_use (flag name) = given_row name (codes "true")
+row_of_use (option place name value) = given_row name value
 
--- a number of workers that is written as it is
-abbrev pub IsSmall : Given → Type 0
-IsSmall (workers place n) = n < 2 ^ 64
-IsSmall (reclaim place mode) = ⊤
-IsSmall each = ⊤
+abbrev pub words_of_use : Use → List Text
+words_of_use (flag name) = (45 ∷ 45 ∷ name) ∷ []
+words_of_use (option place name value) = option_words place (45 ∷ 45 ∷ name) value
+
+abbrev pub named : Text → _
+named name = valued name (Some name) None false
+
+-- the subcommand has the flag
+pub record HasFlag (s : Shape) (name : Text) : Type 0 where
+  pub dashes : bytes_eq (45 ∷ 45 ∷ name) (45 ∷ 45 ∷ []) ≡ false
+  pub long : long_of (45 ∷ 45 ∷ name) ≡ Some (name, None)
+  pub by_long : arg_by_long s.rules name ≡ Some (switch name)
+
+-- the subcommand has the option, whose value may be this
+pub record HasOption (s : Shape) (name value : Text) : Type 0 where
+  pub dashes : bytes_eq (45 ∷ 45 ∷ name) (45 ∷ 45 ∷ []) ≡ false
+  pub long : long_of (45 ∷ 45 ∷ name) ≡ Some (name, None)
+  pub by_long : arg_by_long s.rules name ≡ Some (named name)
+  pub by_id : arg_by_id s.rules name ≡ Some (named name)
+  pub own : bytes_eq name name ≡ true
+  pub plain : IsPlain value
+  pub dashes_same : bytes_eq ((45 ∷ 45 ∷ name) ++ 61 ∷ value) (45 ∷ 45 ∷ []) ≡ false
+  pub long_same : long_of ((45 ∷ 45 ∷ name) ++ 61 ∷ value) ≡ Some (name, Some value)
+
+abbrev pub Offers : Shape → Use → Type 0
+Offers s (flag name) = HasFlag s name
+Offers s (option place name value) = HasOption s name value
 
 -- the walk comes to these rows
 pub record Comes (s : Shape) (position : ℕ) (h : Held) (words : List Text) (rows : List Row) : Type 0 where
@@ -42,145 +59,116 @@ pub record Comes (s : Shape) (position : ℕ) (h : Held) (words : List Text) (ro
   pub holds : Holds s rows there
   pub leads : Leads s (standing position h) words (standing position there)
 
--- one option
-given_one : (s : Shape) → TakesOptions s → (position : ℕ) (rows : List Row) (h : Held) (g : Given) → Holds s rows h → has_row (name_of_given g) rows ≡ false → IsSmall g
-    → Comes s position h (words_of g) (rows ++ row_of_given g ∷ [])
-given_one s o position rows h (workers next_word n) holds none small = record {
-  there = filled s (codes "workers") (decimal n) h;
-  holds = filled_holds s (codes "workers") (Some (codes "workers")) None false rows h (decimal n) holds none o.workers_id;
-  leads = by_next s (codes "workers") (Some (codes "workers")) None false rows h (decimal n) holds none position (codes "--workers") (codes "workers") refl refl o.workers_long o.workers_id refl (plain_decimal n small);
-}
-given_one s o position rows h (workers same_word n) holds none small = record {
-  there = reacted s.rules (valued (codes "workers") (Some (codes "workers")) None false) (decimal n ∷ []) h;
-  holds = reacted_holds s (codes "workers") (Some (codes "workers")) None false rows h (decimal n) holds none;
-  leads = by_same s (codes "workers") (Some (codes "workers")) None false rows h (decimal n) holds none position (codes "--workers" ++ 61 ∷ decimal n) (codes "workers") refl refl o.workers_long;
-}
-given_one s o position rows h (reclaim next_word mode) holds none small = record {
-  there = filled s (codes "reclaim") (mode_text mode) h;
-  holds = filled_holds s (codes "reclaim") (Some (codes "reclaim")) None false rows h (mode_text mode) holds none o.reclaim_id;
-  leads = by_next s (codes "reclaim") (Some (codes "reclaim")) None false rows h (mode_text mode) holds none position (codes "--reclaim") (codes "reclaim") refl refl o.reclaim_long o.reclaim_id refl (plain_mode mode);
-}
-given_one s o position rows h (reclaim same_word mode) holds none small = record {
-  there = reacted s.rules (valued (codes "reclaim") (Some (codes "reclaim")) None false) (mode_text mode ∷ []) h;
-  holds = reacted_holds s (codes "reclaim") (Some (codes "reclaim")) None false rows h (mode_text mode) holds none;
-  leads = by_same s (codes "reclaim") (Some (codes "reclaim")) None false rows h (mode_text mode) holds none position (codes "--reclaim" ++ 61 ∷ mode_text mode) (codes "reclaim") refl refl o.reclaim_long;
-}
-given_one s o position rows h each holds none small = record {
-  there = reacted s.rules (switch (codes "each")) [] h;
-  holds = switched_holds s (codes "each") rows h holds none;
-  leads = by_name s (codes "each") rows h holds none position (codes "--each") (codes "each") refl refl o.each_long;
-}
-
 -- no row has the name of an option that comes
-abbrev pub IsNew : List Row → Given → Type 0
-IsNew rows g = has_row (name_of_given g) rows ≡ false
+abbrev pub IsNew : List Row → Use → Type 0
+IsNew rows u = has_row (name_of_use u) rows ≡ false
 
-names_differ : (g k : Given) → AreDifferent g k → bytes_eq (row_of_given g).id (name_of_given k) ≡ false
-names_differ (workers p n) (workers q m) h = absurd h
-names_differ (workers p n) (reclaim q mode) h = refl
-names_differ (workers p n) each h = refl
-names_differ (reclaim p mode) (workers q m) h = refl
-names_differ (reclaim p mode) (reclaim q other) h = absurd h
-names_differ (reclaim p mode) each h = refl
-names_differ each (workers q m) h = refl
-names_differ each (reclaim q mode) h = refl
-names_differ each each h = absurd h
+-- one option
+used_one : (s : Shape) (position : ℕ) (rows : List Row) (h : Held) (u : Use) → Offers s u → Holds s rows h → IsNew rows u → Comes s position h (words_of_use u) (rows ++ row_of_use u ∷ [])
+used_one s position rows h (flag name) o holds none = record {
+  there = reacted s.rules (switch name) [] h;
+  holds = switched_holds s name rows h holds none;
+  leads = by_name s name rows h holds none position (45 ∷ 45 ∷ name) name o.dashes o.long o.by_long;
+}
+used_one s position rows h (option next_word name value) o holds none = record {
+  there = filled s name value h;
+  holds = filled_holds s name (Some name) None false rows h value holds none o.by_id;
+  leads = by_next s name (Some name) None false rows h value holds none position (45 ∷ 45 ∷ name) name o.dashes o.long o.by_long o.by_id o.own o.plain;
+}
+used_one s position rows h (option same_word name value) o holds none = record {
+  there = reacted s.rules (named name) (value ∷ []) h;
+  holds = reacted_holds s name (Some name) None false rows h value holds none;
+  leads = by_same s name (Some name) None false rows h value holds none position ((45 ∷ 45 ∷ name) ++ 61 ∷ value) name o.dashes_same o.long_same o.by_long;
+}
 
-still_new : (rows : List Row) (g : Given) (rest : List Given) → AllByRecursion (IsNew rows) rest → AllByRecursion (AreDifferent g) rest
-    → AllByRecursion (IsNew (rows ++ row_of_given g ∷ [])) rest
-still_new rows g [] new different = tt
-still_new rows g (k ∷ rest) new different =
-    (has_more (name_of_given k) rows (row_of_given g) new.0 (names_differ g k different.0), still_new rows g rest new.1 different.1)
+abbrev pub AreApart : Use → Use → Type 0
+AreApart u v = bytes_eq (name_of_use u) (name_of_use v) ≡ false
 
--- the options that come: they differ, none was given yet, and their numbers are small
-pub record AreToCome (rows : List Row) (given : List Given) : Type 0 where
-  pub different : AreAllDifferent given
-  pub fresh : AllByRecursion (IsNew rows) given
-  pub small : AllByRecursion IsSmall given
+row_name : (u : Use) (name : Text) → bytes_eq (name_of_use u) name ≡ false → bytes_eq (row_of_use u).id name ≡ false
+row_name (flag n) name e = e
+row_name (option place n value) name e = e
 
-abbrev rows_of_given : List Given → List Row
-rows_of_given = map row_of_given
+still_new : (rows : List Row) (u : Use) (rest : List Use) → AllByRecursion (IsNew rows) rest → AllByRecursion (AreApart u) rest
+    → AllByRecursion (IsNew (rows ++ row_of_use u ∷ [])) rest
+still_new rows u [] new apart = tt
+still_new rows u (v ∷ rest) new apart =
+    (has_more (name_of_use v) rows (row_of_use u) new.0 (row_name u (name_of_use v) apart.0), still_new rows u rest new.1 apart.1)
+
+-- the options that come: they differ, none was given yet, and the subcommand has them
+pub record AreToCome (s : Shape) (rows : List Row) (uses : List Use) : Type 0 where
+  pub different : AreAllDifferent AreApart uses
+  pub fresh : AllByRecursion (IsNew rows) uses
+  pub offered : AllByRecursion (Offers s) uses
 
 -- options, before others
-pub record ComesTo (s : Shape) (position : ℕ) (h : Held) (words : List Text) (rows : List Row) (more : List Given) : Type 0 where
+pub record ComesTo (s : Shape) (position : ℕ) (h : Held) (words : List Text) (rows : List Row) (more : List Use) : Type 0 where
   pub comes : Comes s position h words rows
-  pub to_come : AreToCome rows more
+  pub to_come : AreToCome s rows more
 
-pub given_all : (s : Shape) → TakesOptions s → (position : ℕ) (rows : List Row) (h : Held) (given more : List Given) → Holds s rows h → AreToCome rows (given ++ more)
-    → ComesTo s position h (flat_map words_of given) (rows ++ map row_of_given given) more
-given_all s o position rows h [] more holds to_come = record {
+pub used_all : (s : Shape) (position : ℕ) (rows : List Row) (h : Held) (uses more : List Use) → Holds s rows h → AreToCome s rows (uses ++ more)
+    → ComesTo s position h (flat_map words_of_use uses) (rows ++ map row_of_use uses) more
+used_all s position rows h [] more holds to_come = record {
   comes = record {
     there = h;
     holds = subst (λ (rs : List Row). Holds s rs h) (sym (append-nil rows)) holds;
     leads = leads_nowhere s (standing position h);
   };
-  to_come = subst (λ (rs : List Row). AreToCome rs more) (sym (append-nil rows)) to_come;
+  to_come = subst (λ (rs : List Row). AreToCome s rs more) (sym (append-nil rows)) to_come;
 }
-given_all s o position rows h (g ∷ given) more holds to_come =
-    let first = given_one s o position rows h g holds to_come.fresh.0 to_come.small.0 in
-    let left : AreToCome (rows ++ row_of_given g ∷ []) (given ++ more) = record {
+used_all s position rows h (u ∷ uses) more holds to_come =
+    let first = used_one s position rows h u to_come.offered.0 holds to_come.fresh.0 in
+    let left : AreToCome s (rows ++ row_of_use u ∷ []) (uses ++ more) = record {
       different = to_come.different.1;
-      fresh = still_new rows g (given ++ more) to_come.fresh.1 to_come.different.0;
-      small = to_come.small.1;
+      fresh = still_new rows u (uses ++ more) to_come.fresh.1 to_come.different.0;
+      offered = to_come.offered.1;
     } in
-    let rest = given_all s o position (rows ++ row_of_given g ∷ []) first.there given more first.holds left in
-    let whole : ComesTo s position h (flat_map words_of (g ∷ given)) ((rows ++ row_of_given g ∷ []) ++ map row_of_given given) more = record {
+    let rest = used_all s position (rows ++ row_of_use u ∷ []) first.there uses more first.holds left in
+    let whole : ComesTo s position h (flat_map words_of_use (u ∷ uses)) ((rows ++ row_of_use u ∷ []) ++ map row_of_use uses) more = record {
       comes = record {
         there = rest.comes.there;
         holds = rest.comes.holds;
-        leads = leads_on s _ _ _ (words_of g) (flat_map words_of given) first.leads rest.comes.leads;
+        leads = leads_on s _ _ _ (words_of_use u) (flat_map words_of_use uses) first.leads rest.comes.leads;
       };
       to_come = rest.to_come;
     } in
-    subst (λ (rs : List Row). ComesTo s position h (flat_map words_of (g ∷ given)) rs more) (append_assoc rows (row_of_given g ∷ []) (map row_of_given given)) whole
+    subst (λ (rs : List Row). ComesTo s position h (flat_map words_of_use (u ∷ uses)) rs more) (append_assoc rows (row_of_use u ∷ []) (map row_of_use uses)) whole
 
--- ---- what the rows of options say
+-- a value in its place is no option
+module _ (s : Shape) (name value : Text) (rows : List Row) where
+  -- none of the options has the name
+  abbrev pub IsOther : Use → Type 0
+  IsOther u = bytes_eq name (name_of_use u) ≡ false
 
-pub named_workers : (given : List Given) → row_of_name (codes "workers") (map row_of_given given) ≡ option_map (λ n. given_row (codes "workers") (decimal n)) (workers_in given)
-named_workers [] = refl
-named_workers (workers place n ∷ rest) = refl
-named_workers (reclaim place mode ∷ rest) = named_workers rest
-named_workers (each ∷ rest) = named_workers rest
+  new_past : (uses : List Use) → AllByRecursion IsOther uses → AllByRecursion (IsNew rows) uses → AllByRecursion (IsNew (rows ++ given_row name value ∷ [])) uses
+  new_past [] other new = tt
+  new_past (u ∷ rest) other new = (has_more (name_of_use u) rows (given_row name value) new.0 other.0, new_past rest other.1 new.1)
 
-pub named_mode : (given : List Given) → row_of_name (codes "reclaim") (map row_of_given given) ≡ option_map (λ mode. given_row (codes "reclaim") (mode_text mode)) (mode_in given)
-named_mode [] = refl
-named_mode (workers place n ∷ rest) = named_mode rest
-named_mode (reclaim place mode ∷ rest) = refl
-named_mode (each ∷ rest) = named_mode rest
+  pub come_past : (uses : List Use) → AllByRecursion IsOther uses → AreToCome s rows uses → AreToCome s (rows ++ given_row name value ∷ []) uses
+  come_past uses other to_come = record { different = to_come.different; fresh = new_past uses other to_come.fresh; offered = to_come.offered }
 
-pub named_each : (given : List Given) → row_of_name (codes "each") (map row_of_given given) ≡ cond (each_in given) (Some (given_row (codes "each") (codes "true"))) None
-named_each [] = refl
-named_each (workers place n ∷ rest) = named_each rest
-named_each (reclaim place mode ∷ rest) = named_each rest
-named_each (each ∷ rest) = refl
-
--- a value in its place is none of theirs
-pub past_seed : (given : List Given) (more : List Row) → row_of_name (codes "SEED") (map row_of_given given ++ more) ≡ row_of_name (codes "SEED") more
-past_seed [] more = refl
-past_seed (workers place n ∷ rest) more = past_seed rest more
-past_seed (reclaim place mode ∷ rest) more = past_seed rest more
-past_seed (each ∷ rest) more = past_seed rest more
-
-pub past_lines : (given : List Given) (more : List Row) → row_of_name (codes "LINES") (map row_of_given given ++ more) ≡ row_of_name (codes "LINES") more
-past_lines [] more = refl
-past_lines (workers place n ∷ rest) more = past_lines rest more
-past_lines (reclaim place mode ∷ rest) more = past_lines rest more
-past_lines (each ∷ rest) more = past_lines rest more
-
--- ---- numbers of workers are small
-
-none_but_small : (p : _) (n : ℕ) (given : List Given) → AllByRecursion (AreDifferent (workers p n)) given → AllByRecursion IsSmall given
-none_but_small p n [] h = tt
-none_but_small p n (workers q m ∷ rest) h = absurd h.0
-none_but_small p n (reclaim q mode ∷ rest) h = (tt, none_but_small p n rest h.1)
-none_but_small p n (each ∷ rest) h = (tt, none_but_small p n rest h.1)
-
-pub are_small : (given : List Given) → AreAllDifferent given → unwrap_or (workers_in given) 1 ≤ 64 → AllByRecursion IsSmall given
-are_small [] h most = tt
-are_small (workers p n ∷ rest) h most = (omega arith, none_but_small p n rest h.0)
-are_small (reclaim p mode ∷ rest) h most = (tt, are_small rest h.1 most)
-are_small (each ∷ rest) h most = (tt, are_small rest h.1 most)
-
-pub all_new : (given : List Given) → AllByRecursion (IsNew []) given
+pub all_new : (uses : List Use) → AllByRecursion (IsNew []) uses
 all_new [] = tt
-all_new (g ∷ rest) = (refl, all_new rest)
+all_new (u ∷ rest) = (refl, all_new rest)
+
+-- ---- options of a kind of their own, as they are used
+
+module _ (G : Type 0) (use_of : G → Use) (words : G → List Text) (Differ : G → G → Type 0) where
+  pub words_all : ((g : G) → words g ≡ words_of_use (use_of g)) → (gs : List G) → flat_map words gs ≡ flat_map words_of_use (map use_of gs)
+  words_all same [] = refl
+  words_all same (g ∷ rest) = ap₂ (λ (xs ys : List Text). xs ++ ys) (same g) (words_all same rest)
+
+  apart_from : ((g k : G) → Differ g k → AreApart (use_of g) (use_of k)) → (g : G) (gs : List G) → AllByRecursion (Differ g) gs → AllByRecursion (AreApart (use_of g)) (map use_of gs)
+  apart_from apart g [] h = tt
+  apart_from apart g (k ∷ rest) h = (apart g k h.0, apart_from apart g rest h.1)
+
+  pub apart_all : ((g k : G) → Differ g k → AreApart (use_of g) (use_of k)) → (gs : List G) → AreAllDifferent Differ gs → AreAllDifferent AreApart (map use_of gs)
+  apart_all apart [] h = tt
+  apart_all apart (g ∷ rest) h = (apart_from apart g rest h.0, apart_all apart rest h.1)
+
+  pub offered_all : (s : Shape) (P : G → Type 0) → ((g : G) → P g → Offers s (use_of g)) → (gs : List G) → AllByRecursion P gs → AllByRecursion (Offers s) (map use_of gs)
+  offered_all s P offers [] h = tt
+  offered_all s P offers (g ∷ rest) h = (offers g h.0, offered_all s P offers rest h.1)
+
+pub others_all : (G : Type 0) (use_of : G → Use) (Q : Use → Type 0) → ((g : G) → Q (use_of g)) → (gs : List G) → AllByRecursion Q (map use_of gs)
+others_all G use_of Q each [] = tt
+others_all G use_of Q each (g ∷ rest) = (each g, others_all G use_of Q each rest)

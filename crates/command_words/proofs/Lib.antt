@@ -4,9 +4,13 @@ pub mod Words
 pub mod Rows
 pub mod Steps
 pub mod AnyOrder
+pub mod Defaults
+pub mod RunOptions
 pub mod Subcommands
 pub mod Taken
 pub mod TakenNames
 pub mod TakenOptions
+pub mod TakenServe
+pub mod TakenWhatIf
 pub mod Spelled
 pub mod Unique

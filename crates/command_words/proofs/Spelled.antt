@@ -9,6 +9,8 @@ use Rattle.command_words.specs.declared.command.ViewNames.{ViewNames}
 use Rattle.command_words.proofs.Taken.{alone, enters, gen_is_command, solo_is_command}
 use Rattle.command_words.proofs.TakenNames.{name_is_command, names_are_command}
 use Rattle.command_words.proofs.TakenOptions.{replay_is_command, soak_is_command}
+use Rattle.command_words.proofs.TakenServe.{serve_is_command}
+use Rattle.command_words.proofs.TakenWhatIf.{what_if_is_command}
 
 pub spelled_is_command : SpelledIsCommand
 spelled_is_command words (Solo volume) is = solo_is_command words volume is
@@ -18,12 +20,12 @@ spelled_is_command words Check is = alone words Check (enters Check) is tt
 spelled_is_command words Dump is = alone words Dump (enters Dump) is tt
 spelled_is_command words (Gen asked) is = gen_is_command words asked is
 spelled_is_command words (Soak asked options) is = soak_is_command words asked options is
-spelled_is_command words WhatIf is = alone words WhatIf (enters WhatIf) is tt
+spelled_is_command words (WhatIf options) is = what_if_is_command words options is
 spelled_is_command words (ViewAdd names) is = names_are_command words (ViewAdd names) (named_by names) (enters (ViewAdd names)) is (λ has. has)
 spelled_is_command words (ViewRemove names) is = names_are_command words (ViewRemove names) (named_by names) (enters (ViewRemove names)) is (λ has. has)
 spelled_is_command words Clean is = alone words Clean (enters Clean) is tt
 spelled_is_command words (Nbd served) is = name_is_command words (Nbd served) (served_by served) (enters (Nbd served)) is (λ has. has)
-spelled_is_command words (Serve served) is = name_is_command words (Serve served) (served_by served) (enters (Serve served)) is (λ has. has)
+spelled_is_command words (Serve served patience) is = serve_is_command words served patience is
 
 pub each_is_named : EachIsNamed
 each_is_named = record {

@@ -13,6 +13,8 @@ use Rattle.clap.specs.Simple.{Shape}
 use Rattle.clap.specs.Words.{Row, Rule, Text, new_rule}
 use Rattle.clap.specs.declared.builder.ArgAction.TheVariants.{Set, SetTrue}
 use Rattle.clap.specs.declared.builder.ValueParser.TheVariants as vp
+use Rattle.std.specs.Bool.{⊤}
+use Rattle.command_words.specs.Table.{Form, bare, behind_dashes, formed}
 use Rattle.command_words.proofs.Rows.{added_anew, given_row}
 use Rattle.command_words.proofs.Words.{IsPlain}
 
@@ -38,9 +40,22 @@ switch name = record (new_rule name) {
   parser = Some vp.Bool;
 }
 
+-- a value that the form allows
+abbrev pub MayPlace : Form → Text → Type 0
+MayPlace bare v = IsPlain v
+MayPlace behind_dashes v = ⊤
+
 -- between two arguments
 abbrev pub standing : ℕ → Held → Walk
 standing position h = record { held = h; waiting = idle; position = position; is_trailing = false; stopped = None }
+
+-- the same behind `--`, where each word is a value
+abbrev pub is_behind : Form → Bool
+is_behind bare = false
+is_behind behind_dashes = true
+
+abbrev pub standing_in : Form → ℕ → Held → Walk
+standing_in form position h = record (standing position h) { is_trailing = is_behind form }
 
 -- the rows are these once the argument whose value was read last counts, and it may count
 pub record Holds (s : Shape) (rows : List Row) (h : Held) : Type 0 where
@@ -68,6 +83,12 @@ leads_one s w after word calm is = record {
   calm = λ rest. ap₂ (λ kinds (v : Walk). or_else kinds (walk_fault s [] v rest)) calm is;
   there = λ rest. ap (λ (v : Walk). fold (walked s.rules []) v rest) is;
 }
+
+-- the names begin: behind `--`, in that form
+pub form_leads : (s : Shape) (form : Form) (position : ℕ) (h : Held) → Leads s (standing position h) (formed form []) (standing_in form position h)
+unfolding walked
+form_leads s bare position h = leads_nowhere s (standing position h)
+form_leads s behind_dashes position h = leads_one s (standing position h) (standing_in behind_dashes position h) (codes "--") refl refl
 
 -- a word by what it is
 met_as : (s : Shape) (waiting : Waiting) (position : ℕ) (h h' : Held) (word : Text) (step : Step) (after : Walk)
@@ -151,6 +172,23 @@ module _ (s : Shape) (name : Text) (given : Option Text) (index : Option ℕ) (r
       ∙ ap (λ b. cond b [] (settle_fault s.rules s.args_override_self h)) (and-false (is_pending arg h.pending)) ∙ holds.calm)
       (ap (λ o. to_positional s.rules o v (standing position h) h) by_index
       ∙ ap (λ b. standing (next_position arg position) (pushed name v (cond b h (settled s.rules h)))) (and-false (is_pending arg h.pending)))
+
+  -- a value in its place behind `--`
+  by_place_behind : (position : ℕ) → arg_by_index s.rules position ≡ Some arg
+      → Leads s (standing_in behind_dashes position h) (v ∷ []) (standing_in behind_dashes (next_position arg position) (filled s name v h))
+  unfolding walked
+  by_place_behind position by_index =
+      leads_one s (standing_in behind_dashes position h) _ v
+      (ap (λ o. option_map_or (λ (a : Rule). positional_fault s.rules s.args_override_self a h) o (stray_fault s)) by_index
+      ∙ ap (λ b. cond b [] (settle_fault s.rules s.args_override_self h)) (and-false (is_pending arg h.pending)) ∙ holds.calm)
+      (ap (λ o. to_positional s.rules o v (standing_in behind_dashes position h) h) by_index
+      ∙ ap (λ b. standing_in behind_dashes (next_position arg position) (pushed name v (cond b h (settled s.rules h)))) (and-false (is_pending arg h.pending)))
+
+  -- a value in its place, in either form
+  pub by_form : (form : Form) (position : ℕ) → arg_by_index s.rules position ≡ Some arg → MayPlace form v
+      → Leads s (standing_in form position h) (v ∷ []) (standing_in form (next_position arg position) (filled s name v h))
+  by_form bare position by_index plain = by_place position by_index plain
+  by_form behind_dashes position by_index plain = by_place_behind position by_index
 
   -- `--name value`
   pub by_next : (position : ℕ) (word id : Text) → bytes_eq word (45 ∷ 45 ∷ []) ≡ false → long_of word ≡ Some (id, None) → arg_by_long s.rules id ≡ Some arg

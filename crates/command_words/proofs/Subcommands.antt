@@ -1,11 +1,11 @@
 -- A subcommand is entered by its name, and the words after the name are its own.
-use Rattle.std.proofs.Common.{◌≡◌, ◌∙◌, ℕ, true, false, refl, sym, ap, ap₂, List, [], ◌∷◌, ◌++◌, append-nil, Option, Some, option_map, is_some}
+use Rattle.std.proofs.Common.{◌≡◌, ◌∙◌, true, false, refl, sym, ap, ap₂, List, [], ◌∷◌, ◌++◌, append-nil, Option, Some, option_map, is_some}
 use Rattle.std.specs.List.{find, fold}
 use Rattle.std.specs.Option.{option_map_or}
 use Rattle.clap.specs.Faults.{built_fault, check_fault, defaults_fault, entered_fault, level_fault, settle_fault, turn_fault, walk_fault}
 use Rattle.clap.specs.Kinds.{or_else}
 use Rattle.clap.specs.Simple.{Shape, entered, label_of, names_of, rows_at}
-use Rattle.clap.specs.Walk.{Held, Names, Walk, answers_to, finished, nothing_held, rows_after, settled, stop_after, walk, walk_from, walked, with_default}
+use Rattle.clap.specs.Walk.{Names, Walk, answers_to, finished, nothing_held, rows_after, settled, stop_after, walk, walk_from, walked, with_default}
 use Rattle.clap.specs.Words.{App, Row, Text}
 use Rattle.clap.proofs.WalkLemmas.{walk_stopped}
 use Rattle.command_words.proofs.Steps.{Holds, Leads, standing}
@@ -43,8 +43,8 @@ module _ (a : App) (name : Text) (s : Shape) (words : List Text) (enters : Enter
   entered_rows = ap (λ (w : Walk). entered a w.stopped) stopped_walk ∙ ap (option_map (λ (t : Shape). rows_at t words)) enters.found
 
 -- the words of a subcommand, at their end
-module _ (s : Shape) (words : List Text) (rows : List Row) (position : ℕ) (h : Held) (leads : Leads s (standing 1 nothing_held) words (standing position h)) (holds : Holds s rows h) where
-  last : walk s.rules [] nothing_held words ≡ standing position h
+module _ (s : Shape) (words : List Text) (rows : List Row) (after : Walk) (leads : Leads s (standing 1 nothing_held) words after) (holds : Holds s rows after.held) where
+  last : walk s.rules [] nothing_held words ≡ after
   last = ap (fold (walked s.rules []) (standing 1 nothing_held)) (sym (append-nil words)) ∙ leads.there []
 
   all_calm : walk_fault s [] (walk_from nothing_held) words ≡ []

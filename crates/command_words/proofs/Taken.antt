@@ -6,19 +6,19 @@ use Rattle.clap.proofs.OnLiterals.{clap_on_literals}
 use Rattle.clap.specs.Faults.{check_fault, defaults_fault}
 use Rattle.clap.specs.Kinds.{or_else}
 use Rattle.clap.specs.Simple.{Shape, built, built_leaf, inherited}
-use Rattle.clap.specs.Walk.{Held, arg_by_id, arg_by_index, has_row, next_position, nothing_held, with_default}
+use Rattle.clap.specs.Walk.{Held, Walk, arg_by_id, arg_by_index, has_row, next_position, nothing_held, with_default}
 use Rattle.clap.specs.Words.{App, Row, Rule, Text, fault_of, new_app, subcommand_of}
 use Rattle.solo.specs.Volume.{target_of}
 use Rattle.solo.specs.declared.volume.Volume.{Volume}
-use Rattle.command_words.specs.Application.{bare_app, the_app, with_name, with_names, with_options, with_trace, with_volume}
+use Rattle.command_words.specs.Application.{bare_app, the_app, with_name, with_names, with_options, with_served, with_trace, with_volume, with_what_if}
 use Rattle.command_words.specs.Commands.{Asks, HasValues, IsCommand, name_of}
 use Rattle.wol_model.specs.Trace.{Target}
-use Rattle.command_words.specs.Table.{IsAlone, IsGen, IsSolo}
+use Rattle.command_words.specs.Table.{Form, IsAlone, IsGen, IsSolo, bare, formed}
 use Rattle.command_words.specs.declared.command.Command.{Command}
-use Rattle.command_words.specs.declared.command.Command.TheVariants.{Solo, Replay, Gen, Soak, ViewAdd, ViewRemove, Nbd, Serve}
+use Rattle.command_words.specs.declared.command.Command.TheVariants.{Solo, Replay, Gen, Soak, WhatIf, ViewAdd, ViewRemove, Nbd, Serve}
 use Rattle.command_words.specs.declared.command.Generated.{Generated}
 use Rattle.command_words.proofs.Rows.{given_row}
-use Rattle.command_words.proofs.Steps.{Holds, Leads, by_place, filled, filled_holds, leads_nowhere, leads_on, standing, valued}
+use Rattle.command_words.proofs.Steps.{Holds, Leads, MayPlace, by_form, filled, filled_holds, form_leads, leads_nowhere, leads_on, standing, standing_in, valued}
 use Rattle.command_words.proofs.Subcommands.{Enters, entered_calm, entered_rows, level_calm, rows_at_end}
 use Rattle.command_words.proofs.Words.{IsPlain, plain_decimal, plain_host}
 
@@ -34,13 +34,13 @@ pub record Takes (name : Text) (words : List Text) (rows : List Row) : Type 0 wh
   pub calm : fault_of the_app (name ∷ words) ≡ []
   pub met : subcommand_of the_app (name ∷ words) ≡ Some (name, rows)
 
-pub takes : (name : Text) (s : Shape) (words : List Text) (rows : List Row) (position : ℕ) (h : Held) → Enters (built the_app) name s → s.name ≡ name
-    → Leads s (standing 1 nothing_held) words (standing position h) → Holds s rows h
+pub takes : (name : Text) (s : Shape) (words : List Text) (rows : List Row) (after : Walk) → Enters (built the_app) name s → s.name ≡ name
+    → Leads s (standing 1 nothing_held) words after → Holds s rows after.held
     → or_else (defaults_fault rows s.rules) (check_fault s (fold with_default rows s.rules) false) ≡ []
     → Takes name words (fold with_default rows s.rules)
-takes name s words rows position h enters named leads holds ends = record {
-  calm = entered_calm (built the_app) name s words enters (level_calm s words rows position h leads holds ends);
-  met = entered_rows (built the_app) name s words enters ∙ ap₂ (λ n rs. Some (n, rs)) named (rows_at_end s words rows position h leads holds);
+takes name s words rows after enters named leads holds ends = record {
+  calm = entered_calm (built the_app) name s words enters (level_calm s words rows after leads holds ends);
+  met = entered_rows (built the_app) name s words enters ∙ ap₂ (λ n rs. Some (n, rs)) named (rows_at_end s words rows after leads holds);
 }
 
 -- ---- The names of the commands
@@ -54,7 +54,8 @@ told_of (Soak asked options) = with_options (with_trace (new_app (codes "soak"))
 told_of (ViewAdd names) = with_names (new_app (codes "view-add"))
 told_of (ViewRemove names) = with_names (new_app (codes "view-remove"))
 told_of (Nbd served) = with_name (new_app (codes "nbd"))
-told_of (Serve served) = with_name (new_app (codes "serve"))
+told_of (Serve served patience) = with_served (new_app (codes "serve"))
+told_of (WhatIf options) = with_what_if (new_app (codes "whatif"))
 told_of c = new_app (name_of c)
 
 -- its name enters it
@@ -79,7 +80,7 @@ pub alone : (words : List Text) (c : Command) → Enters (built the_app) (name_o
 unfolding clap_on_literals
 alone words c enters is values =
     let s : Shape = built_sub (new_app (name_of c)) in
-    asks_for words (name_of c) [] [] c is (takes (name_of c) s [] [] 1 nothing_held enters refl (leads_nowhere s (standing 1 nothing_held)) (nothing_holds s) refl) (record { named = refl; values = values })
+    asks_for words (name_of c) [] [] c is (takes (name_of c) s [] [] (standing 1 nothing_held) enters refl (leads_nowhere s (standing 1 nothing_held)) (nothing_holds s) refl) (record { named = refl; values = values })
 
 -- ---- Arguments by their places
 
@@ -87,27 +88,27 @@ abbrev pub placed_arg : Text → ℕ → Rule
 placed_arg name position = valued name None (Some position) true
 
 -- arguments by their places lead the walk to this place, and are held as these rows
-pub record Placed (s : Shape) (position : ℕ) (words : List Text) (rows : List Row) : Type 0 where
+pub record Placed (s : Shape) (form : Form) (position : ℕ) (words : List Text) (rows : List Row) : Type 0 where
   pub held : Held
-  pub leads : Leads s (standing 1 nothing_held) words (standing position held)
+  pub leads : Leads s (standing 1 nothing_held) words (standing_in form position held)
   pub holds : Holds s rows held
 
-pub none_placed : (s : Shape) → Placed s 1 [] []
-none_placed s = record { held = nothing_held; leads = leads_nowhere s (standing 1 nothing_held); holds = nothing_holds s }
+pub none_placed : (s : Shape) (form : Form) → Placed s form 1 (formed form []) []
+none_placed s form = record { held = nothing_held; leads = form_leads s form 1 nothing_held; holds = nothing_holds s }
 
-pub one_placed : (s : Shape) (name v : Text) (position : ℕ) (words : List Text) (rows : List Row) → Placed s position words rows → has_row name rows ≡ false
-    → arg_by_id s.rules name ≡ Some (placed_arg name position) → arg_by_index s.rules position ≡ Some (placed_arg name position) → IsPlain v
-    → Placed s (next_position (placed_arg name position) position) (words ++ v ∷ []) (rows ++ given_row name v ∷ [])
-one_placed s name v position words rows before none by_id by_index plain = record {
+pub one_placed : (s : Shape) (form : Form) (name v : Text) (position : ℕ) (words : List Text) (rows : List Row) → Placed s form position words rows → has_row name rows ≡ false
+    → arg_by_id s.rules name ≡ Some (placed_arg name position) → arg_by_index s.rules position ≡ Some (placed_arg name position) → MayPlace form v
+    → Placed s form (next_position (placed_arg name position) position) (words ++ v ∷ []) (rows ++ given_row name v ∷ [])
+one_placed s form name v position words rows before none by_id by_index may = record {
   held = filled s name v before.held;
-  leads = leads_on s (standing 1 nothing_held) (standing position before.held) (standing (next_position (placed_arg name position) position) (filled s name v before.held)) words (v ∷ []) before.leads
-      (by_place s name None (Some position) true rows before.held v before.holds none position by_index plain);
+  leads = leads_on s (standing 1 nothing_held) (standing_in form position before.held) (standing_in form (next_position (placed_arg name position) position) (filled s name v before.held)) words (v ∷ []) before.leads
+      (by_form s name None (Some position) true rows before.held v before.holds none form position by_index may);
   holds = filled_holds s name None (Some position) true rows before.held v before.holds none by_id;
 }
 
-pub takes_placed : (name : Text) (s : Shape) (words : List Text) (rows : List Row) (position : ℕ) → Enters (built the_app) name s → s.name ≡ name → Placed s position words rows
+pub takes_placed : (name : Text) (s : Shape) (form : Form) (words : List Text) (rows : List Row) (position : ℕ) → Enters (built the_app) name s → s.name ≡ name → Placed s form position words rows
     → or_else (defaults_fault rows s.rules) (check_fault s (fold with_default rows s.rules) false) ≡ [] → Takes name words (fold with_default rows s.rules)
-takes_placed name s words rows position enters named placed ends = takes name s words rows position placed.held enters named placed.leads placed.holds ends
+takes_placed name s form words rows position enters named placed ends = takes name s words rows (standing_in form position placed.held) enters named placed.leads placed.holds ends
 
 -- ---- `solo`
 
@@ -118,10 +119,10 @@ takes_solo : (volume : Volume) (host disk blocks : Text) → IsPlain host → Is
 unfolding clap_on_literals
 takes_solo volume host disk blocks plain_1 plain_2 plain_3 =
     let s : Shape = built_sub (with_volume (new_app (codes "solo"))) in
-    let one = one_placed s (codes "HOST") host 1 [] [] (none_placed s) refl refl refl plain_1 in
-    let two = one_placed s (codes "DISK") disk 2 (host ∷ []) (given_row (codes "HOST") host ∷ []) one refl refl refl plain_2 in
-    let all = one_placed s (codes "BLOCKS") blocks 3 (host ∷ disk ∷ []) (given_row (codes "HOST") host ∷ given_row (codes "DISK") disk ∷ []) two refl refl refl plain_3 in
-    takes_placed (codes "solo") s (host ∷ disk ∷ blocks ∷ []) (solo_rows host disk blocks) 4 (enters (Solo volume)) refl all refl
+    let one = one_placed s bare (codes "HOST") host 1 [] [] (none_placed s bare) refl refl refl plain_1 in
+    let two = one_placed s bare (codes "DISK") disk 2 (host ∷ []) (given_row (codes "HOST") host ∷ []) one refl refl refl plain_2 in
+    let all = one_placed s bare (codes "BLOCKS") blocks 3 (host ∷ disk ∷ []) (given_row (codes "HOST") host ∷ given_row (codes "DISK") disk ∷ []) two refl refl refl plain_3 in
+    takes_placed (codes "solo") s bare (host ∷ disk ∷ blocks ∷ []) (solo_rows host disk blocks) 4 (enters (Solo volume)) refl all refl
 
 pub solo_is_command : (words : List Text) (volume : Volume) → IsSolo words (target_of volume) → IsCommand words (Solo volume)
 solo_is_command words volume is =
@@ -142,9 +143,9 @@ takes_gen : (asked : Generated) (seed lines : Text) → IsPlain seed → IsPlain
 unfolding clap_on_literals
 takes_gen asked seed lines plain_1 plain_2 =
     let s : Shape = built_sub (with_trace (new_app (codes "gen"))) in
-    let one = one_placed s (codes "SEED") seed 1 [] [] (none_placed s) refl refl refl plain_1 in
-    let all = one_placed s (codes "LINES") lines 2 (seed ∷ []) (given_row (codes "SEED") seed ∷ []) one refl refl refl plain_2 in
-    takes_placed (codes "gen") s (seed ∷ lines ∷ []) (gen_rows seed lines) 3 (enters (Gen asked)) refl all refl
+    let one = one_placed s bare (codes "SEED") seed 1 [] [] (none_placed s bare) refl refl refl plain_1 in
+    let all = one_placed s bare (codes "LINES") lines 2 (seed ∷ []) (given_row (codes "SEED") seed ∷ []) one refl refl refl plain_2 in
+    takes_placed (codes "gen") s bare (seed ∷ lines ∷ []) (gen_rows seed lines) 3 (enters (Gen asked)) refl all refl
 
 pub gen_is_command : (words : List Text) (asked : Generated) → IsGen words asked → IsCommand words (Gen asked)
 gen_is_command words asked is =

@@ -1,6 +1,6 @@
 -- Words ask for one command at most.
-use Rattle.std.proofs.Common.{◌≡◌, ◌∙◌, ◌<◌, ◌^◌, ℕ, Bool, true, false, refl, sym, ap, ap₂, subst, arith, List, [], Option, Some, codes, true≢false}
-use Rattle.std.specs.Prelude.{cond, decimal, unwrap_or, IsTrue, ◌↔◌, ⊤}
+use Rattle.std.proofs.Common.{◌≡◌, ◌∙◌, ◌<◌, ◌^◌, ℕ, Bool, true, false, refl, sym, ap, ap₂, subst, arith, List, [], ◌≤◌, Option, None, Some, codes, option_map, is_some, true≢false}
+use Rattle.std.specs.Prelude.{cond, decimal, unwrap_or, IfSome, IsTrue, ◌↔◌, ⊤}
 use Rattle.std.specs.Str.{bytes_eq}
 use Rattle.std.proofs.lemmas.Fmt.{decimal_injective}
 use Rattle.clap.specs.Words.{Row, Text}
@@ -10,15 +10,17 @@ use Rattle.wol_model.specs.Trace.{Target}
 use Rattle.command_words.specs.Commands.{HasValues, name_of}
 use Rattle.command_words.specs.Laws.{AreSame, CommandsAreOne, nbd, same, serve, solo, view_add, view_remove}
 use Rattle.command_words.specs.Table.{Named, mode_text}
-use Rattle.command_words.specs.Values.{HasNames, HasOptions, HasText, HasTrace, HasVolume, named_by, served_by}
+use Rattle.command_words.specs.Values.{HasNames, HasOptions, HasText, HasTrace, HasVolume, HasWait, HasWhatIf, named_by, served_by}
 use Rattle.command_words.specs.declared.command.Command.{Command}
 use Rattle.command_words.specs.declared.command.Command.TheVariants.{Solo, Format, Replay, Check, Dump, Gen, Soak, WhatIf, ViewAdd, ViewRemove, Clean, Nbd, Serve}
 use Rattle.command_words.specs.declared.command.Generated.{Generated}
 use Rattle.command_words.specs.declared.command.Mode.{Mode}
 use Rattle.command_words.specs.declared.command.Mode.TheVariants.{Off, Between, Beside}
 use Rattle.command_words.specs.declared.command.Options.{Options}
+use Rattle.command_words.specs.declared.command.Patience.{Patience}
 use Rattle.command_words.specs.declared.command.ServedName.{ServedName}
 use Rattle.command_words.specs.declared.command.ViewNames.{ViewNames}
+use Rattle.command_words.specs.declared.command.WhatIfOptions.{WhatIfOptions}
 
 -- two texts that a test tells apart
 pub apart : (x y : Text) → bytes_eq x x ≡ true → bytes_eq y x ≡ false → x ≡ y → ⊥
@@ -39,8 +41,8 @@ same_volume rows v w h k =
 
 same_names : (rows : List Row) (v w : Named) → HasNames rows v → HasNames rows w → v ≡ w
 same_names rows v w h k =
-    let volume = one_text rows (codes "NAME") v.volume w.volume h.volume.text k.volume.text in
-    let logger = one_text rows (codes "LOGGER") v.logger w.logger h.logger.text k.logger.text in
+    let volume = one_text rows (codes "NAME") v.volume w.volume h.volume k.volume in
+    let logger = one_text rows (codes "LOGGER") v.logger w.logger h.logger k.logger in
     λ i. record { volume = volume i; logger = logger i }
 
 same_trace : (rows : List Row) (a b : Generated) → HasTrace rows a → HasTrace rows b → a ≡ b
@@ -72,6 +74,24 @@ same_options rows o p h k =
     let reclaim = same_mode o.reclaim p.reclaim (sym h.reclaim ∙ k.reclaim) in
     let each = same_test o.each p.each _ h.each k.each in
     λ i. record { workers = workers i; reclaim = reclaim i; each = each i }
+
+same_timeout : (o p : Option ℕ) → option_map decimal o ≡ option_map decimal p → IfSome o (λ ms. (1 ≤ ms) × (ms ≤ 86400000)) → IfSome p (λ ms. (1 ≤ ms) × (ms ≤ 86400000)) → o ≡ p
+same_timeout None None e h k = refl
+same_timeout None (Some n) e h k = absurd (true≢false (sym (ap is_some e)))
+same_timeout (Some m) None e h k = absurd (true≢false (ap is_some e))
+same_timeout (Some m) (Some n) e h k = ap Some (decimal_injective m n (omega (arith, h.1)) (omega (arith, k.1)) (ap (λ o. unwrap_or o []) e))
+
+same_what_if : (rows : List Row) (o p : WhatIfOptions) → HasWhatIf rows o → HasWhatIf rows p → o ≡ p
+same_what_if rows o p h k =
+    let long = same_test o.long p.long _ h.long k.long in
+    let volumes = same_test o.volumes p.volumes _ h.volumes k.volumes in
+    let timeout = same_timeout o.timeout_ms p.timeout_ms (sym h.timeout.given ∙ k.timeout.given) h.timeout.range k.timeout.range in
+    λ i. record { long = long i; volumes = volumes i; timeout_ms = timeout i }
+
+same_patience : (rows : List Row) (p q : Patience) → HasWait rows p.seconds → HasWait rows q.seconds → p ≡ q
+same_patience rows p q h k =
+    let seconds = decimal_injective p.seconds q.seconds (omega (arith, h.most)) (omega (arith, k.most)) (sym h.given ∙ k.given) in
+    λ i. record { seconds = seconds i }
 
 -- ---- A command by its name
 
@@ -107,12 +127,12 @@ IsOf of_check d = d ≡ Check
 IsOf of_dump d = d ≡ Dump
 IsOf of_gen d = (asked : Generated) × (d ≡ Gen asked)
 IsOf of_soak d = (asked : Generated) × (options : Options) × (d ≡ Soak asked options)
-IsOf of_whatif d = d ≡ WhatIf
+IsOf of_whatif d = (options : WhatIfOptions) × (d ≡ WhatIf options)
 IsOf of_view_add d = (names : ViewNames) × (d ≡ ViewAdd names)
 IsOf of_view_remove d = (names : ViewNames) × (d ≡ ViewRemove names)
 IsOf of_clean d = d ≡ Clean
 IsOf of_nbd d = (served : ServedName) × (d ≡ Nbd served)
-IsOf of_serve d = (served : ServedName) × (d ≡ Serve served)
+IsOf of_serve d = (served : ServedName) × (patience : Patience) × (d ≡ Serve served patience)
 IsOf of_none d = ⊤
 
 own_kind : (d : Command) → IsOf (kind_of (name_of d)) d
@@ -123,12 +143,12 @@ own_kind Check = refl
 own_kind Dump = refl
 own_kind (Gen asked) = (asked, refl)
 own_kind (Soak asked options) = (asked, options, refl)
-own_kind WhatIf = refl
+own_kind (WhatIf options) = (options, refl)
 own_kind (ViewAdd names) = (names, refl)
 own_kind (ViewRemove names) = (names, refl)
 own_kind Clean = refl
 own_kind (Nbd served) = (served, refl)
-own_kind (Serve served) = (served, refl)
+own_kind (Serve served patience) = (served, patience, refl)
 
 pub by_name : (name : Text) (d : Command) → name ≡ name_of d → IsOf (kind_of name) d
 by_name name d is = subst (λ t. IsOf (kind_of t) d) (sym is) (own_kind d)
@@ -151,12 +171,14 @@ module _ (rows : List Row) (d : Command) (k : HasValues rows d) where
   same_at (Soak a o) h (b, p, is) =
       let values = values_of _ is in
       alike _ _ is (subst (AreSame _) (ap₂ Soak (same_trace rows a b h.0 values.0) (same_options rows o p h.1 values.1)) same)
-  same_at WhatIf h is = alike _ _ is same
+  same_at (WhatIf o) h (p, is) = alike _ _ is (subst (AreSame _) (ap WhatIf (same_what_if rows o p h (values_of _ is))) same)
   same_at (ViewAdd v) h (w, is) = alike _ _ is (view_add (same_names rows (named_by v) (named_by w) h (values_of _ is)))
   same_at (ViewRemove v) h (w, is) = alike _ _ is (view_remove (same_names rows (named_by v) (named_by w) h (values_of _ is)))
   same_at Clean h is = alike _ _ is same
-  same_at (Nbd v) h (w, is) = alike _ _ is (nbd (one_text rows (codes "NAME") (served_by v) (served_by w) h.text (values_of _ is).text))
-  same_at (Serve v) h (w, is) = alike _ _ is (serve (one_text rows (codes "NAME") (served_by v) (served_by w) h.text (values_of _ is).text))
+  same_at (Nbd v) h (w, is) = alike _ _ is (nbd (one_text rows (codes "NAME") (served_by v) (served_by w) h (values_of _ is)))
+  same_at (Serve v p) h (w, q, is) =
+      let values = values_of _ is in
+      alike _ _ is (subst (λ (r : Patience). AreSame (Serve v p) (Serve w r)) (same_patience rows p q h.1 values.1) (serve (one_text rows (codes "NAME") (served_by v) (served_by w) h.0 values.0)))
 
 abbrev found : Option (Text × List Row) → Text × List Row
 found o = unwrap_or o ([], [])

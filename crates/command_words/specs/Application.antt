@@ -44,6 +44,17 @@ with_names a = with_pair (codes "NAME") (codes "LOGGER") a
 abbrev pub with_name : App → App
 with_name a = with_rule a (positional_rule (codes "NAME"))
 
+-- the command with the argument that names a volume of the configuration, and the option of how long
+-- it waits
+abbrev pub with_served : App → App
+with_served a = with_rule (with_name a) (option_rule (codes "wait"))
+
+-- the command with the options of what is printed of policies, and by which timeout
+abbrev pub with_what_if : App → App
+with_what_if a =
+    with_rule (with_rule (with_rule a (option_rule (codes "timeout")))
+    (flag_rule (codes "long"))) (flag_rule (codes "volumes"))
+
 -- the command with the options of a run over a trace
 abbrev pub with_options : App → App
 with_options a =
@@ -75,10 +86,10 @@ the_app =
     (new_app (codes "check")).top)
     (new_app (codes "dump")).top)
     (with_trace (new_app (codes "gen"))).top)
-    (new_app (codes "whatif")).top)
+    (with_what_if (new_app (codes "whatif"))).top)
     (with_names (new_app (codes "view-add"))).top)
     (with_names (new_app (codes "view-remove"))).top)
     (new_app (codes "clean")).top)
     (with_name (new_app (codes "nbd"))).top)
-    (with_name (new_app (codes "serve"))).top)
+    (with_served (new_app (codes "serve"))).top)
     (with_options (with_trace (new_app (codes "soak")))).top

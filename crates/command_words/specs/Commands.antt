@@ -4,7 +4,7 @@ use Rattle.std.specs.Prelude.{◌≡◌, ⊤, List, [], Some, codes}
 use Rattle.clap.specs.Words.{Row, Text, fault_of, subcommand_of}
 use Rattle.solo.specs.Volume.{target_of}
 use Rattle.command_words.specs.Application.{the_app}
-use Rattle.command_words.specs.Values.{HasNames, HasOptions, HasServed, HasTrace, HasVolume, named_by, served_by}
+use Rattle.command_words.specs.Values.{HasNames, HasOptions, HasServed, HasTrace, HasVolume, HasWait, HasWhatIf, named_by, served_by}
 use Rattle.command_words.specs.declared.command.Command.{Command}
 use Rattle.command_words.specs.declared.command.Command.TheVariants.{Solo, Format, Replay, Check, Dump, Gen, Soak, WhatIf, ViewAdd, ViewRemove, Clean, Nbd, Serve}
 
@@ -17,12 +17,12 @@ name_of Check = codes "check"
 name_of Dump = codes "dump"
 name_of (Gen asked) = codes "gen"
 name_of (Soak asked options) = codes "soak"
-name_of WhatIf = codes "whatif"
+name_of (WhatIf options) = codes "whatif"
 name_of (ViewAdd names) = codes "view-add"
 name_of (ViewRemove names) = codes "view-remove"
 name_of Clean = codes "clean"
 name_of (Nbd name) = codes "nbd"
-name_of (Serve name) = codes "serve"
+name_of (Serve name patience) = codes "serve"
 
 -- the values are those of the command
 abbrev pub HasValues : List Row → Command → Type 0
@@ -33,12 +33,13 @@ HasValues rows Check = ⊤
 HasValues rows Dump = ⊤
 HasValues rows (Gen asked) = HasTrace rows asked
 HasValues rows (Soak asked options) = HasTrace rows asked × HasOptions rows options
-HasValues rows WhatIf = ⊤
+HasValues rows (WhatIf options) = HasWhatIf rows options
 HasValues rows (ViewAdd names) = HasNames rows (named_by names)
 HasValues rows (ViewRemove names) = HasNames rows (named_by names)
 HasValues rows Clean = ⊤
 HasValues rows (Nbd name) = HasServed rows (served_by name)
-HasValues rows (Serve name) = HasServed rows (served_by name)
+HasValues rows (Serve name patience) =
+    HasServed rows (served_by name) × HasWait rows patience.seconds
 
 -- the subcommand of this name with these values is the command
 pub record Asks (name : Text) (rows : List Row) (command : Command) : Type 0 where

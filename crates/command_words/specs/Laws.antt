@@ -6,9 +6,10 @@ use Rattle.solo.specs.Volume.{target_of}
 use Rattle.solo.specs.declared.volume.Volume.{Volume}
 use Rattle.wol_model.specs.Trace.{Target}
 use Rattle.command_words.specs.Commands.{IsCommand}
-use Rattle.command_words.specs.Table.{IsAlone, IsGen, IsOfName, IsOfNames, IsReplay, IsSoak, IsSolo, Named}
+use Rattle.command_words.specs.Table.{IsAlone, IsGen, IsOfName, IsOfNames, IsReplay, IsServe, IsSoak, IsSolo, IsWhatIf, Named}
 use Rattle.command_words.specs.declared.command.Command.{Command}
 use Rattle.command_words.specs.declared.command.Command.TheVariants.{Solo, Format, Replay, Check, Dump, Gen, Soak, WhatIf, ViewAdd, ViewRemove, Clean, Nbd, Serve}
+use Rattle.command_words.specs.declared.command.Patience.{Patience}
 use Rattle.command_words.specs.declared.command.ServedName.{ServedName}
 use Rattle.command_words.specs.declared.command.ViewNames.{ViewNames}
 use Rattle.command_words.specs.Values.{named_by, served_by}
@@ -22,12 +23,12 @@ Spells words Check = IsAlone (codes "check") words
 Spells words Dump = IsAlone (codes "dump") words
 Spells words (Gen asked) = IsGen words asked
 Spells words (Soak asked options) = IsSoak words asked options
-Spells words WhatIf = IsAlone (codes "whatif") words
+Spells words (WhatIf options) = IsWhatIf words options
 Spells words (ViewAdd names) = IsOfNames (codes "view-add") words (named_by names)
 Spells words (ViewRemove names) = IsOfNames (codes "view-remove") words (named_by names)
 Spells words Clean = IsAlone (codes "clean") words
 Spells words (Nbd served) = IsOfName (codes "nbd") words (served_by served)
-Spells words (Serve served) = IsOfName (codes "serve") words (served_by served)
+Spells words (Serve served patience) = IsServe words (served_by served) patience
 
 -- each spelling of the table asks for its command
 abbrev pub SpelledIsCommand : Type 0
@@ -48,7 +49,8 @@ pub data AreSame : Command → Command → Type 0 where
   view_add : {v w : ViewNames} → named_by v ≡ named_by w → AreSame (ViewAdd v) (ViewAdd w)
   view_remove : {v w : ViewNames} → named_by v ≡ named_by w → AreSame (ViewRemove v) (ViewRemove w)
   nbd : {v w : ServedName} → served_by v ≡ served_by w → AreSame (Nbd v) (Nbd w)
-  serve : {v w : ServedName} → served_by v ≡ served_by w → AreSame (Serve v) (Serve w)
+  serve : {v w : ServedName} {p : Patience} → served_by v ≡ served_by w
+      → AreSame (Serve v p) (Serve w p)
 
 -- words ask for no two commands
 abbrev pub CommandsAreOne : Type 0

@@ -1,13 +1,15 @@
 -- What the values of a command's arguments say, by what `clap` found.
-use Rattle.std.specs.Prelude.{◌≡◌, ◌↔◌, ◌^◌, ◌<◌, ◌≤◌, ℕ, List, Some, IsTrue, codes, decimal, unwrap_or}
+use Rattle.std.specs.Prelude.{◌≡◌, ◌↔◌, ◌^◌, ◌<◌, ◌≤◌, ℕ, List, Option, Some, IfSome, IsTrue, codes, decimal, option_map, unwrap_or}
 use Rattle.clap.specs.Words.{Row, Text, first_of}
 use Rattle.wol_model.specs.Trace.{Target}
-use Rattle.command_words.specs.Table.{IsHost, IsName, Named, mode_text}
+use Rattle.command_words.specs.Table.{IsHost, Named, mode_text}
 use Rattle.command_words.specs.declared.command.Generated.{Generated}
 use Rattle.command_words.specs.declared.command.Mode.{Mode}
 use Rattle.command_words.specs.declared.command.Options.{Options}
+use Rattle.command_words.specs.declared.command.Patience.{Patience}
 use Rattle.command_words.specs.declared.command.ServedName.{ServedName}
 use Rattle.command_words.specs.declared.command.ViewNames.{ViewNames}
+use Rattle.command_words.specs.declared.command.WhatIfOptions.{WhatIfOptions}
 
 -- the argument of this name was given with this text
 abbrev pub HasText : List Row → Text → Text → Type 0
@@ -42,19 +44,10 @@ NoTrace rows = (asked : Generated) → ¬ HasTrace rows asked
 abbrev pub named_by : ViewNames → Named
 named_by names = record { volume = names.volume.now; logger = names.logger.now }
 
--- the argument's value is this name
-pub record HasName (rows : List Row) (which name : Text) : Type 0 where
-  pub text : HasText rows which name
-  pub is : IsName name
-
--- it is none
-abbrev pub NoName : List Row → (which : Text) → Type 0
-NoName rows which = (name : Text) → ¬ HasName rows which name
-
 -- the values NAME and LOGGER are these names
 pub record HasNames (rows : List Row) (named : Named) : Type 0 where
-  pub volume : HasName rows (codes "NAME") named.volume
-  pub logger : HasName rows (codes "LOGGER") named.logger
+  pub volume : HasText rows (codes "NAME") named.volume
+  pub logger : HasText rows (codes "LOGGER") named.logger
 
 -- they are none
 abbrev pub NoNames : List Row → Type 0
@@ -66,11 +59,39 @@ served_by served = served.volume.now
 
 -- the value NAME is this name
 abbrev pub HasServed : List Row → Text → Type 0
-HasServed rows name = HasName rows (codes "NAME") name
+HasServed rows name = HasText rows (codes "NAME") name
 
 -- it is none
 abbrev pub NoServed : List Row → Type 0
-NoServed rows = NoName rows (codes "NAME")
+NoServed rows = (name : Text) → ¬ HasServed rows name
+
+-- so many seconds are to be waited: ten, where the option isn't given
+pub record HasWait (rows : List Row) (seconds : ℕ) : Type 0 where
+  pub given : unwrap_or (first_of (codes "wait") rows) (codes "10") ≡ decimal seconds
+  pub most : seconds ≤ 3600
+
+-- they are none
+abbrev pub NoWait : List Row → Type 0
+NoWait rows = (patience : Patience) → ¬ HasWait rows patience.seconds
+
+-- this timeout is given, in milliseconds, or none is
+pub record HasTimeout (rows : List Row) (timeout : Option ℕ) : Type 0 where
+  pub given : first_of (codes "timeout") rows ≡ option_map decimal timeout
+  pub range : IfSome timeout (λ ms. (1 ≤ ms) × (ms ≤ 86400000))
+
+-- what is given is none
+abbrev pub NoTimeout : List Row → Type 0
+NoTimeout rows = (timeout : Option ℕ) → ¬ HasTimeout rows timeout
+
+-- the values of the options of `whatif` are these
+pub record HasWhatIf (rows : List Row) (options : WhatIfOptions) : Type 0 where
+  pub long : IsTrue options.long ↔ HasText rows (codes "long") (codes "true")
+  pub volumes : IsTrue options.volumes ↔ HasText rows (codes "volumes") (codes "true")
+  pub timeout : HasTimeout rows options.timeout_ms
+
+-- they are none
+abbrev pub NoWhatIf : List Row → Type 0
+NoWhatIf rows = (options : WhatIfOptions) → ¬ HasWhatIf rows options
 
 -- so many workers are asked for: one, where the option isn't given
 pub record HasWorkers (rows : List Row) (workers : ℕ) : Type 0 where

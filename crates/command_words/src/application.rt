@@ -1,6 +1,6 @@
 // The program's commands and their arguments, as `clap` is told of them.
 ghost use Rattle.clap.specs.Words.{app_of, rule_of};
-ghost use Rattle.command_words.specs.Application.{Gains, option_rule, positional_rule, the_app, with_name, with_options, with_pair, with_volume};
+ghost use Rattle.command_words.specs.Application.{Gains, flag_rule, option_rule, positional_rule, the_app, with_name, with_options, with_pair, with_served, with_volume, with_what_if};
 ghost use Rattle.std.specs.Prelude.{◌≡◌, false, IfOk};
 
 use clap::{Arg, ArgAction, Command};
@@ -22,12 +22,12 @@ pub(crate) fn application<'a>(alloc: Global) -> Result<Command<'a>, AllocError>
         .subcommand(Command::new(alloc, "check"))?
         .subcommand(Command::new(alloc, "dump"))?
         .subcommand(of_pair(alloc, Command::new(alloc, "gen"), "SEED", "LINES")?)?
-        .subcommand(Command::new(alloc, "whatif"))?
+        .subcommand(of_what_if(alloc, Command::new(alloc, "whatif"))?)?
         .subcommand(of_pair(alloc, Command::new(alloc, "view-add"), "NAME", "LOGGER")?)?
         .subcommand(of_pair(alloc, Command::new(alloc, "view-remove"), "NAME", "LOGGER")?)?
         .subcommand(Command::new(alloc, "clean"))?
         .subcommand(of_name(alloc, Command::new(alloc, "nbd"))?)?
-        .subcommand(of_name(alloc, Command::new(alloc, "serve"))?)?
+        .subcommand(of_served(alloc, Command::new(alloc, "serve"))?)?
         .subcommand(of_options(
             alloc,
             of_pair(alloc, Command::new(alloc, "soak"), "SEED", "LINES")?,
@@ -62,6 +62,23 @@ fn of_name<'a>(alloc: Global, command: Command<'a>) -> Result<Command<'a>, Alloc
     command.arg(positional(alloc, "NAME"))
 }
 
+// The command with the argument that names a volume of the configuration, and the option of how long it waits.
+fn of_served<'a>(alloc: Global, command: Command<'a>) -> Result<Command<'a>, AllocError>
+    ensures { IfOk result (Gains with_served command.entry) }
+{
+    of_name(alloc, command)?.arg(option(alloc, "wait"))
+}
+
+// The command with the options of what is printed of policies, and by which timeout.
+fn of_what_if<'a>(alloc: Global, command: Command<'a>) -> Result<Command<'a>, AllocError>
+    ensures { IfOk result (Gains with_what_if command.entry) }
+{
+    command
+        .arg(option(alloc, "timeout"))?
+        .arg(flag(alloc, "long"))?
+        .arg(flag(alloc, "volumes"))
+}
+
 // The command with the options of a run over a trace.
 fn of_options<'a>(alloc: Global, command: Command<'a>) -> Result<Command<'a>, AllocError>
     ensures { IfOk result (Gains with_options command.entry) }
@@ -69,7 +86,7 @@ fn of_options<'a>(alloc: Global, command: Command<'a>) -> Result<Command<'a>, Al
     command
         .arg(option(alloc, "workers"))?
         .arg(option(alloc, "reclaim"))?
-        .arg(option(alloc, "each").action(ArgAction::SetTrue))
+        .arg(flag(alloc, "each"))
 }
 
 // An argument that is known by its place, and has to be given.
@@ -86,4 +103,12 @@ fn option<'a>(alloc: Global, name: &'a str) -> Arg<'a>
     ensures global { result.global ≡ false }
 {
     Arg::new(alloc, name).long(name)
+}
+
+// An option without a value.
+fn flag<'a>(alloc: Global, name: &'a str) -> Arg<'a>
+    ensures rule { rule_of result ≡ flag_rule name.entry.now }
+    ensures global { result.global ≡ false }
+{
+    option(alloc, name).action(ArgAction::SetTrue)
 }

@@ -4,7 +4,9 @@ ghost use Rattle.command_words.specs.Commands.{Asks, AsksNothing, IsCommand, NoC
 ghost use Rattle.std.specs.Prelude.{◌≡◌, IfOk, IfSome, IfNone, IsErrOf, map, string_bytes};
 
 use crate::application::application;
-use crate::values::{names_of, options_of, served_of, trace_of, volume_of};
+use crate::values::{
+    names_of, options_of, patience_of, served_of, trace_of, volume_of, what_if_of,
+};
 use clap::error::ErrorKind;
 use clap::{ArgMatches, Error};
 use solo::Volume;
@@ -40,20 +42,35 @@ pub struct Options {
     pub each: bool,
 }
 
+/// What is printed of each policy for a trace, and by which timeout.
+#[derive(Clone, Copy)]
+pub struct WhatIfOptions {
+    /// Whether requests that wait and blocks in logs are printed.
+    pub long: bool,
+    /// Whether a line is printed for each volume.
+    pub volumes: bool,
+    /// How long a disk stays awake without a use, in place of what the configuration says: 1 to 86,400,000 milliseconds.
+    pub timeout_ms: Option<u32>,
+}
+
 /// A volume, and another that is to log for it or no longer to.
 #[derive(Clone, Copy)]
 pub struct ViewNames<'a> {
-    /// It doesn't begin with a dash.
     pub volume: &'a str,
-    /// It doesn't begin with a dash.
     pub logger: &'a str,
 }
 
 /// A volume that is to be served.
 #[derive(Clone, Copy)]
 pub struct ServedName<'a> {
-    /// It doesn't begin with a dash.
     pub volume: &'a str,
+}
+
+/// How long a command tries again to get what another process has locked.
+#[derive(Clone, Copy)]
+pub struct Patience {
+    /// At most 3,600.
+    pub seconds: u32,
 }
 
 /// What the program is asked to do.
@@ -73,8 +90,8 @@ pub enum Command<'a> {
     Gen(Generated),
     /// A generated trace is run on the volumes of the configuration.
     Soak(Generated, Options),
-    /// What each of four policies would use for a trace is printed.
-    WhatIf,
+    /// What each policy would use for a trace is printed.
+    WhatIf(WhatIfOptions),
     /// A volume's view gains a logger.
     ViewAdd(ViewNames<'a>),
     /// A volume's view loses a logger, after what lies there went home.
@@ -84,7 +101,7 @@ pub enum Command<'a> {
     /// A volume is served to a client.
     Nbd(ServedName<'a>),
     /// A volume is served to a client, behind a handshake.
-    Serve(ServedName<'a>),
+    Serve(ServedName<'a>, Patience),
 }
 
 /// Why there is no command.
@@ -141,12 +158,12 @@ fn read<'a>(name: &str, matches: &ArgMatches<'a>) -> Option<Command<'a>>
         "dump" => Some(Command::Dump),
         "gen" => Some(Command::Gen(trace_of(matches)?)),
         "soak" => Some(Command::Soak(trace_of(matches)?, options_of(matches)?)),
-        "whatif" => Some(Command::WhatIf),
+        "whatif" => Some(Command::WhatIf(what_if_of(matches)?)),
         "view-add" => Some(Command::ViewAdd(names_of(matches)?)),
         "view-remove" => Some(Command::ViewRemove(names_of(matches)?)),
         "clean" => Some(Command::Clean),
         "nbd" => Some(Command::Nbd(served_of(matches)?)),
-        "serve" => Some(Command::Serve(served_of(matches)?)),
+        "serve" => Some(Command::Serve(served_of(matches)?, patience_of(matches)?)),
         _ => None,
     }
 }

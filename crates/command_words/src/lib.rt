@@ -11,6 +11,7 @@ mod laws;
 mod values;
 
 pub use command::{
-    Command, Generated, Mode, Options, ServedName, ViewNames, WordsFault, command_of,
+    Command, Generated, Mode, Options, Patience, ServedName, ViewNames, WhatIfOptions, WordsFault,
+    command_of,
 };
 pub use laws::words_laws;

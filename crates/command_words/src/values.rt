@@ -1,11 +1,11 @@
 // The values of a command's arguments.
 ghost use Rattle.clap.specs.Words.{first_of, found_of, rows_of};
 ghost use Rattle.command_words.specs.Table.{IsHost, IsHostByte};
-ghost use Rattle.command_words.specs.Values.{HasMode, HasName, HasNames, HasOptions, HasServed, HasTrace, HasVolume, HasWorkers, NoName, NoNames, NoOptions, NoServed, NoTrace, NoVolume, named_by, served_by};
+ghost use Rattle.command_words.specs.Values.{HasMode, HasNames, HasOptions, HasServed, HasText, HasTimeout, HasTrace, HasVolume, HasWait, HasWhatIf, HasWorkers, NoNames, NoOptions, NoServed, NoTimeout, NoTrace, NoVolume, NoWait, NoWhatIf, named_by, served_by};
 ghost use Rattle.solo.specs.Volume.{target_of};
-ghost use Rattle.std.specs.Prelude.{◌≡◌, ◌↔◌, ◌<◌, ◌≤◌, ◌^◌, ℕ, Some, IfSome, IfNone, IsTrue, decimal, option_map, unwrap_or};
+ghost use Rattle.std.specs.Prelude.{◌≡◌, ◌↔◌, ◌<◌, ◌≤◌, ◌^◌, ℕ, Some, IfSome, IfNone, IsTrue, codes, decimal, option_map, unwrap_or};
 
-use crate::command::{Generated, Mode, Options, ServedName, ViewNames};
+use crate::command::{Generated, Mode, Options, Patience, ServedName, ViewNames, WhatIfOptions};
 use clap::ArgMatches;
 use itoa::Buffer;
 use solo::Volume;
@@ -24,6 +24,12 @@ const MOST_LINES: u64 = (1 << 31) - 1;
 
 // The most workers.
 const MOST_WORKERS: u64 = 64;
+
+// The longest timeout, in milliseconds: a day.
+const MOST_TIMEOUT_MS: u64 = 86_400_000;
+
+// The longest wait, in seconds: an hour.
+const MOST_WAIT_SECONDS: u64 = 3_600;
 
 /// The volume that the values name: HOST is 1 to 64 bytes from 33 to 126 with no comma, no quotation mark and no dash in front, DISK is
 /// below 2^32, and BLOCKS from 1 to 2^32. `None` exactly where they name none.
@@ -62,26 +68,53 @@ pub(crate) fn trace_of(matches: &ArgMatches<'_>) -> Option<Generated>
     })
 }
 
-/// The two names that the values are: neither begins with a dash. `None` exactly where they are none.
+/// The two names that the values are. `None` exactly where one is missing.
 pub(crate) fn names_of<'a>(matches: &ArgMatches<'a>) -> Option<ViewNames<'a>>
     ensures some { IfSome result (λ names.
         HasNames (rows_of (found_of matches.now)) (named_by names)) }
     ensures none { IfNone result (NoNames (rows_of (found_of matches.now))) }
 {
     Some(ViewNames {
-        volume: name_at(matches, "NAME")?,
-        logger: name_at(matches, "LOGGER")?,
+        volume: value_at(matches, "NAME")?,
+        logger: value_at(matches, "LOGGER")?,
     })
 }
 
-/// The name that the value is: it doesn't begin with a dash. `None` exactly where it is none.
+/// The name that the value is. `None` exactly where it is missing.
 pub(crate) fn served_of<'a>(matches: &ArgMatches<'a>) -> Option<ServedName<'a>>
     ensures some { IfSome result (λ served. HasServed (rows_of (found_of matches.now))
         (served_by served)) }
     ensures none { IfNone result (NoServed (rows_of (found_of matches.now))) }
 {
-    let volume = name_at(matches, "NAME")?;
+    let volume = value_at(matches, "NAME")?;
     Some(ServedName { volume })
+}
+
+/// How long to wait: ten seconds, where the option isn't given. `None` exactly where the value is no number of seconds up to an hour.
+pub(crate) fn patience_of(matches: &ArgMatches<'_>) -> Option<Patience>
+    ensures some { IfSome result (λ patience.
+        HasWait (rows_of (found_of matches.now)) patience.seconds) }
+    ensures none { IfNone result (NoWait (rows_of (found_of matches.now))) }
+{
+    let seconds = number(value_or(matches, "wait", "10"))?;
+    if seconds > MOST_WAIT_SECONDS {
+        return None;
+    }
+    Some(Patience {
+        seconds: seconds as u32,
+    })
+}
+
+/// What is to be printed of policies, and by which timeout. `None` exactly where the timeout is none.
+pub(crate) fn what_if_of(matches: &ArgMatches<'_>) -> Option<WhatIfOptions>
+    ensures some { IfSome result (HasWhatIf (rows_of (found_of matches.now))) }
+    ensures none { IfNone result (NoWhatIf (rows_of (found_of matches.now))) }
+{
+    Some(WhatIfOptions {
+        long: is_given(matches, "long"),
+        volumes: is_given(matches, "volumes"),
+        timeout_ms: timeout_of(matches)?,
+    })
 }
 
 /// The options that the values are. `None` exactly where they are none.
@@ -92,8 +125,30 @@ pub(crate) fn options_of(matches: &ArgMatches<'_>) -> Option<Options>
     Some(Options {
         workers: workers_of(matches)?,
         reclaim: mode_of(matches)?,
-        each: value_or(matches, "each", "false") == "true",
+        each: is_given(matches, "each"),
     })
+}
+
+// Whether a flag is given.
+fn is_given(matches: &ArgMatches<'_>, name: &str) -> bool
+    ensures { IsTrue result ↔ HasText (rows_of (found_of matches.now)) name.now (codes "true") }
+{
+    value_or(matches, name, "false") == "true"
+}
+
+// The timeout that is given, if one is. `None` exactly where what is given is none.
+fn timeout_of(matches: &ArgMatches<'_>) -> Option<Option<u32>>
+    ensures some { IfSome result (HasTimeout (rows_of (found_of matches.now))) }
+    ensures none { IfNone result (NoTimeout (rows_of (found_of matches.now))) }
+{
+    let Some(word) = value_at(matches, "timeout") else {
+        return Some(None);
+    };
+    let timeout = number(word)?;
+    if timeout == 0 || timeout > MOST_TIMEOUT_MS {
+        return None;
+    }
+    Some(Some(timeout as u32))
 }
 
 // One worker, where the option isn't given.
@@ -125,18 +180,6 @@ fn number_at(matches: &ArgMatches<'_>, name: &str) -> Option<u64>
         ↔ (first_of name.now (rows_of (found_of matches.now)) ≡ Some (decimal n)) }
 {
     number(value_at(matches, name)?)
-}
-
-// The name that an argument's value is.
-fn name_at<'a>(matches: &ArgMatches<'a>, name: &str) -> Option<&'a str>
-    ensures some { IfSome result (λ it. HasName (rows_of (found_of matches.now)) name.now it.now) }
-    ensures none { IfNone result (NoName (rows_of (found_of matches.now)) name.now) }
-{
-    let value = value_at(matches, name)?;
-    if value.as_bytes().first() == Some(&b'-') {
-        return None;
-    }
-    Some(value)
 }
 
 // An argument's value, or the default.

@@ -1,1 +1,2 @@
 pub use Rattle.wol_model.specs.Journal
+pub mod Sums

@@ -1,61 +1,28 @@
-// Sums over the journal of a disk.
-ghost use Rattle.std.specs.Prelude.{◌≡◌, ◌≤◌, ◌<◌, ◌+◌, ◌-◌, ◌^◌, length};
-ghost use Rattle.wol_model.specs.Journal.{IsJournal, ArePowers, wakes, sleeps, standby, awake_time, units};
+// What a disk used, by the sums over its journal.
+ghost use Rattle.std.specs.Prelude.{◌≡◌, ◌≤◌, ◌<◌, ◌+◌, ◌-◌, ◌^◌, List};
+ghost use Rattle.energy.specs.Sums.{AreSumsOf, AreSums, amounts_by, amounts_of};
+ghost use Rattle.wol_model.specs.Journal.{ArePowers};
+ghost use Rattle.wol_model.specs.declared.journal.Turned.{Turned};
 
-use crate::{Amounts, Powers, Turned};
+use crate::{Amounts, Powers, Sums};
 
-/// The sums over a journal that begins awake at `from` and ends at `to`, both in units of 100 ns.
-pub fn amounts(journal: &[Turned], from: u64, to: u64, powers: &Powers) -> Amounts
-    requires journal { IsJournal from journal.now to }
+/// What a disk used from `from` to `to`, both in units of 100 ns, where these are the sums over its journal, which begins
+/// awake at `from`. Each journal with these sums gives these amounts.
+pub fn amounts(sums: &Sums, from: u64, to: u64, powers: &Powers) -> Amounts
+    requires sums { AreSums from to sums.now }
     requires powers { ArePowers powers.now }
-    ensures wakes { result.wakes ≡ wakes journal.now }
-    ensures sleeps { result.sleeps ≡ sleeps journal.now }
-    ensures awake { result.awake ≡ awake_time journal.now from to }
-    ensures standby { result.standby ≡ standby journal.now to }
-    ensures units { result.units ≡ units powers.now journal.now from to }
+    ensures value { result ≡ amounts_by powers.now from to sums.now }
+    ensures journal { (journal : List Turned) → AreSumsOf sums.now journal to
+        → result ≡ amounts_of powers.now from to journal }
 {
-    let wakes = journal
-        .iter()
-        .filter(|turned| matches!(turned, Turned::Up(_)))
-        .count() as u64;
-    let sleeps = journal
-        .iter()
-        .filter(|turned| matches!(turned, Turned::Down(_)))
-        .count() as u64;
-    let standby = time_in_standby(journal, from, to);
-    let awake = to - from - standby;
+    let awake = to - from - sums.standby;
     Amounts {
-        wakes,
-        sleeps,
+        wakes: sums.wakes,
+        sleeps: sums.sleeps,
         awake,
-        standby,
+        standby: sums.standby,
         units: awake as u128 * powers.awake_mw as u128
-            + standby as u128 * powers.standby_mw as u128
-            + wakes as u128 * powers.wake_mj as u128 * 10_000_000,
-    }
-}
-
-// From each turn down to the next turn up, or to the end.
-fn time_in_standby(journal: &[Turned], from: u64, to: u64) -> u64
-    requires { IsJournal from journal.now to }
-    ensures sum { result ≡ standby journal.now to }
-    ensures bound { result + from ≤ to }
-{
-    let mut total = 0;
-    let mut down = None;
-    for turned in journal {
-        match *turned {
-            Turned::Down(at) => down = Some(at),
-            Turned::Up(at) => {
-                if let Some(since) = down {
-                    total += at - since;
-                }
-                down = None;
-            }
-        }
-    }
-    match down {
-        Some(since) => total + (to - since),
-        None => total,
+            + sums.standby as u128 * powers.standby_mw as u128
+            + sums.wakes as u128 * powers.wake_mj as u128 * 10_000_000,
     }
 }

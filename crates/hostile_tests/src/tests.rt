@@ -5,3 +5,4 @@ mod rows;
 mod served;
 mod solo_stops;
 mod stops;
+mod twice;

@@ -17,14 +17,14 @@ use Rattle.manager.specs.Stands.{AreNamed, IsNamed, nones_in, nones_at, passed_i
 use Rattle.manager.specs.Writing.{HasAnswered, HaveAnswered}
 use Rattle.manager.specs.declared.base.LaneBase.{LaneBase}
 use Rattle.manager.proofs.Frames.{times_more}
-use Rattle.listed_records.proofs.Elements.{get_set, get_other, get_copies, length_copies, get_inside, zip_of, same_maps, all_set}
+use Rattle.volume_parts.proofs.Elements.{get_set, get_other, get_copies, length_copies, get_inside, zip_of, same_maps, all_set}
 use Rattle.volume_parts.proofs.Placing.{is_passed, none_passed_beyond}
 use Rattle.volume_parts.proofs.Lanes.{nones_none, nones_some}
 use Rattle.wol_disk.specs.Disk.{State}
 use Rattle.logger.specs.declared.shared.Shared.{Shared}
 use Rattle.manager.specs.declared.base.ManagerBase.{ManagerBase}
 use Rattle.manager.specs.declared.manager.Manager.{Manager}
-pub use Rattle.listed_records.proofs.Elements.{get_inside}
+pub use Rattle.volume_parts.proofs.Elements.{get_inside}
 
 -- ---- Pools
 

@@ -15,7 +15,7 @@ use Rattle.manager.specs.Causes.{AreCalm, LaneSince, NoneRose, SegmentRose}
 use Rattle.manager.specs.Reading.{LaneRead, SegmentRead, IsReadThrough}
 use Rattle.manager.specs.Stands.{IsReady, IsReadyLane}
 use Rattle.manager.specs.declared.manager.Manager.{Manager}
-use Rattle.listed_records.proofs.Elements.{all_at, get_set, get_other, zip_get, get_of, same_or_not}
+use Rattle.volume_parts.proofs.Elements.{all_at, get_set, get_other, zip_get, get_of, same_or_not}
 use Rattle.volume_parts.proofs.Calm.{calm_self}
 
 -- ---- segments

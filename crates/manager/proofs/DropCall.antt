@@ -39,14 +39,14 @@ use Rattle.manager.specs.declared.base.ManagerBase.{ManagerBase}
 use Rattle.manager.specs.declared.manager.Manager.{Manager}
 use Rattle.manager.specs.declared.part.Part.{Part}
 use Rattle.manager.specs.declared.part.StepFault.{StepFault}
-use Rattle.listed_records.proofs.Entries.{one_there, lies_there, At, Found, found_of, among, entry_in, entry_of_version, some_of, given_is, given_list, keeps_is, none_of_version, one_of_version, proper, still_changed, still_filter}
+use Rattle.volume_parts.proofs.Entries.{one_there, lies_there, At, Found, found_of, among, entry_in, entry_of_version, some_of, given_is, given_list, keeps_is, none_of_version, one_of_version, proper, still_changed, still_filter}
 use Rattle.manager.proofs.Calm.{segment_rose}
 use Rattle.manager.proofs.DropKeeps.{stays, leaves}
 use Rattle.manager.proofs.DropReady.{up_in_place, up_less, valid_now, none_left, ready_given, ready_broken}
 use Rattle.manager.proofs.DropStops.{cut_now, freed_now, cut_then, freed_then, failed_pieces, in_place_stops, less_stops_so}
 use Rattle.manager.proofs.FetchRec.{spot_at, spot_in}
 use Rattle.manager.proofs.Frames.{none_passed}
-use Rattle.listed_records.proofs.Elements.{all_at, map_set}
+use Rattle.volume_parts.proofs.Elements.{all_at, map_set}
 use Rattle.manager.proofs.Putting.{Pieces}
 use Rattle.manager.proofs.ReadyLanes.{locks_set, nones_at_set, takes_of_set, down_counts}
 use Rattle.volume_parts.proofs.Lanes.{nones_more, takes_gave}

@@ -39,14 +39,14 @@ use Rattle.manager.specs.Seen.{parts_of, seen, all_held, all_taken, down_of}
 use Rattle.manager.specs.Stands.{Keeps, IsReadyLane, entries_at}
 use Rattle.manager.specs.declared.base.ManagerBase.{ManagerBase}
 use Rattle.manager.specs.declared.manager.Manager.{Manager}
-use Rattle.listed_records.proofs.Entries.{count-cons, lies_there, none_here, At, kept_marks, keep_within, keeps_is, given_list}
+use Rattle.volume_parts.proofs.Entries.{count-cons, lies_there, none_here, At, kept_marks, keep_within, keeps_is, given_list}
 use Rattle.manager.proofs.DropPiece.{Piece, piece, was_lane, was_held, with_records, set_mid}
-use Rattle.listed_records.proofs.Elements.{all_both, all_at, get_set}
+use Rattle.volume_parts.proofs.Elements.{all_both, all_at, get_set}
 use Rattle.manager.proofs.DropReady.{none_left, nothing_kept as nothing_is_kept}
 use Rattle.volume_parts.proofs.Lanes.{held_as, InLanes, in_lanes, image_is_log, untaken_set}
 use Rattle.manager.proofs.Putting.{Pieces}
 use Rattle.manager.proofs.ReadContent.{unbroken, upholds_up}
-use Rattle.listed_records.proofs.Vanishes.{vanishes}
+use Rattle.volume_parts.proofs.Vanishes.{vanishes}
 
 -- ---- records that keep a block
 

@@ -27,9 +27,9 @@ use Rattle.manager.specs.Seen.{Logs, parts_of, seen, all_held, down_of}
 use Rattle.manager.specs.Stands.{IsReady, IsReadyLane, IsPlacedIn}
 use Rattle.manager.specs.declared.base.ManagerBase.{ManagerBase}
 use Rattle.manager.specs.declared.manager.Manager.{Manager}
-use Rattle.listed_records.proofs.Groups.{other_records}
-use Rattle.listed_records.proofs.Entries.{At, among, same_mask}
-use Rattle.listed_records.proofs.Elements.{all_at}
+use Rattle.volume_parts.proofs.Groups.{other_records}
+use Rattle.volume_parts.proofs.Entries.{At, among, same_mask}
+use Rattle.volume_parts.proofs.Elements.{all_at}
 use Rattle.volume_parts.proofs.Lanes.{held_as, same_place}
 
 -- ---- records in front of a place

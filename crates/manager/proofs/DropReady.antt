@@ -26,10 +26,10 @@ use Rattle.manager.specs.Reclaim.{given_of, with_kept}
 use Rattle.manager.specs.Stands.{IsReady, IsReadyLane, IsUp, IsPlacedIn, IsInVolume, entries_at}
 use Rattle.manager.specs.declared.manager.Manager.{Manager}
 use Rattle.manager.specs.declared.part.Part.{Part}
-use Rattle.listed_records.proofs.Entries.{count_mid, one_there, lies_there, not_there as lies_elsewhere, At, among, keeps_is, given_list, none_here, all_given, long_kept, nothing_of}
+use Rattle.volume_parts.proofs.Entries.{count_mid, one_there, lies_there, not_there as lies_elsewhere, At, among, keeps_is, given_list, none_here, all_given, long_kept, nothing_of}
 use Rattle.manager.proofs.GoneSegment.{up_without}
 use Rattle.volume_parts.proofs.Lanes.{counted_set, held_set, ready_set, placed_set, stays_set}
-use Rattle.listed_records.proofs.Elements.{all_at, all_set, get_set}
+use Rattle.volume_parts.proofs.Elements.{all_at, all_set, get_set}
 
 -- ---- the call
 

@@ -29,8 +29,8 @@ use Rattle.manager.specs.Stands.{Keeps, IsReady, IsPlacedIn}
 use Rattle.manager.specs.declared.base.ManagerBase.{ManagerBase}
 use Rattle.manager.specs.declared.manager.Manager.{Manager}
 use Rattle.manager.specs.declared.part.Part.{Part}
-use Rattle.listed_records.proofs.Entries.{Found, found_of, entry_of_version, among}
-use Rattle.listed_records.proofs.Elements.{all_at, get_of}
+use Rattle.volume_parts.proofs.Entries.{Found, found_of, entry_of_version, among}
+use Rattle.volume_parts.proofs.Elements.{all_at, get_of}
 use Rattle.volume_parts.proofs.Lanes.{Standing, held_as, standing, same_place}
 use Rattle.manager.proofs.ReadContent.{StandsIn, upholds_up}
 use Rattle.volume_parts.proofs.PartReads.{never_some, on_ok_like}

@@ -15,9 +15,9 @@ use Rattle.logger.specs.declared.lane.Lane.{Lane}
 use Rattle.logger.proofs.Indexes.{lacks_removed}
 use Rattle.manager.specs.Stands.{IsReady, IsReadyLane, IsUp, IsPlacedIn, entries_at}
 use Rattle.manager.specs.declared.manager.Manager.{Manager}
-use Rattle.listed_records.proofs.Entries.{lies_there}
+use Rattle.volume_parts.proofs.Entries.{lies_there}
 use Rattle.volume_parts.proofs.Lanes.{counted_set}
-use Rattle.listed_records.proofs.Elements.{all_at, all_set, get_set, get_other, same_or_not, all_removed, member_removed, all_both}
+use Rattle.volume_parts.proofs.Elements.{all_at, all_set, get_set, get_other, same_or_not, all_removed, member_removed, all_both}
 
 -- another index, which has as many entries in each other segment and none in this one
 module _ {D : Type 0} (state : D → State) (m : Manager D) (ready : IsReady state m) (up : m.down ≡ None) (k : ℕ) (old new : Lane D) (lane : slice_get m.lanes.items k ≡ Some old)

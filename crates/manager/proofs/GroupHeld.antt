@@ -30,9 +30,9 @@ use Rattle.manager.specs.Seen.{parts_of, seen, all_held, all_taken, down_of}
 use Rattle.manager.specs.Stands.{Keeps}
 use Rattle.manager.specs.declared.base.ManagerBase.{ManagerBase}
 use Rattle.manager.specs.declared.manager.Manager.{Manager}
-use Rattle.listed_records.proofs.Elements.{all_at, get_set}
+use Rattle.volume_parts.proofs.Elements.{all_at, get_set}
 use Rattle.volume_parts.proofs.Lanes.{held_as, InLanes, in_lanes, image_is_log}
-use Rattle.listed_records.proofs.Groups.{other_records, indexed_by, some_valid, group_more, group_breaks}
+use Rattle.volume_parts.proofs.Groups.{other_records, indexed_by, some_valid, group_more, group_breaks}
 use Rattle.manager.proofs.Putting.{parts, base, ws, is_up, old_lane, owner, logger, HasValid, Pieces, pieces_more, segment_failed}
 use Rattle.manager.proofs.ReadContent.{unbroken, upholds_up}
 use Rattle.manager.proofs.WentHome.{risen}

@@ -50,7 +50,7 @@ use Rattle.manager.proofs.ReadContent.{unbroken, upholds_up}
 use Rattle.manager.proofs.WentHome.{risen}
 use Rattle.manager.specs.Listing.{recs_at, entered_all}
 use Rattle.manager.specs.Groups.{AreItemsOf, log_writes}
-use Rattle.listed_records.proofs.Groups.{group_distinct, group_stops, AreNew, FitBehind, written_as, indexed_by, extents_of_new, in_a_row, front_row, map_front, map_long, all_lie, all_lie_in_home, some_valid, group_more}
+use Rattle.volume_parts.proofs.Groups.{group_distinct, group_stops, AreNew, FitBehind, written_as, indexed_by, extents_of_new, in_a_row, front_row, map_front, map_long, all_lie, all_lie_in_home, some_valid, group_more}
 use Rattle.volume_parts.proofs.Records.{group_new, group_fits, group_written, group_long, group_nonempty, group_indexed}
 use Rattle.manager.specs.declared.part.Part.TheVariants as part
 

@@ -49,8 +49,8 @@ use Rattle.manager.specs.declared.manager.Manager.{Manager}
 use Rattle.manager.specs.declared.part.Part.{Part}
 use Rattle.volume_parts.proofs.Claims.{put_claimed}
 use Rattle.volume_parts.proofs.Lanes.{counted_set, held_set, ready_set, placed_set, stays_set, stays_push, nones_some, takes_some}
-use Rattle.listed_records.proofs.Entries.{none_there, lies_there, not_there as lies_elsewhere, still_map, still_push}
-use Rattle.listed_records.proofs.Elements.{all_at, all_set, get_set, same_or_not}
+use Rattle.volume_parts.proofs.Entries.{none_there, lies_there, not_there as lies_elsewhere, still_map, still_push}
+use Rattle.volume_parts.proofs.Elements.{all_at, all_set, get_set, same_or_not}
 use Rattle.volume_parts.proofs.Records.{entered, count_more, group_long, group_some, group_look_woken}
 use Rattle.manager.proofs.Calm.{lane_since, segment_rose}
 use Rattle.manager.proofs.Putting.{Pieces}

@@ -36,7 +36,7 @@ use Rattle.volume_parts.proofs.Lanes.{InLanes, AtEnd, held_as, same_place}
 use Rattle.manager.proofs.Moments.{still_logs, home_holds, stops_so}
 use Rattle.manager.proofs.Putting.{owner}
 use Rattle.manager.specs.Groups.{AreItemsOf, log_writes}
-use Rattle.listed_records.proofs.Groups.{group_stops, AreNew, extents_of_new, in_a_row, map_front, map_long}
+use Rattle.volume_parts.proofs.Groups.{group_stops, AreNew, extents_of_new, in_a_row, map_front, map_long}
 use Rattle.volume_parts.proofs.Records.{group_new, group_written}
 use Rattle.log_segment.specs.Segment as segment
 use Rattle.manager.proofs.GroupHeld as group_held

@@ -19,9 +19,9 @@ use Rattle.spin_model.specs.declared.spun.Spun.{Spun}
 use Rattle.log_segment.specs.Segment.{Holds}
 use Rattle.logger.specs.declared.lane.Lane.{Lane}
 use Rattle.redirect_map.specs.Index.{Contents}
-use Rattle.listed_records.proofs.Contents.{puts_from}
-use Rattle.listed_records.proofs.Elements.{zip_then}
-use Rattle.listed_records.proofs.Entries.{At}
+use Rattle.volume_parts.proofs.Contents.{puts_from}
+use Rattle.volume_parts.proofs.Elements.{zip_then}
+use Rattle.volume_parts.proofs.Entries.{At}
 use Rattle.volume_parts.proofs.Held.{moved_extents}
 use Rattle.volume_parts.proofs.PartReads.{lane_then, lanes_self}
 use Rattle.manager.specs.Reading.{HomeRead, LaneRead}

@@ -43,8 +43,8 @@ use Rattle.manager.specs.Stops.{ImageSince, HeldSince}
 use Rattle.manager.specs.declared.base.ManagerBase.{ManagerBase}
 use Rattle.manager.specs.declared.manager.Manager.{Manager}
 use Rattle.manager.specs.declared.part.Part.TheVariants.{Home}
-use Rattle.listed_records.proofs.Contents.{puts_from, last_put}
-use Rattle.listed_records.proofs.Entries.{At, all_changed, count_changed}
+use Rattle.volume_parts.proofs.Contents.{puts_from, last_put}
+use Rattle.volume_parts.proofs.Entries.{At, all_changed, count_changed}
 use Rattle.volume_parts.proofs.Lanes.{counted_as}
 use Rattle.manager.proofs.Frames.{none_passed}
 use Rattle.manager.proofs.Moments.{stops_so}

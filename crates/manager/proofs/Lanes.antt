@@ -5,7 +5,7 @@ use Rattle.std.proofs.lemmas.Option.{same_Some}
 use Rattle.logger.specs.declared.lane.Lane.{Lane}
 use Rattle.manager.specs.Stands.{AreNamed, IsNamed}
 use Rattle.manager.specs.declared.base.LaneBase.{LaneBase}
-pub use Rattle.listed_records.proofs.Elements.{all_at, all_set, get_set, get_other, map_set}
+pub use Rattle.volume_parts.proofs.Elements.{all_at, all_set, get_set, get_other, map_set}
 pub use Rattle.volume_parts.proofs.Lanes.{held_as, none_taken}
 
 -- ---- The names of lanes

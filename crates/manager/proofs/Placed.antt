@@ -24,7 +24,7 @@ use Rattle.manager.specs.Stops.{Stops, ImageSince, HeldSince, TellsClaim}
 use Rattle.manager.specs.declared.base.ManagerBase.{ManagerBase}
 use Rattle.manager.specs.declared.manager.Manager.{Manager}
 use Rattle.volume_parts.proofs.Lanes.{counted_same, quiet_held, quiet_all, untaken_set, ready_set, placed_set, nones_none, takes_none}
-use Rattle.listed_records.proofs.Elements.{all_at, all_set, zip_back}
+use Rattle.volume_parts.proofs.Elements.{all_at, all_set, zip_back}
 use Rattle.manager.proofs.ReadyLanes.{locks_set, nones_at_set, takes_of_set}
 use Rattle.wol_promise.proofs.Stops.{still_stops}
 use Rattle.manager.proofs.Moments.{still_logs, home_holds, stops_so}

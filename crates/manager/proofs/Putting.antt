@@ -22,7 +22,7 @@ use Rattle.manager.specs.Stands.{Keeps, IsReadyLane}
 use Rattle.manager.specs.declared.base.ManagerBase.{ManagerBase}
 use Rattle.manager.specs.declared.manager.Manager.{Manager}
 use Rattle.manager.specs.declared.part.Part.{Part}
-use Rattle.listed_records.proofs.Elements.{all_at}
+use Rattle.volume_parts.proofs.Elements.{all_at}
 use Rattle.volume_parts.proofs.Lanes.{held_as, lanes_map, untaken_set, InLanes}
 
 module _ {D : Type 0} (tells : Bool) (state : D → State) (m : Manager D) (b : ManagerBase) (notes : List Noted) (kp : Keeps tells state m b notes) where

@@ -27,7 +27,7 @@ use Rattle.manager.specs.Seen.{all_held, parts_of, seen, down_of}
 use Rattle.manager.specs.Stands.{Keeps}
 use Rattle.manager.specs.declared.base.ManagerBase.{ManagerBase}
 use Rattle.manager.specs.declared.manager.Manager.{Manager}
-use Rattle.listed_records.proofs.Contents.{newest_is, bare_block, record_block, bare_run, row_run, bare_source, entry_for, in_record, same_version}
+use Rattle.volume_parts.proofs.Contents.{newest_is, bare_block, record_block, bare_run, row_run, bare_source, entry_for, in_record, same_version}
 use Rattle.garbage_list.proofs.Nexts.{Answered}
 use Rattle.volume_parts.proofs.Lanes.{held_as, Standing, standing, same_place}
 

@@ -34,9 +34,9 @@ use Rattle.manager.proofs.Frames.{none_passed}
 use Rattle.volume_parts.proofs.Held.{read_lanes}
 use Rattle.volume_parts.proofs.Lanes.{held_as, standing}
 use Rattle.manager.proofs.ReadContent.{unbroken, upholds_up}
-use Rattle.listed_records.proofs.Elements.{zip_length, zip_at}
+use Rattle.volume_parts.proofs.Elements.{zip_length, zip_at}
 use Rattle.volume_parts.proofs.PartReads.{above_none}
-use Rattle.listed_records.proofs.Touched.{IsTouched, touched_, touched, read_breaks, same_use}
+use Rattle.volume_parts.proofs.Touched.{IsTouched, touched_, touched, read_breaks, same_use}
 use Rattle.manager.proofs.ReadyLanes.{down_counts}
 
 -- ---- lanes

@@ -17,8 +17,8 @@ use Rattle.manager.specs.Reading.{IsSource, IsReadThrough, NeedsSources}
 use Rattle.manager.specs.Stands.{IsReady, entries_at, IsReadyLane, IsPlacedIn, Keeps, IsHome}
 use Rattle.manager.specs.declared.manager.Manager.{Manager}
 use Rattle.volume_parts.proofs.Lanes.{counted_set, ready_set, placed_set}
-use Rattle.listed_records.proofs.Elements.{all_at, all_set}
-use Rattle.listed_records.proofs.Contents.{newest_is, entry_for, in_record}
+use Rattle.volume_parts.proofs.Elements.{all_at, all_set}
+use Rattle.volume_parts.proofs.Contents.{newest_is, entry_for, in_record}
 use Rattle.garbage_list.proofs.Nexts.{Answered}
 use Rattle.std.proofs.Math.Seq.{take-add}
 use Rattle.std.proofs.lemmas.List.{drop-drop}

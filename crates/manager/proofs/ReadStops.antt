@@ -30,7 +30,7 @@ use Rattle.volume_parts.proofs.Held.{IsSameHeld, same_held, same_member, rezip, 
 use Rattle.volume_parts.proofs.Lanes.{same_place}
 use Rattle.manager.proofs.Moments.{stops_so, whole_now}
 use Rattle.manager.proofs.ReadKeeps.{held_read}
-use Rattle.listed_records.proofs.Elements.{zip_all}
+use Rattle.volume_parts.proofs.Elements.{zip_all}
 
 -- ---- the call
 

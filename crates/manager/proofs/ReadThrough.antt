@@ -12,9 +12,9 @@ use Rattle.manager.specs.Reading.{SegmentRead, LaneRead, IsReadThrough}
 use Rattle.manager.specs.declared.manager.Manager.{Manager}
 use Rattle.manager.specs.declared.part.Part.{Part}
 use Rattle.manager.specs.declared.part.Part.TheVariants.{Home, Segment}
-use Rattle.listed_records.proofs.Elements.{zip_then, zip_back}
+use Rattle.volume_parts.proofs.Elements.{zip_then, zip_back}
 use Rattle.volume_parts.proofs.PartReads.{rose_then, home_self, home_then, lane_then, lanes_self, lanes_set}
-pub use Rattle.listed_records.proofs.Elements.{zip_self, zip_then, zip_set, zip_at, zip_back, zip_length}
+pub use Rattle.volume_parts.proofs.Elements.{zip_self, zip_then, zip_set, zip_at, zip_back, zip_length}
 pub use Rattle.volume_parts.proofs.PartReads.{never_some}
 
 -- ---- parts

@@ -14,9 +14,9 @@ use Rattle.manager.specs.Stands.{At, IsHome, Locks, nones_in, nones_at, takes_in
 use Rattle.manager.specs.declared.base.LaneBase.{LaneBase}
 use Rattle.manager.specs.declared.base.ManagerBase.{ManagerBase}
 use Rattle.manager.specs.declared.manager.Manager.{Manager}
-use Rattle.listed_records.proofs.Elements.{all_set, map_set}
+use Rattle.volume_parts.proofs.Elements.{all_set, map_set}
 use Rattle.manager.proofs.Lanes.{named_set}
-pub use Rattle.listed_records.proofs.Elements.{get_of}
+pub use Rattle.volume_parts.proofs.Elements.{get_of}
 pub use Rattle.volume_parts.proofs.Lanes.{nones_more}
 
 -- ---- A pass of a pool that has made a turn more

@@ -26,7 +26,7 @@ use Rattle.manager.specs.declared.part.Part.{Part}
 use Rattle.manager.specs.declared.part.Place.{Place}
 use Rattle.manager.specs.declared.part.WriteRefusal.{WriteRefusal}
 use Rattle.manager.specs.declared.part.WriteRefusal.TheVariants.{Full, DiskFault, Down, VersionsSpent, NoMemory}
-use Rattle.listed_records.proofs.Elements.{get_inside, length_copies}
+use Rattle.volume_parts.proofs.Elements.{get_inside, length_copies}
 use Rattle.manager.proofs.Answered.{none_asked, passed_more}
 use Rattle.manager.proofs.Frames.{ready_reframed, reframed, stands_kept}
 use Rattle.manager.proofs.Moments.{still_logs, home_holds, stops_so}

@@ -29,10 +29,10 @@ use Rattle.manager.specs.declared.manager.Manager.{Manager}
 use Rattle.manager.specs.declared.part.Part.{Part}
 use Rattle.manager.specs.declared.part.StepFault.{StepFault}
 use Rattle.volume_parts.proofs.Calm.{calm_among}
-use Rattle.listed_records.proofs.Elements.{get_removed, all_at, map_set, get_of}
+use Rattle.volume_parts.proofs.Elements.{get_removed, all_at, map_set, get_of}
 use Rattle.manager.proofs.DropCall.{IsFound, HasTurned, keeps_pieces, passed_still, removed_indexes}
 use Rattle.manager.proofs.DropReady.{ready_broken}
-use Rattle.listed_records.proofs.Entries.{still_filter}
+use Rattle.volume_parts.proofs.Entries.{still_filter}
 use Rattle.manager.proofs.Calm.{segment_rose}
 use Rattle.manager.proofs.FetchRec.{spot_at}
 use Rattle.manager.proofs.Frames.{none_passed}

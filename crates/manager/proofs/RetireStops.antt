@@ -40,14 +40,14 @@ use Rattle.manager.specs.Stops.{ImageSince, HeldSince}
 use Rattle.manager.specs.declared.base.ManagerBase.{ManagerBase}
 use Rattle.manager.specs.declared.manager.Manager.{Manager}
 use Rattle.manager.proofs.DropStops.{says_free}
-use Rattle.listed_records.proofs.Elements.{all_at, get_set}
+use Rattle.volume_parts.proofs.Elements.{all_at, get_set}
 use Rattle.volume_parts.proofs.Lanes.{held_as, InLanes, in_lanes}
 use Rattle.manager.proofs.Putting.{Pieces, segment_failed}
 use Rattle.manager.proofs.ReadContent.{unbroken, upholds_up}
 use Rattle.manager.proofs.SinceReads.{StopsHere, home_since, logs_around, image_since, stops_with}
 use Rattle.manager.proofs.ReadKeeps.{held_read, upholds_read}
 use Rattle.manager.proofs.Retiring.{upheld}
-use Rattle.listed_records.proofs.Vanishes.{three_stops, segment_breaks}
+use Rattle.volume_parts.proofs.Vanishes.{three_stops, segment_breaks}
 use Rattle.manager.proofs.WentHome.{risen}
 use Rattle.manager.specs.declared.part.Part.TheVariants as part
 

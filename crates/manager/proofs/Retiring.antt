@@ -19,7 +19,7 @@ use Rattle.manager.specs.Reclaim.{NoneLiveIn, lies_elsewhere}
 use Rattle.manager.specs.Seen.{Logs, parts_of, seen, all_held, down_of, all_taken}
 use Rattle.manager.specs.declared.base.ManagerBase.{ManagerBase}
 use Rattle.manager.specs.declared.manager.Manager.{Manager}
-use Rattle.listed_records.proofs.Entries.{lies_there, is_false, both_hold, covered_where, counts_elsewhere}
+use Rattle.volume_parts.proofs.Entries.{lies_there, is_false, both_hold, covered_where, counts_elsewhere}
 use Rattle.volume_parts.proofs.Lanes.{held_as, InLanes, in_lanes, untaken_set, ready_set}
 use Rattle.std.proofs.Math.ListN.{length-set}
 use Rattle.wol_model.specs.Extents.{IsValid}
@@ -34,7 +34,7 @@ use Rattle.manager.proofs.ReadContent.{unbroken, upholds_up}
 use Rattle.std.specs.Vec.{with_item}
 use Rattle.spin_model.specs.Spun.{state_of}
 use Rattle.redirect_map.specs.Index.{Contents}
-pub use Rattle.listed_records.proofs.Entries.{covered_where}
+pub use Rattle.volume_parts.proofs.Entries.{covered_where}
 
 -- ---- places
 

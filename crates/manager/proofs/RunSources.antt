@@ -7,10 +7,10 @@ use Rattle.logger.specs.Lanes.{spindle_of}
 use Rattle.wol_disk.specs.Disk.{State}
 use Rattle.wol_promise.specs.Policy.{has_newest_on}
 use Rattle.manager.specs.declared.manager.Manager.{Manager}
-use Rattle.listed_records.proofs.Elements.{zip_get}
+use Rattle.volume_parts.proofs.Elements.{zip_get}
 use Rattle.volume_parts.proofs.PartReads.{same_lane_spindle, needs_none, needs_then}
 use Rattle.wol_promise.proofs.Woken.{any_joined}
-pub use Rattle.listed_records.proofs.Contents.{same_version}
+pub use Rattle.volume_parts.proofs.Contents.{same_version}
 
 -- ---- accesses
 

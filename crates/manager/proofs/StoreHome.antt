@@ -45,10 +45,10 @@ use Rattle.manager.specs.declared.base.ManagerBase.{ManagerBase}
 use Rattle.manager.specs.declared.manager.Manager.{Manager}
 use Rattle.manager.specs.declared.part.Part.{Part}
 use Rattle.manager.specs.declared.part.Part.TheVariants.{Home}
-use Rattle.listed_records.proofs.Entries.{all_changed, count_changed, At, among, still_changed}
+use Rattle.volume_parts.proofs.Entries.{all_changed, count_changed, At, among, still_changed}
 use Rattle.volume_parts.proofs.Lanes.{counted_as}
 use Rattle.manager.proofs.Frames.{none_passed, ready_used}
-use Rattle.listed_records.proofs.Contents.{puts_from, last_put, same_write, live_block}
+use Rattle.volume_parts.proofs.Contents.{puts_from, last_put, same_write, live_block}
 use Rattle.manager.proofs.Moments.{stops_so}
 use Rattle.volume_parts.proofs.Accesses.{blend_none}
 use Rattle.manager.proofs.ReadContent.{unbroken, upholds_up}

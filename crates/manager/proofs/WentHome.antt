@@ -37,7 +37,7 @@ use Rattle.manager.specs.declared.part.Part.TheVariants.{Home}
 use Rattle.volume_parts.proofs.Lanes.{lanes_map}
 use Rattle.manager.proofs.Moments.{stops_so, still_logs}
 use Rattle.manager.proofs.ReadContent.{unbroken, upholds_up}
-use Rattle.listed_records.proofs.Contents.{bare_block, newest_listed}
+use Rattle.volume_parts.proofs.Contents.{bare_block, newest_listed}
 use Rattle.wol_promise.proofs.Woken.{covered_is}
 use Rattle.manager.proofs.ReadyLanes.{down_counts}
 

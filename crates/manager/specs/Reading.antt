@@ -20,7 +20,7 @@ use Rattle.manager.specs.declared.base.ManagerBase.{ManagerBase}
 use Rattle.manager.specs.declared.manager.Manager.{Manager}
 use Rattle.manager.specs.declared.part.Part.{Part}
 use Rattle.manager.specs.declared.part.Sources.{Sources}
-pub use Rattle.listed_records.specs.Entries.{IsSource, reads_home, reads_lane}
+pub use Rattle.volume_parts.specs.Entries.{IsSource, reads_home, reads_lane}
 pub use Rattle.volume_parts.specs.Reads.{needs_of, HasNeeded, NeedsWhere, Counted, HomeRead, SegmentRead, LaneRead}
 
 -- ---- Waking

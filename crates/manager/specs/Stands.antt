@@ -28,7 +28,7 @@ use Rattle.manager.specs.declared.base.LaneBase.{LaneBase}
 use Rattle.manager.specs.declared.base.ManagerBase.{ManagerBase}
 use Rattle.manager.specs.declared.manager.Manager.{Manager}
 pub use Rattle.volume_parts.specs.Lanes.{IsReadyLane, Ready, IsPlacedIn, AreCounted, IsUp, At, nones_in, takes_in}
-pub use Rattle.listed_records.specs.Entries.{entries_at, IsInVolume, StandsAt, AreStill}
+pub use Rattle.volume_parts.specs.Entries.{entries_at, IsInVolume, StandsAt, AreStill}
 pub use Rattle.volume_parts.specs.Offers.{passed_in}
 
 -- ---- Safety: what holds of each manager between its calls, whatever its disks tell

@@ -12,11 +12,11 @@
 //! what it stands for at the end of a turn (`Stands`), what holds of it between calls (`IsReady`) and which locks it
 //! uses (`IsHome`, `HasLocks`); `Answers`, `Offers`, `Reading`, `Causes` and `Writing` say what the answers mean,
 //! `Stops` what a stop leaves; `Groups` says what a run needs (`CanRun`), what it leaves (`HasRun`), and in the lane
-//! that took it (`HasTakenRun`). They pass on the words of `volume_parts` for home and lanes, and those of
-//! `listed_records` for the index. In `proofs/`: `Putting`, `WentHome`, `Placed` and `Moments`; `GroupHeld`,
+//! that took it (`HasTakenRun`). They pass on the words of `volume_parts` for home, lanes and the
+//! index. In `proofs/`: `Putting`, `WentHome`, `Placed` and `Moments`; `GroupHeld`,
 //! `GroupNew`, `GroupStops` and `GroupOffering` for a group of writes, `Runs` for what a run leaves, also one of one
 //! item, `Answered` for the lanes that were asked. The steps on the model's side are lemmas of `wol_promise` and
-//! `listed_records`. To add a call: state it from `Keeps` to `Stands` with its entry (`Leaves`), or, where it leaves no
+//! `volume_parts`. To add a call: state it from `Keeps` to `Stands` with its entry (`Leaves`), or, where it leaves no
 //! entry, from `Keeps` to `Keeps`. The steps of reclaim do the latter: `reclaim.rt` has `fetch_rec` (over
 //! `read_record`), `store_home` (by `put_at`, which writes the runs of a mask and syncs), `drop_rec`, and
 //! `drop_segment`, by which a segment goes with all its records; `laying.rt` has `store_home` in three calls, so that

@@ -16,10 +16,9 @@ ghost use Rattle.wol_promise.specs.Ruled.{Noted};
 use crate::read::spot_of;
 use crate::{Manager, Part, StepFault};
 use garbage_list::may_go;
-use listed_records::{forget, head_of};
 use logger::Shared;
 use std::sync::Wait;
-use volume_parts::put_at;
+use volume_parts::{forget, head_of, put_at};
 use wol_disk::{Block, Disk, Failed};
 
 impl<D: Disk> Manager<D> {

@@ -15,12 +15,11 @@ ghost use Rattle.wol_model.specs.Index.{listed_in, is_covered};
 
 use crate::manager::forget;
 use crate::{Manager, Part, Place, WriteRefusal};
-use listed_records::reserve_places;
 use log_segment::Item;
 use logger::Shared;
 use offload_policy::{Room, Step, place};
 use std::sync::Wait;
-use volume_parts::{list_group, put_group, together};
+use volume_parts::{list_group, put_group, reserve_places, together};
 use wol_disk::{Block, Disk, Failed};
 
 /// The next version where all versions are spent.

@@ -2,19 +2,16 @@
 //! replayed write stores.
 //!
 //! `format.rt` has what a line is and why bytes are none; `parse.rt` reads one line, with the order of refusals;
-//! `decimal.rt` numbers; `fields.rt` splits by `csv`; `placed.rt` reads a line where a row has its fields; `intake.rt`
+//! `decimal.rt` numbers; `fields.rt` splits by `csv`; `placed.rt` reads a line where it stands; `intake.rt`
 //! takes bytes from a source and finds the end of a line; `reading.rt` gives the lines of a source; `cutting.rt` the
 //! pieces (`calls::pieces`); `payload.rt` payloads and marks; `write.rt` a line as text; `laws.rt` the laws of spellings.
 //! `specs/Lines.antt` is the format: where lines end, what a line has, which refusal comes first; `specs/Spelling.antt`
-//! says the same by what is written, and the laws tie the two; `specs/Reading.antt` says what `Lines` does. Making a
-//! reader of `csv` costs as much as reading about a hundred lines with one, so one reader serves all lines: it is handed
-//! the whole lines that are held, ahead of their turn (`chunk.rt`). No contract tells what it reads then, so a row of it
-//! only says how long the fields are: the line is read there if commas stand between them and each is what it should be.
-//! Else the line is read, or refused, by a reader of its own.
+//! says the same by what is written, and the laws tie the two; `specs/Reading.antt` says what `Lines` does. A line that is
+//! plainly one, as nearly all are, is read where it stands, by its commas; what isn't is split by `csv`, of which a refusal
+//! speaks, and read or refused by its fields.
 #![tactic(auto)]
 
 pub mod calls;
-mod chunk;
 mod cutting;
 mod decimal;
 mod fields;

@@ -5,7 +5,7 @@ ghost use Rattle.std.specs.List.{list_any};
 ghost use Rattle.std.specs.Prelude.{◌≡◌, ◌<◌, ◌==◌, false, length, slice_index, IfOk, IfSome, option_map, count_by, Err};
 
 use crate::decimal::number;
-use crate::fields::Fields;
+use crate::fields::split;
 use crate::format::{BadLine, Line, LineFault};
 use crate::host::HostName;
 use crate::placed::read_placed;
@@ -22,21 +22,8 @@ pub const SIZE_MAX: u64 = 67_108_864;
 
 /// Reads a line, given without its line feed; a blank line is None. The first refusal that applies is answered, in this
 /// order: `LineTooLong`, `Quote`, `FieldCount`, the first wrong field of 1, 3, 4, 5, 6 and 7, `TooLarge`, `PastEnd`.
-pub fn read_line(alloc: Global, line: &[u8]) -> Result<Option<Line>, LineFault>
-    requires { list_any is_feed line.now ≡ false }
-    ensures content { Gives (option_map trace_line) result (read_of line.now) }
-    ensures fits { IfOk result (λ o. IfSome o (λ l. Fits (trace_line l))) }
-{
-    parse_line(alloc, &mut Fields::new(alloc), line)
-}
-
-/// The same, where `fields` splits the line.
 #[tactic(auto, unfolding(crate::specs::Lines::read_of))]
-pub fn parse_line(
-    alloc: Global,
-    fields: &mut Fields,
-    line: &[u8],
-) -> Result<Option<Line>, LineFault>
+pub fn read_line(alloc: Global, line: &[u8]) -> Result<Option<Line>, LineFault>
     requires { list_any is_feed line.now ≡ false }
     ensures content { Gives (option_map trace_line) result (read_of line.now) }
     ensures fits { IfOk result (λ o. IfSome o (λ l. Fits (trace_line l))) }
@@ -44,19 +31,16 @@ pub fn parse_line(
     if line.len() > LINE_MAX {
         return Err(LineFault::Bad(BadLine::LineTooLong));
     }
-    parse_text(alloc, fields, without_return(line))
+    parse_text(alloc, without_return(line))
 }
 
-// Reads a line without the carriage return at its end, where the next row has its fields or else by a reader of its own.
-fn parse_text(alloc: Global, fields: &mut Fields, body: &[u8]) -> Result<Option<Line>, LineFault>
+// Reads a line without the carriage return at its end: where it stands if it is plainly a line, else by `csv`.
+fn parse_text(alloc: Global, body: &[u8]) -> Result<Option<Line>, LineFault>
     requires { list_any is_feed body.now ≡ false }
     ensures content { Gives (option_map trace_line) result (body_of body.now) }
     ensures fits { IfOk result (λ o. IfSome o (λ l. Fits (trace_line l))) }
 {
-    if !body.is_empty()
-        && let Some(row) = fields.next_row()
-        && let Some(found) = read_placed(row, body)
-    {
+    if let Some(found) = read_placed(body) {
         let Ok(host) = HostName::new(alloc, found.host) else {
             return Err(LineFault::NoMemory);
         };
@@ -70,13 +54,13 @@ fn parse_text(alloc: Global, fields: &mut Fields, body: &[u8]) -> Result<Option<
             response: found.response,
         }));
     }
-    parse_body(alloc, fields, body)
+    parse_body(alloc, body)
 }
 
 // Reads a line without the carriage return at its end, or tells its first refusal. `csv` passes blank lines over, so they
 // are seen here first.
 #[tactic(auto, unfolding(crate::specs::Lines::body_of))]
-fn parse_body(alloc: Global, fields: &mut Fields, body: &[u8]) -> Result<Option<Line>, LineFault>
+fn parse_body(alloc: Global, body: &[u8]) -> Result<Option<Line>, LineFault>
     requires { list_any is_feed body.now ≡ false }
     ensures content { Gives (option_map trace_line) result (body_of body.now) }
     ensures fits { IfOk result (λ o. IfSome o (λ l. Fits (trace_line l))) }
@@ -91,10 +75,10 @@ fn parse_body(alloc: Global, fields: &mut Fields, body: &[u8]) -> Result<Option<
     if body[0] == 0xEF {
         return Err(LineFault::Bad(no_first_number(body)));
     }
-    if fields.split(body).is_err() {
+    let Ok(row) = split(alloc, body) else {
         return Err(LineFault::NoMemory);
-    }
-    let line = line_in(alloc, fields.row())?;
+    };
+    let line = line_in(alloc, &row)?;
     Ok(Some(line))
 }
 

@@ -1,4 +1,4 @@
-// A line whose fields stand where a row has its own.
+// A line that is plainly one, read where it stands.
 ghost use Rattle.msr_trace.specs.Lines.{Fits, body_of};
 ghost use Rattle.msr_trace.specs.Spelling.{is_reserved, kind_text};
 ghost use Rattle.std.specs.List.{list_any};
@@ -7,7 +7,6 @@ ghost use Rattle.wol_model.specs.Trace.{TraceLine};
 
 use crate::decimal::number;
 use crate::parse::SIZE_MAX;
-use csv::ByteRecord;
 use wol_model::Kind;
 
 /// What a line has, with the bytes of its host.
@@ -22,8 +21,9 @@ pub struct Placed<'a> {
     pub response: u64,
 }
 
-/// What a line has, without its carriage return, if its fields are as long as the row's and it is read.
-pub fn read_placed<'a>(row: &ByteRecord, body: &'a [u8]) -> Option<Placed<'a>>
+/// What a line has, without its carriage return, where commas part it into seven fields, each of which is what it should be.
+/// `None` says nothing of the line.
+pub fn read_placed<'a>(body: &'a [u8]) -> Option<Placed<'a>>
     ensures { IfSome result (λ s. (l : TraceLine) → l ≡ record {
       time = s.time;
       host = s.host.now;
@@ -34,12 +34,12 @@ pub fn read_placed<'a>(row: &ByteRecord, body: &'a [u8]) -> Option<Placed<'a>>
       response = s.response;
     } → (body_of body.now ≡ Ok (Some l)) × Fits l) }
 {
-    let (time, rest) = field_at_front(row, 0, body)?;
-    let (host, rest) = field_at_front(row, 1, rest)?;
-    let (disk, rest) = field_at_front(row, 2, rest)?;
-    let (kind, rest) = field_at_front(row, 3, rest)?;
-    let (offset, rest) = field_at_front(row, 4, rest)?;
-    let (size, response) = field_at_front(row, 5, rest)?;
+    let (time, rest) = field_at_front(body)?;
+    let (host, rest) = field_at_front(rest)?;
+    let (disk, rest) = field_at_front(rest)?;
+    let (kind, rest) = field_at_front(rest)?;
+    let (offset, rest) = field_at_front(rest)?;
+    let (size, response) = field_at_front(rest)?;
     if has_reserved(host) {
         return None;
     }
@@ -63,15 +63,12 @@ pub fn read_placed<'a>(row: &ByteRecord, body: &'a [u8]) -> Option<Placed<'a>>
     })
 }
 
-// The front of a text that is as long as a field of the row, and what stands behind the comma that ends it.
+// The front of a text up to its first comma, and what stands behind that.
 #[inline(always)]
-fn field_at_front<'a>(row: &ByteRecord, at: usize, text: &'a [u8]) -> Option<(&'a [u8], &'a [u8])>
+fn field_at_front<'a>(text: &'a [u8]) -> Option<(&'a [u8], &'a [u8])>
     ensures { IfSome result (λ p. text.now ≡ p.0.now ++ 44 ∷ p.1.now) }
 {
-    let end = row.get(at)?.len();
-    if end >= text.len() || text[end] != b',' {
-        return None;
-    }
+    let end = text.iter().position(|byte| *byte == b',')?;
     Some((&text[..end], &text[end + 1..]))
 }
 

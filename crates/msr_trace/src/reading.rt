@@ -7,10 +7,9 @@ ghost use Rattle.std.specs.List.{list_any, position_or_len};
 ghost use Rattle.std.specs.Prelude.{◌≡◌, ◌≢◌, ◌≤◌, ◌<◌, ◌+◌, ◌^◌, ◌↔◌, ◌⊎◌, true, false, [], length, option_map, Ok, Err, IfOk, IfSome, IfNone, OnErr, MatchResult};
 ghost use Rattle.wol_disk.specs.Disk.{Rose};
 
-use crate::fields::Fields;
 use crate::format::{Line, LineFault, TraceFault};
 use crate::intake::Intake;
-use crate::parse::parse_line;
+use crate::parse::read_line;
 use std::alloc::Global;
 use std::marker::Model;
 use wol_io::Source;
@@ -23,7 +22,6 @@ const LINES_MAX: u64 = 4_294_967_296;
 pub struct Lines<S: Source> {
     alloc: Global,
     intake: Intake<S>,
-    fields: Fields,
     given: u64,
     live: bool,
 }
@@ -46,7 +44,6 @@ impl<S: Source> Lines<S> {
         Lines {
             alloc,
             intake: Intake::new(source),
-            fields: Fields::new(alloc),
             given: 0,
             live: true,
         }
@@ -138,7 +135,7 @@ impl<S: Source> Lines<S> {
             self.live = false;
             return Err(TraceFault::Source);
         };
-        match give_first(self.alloc, &mut self.fields, &mut self.intake, end) {
+        match give_first(self.alloc, &mut self.intake, end) {
             Ok(line) => {
                 self.given += 1;
                 Ok(Some(line))
@@ -166,7 +163,6 @@ impl<S: Source> Lines<S> {
         let Lines {
             alloc: _,
             intake,
-            fields: _,
             given: _,
             live: _,
         } = self;
@@ -177,7 +173,6 @@ impl<S: Source> Lines<S> {
 // Reads the first line that is held, which has so many bytes, and gives it.
 fn give_first<S: Source>(
     alloc: Global,
-    fields: &mut Fields,
     intake: &mut Intake<S>,
     end: usize,
 ) -> Result<Option<Line>, LineFault>
@@ -194,13 +189,11 @@ fn give_first<S: Source>(
     ensures size { length intake.new.bytes ≤ 8192 }
 {
     let held = intake.bytes();
-    fields.expect(held);
-    let line = match parse_line(alloc, fields, &held[..end]) {
+    let line = match read_line(alloc, &held[..end]) {
         Ok(line) => line,
         Err(fault) => return Err(fault),
     };
     let taken = held.len().min(end + 1);
     intake.skip(taken);
-    fields.pass(taken);
     Ok(line)
 }

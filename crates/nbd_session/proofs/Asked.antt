@@ -63,16 +63,16 @@ unknown_error home h command.Unknown is e = cc
 pub known_unknown : (home : ℕ) (h : Header) → h.command ≡ command.Unknown → known_error home h ≡ None → ⊥
 known_unknown home h is e = unknown_error home h h.command is (past_if (nat_lt 1 h.flags) _ _ e).1
 
-payload_small : (home : ℕ) (h : Header) (c : Command) → range_error c home h ≡ None → payload_of c h.length ≤ 33554432
-payload_small home h command.Read e = omega arith
-payload_small home h command.Write e = (range_inside home h command.Write (inr refl) e).few
-payload_small home h command.Disc e = omega arith
-payload_small home h command.Flush e = omega arith
-payload_small home h command.Unknown e = omega arith
+-- the data of a request that has no error so far have room where its range has
+payload_within : (home : ℕ) (h : Header) (c : Command) (room : ℕ) → range_error c home h ≡ None → (h.length ≤ 33554432 → h.length ≤ room) → payload_of c h.length ≤ room
+payload_within home h command.Read room e fits = omega arith
+payload_within home h command.Write room e fits = fits (range_inside home h command.Write (inr refl) e).few
+payload_within home h command.Disc room e fits = omega arith
+payload_within home h command.Flush room e fits = omega arith
+payload_within home h command.Unknown room e fits = omega arith
 
--- the data of a request that has no error so far have room
-pub payload_fits : (home : ℕ) (h : Header) → known_error home h ≡ None → payload_of h.command h.length ≤ 33554432
-payload_fits home h e = payload_small home h h.command (past_if (nat_lt 1 h.flags) _ _ e).1
+pub payload_fits : (home : ℕ) (h : Header) (room : ℕ) → known_error home h ≡ None → (h.length ≤ 33554432 → h.length ≤ room) → payload_of h.command h.length ≤ room
+payload_fits home h room e = payload_within home h h.command room (past_if (nat_lt 1 h.flags) _ _ e).1
 
 module _ {V : Type 0} (turned : Turn → V → V → Type 0) (home most : ℕ) (h : Header) (given room : List ℕ) (v w : V) (known : known_error home h ≡ None) where
   pub serves_look : (result : Result ℕ NbdError) → (h.command ≡ command.Flush) ⊎ (h.length ≡ 0) → LooksSo turned v w result → Serves turned home most h given v (answer_in room result) w

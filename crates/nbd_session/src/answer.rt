@@ -4,7 +4,7 @@ ghost use Rattle.nbd_session.specs.Errors.{known_error};
 ghost use Rattle.nbd_session.specs.Headers.{payload_of};
 ghost use Rattle.nbd_session.specs.Taking.{AnswersTaken, RefusesSo};
 ghost use Rattle.nbd_session.specs.Turns.{StaysReady};
-ghost use Rattle.std.specs.Prelude.{◌≡◌, ◌≢◌, ◌≤◌, None, length, take, IfOk, OnErr, OnOk};
+ghost use Rattle.std.specs.Prelude.{◌≡◌, ◌≢◌, ◌≤◌, None, length, take, vec_capacity, IfOk, OnErr, OnOk};
 ghost use Rattle.wol_disk.specs.Disk.{Rose};
 
 use crate::error::{MOST_BYTES, NbdError, error_of, known_error};
@@ -19,21 +19,41 @@ use wol_io::Source;
 /// The most blocks of one turn.
 const MOST_BLOCKS: usize = 128;
 
-/// Room for the bytes of one range, and for the blocks of one piece.
+// The bytes that are filled from the beginning: the data of a refused request pass through them.
+const LEAST_BYTES: usize = 65_536;
+
+/// Room for the bytes of one range, and for the blocks of one piece. All of the room for bytes is had from the beginning, and no
+/// more of it is filled than the longest request so far needs, so that the system gives a session only the memory that it uses.
 #[derive(Drop)]
 pub(crate) struct Desk {
     pub(crate) bytes: Vec<u8>,
     room: Vec<Block>,
-    ghost bytes_size: { length bytes.items ≡ 33554432 },
+    ghost bytes_capacity: { 33554432 ≤ vec_capacity bytes },
+    ghost bytes_size: { 1 ≤ length bytes.items },
     ghost room_size: { length room.items ≡ 128 },
 }
 
 impl Desk {
     pub(crate) fn new(alloc: Global) -> Result<Desk, NoMemory> {
+        let mut bytes = Vec::with_capacity(alloc, MOST_BYTES)?;
+        bytes.resize(LEAST_BYTES, 0)?;
         Ok(Desk {
-            bytes: vec![in alloc; 0; MOST_BYTES]?,
+            bytes,
             room: vec![in alloc; [0; BLOCK_BYTES]; MOST_BLOCKS]?,
         })
+    }
+
+    // Fills so many bytes, if a request may have so many.
+    fn fill(&mut self, count: usize)
+        ensures { count ≤ 33554432 → count ≤ length self.new.bytes.items }
+    {
+        let count = count.min(MOST_BYTES);
+        if self.bytes.len() < count {
+            match self.bytes.resize(count, 0) {
+                Ok(()) => {}
+                Err(_) => unreachable!(),
+            }
+        }
     }
 }
 
@@ -42,7 +62,6 @@ fn look<V: Volume>(volume: &mut V) -> Result<usize, NbdError>
     requires ready { V.Ready volume.old }
     ensures stays { StaysReady V.Ready V.home V.most volume.old volume.new }
     ensures looked { LooksSo V.Turned volume.old volume.new result }
-    ensures fits { IfOk result (λ n. n ≤ 33554432) }
 {
     volume.look().map_err(error_of)?;
     Ok(0)
@@ -56,13 +75,13 @@ fn read<V: Volume>(
     room: &mut [Block],
 ) -> Result<usize, NbdError>
     requires ready { V.Ready volume.old }
-    requires bytes { length bytes.old ≡ 33554432 }
+    requires bytes { header.now.length ≤ length bytes.old }
     requires room { length room.old ≡ 128 }
     requires inside { IsInside (V.home volume.old) header.now }
     ensures stays { StaysReady V.Ready V.home V.most volume.old volume.new }
     ensures read { ReadsSo V.Turned (V.most volume.old) header.now bytes.new volume.old volume.new
         result }
-    ensures fits { IfOk result (λ n. n ≤ 33554432) }
+    ensures fits { IfOk result (λ n. n ≤ length bytes.new) }
 {
     let length = header.length as usize;
     let count = length / BLOCK_BYTES;
@@ -74,12 +93,11 @@ fn read<V: Volume>(
 // Writes the bytes in front to the range of a request.
 fn write<V: Volume>(volume: &mut V, header: &Header, bytes: &[u8]) -> Result<usize, NbdError>
     requires ready { V.Ready volume.old }
-    requires bytes { length bytes.now ≡ 33554432 }
+    requires bytes { header.now.length ≤ length bytes.now }
     requires inside { IsInside (V.home volume.old) header.now }
     ensures stays { StaysReady V.Ready V.home V.most volume.old volume.new }
     ensures written { WritesSo V.Turned (V.most volume.old) header.now
         (take header.now.length bytes.now) volume.old volume.new result }
-    ensures fits { IfOk result (λ n. n ≤ 33554432) }
 {
     let length = header.length as usize;
     let count = length / BLOCK_BYTES;
@@ -96,7 +114,7 @@ fn ask<V: Volume>(
     room: &mut [Block],
 ) -> Result<usize, NbdError>
     requires ready { V.Ready volume.old }
-    requires bytes { length bytes.old ≡ 33554432 }
+    requires bytes { header.now.length ≤ 33554432 → header.now.length ≤ length bytes.old }
     requires room { length room.old ≡ 128 }
     requires known { known_error (V.home volume.old) header.now ≡ None }
     requires stays { header.now.command ≢ Command.Disc }
@@ -104,7 +122,7 @@ fn ask<V: Volume>(
     ensures serves { Serves V.Turned (V.home volume.old) (V.most volume.old) header.now
         (take (payload_of header.now.command header.now.length) bytes.old) volume.old
         (answer_in bytes.new result) volume.new }
-    ensures fits { IfOk result (λ n. n ≤ 33554432) }
+    ensures fits { IfOk result (λ n. n ≤ length bytes.new) }
 {
     if header.length == 0 {
         return look(volume);
@@ -146,7 +164,7 @@ fn admit<V: Volume, S: Source>(
     room: &mut [Block],
 ) -> Result<Option<Result<usize, NbdError>>, Failed>
     requires ready { V.Ready volume.old }
-    requires bytes { length bytes.old ≡ 33554432 }
+    requires bytes { header.now.length ≤ 33554432 → header.now.length ≤ length bytes.old }
     requires room { length room.old ≡ 128 }
     requires known { known_error (V.home volume.old) header.now ≡ None }
     requires stays { header.now.command ≢ Command.Disc }
@@ -183,6 +201,9 @@ pub(crate) fn take_and_ask<V: Volume, S: Source>(
 {
     match known_error(volume.home(), header) {
         Some(error) => refuse(input, &mut desk.bytes, header, error),
-        None => admit(volume, header, input, &mut desk.bytes, &mut desk.room),
+        None => {
+            desk.fill(header.length as usize);
+            admit(volume, header, input, &mut desk.bytes, &mut desk.room)
+        }
     }
 }

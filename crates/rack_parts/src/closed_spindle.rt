@@ -1,9 +1,10 @@
 // A spindle whose lock is closed.
-ghost use Rattle.std.specs.Prelude.{◌≡◌};
+ghost use Rattle.spin_model.specs.Spindles.{sums_until};
+ghost use Rattle.std.specs.Prelude.{◌≡◌, ◌≤◌};
 
+use energy::Sums;
 use spin_model::Spindle;
 use std::marker::Model;
-use wol_model::Turned;
 
 /// A spindle whose lock is closed. Its account is over: only closing makes one, and none of its calls uses the disk.
 #[derive(Drop)]
@@ -27,10 +28,11 @@ impl ClosedSpindle {
         ClosedSpindle { spindle }
     }
 
-    /// When the disk went down and came up, in order. It begins with the first time that it went down.
-    pub fn journal(&self) -> &[Turned]
-        ensures { result.now ≡ self.now.journal }
+    /// The sums over the disk's journal until `to`, a moment in units of 100 ns that is none before the last one that came.
+    pub fn sums_until(&self, to: u64) -> Sums
+        requires { self.now.moment ≤ to }
+        ensures { result ≡ sums_until self.now to }
     {
-        self.spindle.journal()
+        self.spindle.sums_until(to)
     }
 }

@@ -1,6 +1,6 @@
 // Locks with all of their passes, and those of the spindles.
 ghost use Rattle.rack_parts.specs.Locks.{IsWholeLock, AreSpindlesOf};
-ghost use Rattle.std.specs.Prelude.{◌≡◌, ◌≤◌, ◌+◌, ℕ, length, IfOk, All};
+ghost use Rattle.std.specs.Prelude.{◌≡◌, ◌<◌, ◌≤◌, ◌+◌, ℕ, length, IfOk, All};
 
 use log_segment::FreeSegment;
 use seg_pool::Pool;
@@ -24,6 +24,7 @@ pub fn issue_spindles(
     timeout: u64,
 ) -> Result<Vec<Issued<Spindle>>, NoMemory>
     requires few { volumes ≤ 1023 }
+    requires timeout { 0 < timeout }
     ensures count { IfOk result (λ made. length made.items ≡ volumes) }
     ensures spindles { IfOk result (λ made. AreSpindlesOf volumes timeout made.items) }
 {
@@ -31,7 +32,7 @@ pub fn issue_spindles(
         return Err(NoMemory);
     };
     for id in 0..volumes {
-        let spindle = Spindle::new(alloc, id, timeout);
+        let spindle = Spindle::new(id, timeout);
         match TurnLock::new(alloc, spindle, volumes + 1, 0) {
             Ok((lock, passes)) => made.push_reserved(Issued { lock, passes }),
             Err(_) => {

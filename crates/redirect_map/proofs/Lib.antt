@@ -15,3 +15,6 @@ mod Alone
 mod Lanes
 pub mod Marked
 pub mod Listing
+pub mod Bits
+pub mod Summed
+pub mod Masks

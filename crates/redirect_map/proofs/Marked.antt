@@ -7,7 +7,7 @@ use Rattle.std.proofs.lemmas.Bool.{cases_lt, cases_eq, ne_eqb, eq-eqb, eqb-true,
 use Rattle.wol_model.specs.Log.{has_bit}
 use Rattle.wol_model.specs.Index.{listed_in, Indexed, AreRising, block_numbers}
 use Rattle.std.proofs.lemmas.Option.{none-some, same_Some}
-use Rattle.version_marks.specs.Marks.{IsWithin, AreApart}
+use Rattle.redirect_map.specs.Marks.{IsWithin, AreApart}
 use Rattle.block_cells.specs.declared.record.Rec.{Rec}
 use Rattle.block_cells.specs.declared.blocks.Cell.{Cell}
 use Rattle.block_cells.specs.Masks.{in_mask}

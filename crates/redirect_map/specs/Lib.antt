@@ -3,3 +3,4 @@ pub mod Kept
 pub mod Cells
 pub mod Marked
 pub mod Listing
+pub mod Marks

@@ -2,7 +2,7 @@
 -- needn't.
 use Rattle.std.specs.Prelude.{◌≡◌, ◌+◌, ◌%◌, ℕ, Bool, true, false, not, ◌&&◌, ◌||◌, List, Option, Some, slice_get}
 use Rattle.wol_model.specs.Log.{has_bit}
-use Rattle.version_marks.specs.Marks.{Contents, IsWithin, mask_of}
+use Rattle.redirect_map.specs.Marks.{Contents, IsWithin, mask_of}
 use Rattle.block_cells.specs.declared.record.Rec.{Rec}
 use Rattle.block_cells.specs.declared.blocks.Cell.{Cell}
 use Rattle.block_cells.specs.Masks.{in_mask}

@@ -16,11 +16,11 @@ use crate::marking::{
     all_lanes, exact_mask, lanes_mask, mark_all_exactly, mark_blocks, mark_given_up, new_mask,
     newest_versions,
 };
+use crate::marks::VersionMarks;
 use block_cells::{Cell, Rec, any_covered, cover, held, held_both, newest_of, run_length, uncover};
 use std::alloc::Global;
 use std::collections::HashMap;
 use std::marker::Model;
-use version_marks::VersionMarks;
 use wol_disk::NoMemory;
 
 /// The records of a volume by rising version, each with the blocks that it keeps and those of them that are
@@ -45,7 +45,7 @@ impl Model for Index {
     ghost use Rattle.redirect_map.specs.Marked.{AreMarked};
     ghost use Rattle.std.specs.HashMap.{get, spare};
     ghost use Rattle.std.specs.Prelude.{◌≡◌, ◌-◌, ◌/◌, min, map, nat_eq, false};
-    ghost use Rattle.version_marks.specs.Marks.{mask_of};
+    ghost use Rattle.redirect_map.specs.Marks.{mask_of};
 
     ghost Value = { Contents };
 

@@ -6,15 +6,15 @@ ghost use Rattle.redirect_map.specs.Kept.{IsInRange, AreEntries, NoneHomed};
 ghost use Rattle.redirect_map.specs.Marked.{there_bit, lane_bit, is_home, begins, IsMarked, AreMarked, AreThere, AreBegun, KeepsBits, IsMarkedUnder, StaysMarked};
 ghost use Rattle.std.specs.HashMap.{get};
 ghost use Rattle.std.specs.Prelude.{◌≡◌, ◌<◌, ◌≤◌, ◌^◌, ◌+◌, ◌%◌, ℕ, Bool, true, false, nat_eq, slice_index_or, Some, ◌==◌, ◌&&◌, ◌||◌};
-ghost use Rattle.version_marks.specs.Marks.{mask_of};
+ghost use Rattle.redirect_map.specs.Marks.{mask_of};
 ghost use Rattle.wol_model.specs.Log.{has_bit};
 
 use crate::entry::Entry;
 use crate::going::{Sought, any_sought};
 use crate::list::Entries;
+use crate::marks::VersionMarks;
 use block_cells::{Cell, Rec, moved, newest_of, with_bit};
 use std::collections::HashMap;
-use version_marks::VersionMarks;
 
 // How many lanes have bits of their own.
 const LANES: usize = 63;

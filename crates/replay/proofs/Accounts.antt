@@ -2,10 +2,14 @@
 use Rattle.replay.proofs.Basics.{◌≡◌, ◌≢◌, ◌<◌, ◌≤◌, ◌⊎◌, ℕ, zero, suc, Bool, true, false, cond, List, [], ◌∷◌, ◌++◌, length, map, refl}
 use Rattle.replay.proofs.Basics.{sym, ap, subst, ◌∙◌, append_assoc, append-nil, length-append, inl, inr, arith, ◌==◌, Contains}
 use Rattle.replay.proofs.Basics.{slice_index_or, filter, AllByRecursion, cases_eq, map-append}
-use Rattle.replay.proofs.Terms.{Entry, own, pass_number, pass_mine, Use, Started, Began, Needed, Done, IsJournal, Timed, joined, joins}
+use Rattle.replay.proofs.Terms.{Entry, own, pass_number, pass_mine, Use, Started, Began, Needed, Done, Timed, joined, joins}
 use Rattle.replay.proofs.Terms.{opened, started, windows_by, windows_from, operation_of, use_of, uses_of, SpindleView, StandsFor}
 use Rattle.replay.proofs.Terms.{SpindleBase, keeper_uses, OthersAccess, uses_by, SpindlePass, Floor, Reclaim, HaveStarted, ServedFromStart}
-use Rattle.replay.proofs.Terms.{ServedWindow, WasServed, WereServed}
+use Rattle.replay.proofs.Terms.{ServedWindow, WasServed, WereServed, HasJournal, amounts_in, new_spindle, spindle_after}
+use Rattle.energy.proofs.Summed.{amounts_of_sums}
+use Rattle.energy.specs.Sums.{AreSumsOf, amounts_of}
+use Rattle.spin_model.specs.Spindles.{state_after, sums_until}
+use Rattle.wol_model.specs.declared.journal.Powers.{Powers}
 use Rattle.wol_model.specs.Trace.{Window}
 use Rattle.spin_model.proofs.Alternating.{journal_alternates}
 use Rattle.run_laws.proofs.Accounts.{account_covers, no_account}
@@ -145,17 +149,28 @@ pub used_back : (n : ℕ) (moments : List ℕ) → map (λ (e : Entry). use_of e
 used_back n [] = refl
 used_back n (m ∷ moments) = ap (λ (l : List Use). Began m ∷ l) (used_back n moments)
 
+-- a spindle whose entries' account lies in this time
+has_journal : (s : SpindleView) (b : SpindleBase) (entries : List Entry) {start : ℕ} (ended : ℕ) → StandsFor s b entries → (state_after b entries).from ≡ start → (state_after b entries).now ≤ ended → HasJournal start ended s
+has_journal s b entries ended stands from now =
+    let moment = stands.shows.moment in
+    let le : s.moment ≤ ended = omega (arith, now, moment) in
+    subst (λ (x : ℕ). HasJournal x ended s) from (record { moment = le; sums = ((state_after b entries).journal, journal_alternates s b entries ended stands le, stands.shows.sums ended) })
+
+-- what it used is what it used by the journal of its uses
+pub amounts_stand : (s : SpindleView) (b : SpindleBase) (entries : List Entry) → StandsFor s b entries → (powers : Powers) (from to : ℕ)
+    → amounts_in powers from to s ≡ amounts_of powers from to (spindle_after s.timeout new_spindle (uses_of entries)).journal
+amounts_stand s b entries stands powers from to = amounts_of_sums powers from to (sums_until s to) _
+    (subst (λ (t : ℕ). AreSumsOf (sums_until s to) (spindle_after t new_spindle (uses_of entries)).journal to) (sym stands.timeout) (stands.shows.sums to))
+
 pub account_journal : (s : SpindleView) (b : SpindleBase) (entries : List Entry) (n start ended : ℕ) (moments : List ℕ) → StandsFor s b entries → AreOthers n entries
-    → own n entries ≡ map (λ (u : Use). (n, operation_of u)) (keeper_uses start moments) → start ≤ ended → AllByRecursion (λ (m : ℕ). m ≤ ended) moments → IsJournal start s.journal ended
+    → own n entries ≡ map (λ (u : Use). (n, operation_of u)) (keeper_uses start moments) → start ≤ ended → AllByRecursion (λ (m : ℕ). m ≤ ended) moments → HasJournal start ended s
 account_journal s b entries n start ended moments stands others mine le within =
     let by : uses_by n (uses_of entries) ≡ keeper_uses start moments = own_uses n entries ∙ ap (λ (es : List Entry). map (λ (e : Entry). use_of e.1) es) mine ∙ ap (λ (l : List Use). Started start ∷ l) (used_back n moments) in
     let (from, now) = account_covers b.timeout n start ended moments (uses_of entries) (others_access n entries others) by le within in
-    let moment = stands.shows.moment in
-    subst (λ (x : ℕ). IsJournal x s.journal ended) from (journal_alternates s b entries ended stands (omega (arith, now, moment)))
+    has_journal s b entries ended stands from now
 
-pub empty_journal : (s : SpindleView) (b : SpindleBase) (entries : List Entry) (n ended : ℕ) → StandsFor s b entries → AreOthers n entries → own n entries ≡ [] → IsJournal 0 s.journal ended
+pub empty_journal : (s : SpindleView) (b : SpindleBase) (entries : List Entry) (n ended : ℕ) → StandsFor s b entries → AreOthers n entries → own n entries ≡ [] → HasJournal 0 ended s
 empty_journal s b entries n ended stands others mine =
     let by : uses_by n (uses_of entries) ≡ [] = own_uses n entries ∙ ap (λ (es : List Entry). map (λ (e : Entry). use_of e.1) es) mine in
     let (from, now) = no_account b.timeout n (uses_of entries) (others_access n entries others) by in
-    let moment = stands.shows.moment in
-    subst (λ (x : ℕ). IsJournal x s.journal ended) from (journal_alternates s b entries ended stands (omega (arith, now, moment)))
+    has_journal s b entries ended stands from now

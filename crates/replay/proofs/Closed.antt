@@ -1,11 +1,11 @@
 -- The rack of a replay is closed.
 use Rattle.replay.proofs.Basics.{◌≡◌, ◌++◌, ℕ, Bool, List, [], map, sym, ap, subst, ◌∙◌, Option, None, Some, Result, Ok, Err, ◌∷◌, arith}
 use Rattle.replay.proofs.Basics.{All, IfSome, MatchResult, option_map, slice_get, slice_index_or, length, ◌<◌, ◌≤◌, ◌≢◌, false, AllByRecursion, Contains}
-use Rattle.replay.proofs.Terms.{TraceLine, ended, pieces_of, started, timed, IsJournal, Use, keeper_uses, Entry, own, lock_id, pass_mine}
+use Rattle.replay.proofs.Terms.{TraceLine, ended, pieces_of, started, timed, Use, keeper_uses, Entry, own, lock_id, pass_mine}
 use Rattle.replay.proofs.Terms.{pass_number, operation_of, SpindleBase, targets_of, IsClosedSpindle, ServedFromStart, ServedWindow}
 use Rattle.replay.proofs.Terms.{SpindleView, StandsFor, SpindlePass, Floor, ServesSome, ServesWhole, State, BayState, Told, at_name, outs}
 use Rattle.replay.proofs.Terms.{Config, VolumeConf, NoneOut, shapes_of, out_names, IsClosable, IsRack, IsUnused, Rack, Rest, RunsIn, closed}
-use Rattle.replay.proofs.Terms.{no_memory, served, Counted, Given, Options, Stop, most_of, IsPartOf, KeepToViews, Reclaim, has_token, pass_lock}
+use Rattle.replay.proofs.Terms.{no_memory, served, Counted, Given, Options, Stop, most_of, IsPartOf, KeepToViews, Reclaim, has_token, pass_lock, HasJournal}
 use Rattle.wol_model.specs.Trace.{Window, windows}
 use Rattle.rack.specs.Closing.{LeavesNoneOut}
 use Rattle.trace_windows.proofs.Rising.{moments_rise}
@@ -107,31 +107,31 @@ module _ {D S : Type 0} (state : D → State) (tells : Bool) (left : S → Optio
   spindle_journal : (lines : List (Option TraceLine)) (ss : List ServedWindow) (f g : Floor D) → ServedFromStart tells options.reclaim ss f old.keepers.items g new.keepers.items
       → moments_of ss ≡ map (λ (w : Window). w.moment) (windows (most_of config) (targets_of config) lines) → (k : ℕ) (s : SpindleView) (base : SpindleBase) (entries : List Entry) (p : SpindlePass)
       → k < length old.keepers.items → slice_get new.keepers.items k ≡ Some p → StandsFor s base entries → AreOthers (pass_number p) entries → own (pass_number p) entries ≡ pass_mine p
-      → IsJournal (started (timed lines)) s.journal (ended (timed lines))
+      → HasJournal (started (timed lines)) (ended (timed lines)) s
   unfolding windows
   spindle_journal lines [] f g (floor, passes) moments k s base entries p lt there stands others mine =
       let was : slice_index_or old.keepers.items k p ≡ p = ap (λ (x : List SpindlePass). slice_index_or x k p) (sym passes) ∙ (at_place new.keepers.items k p there).1 p in
       let none : pass_mine p ≡ [] = ap (λ (x : SpindlePass). pass_mine x) (sym was) ∙ (unused k p lt).mine in
       let zero_start : started (timed lines) ≡ 0 = no_start (pieces_of (most_of config) (targets_of config)) (timed lines) moments in
-      subst (λ (t : ℕ). IsJournal t s.journal (ended (timed lines))) (sym zero_start) (empty_journal s base entries (pass_number p) (ended (timed lines)) stands others (mine ∙ none))
+      subst (λ (t : ℕ). HasJournal t (ended (timed lines)) s) (sym zero_start) (empty_journal s base entries (pass_number p) (ended (timed lines)) stands others (mine ∙ none))
   spindle_journal lines (w ∷ ss) f g served_ moments k s base entries p lt there stands others mine =
       let all = served_mine tells options.reclaim k w ss f old.keepers.items g new.keepers.items p served_ lt unused there in
       let first : w.batch.moment ≡ started (timed lines) = first_start (pieces_of (most_of config) (targets_of config)) (timed lines) w.batch.moment (moments_of ss) moments in
       let (within, le) = moments_within (started (timed lines)) (windows (most_of config) (targets_of config) lines) (ended (timed lines)) (moments_rise (most_of config) (targets_of config) lines) in
-      subst (λ (t : ℕ). IsJournal t s.journal (ended (timed lines))) first
+      subst (λ (t : ℕ). HasJournal t (ended (timed lines)) s) first
       (account_journal s base entries (pass_number p) w.batch.moment (ended (timed lines)) (moments_of (w ∷ ss)) stands others (mine ∙ all) (omega (arith, first, le))
       (subst (λ (ms : List ℕ). AllByRecursion (λ (m : ℕ). m ≤ ended (timed lines)) ms) (sym moments) within))
 
   pub journals_now : (result : Result Counted Stop) → RunsIn tells left config options start now old new faults faults' printed printed' result → (counted : Counted) → result ≡ Ok counted
       → (spindles : List SpindleView) → length spindles ≡ length (shapes_of config) → ((k : ℕ) (s : SpindleView) → slice_get spindles k ≡ Some s → IsClosedSpindle new k s)
-      → All (λ (s : SpindleView). IsJournal counted.started s.journal counted.ended) spindles
+      → All (λ (s : SpindleView). HasJournal counted.started counted.ended s) spindles
   journals_now result (closed f first none) counted ok spindles count each = absurd (cc ok)
   journals_now result (no_memory first none) counted ok spindles count each = absurd (cc ok)
   journals_now result (served done first before moved from) counted ok spindles count each = at done from.served ok
     where
       at : (r : Result Counted Stop) → MatchResult r (λ c. ServesWhole tells left config options start now before old.keepers.items from.after new.keepers.items c faults faults' printed printed')
           (λ e. ServesSome tells left config options start e now before old.keepers.items from.after new.keepers.items faults faults' printed printed') → r ≡ Ok counted
-          → All (λ (s : SpindleView). IsJournal counted.started s.journal counted.ended) spindles
+          → All (λ (s : SpindleView). HasJournal counted.started counted.ended s) spindles
       at (Err e) w ok k d lt = absurd (cc ok)
       at (Ok c) w ok k d lt =
           let same : c ≡ counted = cc ok in
@@ -139,5 +139,5 @@ module _ {D S : Type 0} (state : D → State) (tells : Bool) (left : S → Optio
           let s = kept_by state config b new closable spindles count k (slice_index_or spindles k d) (there_at spindles k d lt) (each k (slice_index_or spindles k d) (there_at spindles k d lt)) in
           let journal = spindle_journal w.lines w.served before from.after w.from_start (served_moments config (windows (most_of config) (targets_of config) w.lines) w.served w.are) k (slice_index_or spindles k d) s.base s.entries s.pass (omega (arith, lt, count, is.keepers.0)) s.keeper
           s.stands s.others s.part.mine in
-          subst (λ (x : Counted). IsJournal x.started (slice_index_or spindles k d).journal x.ended) same
-          (subst (λ (t : ℕ). IsJournal t (slice_index_or spindles k d).journal c.ended) (sym w.started_) (subst (λ (t : ℕ). IsJournal (started (timed w.lines)) (slice_index_or spindles k d).journal t) (sym w.ended_) journal))
+          subst (λ (x : Counted). HasJournal x.started x.ended (slice_index_or spindles k d)) same
+          (subst (λ (t : ℕ). HasJournal t c.ended (slice_index_or spindles k d)) (sym w.started_) (subst (λ (t : ℕ). HasJournal (started (timed w.lines)) t (slice_index_or spindles k d)) (sym w.ended_) journal))

@@ -5,15 +5,15 @@ use Rattle.replay.proofs.Basics.{slice_index_or, map-append}
 use Rattle.replay.proofs.Terms.{State, Began, Done, Needed, Started, Stayed, Use, needs_after, new_spindle, TraceLine, pieces_of, started}
 use Rattle.replay.proofs.Terms.{timed, keeper_uses, Entry, own, IsPartOf, pass_lock, pass_mine, pass_number, has_token}
 use Rattle.replay.proofs.Terms.{operation_of, use_of, uses_of, SpindleView, StandsFor, SpindleBase, answers_by, BayState, most_of, Config}
-use Rattle.replay.proofs.Terms.{targets_of, shapes_of, IsClosedSpindle, IsClosable, IsRack, IsUnused, KeepToViews, Rack, FailToBegin}
-use Rattle.replay.proofs.Terms.{HasBegun, HasStayed, HaveBegun, HaveBegunVolumes, SpindlePass, Floor, Reclaim, Further, HasStarted}
+use Rattle.replay.proofs.Terms.{targets_of, shapes_of, IsClosedSpindle, IsClosable, IsRack, IsUnused, KeepToViews, Rack}
+use Rattle.replay.proofs.Terms.{HasBegun, HaveBegun, HaveBegunVolumes, SpindlePass, Floor, Reclaim, Further, HasStarted}
 use Rattle.replay.proofs.Terms.{ServedFromStart, ServedWindow, StartsOnce, WasNotRun, begins_alone, fails_to_begin, is_none_served}
-use Rattle.replay.proofs.Terms.{none_further, AreWindowsOf, IsAccountBy, IsCutShort, column, started_uses, window_uses}
+use Rattle.replay.proofs.Terms.{none_further, AreWindowsOf, IsAccountBy, column, started_uses, window_uses}
 use Rattle.wol_model.specs.Trace.{windows}
-use Rattle.replay.proofs.Accounts.{AreOthers, HasUsed, first_start, moments_of, named_users, others_access, own_uses, served_used, short_or_long, used_both}
+use Rattle.replay.proofs.Accounts.{AreOthers, HasUsed, amounts_stand, first_start, moments_of, named_users, others_access, own_uses, served_used, short_or_long, used_both}
 use Rattle.replay.proofs.Closed.{kept_by}
 use Rattle.replay.proofs.RacksServed.{at_place, there_at}
-use Rattle.replay.proofs.ToldAwake.{WasTold, all_told, begun_told, served_told, started_told, stayed_told, timeout_of, told_both, told_none}
+use Rattle.replay.proofs.ToldAwake.{WasTold, all_told, begun_told, served_told, started_told, timeout_of, told_both, told_none}
 use Rattle.replay.proofs.Serving.{served_moments}
 use Rattle.replay.proofs.StationsRan.{EndsOn}
 use Rattle.replay.proofs.WorksServed.{awake_in, awake_last, awake_last_begun, awake_last_kept, awake_last_none}
@@ -37,9 +37,6 @@ reached_started at p q s = record { used = record { number = s.same.1; mine = s.
 
 reached_begun : (t : ℕ) (a : Bool) (p q : SpindlePass) → HasBegun t a p q → HasReached (Began t ∷ []) (a ∷ []) p q
 reached_begun t a p q b = record { used = record { number = b.same.1; mine = b.mine }; was = begun_told t a p q b }
-
-reached_stayed : (p q : SpindlePass) → HasStayed p q → HasReached (Stayed ∷ []) [] p q
-reached_stayed p q s = record { used = record { number = s.same.1; mine = s.mine }; was = stayed_told p q s }
 
 -- ---- Passes in order
 
@@ -119,32 +116,10 @@ module _ {D : Type 0} (tells : Bool) (mode : Reclaim) (k start : ℕ) where
         (reached_both by (Began moment ∷ []) told (slice_index_or awake k false ∷ []) (slice_index_or ps k d) (slice_index_or begun k d) (slice_index_or qs k d) (begun_reached d)
         (reached_begun moment (slice_index_or awake k false) (slice_index_or begun k d) (slice_index_or qs k d) (have k false d (begun_there d))))
 
-    -- .. or at some alone
-    pub some_cut : (config : Config) (views : ℕ → List ℕ) (s : SpindleView) (qs : List SpindlePass) (d : SpindlePass)
-        → ((us : List Use) (xs : List Bool) → HasReached us xs (slice_index_or ps k d) (slice_index_or qs k d) → IsAccountBy config views k us xs s) → FailToBegin moment begun qs → IsCutShort config views k moment by told s
-    some_cut config views s qs d account (inl same) =
-        summed.no_turn (account by told (subst (λ (x : List SpindlePass). HasReached by told (slice_index_or ps k d) (slice_index_or x k d)) (sym same) (begun_reached d)))
-    some_cut config views s qs d account (inr h) = at (side k h.count)
-      where
-        side : (a b : ℕ) → (a < b) ⊎ ((a ≡ b) ⊎ (b < a))
-        side zero zero = inr (inl refl)
-        side zero (suc b) = inl (omega arith)
-        side (suc a) zero = inr (inr (omega arith))
-        side (suc a) (suc b) = elim (side a b) [
-          | inl lt ↦ inl (omega (arith, lt))
-          | inr (inl is) ↦ inr (inl (ap suc is))
-          | inr (inr gt) ↦ inr (inr (omega (arith, gt)))
-        ]
-
-        at : (k < h.count) ⊎ ((k ≡ h.count) ⊎ (h.count < k)) → IsCutShort config views k moment by told s
-        at (inl less) = summed.began (slice_index_or h.awake k false) (account (by ++ Began moment ∷ []) (told ++ slice_index_or h.awake k false ∷ [])
-            (reached_both by (Began moment ∷ []) told (slice_index_or h.awake k false ∷ []) (slice_index_or ps k d) (slice_index_or begun k d) (slice_index_or qs k d) (begun_reached d)
-            (reached_begun moment (slice_index_or h.awake k false) (slice_index_or begun k d) (slice_index_or qs k d) (h.begun k false d less))))
-        at (inr (inl is)) = summed.stayed (account (by ++ Stayed ∷ []) told
-            (subst (λ (xs : List Bool). HasReached (by ++ Stayed ∷ []) xs (slice_index_or ps k d) (slice_index_or qs k d)) (append-nil told)
-            (reached_both by (Stayed ∷ []) told [] (slice_index_or ps k d) (slice_index_or begun k d) (slice_index_or qs k d) (begun_reached d)
-            (reached_stayed (slice_index_or begun k d) (slice_index_or qs k d) (subst (λ (j : ℕ). HasStayed (slice_index_or begun j d) (slice_index_or qs j d)) (sym is) (h.stayed d))))))
-        at (inr (inr more)) = summed.no_turn (account by told (subst (λ (x : SpindlePass). HasReached by told (slice_index_or ps k d) x) (sym (h.others k d more)) (begun_reached d)))
+    -- .. or at none
+    pub none_begun : (config : Config) (views : ℕ → List ℕ) (s : SpindleView) (qs : List SpindlePass) (d : SpindlePass)
+        → ((us : List Use) (xs : List Bool) → HasReached us xs (slice_index_or ps k d) (slice_index_or qs k d) → IsAccountBy config views k us xs s) → qs ≡ begun → IsAccountBy config views k by told s
+    none_begun config views s qs d account same = account by told (subst (λ (x : List SpindlePass). HasReached by told (slice_index_or ps k d) (slice_index_or x k d)) (sym same) (begun_reached d))
 
 -- ---- The account of a disk
 
@@ -172,7 +147,7 @@ account_reached config views k s b entries o p us xs unused reached stands other
       timeout_is = timeout;
       uses = uses_of entries;
       legal = rw stands.timeout stands.legal;
-      journal = rw stands.timeout stands.shows.journal;
+      amounts = amounts_stand s b entries stands;
       keeper = pass_number p;
       kept = own_uses (pass_number p) entries ∙ ap (λ (es : List Entry). map (λ (e : Entry). use_of e.1) es) (part.mine ∙ mine) ∙ uses_back (pass_number p) us;
       others = others_access (pass_number p) entries others;
@@ -235,7 +210,7 @@ module _ {D : Type 0} (tells : Bool) (mode : Reclaim) (has_started : Bool) (h : 
   unfolding ends_so with_keepers keepers_then
   kept_told not_run same passes = awake_last_kept tells mode h g (with_keepers not_run (none_further same passes)) same refl
 
-  pub failed_told : (not_run : WasNotRun tells h g) (moment : ℕ) (start : List SpindlePass) (same : g.keepers ≡ h.keepers) (once : StartsOnce has_started moment ms start) (failed : FailToBegin moment start qs)
+  pub failed_told : (not_run : WasNotRun tells h g) (moment : ℕ) (start : List SpindlePass) (same : g.keepers ≡ h.keepers) (once : StartsOnce has_started moment ms start) (failed : qs ≡ start)
       → awake_last tells mode h g (ends_so (inr not_run) (fails_to_begin moment start same once failed)) ≡ []
   unfolding ends_so with_keepers keepers_then
   failed_told not_run moment start same once failed = awake_last_kept tells mode h g (with_keepers not_run (fails_to_begin moment start same once failed)) same refl

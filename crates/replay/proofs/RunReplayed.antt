@@ -7,19 +7,19 @@ use Rattle.replay.proofs.Terms.{shape_in, shapes_of, target_of, targets_of, Shar
 use Rattle.replay.proofs.Terms.{Memory, Versions, Volume, Trouble, TraceFault, fault_of_trace, fault_of_window, IsClosedSpindle}
 use Rattle.replay.proofs.Terms.{IsClosedVolume, SharePools, BeganWith, HasFaulty, KeepsAllSound, LeavesFronts, ArePools, PassesEmpty, TakesFew, AreUnused}
 use Rattle.replay.proofs.Terms.{IsClosable, IsRack, IsUnused, KeepToViews, base_of_station, IsImageOut, image_here, Rack, uses_of}
-use Rattle.replay.proofs.Terms.{SpindleView, FailToBegin, HaveBegun, SpindlePass, AreStations, IsMoved, Floor, Reclaim, memory, HasGiven}
+use Rattle.replay.proofs.Terms.{SpindleView, HaveBegun, SpindlePass, AreStations, IsMoved, Floor, Reclaim, memory, HasGiven}
 use Rattle.replay.proofs.Terms.{AreAllOpen, AreHistories, BeginAsRead, CountAnswered, History, answers_in, is_broken_at, next_at, view_at, CutsLines}
 use Rattle.replay.proofs.Terms.{PrintsText, all_amounts, Replays, status_in, RunsNone, ServesFrom, Further, ServedFromStart, ServedWindow}
 use Rattle.replay.proofs.Terms.{StartsOnce, WasNotRun, begins_alone, fails_to_begin, is_none_served, none_further, AreWindowsOf, EndsBy}
 use Rattle.replay.proofs.Terms.{ServesSome, ServesWhole, WentWell, at_end, lines_of_window, HaveAccounts, HaveShortAccounts, IsAccountBy}
-use Rattle.replay.proofs.Terms.{IsCutShort, IsSummaryOf, PrintsRun, column, lines_asked, of_all, of_none, started_uses, Counted, Given}
+use Rattle.replay.proofs.Terms.{IsSummaryOf, PrintsRun, column, lines_asked, of_all, of_none, started_uses, Counted, Given}
 use Rattle.replay.proofs.Terms.{Options, Stop, CountsPlaced, CountsReclaimed, AreWorked, Entry, IsFree, IsPartOf, lock_id, pass_lock}
 use Rattle.replay.proofs.Terms.{pass_number, HasNoHelp, HasHistory, answers_of, answers_by, AreAllAnswered, most_of}
 use Rattle.wol_model.specs.Trace.{requests, windows}
 use Rattle.replay.proofs.HistoriesLeft.{each_closed, histories_of}
 use Rattle.rack.specs.PoolUses.{HadLogger}
-use Rattle.rack_closing.proofs.Cases.{by_option}
-use Rattle.rack_closing.proofs.LoggersNamed.{names_logger}
+use Rattle.rack.proofs.Cases.{by_option}
+use Rattle.rack.proofs.LoggersNamed.{names_logger}
 use Rattle.rack_parts.proofs.Members.{a_value, none_in}
 use Rattle.rack.proofs.FailedParts.{faulty_since}
 use Rattle.replay.proofs.AllAsked.{AreAllCounted, all_counted_asked}
@@ -32,7 +32,7 @@ use Rattle.replay.proofs.RacksServed.{a_member, at_place, closable_after, rack_c
 use Rattle.replay.proofs.Statuses.{not_success}
 use Rattle.replay.proofs.RunEnded.{TellsRise, ends_stopped, ends_summed, prints_stopped, prints_summed}
 use Rattle.replay.proofs.RunWorked.{none_worked, run_unbroken, run_worked, told_awake, told_more}
-use Rattle.replay.proofs.CutShort.{AccountOf, HasReached, account_of, all_reached, begun_last, ends_so, failed_told, first_is, kept_told, none_told, reached_none, some_cut}
+use Rattle.replay.proofs.CutShort.{AccountOf, HasReached, account_of, all_reached, begun_last, ends_so, failed_told, first_is, kept_told, none_told, reached_none, none_begun}
 use Rattle.replay.proofs.ToldAwake.{WasTold, all_told, served_told, timeout_of}
 use Rattle.replay.proofs.WorksServed.{awake_in, awake_last, awake_last_none}
 use Rattle.replay.proofs.RunKept.{RunKept, kept_is, kept_none, kept_served, none_is}
@@ -413,17 +413,17 @@ module _ {D S : Type 0} (T : Type 0) (state : D → State) (tells : Bool) (left 
 
       -- the accounts where a further window began at this moment
       short : e ≡ stop.Fault Memory → (ends : EndsOn tells middle from.after) (moment : ℕ)
-          → ((k : ℕ) (s : SpindleView) → slice_get spindles k ≡ Some s → IsCutShort config views k moment (started_uses (started (timed lines)) moment (moments_of ss)) (column k (told_by ss middle ms served ends)) s)
+          → ((k : ℕ) (s : SpindleView) → slice_get spindles k ≡ Some s → IsAccountBy config views k (started_uses (started (timed lines)) moment (moments_of ss)) (column k (told_by ss middle ms served ends)) s)
           ⊎ ((k : ℕ) (s : SpindleView) → slice_get spindles k ≡ Some s → IsAccountBy config views k (started_uses (started (timed lines)) moment (moments_of ss) ++ Began moment ∷ []) (column k (told_by ss middle ms served ends)) s) → DisksEnded ends
       short is ends moment each = inr (at_9 is, record { spindles = spindles; count = sized; moment = moment; each = each })
 
       failed : e ≡ stop.Fault Memory → (ends : EndsOn tells middle from.after) → awake_last tells options.reclaim middle from.after ends ≡ [] → (moment : ℕ) (begun : List SpindlePass)
-          → StartsOnce (not (is_none_served ss)) moment ms begun → FailToBegin moment begun q.keepers.items → DisksEnded ends
+          → StartsOnce (not (is_none_served ss)) moment ms begun → q.keepers.items ≡ begun → DisksEnded ends
       failed is ends none moment begun once fails = short is ends moment
           (inl (λ k s there.
           let a = account_now k s there in
-          subst (λ (l : List (List Bool)). IsCutShort config views k moment (started_uses (started (timed lines)) moment (moments_of ss)) (column k l) s) (sym (awake_alone ss middle ms served ends none))
-          (some_cut tells options.reclaim k (started (timed lines)) ss before r.keepers.items middle ms served a.less (first_is config lines ss are) moment begun once config views s q.keepers.items a.pass
+          subst (λ (l : List (List Bool)). IsAccountBy config views k (started_uses (started (timed lines)) moment (moments_of ss)) (column k l) s) (sym (awake_alone ss middle ms served ends none))
+          (none_begun tells options.reclaim k (started (timed lines)) ss before r.keepers.items middle ms served a.less (first_is config lines ss are) moment begun once config views s q.keepers.items a.pass
           (λ us xs reached. a.so us xs (subst (λ (p : SpindlePass). HasReached us xs (slice_index_or r.keepers.items k a.pass) p) (pass_at k s a) reached)) fails)))
 
       all_begun : e ≡ stop.Fault Memory → (ends : EndsOn tells middle from.after) (awake : List Bool) → awake_last tells options.reclaim middle from.after ends ≡ awake ∷ [] → (moment : ℕ) (begun : List SpindlePass)

@@ -5,7 +5,7 @@ use Rattle.replay.proofs.Basics.{sum_by, slice_index_or, slice_set, OnErr, OnOk,
 use Rattle.replay.proofs.Basics.{cases_eq, get_or-set_same, get_or-set_other, flat_map-append, sum_by-append}
 use Rattle.replay.proofs.Terms.{joined_lines, Config, most_of, targets_of, Batched, IsBatchOf, next_number, IsInside, numbered}
 use Rattle.replay.proofs.Terms.{requests_in_all, Request, length-numbered, numbered_both, Totals, Outcome, ManagerLock, SpindlePass}
-use Rattle.replay.proofs.Terms.{FailToBegin, HaveBegun, HaveBegunVolumes, HasRun, AreOfVolumes, Floor, Reclaim, CountsWindow, most_count}
+use Rattle.replay.proofs.Terms.{HaveBegun, HaveBegunVolumes, HasRun, AreOfVolumes, Floor, Reclaim, CountsWindow, most_count}
 use Rattle.replay.proofs.Terms.{was_read, was_written, was_logged, went_home, was_drained, AreSamePasses, AreTotals, HaveStarted}
 use Rattle.replay.proofs.Terms.{ServedFromStart, ServedWindow, StartsOnce, WasServed, WereServed, is_none_served, outcomes_in}
 use Rattle.replay.proofs.Terms.{AreServedFrom, AreServedOf, AreVolumes, EndsIn, Finishes, GoesOn, HasBegunWindow, HasFailedToBegin}
@@ -207,7 +207,7 @@ err_with Q (Err e) fact q = (fact, q)
 
 -- it wasn't begun
 pub window_failed : {D : Type 0} (t : ℕ) (s m n : Session D) → m ≡ record s { keepers = m.keepers; started = true } → StartsOnce s.started t s.keepers.items m.keepers.items
-    → FailToBegin t m.keepers.items n.keepers.items → n.floor ≡ m.floor → HasFailedToBegin t s n
+    → n.keepers.items ≡ m.keepers.items → n.floor ≡ m.floor → HasFailedToBegin t s n
 window_failed {D} t s m n only starts failed rest = record { start = m.keepers.items; starts = starts; spindles = failed; floor_ = rest ∙ ap (λ (x : Session D). x.floor) only }
 
 pub window_begun : {D : Type 0} (tells : Bool) (t : ℕ) (s m n : Session D) → m ≡ record s { keepers = m.keepers; started = true } → StartsOnce s.started t s.keepers.items m.keepers.items

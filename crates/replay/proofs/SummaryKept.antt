@@ -1,4 +1,4 @@
--- The summary of a trace that was served to its end: each disk's journal is that of its uses, and the keeper's are those of the account.
+-- The summary of a trace that was served to its end: each disk used what it used by the journal of its uses, and the keeper's are those of the account.
 use Rattle.replay.proofs.Basics.{◌≡◌, ◌≢◌, ◌++◌, ◌<◌, ◌-◌, ℕ, Bool, false, List, [], ◌∷◌, length, map, sym, ap, subst, ◌∙◌, Option, Some}
 use Rattle.replay.proofs.Basics.{append-nil, arith, All, Contains, slice_get, slice_index_or}
 use Rattle.replay.proofs.Terms.{Started, Use, needs_after, new_spindle, answers_by, uses_by, TraceLine, pieces_of, requests, started, timed}
@@ -8,7 +8,7 @@ use Rattle.replay.proofs.Terms.{Floor, State, BayState, Config, shapes_of, IsClo
 use Rattle.replay.proofs.Terms.{all_amounts, ServedFromStart, ServedWindow, AreWindowsOf, ServesWhole, IsAccount, IsAccountBy, IsSummary, column}
 use Rattle.replay.proofs.Terms.{Counted, Given, Options, most_of}
 use Rattle.wol_model.specs.Trace.{Window, windows}
-use Rattle.replay.proofs.Accounts.{AreOthers, first_start, moments_of, named_users, others_access, own_uses, used_back}
+use Rattle.replay.proofs.Accounts.{AreOthers, amounts_stand, first_start, moments_of, named_users, others_access, own_uses, used_back}
 use Rattle.replay.proofs.AllAsked.{AreAllCounted}
 use Rattle.replay.proofs.Closed.{kept_by, served_mine}
 use Rattle.replay.proofs.RacksServed.{at_place}
@@ -30,7 +30,7 @@ module _ (config : Config) (views : ℕ → List ℕ) (k : ℕ) (s : SpindleView
     timeout_is = timeout_is;
     uses = uses_of entries;
     legal = rw stands.timeout stands.legal;
-    journal = rw stands.timeout stands.shows.journal;
+    amounts = amounts_stand s b entries stands;
     keeper = n;
     kept = kept;
     others = others_access n entries others;

@@ -5,7 +5,7 @@ pub use Rattle.wol_model.specs.ArrayLaws.{unversioned}
 pub use Rattle.wol_model.specs.Blocks.{Write, after}
 pub use Rattle.wol_model.specs.History.{helper, keeper, worker, Operation, Wrote, Read, Kept, Broke, flight_from, flight_of, written_by, writes, IsHelp, IsCut, whole, in_flight, AreLegalNext, BreaksOnce}
 pub use Rattle.wol_model.specs.Images.{AreSound, Images, all_segments, recovered_from}
-pub use Rattle.wol_model.specs.Journal.{Began, new_spindle, Done, Needed, SpindleState, Started, Stayed, Use, spindle_after, used, needs_after, IsJournal}
+pub use Rattle.wol_model.specs.Journal.{Began, new_spindle, Done, Needed, SpindleState, Started, Stayed, Use, spindle_after, used, needs_after}
 pub use Rattle.wol_model.specs.Trace.{requests, Target, TraceLine, started, timed, windows, joins, pieces_of, ended, payload, payloads, write_to, home_of, Timed, joined, opened, windows_by, windows_from, Numbered, numbered_from, pieces, requests_of, requests_on, volume_of, is_write}
 pub use Rattle.wol_model.specs.declared.trace.Kind.{Kind}
 pub use Rattle.wol_promise.proofs.ReadCode.{noted_is_back}
@@ -50,10 +50,10 @@ pub use Rattle.errands.specs.declared.ends.Errands.{Errands}
 pub use Rattle.msr_trace.specs.Lines.{is_feed, trace_line}
 pub use Rattle.msr_trace.specs.Reading.{Reading, IsDone, RefusesLine, pending, is_no_memory}
 pub use Rattle.msr_trace.specs.declared.format.TraceFault.{TraceFault}
-pub use Rattle.open_rack.proofs.AllOut.{accepted_all, recovered_all, taken_all}
-pub use Rattle.open_rack.proofs.FirstClosed.{none_closed}
-pub use Rattle.open_rack.proofs.OpenedKept.{opened_out}
-pub use Rattle.open_rack.specs.NotOpened.{first_closed}
+pub use Rattle.rack.proofs.AllOut.{accepted_all, recovered_all, taken_all}
+pub use Rattle.rack.proofs.FirstClosed.{none_closed}
+pub use Rattle.rack.proofs.OpenedKept.{opened_out}
+pub use Rattle.rack.specs.NotOpened.{first_closed}
 pub use Rattle.replay.specs.Completes.{Completes, MayComplete, writes_to}
 pub use Rattle.replay.specs.Counts.{was_drained, most_count, no_totals, was_logged, went_home, AddsAtMost, was_read, was_written, CountsWindow, CountsOutcomes}
 pub use Rattle.replay.specs.Ended.{EndsFor, HasRefusedWrite, IsPartFault, memory, no_line, refused, sink_failed}
@@ -64,13 +64,13 @@ pub use Rattle.replay.specs.Histories.{answers_in, History, is_broken_at, next_a
 pub use Rattle.replay.specs.Leaves.{LeavesImages, records_in, written_array}
 pub use Rattle.replay.specs.NotOpened.{LeavesBay, LeavesViews, AsksNone}
 pub use Rattle.replay.specs.Placed.{CountsPlaced, CountsReclaimed}
-pub use Rattle.replay.specs.Prints.{CutsLines, PrintsText, all_amounts, HandsOn, line_of_outcome, lines_of_outcomes}
+pub use Rattle.replay.specs.Prints.{CutsLines, PrintsText, all_amounts, amounts_in, HandsOn, HasJournal, line_of_outcome, lines_of_outcomes}
 pub use Rattle.replay.specs.Replays.{Replays, status_in, Replayed, ran}
 pub use Rattle.replay.specs.Runs.{locks_of, RunsNone, ServesFrom, RunsIn, CanServe, closed, new_session, no_memory, served}
 pub use Rattle.replay.specs.Served.{ServedFromStart, ServedWindow, WasNotRun, outcomes_in, WasServed, WereServed, Further, StartsOnce, begins_alone, fails_to_begin, is_none_served, none_further, AreSamePasses, HasStarted, HaveStarted, AreTotals}
 pub use Rattle.replay.specs.Sessions.{WentWell, AreWindowsOf, EndsBy, RunsLines, ServesSome, ServesWhole, ServesWindows, at_end, lines_of_window, AreVolumes, IsSession, AreServedOf, Closes, EndsIn, EndsWithWindow, GoesOn, HasBegunWindow, HasFailedToBegin, HasServed, StopsAfter, StopsAtLine, TakesOn, at_refusal, lines_of_windows, opens, AreServedFrom, Finishes}
 pub use Rattle.replay.specs.Stops.{fault_of_trace}
-pub use Rattle.replay.specs.Summed.{HaveAccounts, HaveShortAccounts, IsAccountBy, IsCutShort, IsSummaryOf, PrintsRun, column, lines_asked, of_all, of_none, started_uses, window_uses, IsAccount, IsSummary}
+pub use Rattle.replay.specs.Summed.{HaveAccounts, HaveShortAccounts, IsAccountBy, IsSummaryOf, PrintsRun, column, lines_asked, of_all, of_none, started_uses, window_uses, IsAccount, IsSummary}
 pub use Rattle.replay.specs.Works.{AreClosings, AreWorked, AreWorks, AreBegun, IsClosing, IsWork, DrainsAlone, KeepsRecords, LackedIn, WorksAs, by_keeper}
 pub use Rattle.replay.specs.declared.counting.Counted.{Counted}
 pub use Rattle.replay.specs.declared.given.Given.{Given}
@@ -95,7 +95,7 @@ pub use Rattle.request_turns.specs.Helped.{ManagerLock, AreKept, made_since}
 pub use Rattle.request_turns.specs.Turns.{ManagerPass, coded, IsBroken, faulty_part, IsHonest, began, notes_seen, Gains, LooksStay, HasTurned, WasDown, KeptStay}
 pub use Rattle.request_turns.specs.declared.outcome.Outcome.{Outcome}
 pub use Rattle.request_workers.proofs.Totals.{all_added, HaveGained, all_both, gained_honest, have_gained_both, window_gained}
-pub use Rattle.request_workers.specs.Begun.{FailToBegin, HaveBegun, SpindlePass, HasBegun, HasStayed, HaveBegunVolumes, AreKeepers}
+pub use Rattle.request_workers.specs.Begun.{HaveBegun, SpindlePass, HasBegun, HaveBegunVolumes, AreKeepers}
 pub use Rattle.request_workers.specs.Closed.{IsClosed}
 pub use Rattle.request_workers.specs.Counted.{AreHonest, all_between}
 pub use Rattle.request_workers.specs.Crews.{AreIdleSeats, AreWaiting, IsCrew}
@@ -119,7 +119,7 @@ pub use Rattle.trace_windows.specs.Batches.{Batched, IsBatchOf}
 pub use Rattle.trace_windows.specs.Cutting.{AreWindows, Cutting, HasCut, next_number}
 pub use Rattle.trace_windows.specs.Requests.{asked, requests_in_all, IsInside, numbered}
 pub use Rattle.trace_windows.specs.declared.request.Request.{Request}
-pub use Rattle.troubles.specs.Troubles.{trouble_of_part, trouble_of}
+pub use Rattle.rack.specs.Troubles.{trouble_of_part, trouble_of}
 pub use Rattle.window_desks.specs.declared.desk.Desk.{Desk}
 pub use Rattle.window_desks.specs.declared.floor.Floor.{Floor}
 pub use Rattle.window_desks.specs.declared.request.Reclaim.{Reclaim}

@@ -3,7 +3,7 @@ use Rattle.replay.proofs.Basics.{◌≡◌, ◌==◌, ◌<◌, ◌+◌, ◌++◌
 use Rattle.replay.proofs.Basics.{append_assoc, append-nil, length-append, arith, slice_index_or, eq-eqb, map-append, filter-append}
 use Rattle.replay.proofs.Terms.{Begins, Entry, own, IsPartOf, IsSamePass, pass_lock, pass_mine, pass_number, pass_seen, Began, Done, Needed}
 use Rattle.replay.proofs.Terms.{SpindleState, Started, Stayed, Use, new_spindle, spindle_after, used, operation_of, use_of, uses_of}
-use Rattle.replay.proofs.Terms.{state_after, answer_then, answers_by, IsUnused, HasBegun, HasStayed, SpindlePass, Floor, Reclaim}
+use Rattle.replay.proofs.Terms.{state_after, answer_then, answers_by, IsUnused, HasBegun, SpindlePass, Floor, Reclaim}
 use Rattle.replay.proofs.Terms.{HasStarted, HaveStarted, ServedFromStart, ServedWindow, WasServed, WereServed, column}
 use Rattle.replay.proofs.Accounts.{HasUsed, there_after}
 use Rattle.replay.proofs.WorksServed.{awake_in, awake_then}
@@ -141,9 +141,6 @@ begun_told t a p q b =
     let (before, begins, seen) = b.seen in
     one_step p q (Began t) (a ∷ []) b.same before begins seen b.mine refl
     (ap (λ (x : Bool). x ∷ []) (sym (b.answer ∙ (λ i. (spindle_after (b.same.0 i).base.timeout new_spindle (uses_of (seen i))).awake))))
-
-pub stayed_told : (p q : SpindlePass) → HasStayed p q → WasTold [] p q
-stayed_told p q b = let (before, begins, seen) = b.seen in one_step p q Stayed [] b.same before begins seen b.mine refl refl
 
 pub started_told : (at : ℕ) (p q : SpindlePass) → HasStarted at p q → WasTold [] p q
 started_told at p q b = let (before, begins, seen) = b.seen in one_step p q (Started at) [] b.same before begins seen b.mine refl refl

@@ -3,11 +3,11 @@ use Rattle.std.specs.Prelude.{◌≡◌, ◌≤◌, ◌⊎◌, ℕ, Bool, true, 
 use Rattle.std.specs.Io.KnownBytes.{Appends, Keeps}
 use Rattle.wol_disk.specs.Disk.{Rose}
 use Rattle.wol_io.specs.Streams.{AppendsFront}
-use Rattle.wol_model.specs.Journal.{wakes, sleeps, awake_time, standby, units}
 use Rattle.wol_model.specs.declared.journal.Powers.{Powers}
 use Rattle.wol_promise.specs.Run.{joined_lines}
+use Rattle.energy.specs.Sums.{AreSums, amounts_by}
 use Rattle.energy.specs.declared.Amounts.{Amounts}
-use Rattle.spin_model.specs.Spindles.{SpindleView}
+use Rattle.spin_model.specs.Spindles.{SpindleView, sums_until}
 use Rattle.report.specs.Names.{name_at}
 use Rattle.report.specs.Summaries.{read_text}
 use Rattle.report.specs.declared.fault.Fault.TheVariants.{Memory}
@@ -61,15 +61,14 @@ abbrev pub asked_lines : (each : Bool) → (names : List (List ℕ)) → List Re
 asked_lines true names rs os = lines_of_outcomes names rs os
 asked_lines false names rs os = []
 
--- what a disk used from one moment to another
+-- no moment came at a disk after `to`, and its sums are those over a journal from one to the other
+pub record HasJournal (from to : ℕ) (s : SpindleView) : Type 0 where
+  pub moment : s.moment ≤ to
+  pub sums : AreSums from to (sums_until s to)
+
+-- what a disk used from one moment to another, by its sums
 abbrev pub amounts_in : Powers → (from to : ℕ) → SpindleView → Amounts
-amounts_in powers from to s = record {
-  wakes = wakes s.journal;
-  sleeps = sleeps s.journal;
-  awake = awake_time s.journal from to;
-  standby = standby s.journal to;
-  units = units powers s.journal from to;
-}
+amounts_in powers from to s = amounts_by powers from to (sums_until s to)
 
 -- so of each
 abbrev pub all_amounts : Powers → (from to : ℕ) → List SpindleView → List Amounts

@@ -6,7 +6,7 @@ use Rattle.turn_lock.specs.Passes.{pass_number, pass_mine, pass_seen, IsFree, Is
 use Rattle.spin_model.specs.Operations.{operation_of}
 use Rattle.wol_model.specs.Journal.{Started}
 use Rattle.request_turns.specs.declared.outcome.Outcome.{Outcome}
-use Rattle.request_workers.specs.Begun.{SpindlePass, FailToBegin, HaveBegun, HaveBegunVolumes}
+use Rattle.request_workers.specs.Begun.{SpindlePass, HaveBegun, HaveBegunVolumes}
 use Rattle.request_workers.specs.Floors.{AreSameButRoom, HasRun}
 use Rattle.window_desks.specs.declared.floor.Floor.{Floor}
 use Rattle.window_desks.specs.declared.request.Reclaim.{Reclaim}
@@ -102,14 +102,14 @@ pub record WasNotRun {D : Type 0} (tells : Bool) (f g : Floor D) : Type 0 where
   pub keepers : (g.keepers ≡ f.keepers)
       ⊎ ((awake : List Bool) × HaveBegunVolumes tells awake f.keepers.items g.keepers.items)
 
--- What the keepers did behind windows, which had begun the account or not: nothing; or of a further
--- window, of which no request was run, they told the spindles the moment, and the managers too,
--- unless memory ran out at a spindle.
+-- What the keepers did behind windows, which had begun the account or not: nothing; or, where
+-- memory ran out before a further window began, they started the account alone; or of a further
+-- window, of which no request was run, they told the spindles the moment, and the managers too.
 pub data Further {D : Type 0} (tells has_started : Bool) (f : Floor D) (ps : List SpindlePass)
     (g : Floor D) (qs : List SpindlePass) : Type 0 where
   none_further : g.keepers ≡ f.keepers → qs ≡ ps → Further tells has_started f ps g qs
   fails_to_begin : (moment : ℕ) (start : List SpindlePass) → g.keepers ≡ f.keepers
-      → StartsOnce has_started moment ps start → FailToBegin moment start qs
+      → StartsOnce has_started moment ps start → qs ≡ start
       → Further tells has_started f ps g qs
   begins_alone : (moment : ℕ) (start : List SpindlePass) (awake : List Bool)
       → StartsOnce has_started moment ps start → HaveBegun moment awake start qs

@@ -14,7 +14,7 @@ use Rattle.msr_trace.specs.declared.format.TraceFault.TheVariants as trace
 use Rattle.report.specs.declared.fault.Fault.{Fault}
 use Rattle.report.specs.declared.fault.Fault.TheVariants.{Memory}
 use Rattle.request_turns.specs.Helped.{ManagerLock}
-use Rattle.request_workers.specs.Begun.{SpindlePass, AreKeepers, FailToBegin, HaveBegun, HaveBegunVolumes}
+use Rattle.request_workers.specs.Begun.{SpindlePass, AreKeepers, HaveBegun, HaveBegunVolumes}
 use Rattle.request_workers.specs.Floors.{IsFloor, IsOn}
 use Rattle.window_desks.specs.declared.floor.Floor.{Floor}
 use Rattle.window_desks.specs.declared.request.Window.{Window as Answer}
@@ -71,11 +71,11 @@ pub record HasBegunWindow {D : Type 0} (tells : Bool) (moment : ℕ) (s n : Sess
   pub volumes : HaveBegunVolumes tells awake s.floor.keepers.items n.floor.keepers.items
   pub only : n.floor ≡ record s.floor { keepers = n.floor.keepers }
 
--- a window wasn't begun at this moment, for want of memory
+-- a window wasn't begun at this moment, for want of memory, but the account was started
 pub record HasFailedToBegin {D : Type 0} (moment : ℕ) (s n : Session D) : Type 0 where
   pub start : List SpindlePass
   pub starts : StartsOnce s.started moment s.keepers.items start
-  pub spindles : FailToBegin moment start n.keepers.items
+  pub spindles : n.keepers.items ≡ start
   pub floor_ : n.floor ≡ s.floor
 
 -- a window was served

@@ -4,7 +4,7 @@ use Rattle.std.specs.Prelude.{◌≡◌, ◌≢◌, ◌⊎◌, ◌++◌, ◌-◌
 use Rattle.std.specs.Io.KnownBytes.{Appends}
 use Rattle.wol_disk.specs.Disk.{Rose}
 use Rattle.wol_io.specs.Streams.{AppendsFront}
-use Rattle.wol_model.specs.Journal.{Use, Began, Started, Stayed, AreUses, needs_after, new_spindle, spindle_after}
+use Rattle.wol_model.specs.Journal.{Use, Began, Started, AreUses, needs_after, new_spindle, spindle_after}
 use Rattle.wol_model.specs.Trace.{TraceLine, ended, read_count, requests, started, timed, write_count, is_skipped}
 use Rattle.wol_promise.specs.Outcomes.{Answered}
 use Rattle.wol_promise.specs.Run.{joined_lines}
@@ -16,11 +16,13 @@ use Rattle.report.specs.Names.{printed_names}
 use Rattle.report.specs.Summaries.{summary_text}
 use Rattle.report.specs.declared.fault.Fault.TheVariants.{Memory}
 use Rattle.report.specs.declared.totals.Totals.{Totals}
+use Rattle.wol_model.specs.declared.journal.Powers.{Powers}
+use Rattle.energy.specs.Sums.{amounts_of}
 use Rattle.spin_model.specs.Spindles.{SpindleView}
 use Rattle.trace_gen.specs.Generated.{targets_of}
 use Rattle.replay.specs.Givens.{HasGivenAll}
 use Rattle.replay.specs.Histories.{line_of_read}
-use Rattle.replay.specs.Prints.{all_amounts}
+use Rattle.replay.specs.Prints.{all_amounts, amounts_in}
 use Rattle.replay.specs.Served.{AreTotals, ServedWindow}
 use Rattle.replay.specs.declared.given.Given.{Given}
 use Rattle.replay.specs.declared.stop.Stop.{Stop}
@@ -29,8 +31,8 @@ use Rattle.wol_config.specs.Configs.{most_of}
 
 -- ---- The account
 
--- The journal of the disk of volume k, with the configured timeout, is that of some uses. Among
--- them the keeper's are these, and it was told so whether the disk was awake; all other passes made
+-- What the disk of volume k used is what it used by the journal of some uses, with the configured
+-- timeout, from any moment to any other. Among them the keeper's are these, and it was told so whether the disk was awake; all other passes made
 -- accesses alone, each of which ended, and are those of volume k and of the volumes whose views
 -- name it.
 pub record IsAccountBy (config : Config) (views : ℕ → List ℕ) (k : ℕ) (by : List Use)
@@ -39,7 +41,8 @@ pub record IsAccountBy (config : Config) (views : ℕ → List ℕ) (k : ℕ) (b
   pub timeout_is : s.timeout ≡ config.timeout
   pub uses : List (ℕ × Use)
   pub legal : AreUses s.timeout new_spindle uses
-  pub journal : s.journal ≡ (spindle_after s.timeout new_spindle uses).journal
+  pub amounts : (powers : Powers) (from to : ℕ) → amounts_in powers from to s
+      ≡ amounts_of powers from to (spindle_after s.timeout new_spindle uses).journal
   pub keeper : ℕ
   pub kept : uses_by keeper uses ≡ by
   pub others : OthersAccess keeper uses
@@ -77,24 +80,14 @@ abbrev pub started_uses : (start moment : ℕ) → (moments : List ℕ) → List
 started_uses start moment [] = Started moment ∷ []
 started_uses start moment (m ∷ moments) = keeper_uses start (m ∷ moments)
 
--- Memory ran out as a window began at this moment, behind these uses and answers: at disk k the
--- keeper had no turn of it, or its turn changed nothing, or it began the window and was told
--- whether the disk was awake.
-pub data IsCutShort (config : Config) (views : ℕ → List ℕ) (k moment : ℕ) (by : List Use)
-    (told : List Bool) (s : SpindleView) : Type 0 where
-  no_turn : IsAccountBy config views k by told s → IsCutShort config views k moment by told s
-  stayed : IsAccountBy config views k (by ++ Stayed ∷ []) told s
-      → IsCutShort config views k moment by told s
-  began : (awake : Bool) → IsAccountBy config views k (by ++ Began moment ∷ []) (told ++ awake ∷ [])
-      s → IsCutShort config views k moment by told s
-
 -- a keeper's uses before a further window at this moment, behind these windows
 abbrev pub uses_before : List (Option TraceLine) → List ServedWindow → (moment : ℕ) → List Use
 uses_before lines windows moment =
     started_uses (started (timed lines)) moment (map (λ (w : ServedWindow). w.batch.moment) windows)
 
--- The disks of a run of which a further window began, at one moment, without a request that was
--- run: at some disks alone; or at each, and then the managers were told which were awake.
+-- The disks of a run that memory ended at a further window, without a request of it that was run:
+-- at each disk the keeper had started the account alone; or it began the window too, at one moment,
+-- and then the managers were told which disks were awake.
 pub record HaveShortAccounts (config : Config) (views : ℕ → List ℕ)
     (lines : List (Option TraceLine)) (windows : List ServedWindow) (awake : List (List Bool)) :
     Type 0 where
@@ -102,7 +95,7 @@ pub record HaveShortAccounts (config : Config) (views : ℕ → List ℕ)
   pub count : length spindles ≡ length config.volumes.items
   pub moment : ℕ
   pub each : ((k : ℕ) (s : SpindleView) → slice_get spindles k ≡ Some s
-      → IsCutShort config views k moment (uses_before lines windows moment) (column k awake) s)
+      → IsAccountBy config views k (uses_before lines windows moment) (column k awake) s)
       ⊎ ((k : ℕ) (s : SpindleView) → slice_get spindles k ≡ Some s
       → IsAccountBy config views k (uses_before lines windows moment ++ Began moment ∷ [])
       (column k awake) s)

@@ -1,5 +1,5 @@
 // What a run prints.
-ghost use Rattle.replay.specs.Prints.{HandsOn, PrintsLines, PrintsText, all_amounts, line_of_outcome, lines_of_outcomes};
+ghost use Rattle.replay.specs.Prints.{HandsOn, HasJournal, PrintsLines, PrintsText, all_amounts, line_of_outcome, lines_of_outcomes};
 ghost use Rattle.report.specs.Names.{printed_names};
 ghost use Rattle.report.specs.Summaries.{summary_text, units_of};
 ghost use Rattle.spin_model.specs.Spindles.{SpindleView};
@@ -7,7 +7,7 @@ ghost use Rattle.std.specs.Prelude.{◌≡◌, ◌≤◌, ◌<◌, ◌⊎◌, �
 ghost use Rattle.wol_config.specs.Configs.{IsValid};
 ghost use Rattle.wol_disk.specs.Disk.{Rose};
 ghost use Rattle.wol_io.specs.Streams.{AppendsFront};
-ghost use Rattle.wol_model.specs.Journal.{ArePowers, IsJournal};
+ghost use Rattle.wol_model.specs.Journal.{ArePowers};
 ghost use Rattle.wol_promise.specs.Run.{joined_lines};
 
 use crate::counting::Counted;
@@ -102,7 +102,7 @@ fn amounts_of(
     counted: &Counted,
 ) -> Result<Vec<Amounts>, NoMemory>
     requires journals { All (λ (s : SpindleView).
-        IsJournal counted.now.started s.journal counted.now.ended) spindles.now }
+        HasJournal counted.now.started counted.now.ended s) spindles.now }
     requires powers { ArePowers powers.now }
     ensures amounts { IfOk result (λ amounts.
         amounts.items
@@ -112,7 +112,7 @@ fn amounts_of(
     let mut amounts = Vec::with_capacity(alloc, spindles.len())?;
     for spindle in spindles {
         amounts.push_reserved(calls::amounts(
-            spindle.journal(),
+            &spindle.sums_until(counted.ended),
             counted.started,
             counted.ended,
             powers,
@@ -132,7 +132,7 @@ pub(crate) fn print_summary<K: Sink>(
     requires valid { IsValid config.now }
     requires count { length spindles.now ≡ length config.now.volumes.items }
     requires journals { All (λ (s : SpindleView).
-        IsJournal counted.now.started s.journal counted.now.ended) spindles.now }
+        HasJournal counted.now.started counted.now.ended s) spindles.now }
     ensures prints { PrintsText result (summary_text counted.now.totals
         (printed_names config.now.volumes.items)
         (all_amounts config.now.powers counted.now.started counted.now.ended spindles.now))

@@ -1,5 +1,5 @@
 -- A spindle's journal goes down and up in turn.
-use Rattle.std.proofs.Common.{◌≡◌, ◌≤◌, ℕ, ◌+◌, Bool, true, false, ◌&&◌, if◌then◌else◌, List, [], ◌∷◌, ◌++◌, max, refl, sym, ◌∙◌, subst, arith}
+use Rattle.std.proofs.Common.{◌≡◌, ◌≤◌, ℕ, ◌+◌, eqb, Bool, true, false, ◌&&◌, if◌then◌else◌, List, [], ◌∷◌, ◌++◌, max, refl, sym, ap, ◌∙◌, arith}
 use Rattle.std.specs.Prelude.{nat_le}
 use Rattle.std.proofs.lemmas.Bool.Decides.{nat_tests}
 use Rattle.turn_lock.specs.Histories.{Entry}
@@ -9,6 +9,7 @@ use Rattle.wol_model.specs.Journal.{Alternates, IsJournal, Use, Started, Began, 
 use Rattle.spin_model.specs.declared.spindle.SpindleBase.{SpindleBase}
 use Rattle.spin_model.specs.Operations.{uses_of}
 use Rattle.spin_model.specs.Spindles.{SpindleView, StandsFor, state_after}
+use Rattle.spin_model.proofs.Summing.{empty_by_sleeps}
 
 -- whether the disk is awake at the end of a journal
 abbrev pub ends_awake : Bool → List Turned → Bool
@@ -85,9 +86,24 @@ each_more : (t : ℕ) (s : SpindleState) (us : List (ℕ × Use)) → Alternatin
 each_more t s [] a = a
 each_more t s (u ∷ us) a = each_more t (used t s u.0 u.1) us (one_more t s u.0 u.1 a)
 
+-- the state after entries
+reached : (b : SpindleBase) (es : List Entry) → Alternating (state_after b es)
+reached b es = each_more b.timeout new_spindle (uses_of es) (record { awake = λ up. omega arith; always = omega arith; ends = refl; order = omega arith })
+
 -- the journal of a spindle that stands for its entries
-pub journal_alternates : (s : SpindleView) (b : SpindleBase) (es : List Entry) (to : ℕ) → StandsFor s b es → s.moment ≤ to → IsJournal (state_after b es).from s.journal to
+pub journal_alternates : (s : SpindleView) (b : SpindleBase) (es : List Entry) (to : ℕ) → StandsFor s b es → s.moment ≤ to → IsJournal (state_after b es).from (state_after b es).journal to
 journal_alternates s b es to st le =
-    let a = each_more b.timeout new_spindle (uses_of es) (record { awake = λ up. omega arith; always = omega arith; ends = refl; order = omega arith }) in
     let now : (state_after b es).now ≤ to = (let m = st.shows.moment in omega arith) in
-    subst (λ (journal : List Turned). IsJournal (state_after b es).from journal to) (sym st.shows.journal) (later true (state_after b es).from (state_after b es).journal (state_after b es).now to a.always now)
+    later true (state_after b es).from (state_after b es).journal (state_after b es).now to (reached b es).always now
+
+-- its journal is empty where it never went down
+pub turned_by_sleeps : (s : SpindleView) (b : SpindleBase) (es : List Entry) → StandsFor s b es → eqb s.sleeps 0 ≡ is_empty (state_after b es).journal
+turned_by_sleeps s b es st = ap (λ (n : ℕ). eqb n 0) (st.shows.sums 0).sleeps ∙ empty_by_sleeps (state_after b es).from (state_after b es).journal (state_after b es).now (reached b es).always
+
+-- .. and then it is awake
+pub awake_by_sleeps : (s : SpindleView) (b : SpindleBase) (es : List Entry) → StandsFor s b es → eqb s.sleeps 0 ≡ true → s.awake ≡ true
+awake_by_sleeps s b es st none = st.shows.awake ∙ by (state_after b es).journal (sym (turned_by_sleeps s b es st) ∙ none) (reached b es).ends
+  where
+    by : (journal : List Turned) → is_empty journal ≡ true → ends_awake true journal ≡ (state_after b es).awake → (state_after b es).awake ≡ true
+    by [] empty ends = sym ends
+    by (x ∷ journal) empty ends = absurd (let e : false ≡ true = empty in cc)

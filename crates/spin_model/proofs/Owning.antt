@@ -104,6 +104,3 @@ token_started es n t = has_token-push es n (Started t)
 
 pub token_begun : (es : List Entry) (n t : ℕ) → has_token (es ++ (n, operation_of (Began t)) ∷ []) ≡ has_token es
 token_begun es n t = has_token-push es n (Began t)
-
-pub token_stayed : (es : List Entry) (n : ℕ) → has_token (es ++ (n, operation_of Stayed) ∷ []) ≡ has_token es
-token_stayed es n = has_token-push es n Stayed

@@ -26,7 +26,8 @@ abbrev pub FewTokens : Type 0
 FewTokens = (s : SpindleView) (b : SpindleBase) (entries : List Entry) (passes : ℕ)
     → StandsFor s b entries → AreNumberedBelow passes entries → s.out ≤ passes
 
--- the journal of a spindle is one, from the start of the account to any later moment
+-- the journal of a spindle's entries is one, from the start of the account to any later moment
 abbrev pub JournalIsLegal : Type 0
 JournalIsLegal = (s : SpindleView) (b : SpindleBase) (entries : List Entry) (to : ℕ)
-    → StandsFor s b entries → s.moment ≤ to → IsJournal (state_after b entries).from s.journal to
+    → StandsFor s b entries → s.moment ≤ to
+    → IsJournal (state_after b entries).from (state_after b entries).journal to

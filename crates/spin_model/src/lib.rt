@@ -1,9 +1,9 @@
-//! Spindles of disks with their journals, and the parts of a disk that are read and written by a token alone.
+//! Spindles of disks with the sums over their journals, and the parts of a disk that are read and written by a token alone.
 //! A spindle goes down into standby where its disk was idle for a timeout, and comes up where a token is asked for.
 //!
 //! `spindle.rt` has the state and the four moves (`rest` decides when the disk goes down, `wake` when it comes up),
 //! `token.rt` the token, `spun.rt` the part that is reached by a token, `uses.rt` the turns of a spindle's lock,
-//! `laws.rt` the laws. To change when a disk sleeps, change `rested` in `wol_model`'s `Journal`, then `rest` here.
+//! `laws.rt` the laws. To change when a disk sleeps, change `rested` in `wol_model`'s `Journal`, then `is_idle` here.
 #![tactic(auto)]
 
 mod laws;

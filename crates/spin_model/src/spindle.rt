@@ -1,20 +1,19 @@
-// A disk's spindle, awake or in standby, with its journal.
+// A disk's spindle, awake or in standby, with the sums over its journal.
+ghost use Rattle.energy.specs.Sums.{AreSumsOf};
 ghost use Rattle.spin_model.specs.Operations.{operation_of};
-ghost use Rattle.spin_model.specs.Spindles.{SpindleView, StandsFor, HasMade, IsSameSpindle, base_of, state_after, begun};
+ghost use Rattle.spin_model.specs.Spindles.{SpindleView, StandsFor, HasMade, IsSameSpindle, base_of, is_idle, standby_until, state_after, sums_until};
 ghost use Rattle.spin_model.specs.Spun.{token_volume};
-ghost use Rattle.std.specs.Prelude.{true, false, not, nat_le, ◌==◌, ◌&&◌, if◌then◌else◌, OnOk, ◌≡◌, ◌<◌, ◌≤◌, ◌+◌, ◌-◌, ◌^◌, ◌∷◌, [], ◌++◌, ℕ, List, map, max, vec_len, vec_capacity, IsTrue, ◌↔◌, OnErr, IfOk};
+ghost use Rattle.std.specs.Prelude.{true, false, not, nat_le, ◌==◌, ◌&&◌, if◌then◌else◌, ◌≡◌, ◌<◌, ◌≤◌, ◌+◌, ◌-◌, ◌^◌, ◌∷◌, [], ◌++◌, ℕ, List, max};
 ghost use Rattle.turn_lock.specs.Histories.{Entry};
-ghost use Rattle.wol_model.specs.Journal.{Started, Needed, Done, IsJournal, is_empty};
-ghost use Rattle.wol_model.specs.declared.journal.Turned.TheVariants.{Down, Up};
+ghost use Rattle.wol_model.specs.Journal.{Started, Began, Needed, Done, IsJournal};
 
 use crate::Awake;
-use std::alloc::Global;
+use energy::Sums;
 use std::marker::Model;
 use turn_lock::Object;
-use wol_disk::NoMemory;
-use wol_model::Turned;
 
-/// The account of one disk's spin states. All moments count units of 100 ns.
+/// The account of one disk's spin states: the sums over the times that it went down and came up, and not each of them.
+/// All moments and times count units of 100 ns.
 #[derive(Drop)]
 pub struct Spindle {
     volume: u32,
@@ -23,18 +22,20 @@ pub struct Spindle {
     last_use: u64,
     awake: bool,
     out: u64,
-    journal: Vec<Turned>,
+    wakes: u64,
+    sleeps: u64,
+    /// The time in standby, without the one that goes on.
+    standby: u64,
 }
 
 impl Model for Spindle {
-    ghost use Rattle.spin_model.specs.Spindles.{SpindleView};
-    ghost use Rattle.std.specs.Prelude.{false, ◌≡◌, ◌<◌, ◌≤◌, vec_len, vec_capacity};
+    ghost use Rattle.spin_model.specs.Spindles.{SpindleView, IsKept};
 
     ghost Value = { SpindleView };
 
-    ghost view = { λ s. record { volume = s.volume; timeout = s.timeout; moment = s.moment; last_use = s.last_use; awake = s.awake; out = s.out; journal = s.journal.items } };
+    ghost view = { λ s. record { volume = s.volume; timeout = s.timeout; moment = s.moment; last_use = s.last_use; awake = s.awake; out = s.out; wakes = s.wakes; sleeps = s.sleeps; standby = s.standby } };
 
-    ghost invariant = { λ s. (s.last_use ≤ s.moment) × (s.awake ≡ false → vec_len s.journal < vec_capacity s.journal) };
+    ghost invariant = { λ s. IsKept (record { volume = s.volume; timeout = s.timeout; moment = s.moment; last_use = s.last_use; awake = s.awake; out = s.out; wakes = s.wakes; sleeps = s.sleeps; standby = s.standby }) };
 }
 
 /// What a spindle was made with, as the base of its lock.
@@ -52,8 +53,9 @@ impl Object for Spindle {
 }
 
 impl Spindle {
-    /// A spindle that is awake, with an empty journal and all moments 0. It takes no memory.
-    pub fn new(alloc: Global, volume: u32, timeout: u64) -> Spindle
+    /// A spindle that is awake, never went down, and of which all moments are 0.
+    pub fn new(volume: u32, timeout: u64) -> Spindle
+        requires { 0 < timeout }
         ensures volume { result.volume ≡ volume }
         ensures timeout { result.timeout ≡ timeout }
         ensures stands { StandsFor result (base_of result) [] }
@@ -65,11 +67,13 @@ impl Spindle {
             last_use: 0,
             awake: true,
             out: 0,
-            journal: Vec::new(alloc),
+            wakes: 0,
+            sleeps: 0,
+            standby: 0,
         }
     }
 
-    /// The account starts at `t0` where nothing stands in the journal yet; else nothing changes.
+    /// The account starts at `t0` where the disk never went down yet; else nothing changes.
     /// It sets the moment now, the last use and the journal's start.
     pub fn start(&mut self, t0: u64)
         ensures same { IsSameSpindle self.old self.new }
@@ -86,19 +90,16 @@ impl Spindle {
 
     /// The moment `t` comes, or nothing where a later one came before. The disk goes down into standby where it is
     /// awake, no token is out, and its last use lies at least the timeout back. The answer is whether it is awake.
-    /// It makes the room for what `need` writes, and after `NoMemory` nothing has changed.
-    pub fn begin(&mut self, t: u64) -> Result<bool, NoMemory>
+    pub fn begin(&mut self, t: u64) -> bool
         ensures same { IsSameSpindle self.old self.new }
         ensures out { self.new.out ≡ self.old.out }
-        ensures answer { IfOk result (λ awake. awake ≡ self.new.awake) }
+        ensures answer { result ≡ self.new.awake }
         ensures stands { (b : SpindleBase) (es : List Entry) (n : ℕ) → StandsFor self.old b es
-            → StandsFor self.new b (es ++ (n, operation_of (begun t result)) ∷ []) }
-        ensures unchanged { OnErr result (self.new ≡ self.old) }
+            → StandsFor self.new b (es ++ (n, operation_of (Began t)) ∷ []) }
     {
-        let now = t.max(self.moment);
-        self.rest(now)?;
-        self.moment = now;
-        Ok(self.awake)
+        self.moment = t.max(self.moment);
+        self.rest();
+        self.awake
     }
 
     /// The disk is used now: it comes up where it is in standby, and stays awake until the token comes back.
@@ -110,7 +111,6 @@ impl Spindle {
         ensures stands { HasMade Needed self.old self.new }
     {
         self.wake();
-        self.last_use = self.moment;
         self.out += 1;
         Awake::of(self.volume)
     }
@@ -146,65 +146,81 @@ impl Spindle {
         self.awake
     }
 
-    /// When the disk went down and came up, in order. It begins with the first time that it went down.
-    pub fn journal(&self) -> &[Turned]
-        ensures content { result.now ≡ self.now.journal }
-        ensures legal { (b : SpindleBase) (es : List Entry) (to : ℕ) → StandsFor self.now b es
-            → self.now.moment ≤ to → IsJournal (state_after b es).from result.now to }
+    /// The last moment that came.
+    pub fn moment(&self) -> u64
+        ensures { result ≡ self.now.moment }
     {
-        self.journal.as_slice()
+        self.moment
+    }
+
+    /// The sums over the disk's journal until `to`: how often it came up and went down, and its time in standby.
+    pub fn sums_until(&self, to: u64) -> Sums
+        requires { self.now.moment ≤ to }
+        ensures sums { result ≡ sums_until self.now to }
+        ensures journal { (b : SpindleBase) (es : List Entry) → StandsFor self.now b es
+            → AreSumsOf result (state_after b es).journal to }
+        ensures legal { (b : SpindleBase) (es : List Entry) → StandsFor self.now b es
+            → IsJournal (state_after b es).from (state_after b es).journal to }
+    {
+        Sums {
+            wakes: self.wakes,
+            sleeps: self.sleeps,
+            standby: self.standby_until(to),
+        }
+    }
+
+    // The time in standby until a moment, with the one that goes on.
+    fn standby_until(&self, to: u64) -> u64
+        requires { self.now.moment ≤ to }
+        ensures value { result ≡ standby_until self.now to }
+        ensures within { result ≤ to }
+    {
+        if self.awake {
+            self.standby
+        } else {
+            self.standby + (to - (self.last_use + self.timeout))
+        }
     }
 
     fn has_turned(&self) -> bool
-        ensures { result ≡ not (is_empty self.now.journal) }
+        ensures { result ≡ not (self.now.sleeps == 0) }
     {
-        !self.journal.is_empty()
+        self.sleeps > 0
     }
 
-    // Puts the disk down where it is idle at that moment.
-    fn rest(&mut self, now: u64) -> Result<(), NoMemory>
-        requires { self.old.moment ≤ now }
-        ensures ok { OnOk result (self.new
-            ≡ (if self.old.awake && (self.old.out == 0
-            && nat_le (self.old.last_use + self.old.timeout) now)
-            then record self.old {
-              awake = false;
-              journal = self.old.journal ++ Down (self.old.last_use + self.old.timeout) ∷ [];
-            }
-            else self.old)) }
-        ensures err { OnErr result (self.new ≡ self.old) }
+    // Puts the disk down where it is idle now.
+    fn rest(&mut self)
+        ensures { self.new ≡ (if is_idle self.old
+            then record self.old { awake = false; sleeps = self.old.sleeps + 1 }
+            else self.old) }
     {
-        if !self.is_idle(now) {
-            return Ok(());
+        if self.is_idle() {
+            self.awake = false;
+            self.sleeps += 1;
         }
-        if self.journal.reserve(2).is_err() {
-            return Err(NoMemory);
-        }
-        self.journal
-            .push_reserved(Turned::Down(self.last_use + self.timeout));
-        self.awake = false;
-        Ok(())
     }
 
-    fn is_idle(&self, now: u64) -> bool
-        requires { self.now.moment ≤ now }
-        ensures { result ≡ (self.now.awake
-            && (self.now.out == 0 && nat_le (self.now.last_use + self.now.timeout) now)) }
+    fn is_idle(&self) -> bool
+        ensures { result ≡ is_idle self.now }
     {
-        self.awake && (self.out == 0 && now - self.last_use >= self.timeout)
+        self.awake && (self.out == 0 && self.moment - self.last_use >= self.timeout)
     }
 
+    // The disk is used now, and comes up where it is in standby.
     fn wake(&mut self)
         ensures { self.new ≡ record self.old {
           awake = true;
-          journal = (if self.old.awake then self.old.journal
-              else self.old.journal ++ Up self.old.moment ∷ []);
+          last_use = self.old.moment;
+          wakes = (if self.old.awake then self.old.wakes else self.old.wakes + 1);
+          standby = standby_until self.old self.old.moment;
         } }
     {
-        if self.awake {
-            return;
+        let standby = self.standby_until(self.moment);
+        if !self.awake {
+            self.awake = true;
+            self.wakes += 1;
         }
-        self.journal.push_reserved(Turned::Up(self.moment));
-        self.awake = true;
+        self.standby = standby;
+        self.last_use = self.moment;
     }
 }

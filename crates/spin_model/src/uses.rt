@@ -1,18 +1,17 @@
 // Turns of a spindle's lock, one use each.
 ghost use Rattle.spin_model.specs.Operations.{operation_of, has_token};
-ghost use Rattle.spin_model.specs.Spindles.{SpindleView, StandsFor, HasMade, state_after, begun};
+ghost use Rattle.spin_model.specs.Spindles.{SpindleView, StandsFor, HasMade, state_after};
 ghost use Rattle.spin_model.specs.Spun.{token_volume};
 ghost use Rattle.spin_model.specs.Turns.{HasLeft};
-ghost use Rattle.std.specs.Prelude.{true, false, ◌≡◌, ◌<◌, ◌^◌, ◌∷◌, [], ◌++◌, List, IfOk};
+ghost use Rattle.std.specs.Prelude.{true, false, ◌≡◌, ◌<◌, ◌^◌, ◌∷◌, [], ◌++◌, List};
 ghost use Rattle.turn_lock.specs.Histories.{Entry, Begins};
 ghost use Rattle.turn_lock.specs.Passes.{pass_lock, pass_number, pass_seen, pass_mine, IsPassOf, IsFree, IsInTurnWith, IsSamePass};
-ghost use Rattle.wol_model.specs.Journal.{Started, Needed, Done};
+ghost use Rattle.wol_model.specs.Journal.{Started, Began, Needed, Done};
 
 use crate::{Awake, Spindle};
 use std::marker::Brand;
 use std::sync::Wait;
 use turn_lock::{Named, Pass, TurnLock};
-use wol_disk::NoMemory;
 
 const STARTED: u64 = 1;
 
@@ -21,8 +20,6 @@ const BEGAN: u64 = 2;
 const NEEDED: u64 = 3;
 
 const DONE: u64 = 4;
-
-const STAYED: u64 = 5;
 
 // Ends a turn in which the spindle stayed in its place. The operation goes through this call, so that the caller's proof
 // can name it.
@@ -61,44 +58,33 @@ pub fn start_turn<R: Wait>(rt: &R, lock: &TurnLock<Spindle>, pass: &mut Pass<Spi
 }
 
 /// One turn, in which the moment `t` comes and the disk may go down. The answer is whether it is awake.
-/// After `NoMemory` the turn has changed nothing, and its entry says so.
 pub fn begin_turn<R: Wait>(
     rt: &R,
     lock: &TurnLock<Spindle>,
     pass: &mut Pass<Spindle>,
     t: u64,
-) -> Result<bool, NoMemory>
+) -> bool
     requires own { IsPassOf lock.now pass.old }
     requires free { IsFree pass.old }
     ensures same { IsSamePass pass.old pass.new }
     ensures free { IsFree pass.new }
     ensures mine { pass_mine pass.new
-        ≡ pass_mine pass.old ++ (pass_number pass.old, operation_of (begun t result)) ∷ [] }
+        ≡ pass_mine pass.old ++ (pass_number pass.old, operation_of (Began t)) ∷ [] }
     ensures seen { (before : List Entry) × Begins (pass_seen pass.old) before
-        × (pass_seen pass.new
-        ≡ before ++ (pass_number pass.old, operation_of (begun t result)) ∷ []) }
+        × (pass_seen pass.new ≡ before ++ (pass_number pass.old, operation_of (Began t)) ∷ []) }
     ensures token { has_token (pass_mine pass.new) ≡ has_token (pass_mine pass.old) }
-    ensures answer { IfOk result
-        (λ awake. awake ≡ (state_after (pass_lock pass.new).base (pass_seen pass.new)).awake) }
+    ensures answer { result ≡ (state_after (pass_lock pass.new).base (pass_seen pass.new)).awake }
 {
     lock.enter_in_place(rt, pass);
-    let answer = lock.change(
+    let awake = lock.change(
         pass,
         |spindle: &mut Spindle|
-            ensures made { HasMade (begun t result) spindle.old spindle.new }
-            ensures answer { IfOk result (λ awake. awake ≡ spindle.new.awake) }
+            ensures made { HasMade (Began t) spindle.old spindle.new }
+            ensures answer { result ≡ spindle.new.awake }
         { spindle.begin(t) },
     );
-    match answer {
-        Ok(awake) => {
-            leave::<Brand>(lock, pass, &[BEGAN, t]);
-            Ok(awake)
-        }
-        Err(refusal) => {
-            leave::<Brand>(lock, pass, &[STAYED]);
-            Err(refusal)
-        }
-    }
+    leave::<Brand>(lock, pass, &[BEGAN, t]);
+    awake
 }
 
 /// One turn, in which the disk is needed. The token is for accesses to the parts of the spindle's volume,

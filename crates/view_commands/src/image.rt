@@ -109,7 +109,7 @@ pub(crate) fn change_image<B: Bay>(
         Err(fault) => return Err(Stop::Fault(fault_of_bay(volume, fault))),
     };
     let mut image = ImageParts::take_apart(volume, &mut parts, Vec::new(alloc));
-    let mut spindle = Spindle::new(alloc, volume, config.timeout);
+    let mut spindle = Spindle::new(volume, config.timeout);
     let token = spindle.need();
     let volumes = config.volumes.len() as u32;
     let answer = change(&token, &mut image.label, volume, volumes, asked);

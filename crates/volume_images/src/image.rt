@@ -128,6 +128,7 @@ fn format_image<B: Bay>(
     timeout: u64,
 ) -> Result<(), RackFault>
     requires shape { IsShape (shape_of label.now) }
+    requires timeout { 0 < timeout }
     requires home { IsHome volume.now.name (B.state bay.old) }
     ensures home { outs (B.state bay.new) ≡ outs (B.state bay.old) }
     ensures left { IsTold (LeavesImage result volume.now.name label.now.id (shape_of label.now)
@@ -146,7 +147,7 @@ fn format_image<B: Bay>(
         Ok(parts) => parts,
         Err(fault) => return Err(fault_of_bay(label, fault)),
     };
-    let mut spindle = Spindle::new(alloc, label.id, timeout);
+    let mut spindle = Spindle::new(label.id, timeout);
     let token = spindle.need();
     let formatted = format_parts(&token, label, &volume.view, &mut parts);
     spindle.done(token);

@@ -18,7 +18,7 @@ use Rattle.wol_model.proofs.Overlay.{overlay_twice, overlay_get, overlay_length_
 use Rattle.wol_promise.proofs.OneMore.{or_none}
 use Rattle.spin_model.specs.Spun.{state_of, volume_of}
 use Rattle.spin_model.specs.declared.spun.Spun.{Spun}
-use Rattle.listed_records.specs.Changes.{put_block}
+use Rattle.volume_parts.specs.Changes.{put_block}
 use Rattle.volume_parts.specs.Accesses.{IsLaid, IsPartlyPut, IsPut, IsSynced, IsTornFrom, Stored}
 
 -- ---- lists

@@ -19,7 +19,7 @@ use Rattle.logger.specs.declared.lane.Spot.{Spot}
 use Rattle.logger.proofs.Places.{same_segment}
 use Rattle.volume_parts.specs.Reads.{AreCalm}
 use Rattle.volume_parts.specs.Puts.{PutIn, to_held, to_new}
-use Rattle.listed_records.proofs.Elements.{get_set, get_other, get_of, same_or_not, get_removed}
+use Rattle.volume_parts.proofs.Elements.{get_set, get_other, get_of, same_or_not, get_removed}
 
 module _ {D : Type 0} (state : D → State) where
   abbrev faults_of : HeldSegment D → ℕ

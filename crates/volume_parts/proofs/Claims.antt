@@ -15,7 +15,7 @@ use Rattle.logger.specs.declared.lane.Lane.{Lane}
 use Rattle.logger.specs.declared.lane.Spot.{Spot}
 use Rattle.volume_parts.specs.Puts.{PutIn, to_held, to_new}
 use Rattle.volume_parts.specs.Claims.{HoldNoMore, TellsClaim}
-use Rattle.listed_records.proofs.Elements.{get_set, get_other, map_set, zip_get, zip_back, same_or_not}
+use Rattle.volume_parts.proofs.Elements.{get_set, get_other, map_set, zip_get, zip_back, same_or_not}
 
 module _ {D : Type 0} where
   -- the same lanes

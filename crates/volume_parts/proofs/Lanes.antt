@@ -30,8 +30,8 @@ use Rattle.spin_model.specs.declared.spindle.SpindleBase.{SpindleBase}
 use Rattle.offload_policy.specs.declared.Room.{Room}
 use Rattle.wol_model.specs.Index.{Indexed}
 use Rattle.logger.specs.declared.shared.Shared.{Shared}
-use Rattle.listed_records.proofs.Elements.{all_at, all_set, get_set, get_other, member_set, same_or_not}
-use Rattle.listed_records.specs.Entries.{entries_at}
+use Rattle.volume_parts.proofs.Elements.{all_at, all_set, get_set, get_other, member_set, same_or_not}
+use Rattle.volume_parts.specs.Entries.{entries_at}
 use Rattle.wol_disk.proofs.Calls.{settled_only}
 use Rattle.log_segment.specs.declared.segment.Segment.{Segment}
 use Rattle.volume_parts.specs.Offers.{HasTakenWrite, ChangesLane}

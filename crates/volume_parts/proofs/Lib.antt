@@ -7,3 +7,10 @@ pub mod PartReads
 pub mod Places
 pub mod Placing
 pub mod Records
+pub mod Contents
+pub mod Elements
+pub mod Entries
+pub mod Forgetting
+pub mod Groups
+pub mod Touched
+pub mod Vanishes

@@ -18,7 +18,7 @@ use Rattle.logger.specs.Lanes.{held_in, spindle_of, HasUsed, IsLane, IsHeld, IsS
 use Rattle.logger.specs.declared.lane.HeldSegment.{HeldSegment}
 use Rattle.logger.specs.declared.lane.Lane.{Lane}
 use Rattle.volume_parts.specs.Reads.{Counted, HomeRead, SegmentRead, LaneRead, needs_of, HasNeeded, NeedsWhere}
-use Rattle.listed_records.proofs.Elements.{zip_self, zip_then, zip_set, get_set, get_other, all_at, all_set}
+use Rattle.volume_parts.proofs.Elements.{zip_self, zip_then, zip_set, get_set, get_other, all_at, all_set}
 use Rattle.turn_lock.specs.Histories.{Entry}
 use Rattle.turn_lock.specs.declared.pass.PassOf.{PassOf}
 use Rattle.wol_model.specs.Journal.{Use, Needed, Done}
@@ -28,7 +28,7 @@ use Rattle.spin_model.specs.declared.spindle.Spindle.{Spindle}
 use Rattle.spin_model.specs.declared.spindle.SpindleBase.{SpindleBase}
 use Rattle.wol_model.specs.Index.{Indexed}
 use Rattle.logger.specs.declared.lane.Spot.{Spot}
-use Rattle.listed_records.specs.Entries.{entries_at}
+use Rattle.volume_parts.specs.Entries.{entries_at}
 use Rattle.volume_parts.proofs.Lanes.{stays_set}
 
 pub counted_then : (a b c : ℕ) → Counted a b → Counted b c → Counted a c

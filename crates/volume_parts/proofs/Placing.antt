@@ -15,7 +15,7 @@ use Rattle.offload_policy.specs.declared.Step.TheVariants.{Home, WakeHome, Log, 
 use Rattle.wol_model.specs.Placing.{Place, Home as AtHome, Log as InLog, Full as Nowhere, place, log_or as log_or_in}
 use Rattle.wol_promise.specs.Policy.{rooms_but}
 use Rattle.volume_parts.specs.Offers.{passed_in}
-use Rattle.listed_records.proofs.Elements.{all_at}
+use Rattle.volume_parts.proofs.Elements.{all_at}
 
 -- where a step leads, if the logger that it asks has room
 abbrev pub led_by : Step → Place

@@ -33,7 +33,7 @@ use Rattle.wol_promise.proofs.Index.{cleared, indexed_with, grown}
 use Rattle.volume_parts.specs.Items.{log_write, AreItemsOf, log_writes, placed_all}
 use Rattle.wol_promise.proofs.Lists.{all_push, all_map, all_mapped}
 use Rattle.volume_parts.specs.Listing.{recs_at, entered_all}
-use Rattle.listed_records.proofs.Groups.{IsNew, AreNew, FitBehind, written_as, indexed_by, end_more}
+use Rattle.volume_parts.proofs.Groups.{IsNew, AreNew, FitBehind, written_as, indexed_by, end_more}
 use Rattle.wol_disk.specs.declared.disk.Failed.{Failed}
 use Rattle.turn_lock.specs.LockIds.{LockId}
 use Rattle.turn_lock.specs.Passes.{pass_mine, pass_number}
@@ -48,7 +48,7 @@ use Rattle.logger.specs.declared.lane.HeldSegment.{HeldSegment}
 use Rattle.logger.specs.declared.lane.Lane.{Lane}
 use Rattle.logger.specs.declared.lane.Spot.{Spot}
 use Rattle.volume_parts.specs.Puts.{PutIn}
-use Rattle.listed_records.proofs.Elements.{all_at}
+use Rattle.volume_parts.proofs.Elements.{all_at}
 use Rattle.spin_model.specs.Operations as spindle
 use Rattle.volume_parts.specs.Puts as puts
 

@@ -19,7 +19,7 @@ use Rattle.logger.specs.Lanes.{IsLane, AreAccesses, HoldsAll, IsAt, lane_owner, 
 use Rattle.logger.specs.declared.lane.Lane.{Lane}
 use Rattle.logger.specs.declared.lane.HeldSegment.{HeldSegment}
 use Rattle.logger.specs.declared.shared.Shared.{Shared}
-use Rattle.listed_records.specs.Entries.{entries_at}
+use Rattle.volume_parts.specs.Entries.{entries_at}
 
 -- a lane is this volume's, between calls, its pool's segments have room for any write, and its pass
 -- of the pool holds just its segments

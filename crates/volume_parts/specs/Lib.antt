@@ -8,3 +8,5 @@ pub mod Listing
 pub mod Offers
 pub mod Puts
 pub mod Reads
+pub mod Changes
+pub mod Entries

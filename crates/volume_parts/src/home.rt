@@ -1,5 +1,5 @@
 // Home under the lock of its spindle: it is read and written between a turn in which its spindle is needed and one in which it is done.
-ghost use Rattle.listed_records.specs.Changes.{put_block};
+ghost use Rattle.volume_parts.specs.Changes.{put_block};
 ghost use Rattle.spin_model.specs.Operations.{has_token};
 ghost use Rattle.spin_model.specs.Spun.{state_of, volume_of, token_volume};
 ghost use Rattle.std.specs.Prelude.{◌≡◌, ◌+◌, ◌≤◌, ◌<◌, ℕ, false, length, take, drop, OnOk, IfSome, IsErr};

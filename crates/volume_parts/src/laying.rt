@@ -1,5 +1,5 @@
 // Blocks that are written to a part without a sync, and the sync of a part.
-ghost use Rattle.listed_records.specs.Changes.{put_block};
+ghost use Rattle.volume_parts.specs.Changes.{put_block};
 ghost use Rattle.spin_model.specs.Operations.{has_token};
 ghost use Rattle.spin_model.specs.Spun.{state_of, volume_of, token_volume};
 ghost use Rattle.std.specs.Prelude.{◌≡◌, ◌+◌, ◌≤◌, ◌<◌, ℕ, false, length, take, drop, OnOk, IfSome, IsErr};

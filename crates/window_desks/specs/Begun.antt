@@ -1,5 +1,5 @@
 -- What the beginning of a window makes of the keepers' passes.
-use Rattle.std.specs.Prelude.{◌≡◌, ◌⊎◌, ◌<◌, ◌∷◌, ◌++◌, ℕ, Bool, List, [], length, slice_index_or}
+use Rattle.std.specs.Prelude.{◌≡◌, ◌<◌, ◌∷◌, ◌++◌, ℕ, Bool, List, [], length, slice_index_or}
 use Rattle.turn_lock.specs.Histories.{Begins, Entry}
 use Rattle.turn_lock.specs.Passes.{pass_lock, pass_number, pass_seen, pass_mine, IsPassOf, IsFree, IsSamePass}
 use Rattle.turn_lock.specs.declared.pass.PassOf.{PassOf}
@@ -7,7 +7,7 @@ use Rattle.spin_model.specs.Operations.{operation_of}
 use Rattle.spin_model.specs.Spindles.{state_after}
 use Rattle.spin_model.specs.declared.spindle.Spindle.{Spindle}
 use Rattle.spin_model.specs.declared.spindle.SpindleBase.{SpindleBase}
-use Rattle.wol_model.specs.Journal.{Began, Stayed}
+use Rattle.wol_model.specs.Journal.{Began}
 use Rattle.logger.specs.declared.shared.Shared.{Shared}
 use Rattle.request_turns.specs.Begun.{HasBegunVolume}
 use Rattle.request_turns.specs.Turns.{ManagerPass}
@@ -44,26 +44,3 @@ abbrev pub HaveBegunVolumes : {D : Type 0} → (tells : Bool) → (awake : List 
 HaveBegunVolumes {D} tells awake ps qs =
     (k : ℕ) (d : ManagerPass D) → k < length ps
     → HasBegunVolume tells awake (slice_index_or ps k d) (slice_index_or qs k d)
-
--- there was no memory for what the moment changes: the keeper's turn changed nothing, and its entry
--- says so
-pub record HasStayed (p q : SpindlePass) : Type 0 where
-  pub same : IsSamePass p q
-  pub mine : pass_mine q ≡ pass_mine p ++ (pass_number p, operation_of Stayed) ∷ []
-  pub seen : (before : List Entry) × Begins (pass_seen p) before
-      × (pass_seen q ≡ before ++ (pass_number p, operation_of Stayed) ∷ [])
-
--- Where memory ran out: some first spindles began, the next one stayed as it was, and the others
--- had no turn.
-pub record HaveBegunFirst (t : ℕ) (ps qs : List SpindlePass) : Type 0 where
-  pub count : ℕ
-  pub within : count < length ps
-  pub awake : List Bool
-  pub begun : (k : ℕ) (b : Bool) (d : SpindlePass) → k < count
-      → HasBegun t (slice_index_or awake k b) (slice_index_or ps k d) (slice_index_or qs k d)
-  pub stayed : (d : SpindlePass) → HasStayed (slice_index_or ps count d) (slice_index_or qs count d)
-  pub others : (k : ℕ) (d : SpindlePass) → count < k → slice_index_or qs k d ≡ slice_index_or ps k d
-
--- .. or it ran out before the first one's turn
-abbrev pub FailToBegin : (t : ℕ) → List SpindlePass → List SpindlePass → Type 0
-FailToBegin t ps qs = (qs ≡ ps) ⊎ HaveBegunFirst t ps qs

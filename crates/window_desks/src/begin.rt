@@ -3,7 +3,7 @@ ghost use Rattle.manager.specs.declared.base.LaneBase.{LaneBase};
 ghost use Rattle.std.specs.List.{AllByRecursion};
 ghost use Rattle.std.specs.Prelude.{◌≡◌, ◌≤◌, ◌<◌, [], ℕ, Bool, List, length, vec_capacity, slice_index_or, OnOk, OnErr};
 ghost use Rattle.turn_lock.specs.Passes.{pass_lock, IsPassOf, IsFree, IsSamePass};
-ghost use Rattle.window_desks.specs.Begun.{SpindlePass, AreKeepers, HaveBegun, HaveBegunFirst, HaveBegunVolumes, FailToBegin};
+ghost use Rattle.window_desks.specs.Begun.{SpindlePass, AreKeepers, HaveBegun, HaveBegunVolumes};
 ghost use Rattle.window_desks.specs.Floors.{IsFloor, IsOn};
 ghost use Rattle.window_desks.specs.Helped.{ArePassesAt};
 ghost use Rattle.wol_model.specs.History.{keeper};
@@ -25,7 +25,7 @@ fn begin_spindles<R: Wait>(
     keepers: &mut [Pass<Spindle>],
     t: u64,
     awake: &mut Vec<bool>,
-) -> Result<(), NoMemory>
+)
     requires count { length keepers.old ≡ length spindles.now }
     requires own { (k : ℕ) (l : _) (d : _) → k < length keepers.old
         → IsPassOf (slice_index_or spindles.now k l) (slice_index_or keepers.old k d) }
@@ -39,15 +39,13 @@ fn begin_spindles<R: Wait>(
         → IsFree (slice_index_or keepers.new k d) }
     ensures same { (k : ℕ) (d : _) → k < length keepers.old
         → IsSamePass (slice_index_or keepers.old k d) (slice_index_or keepers.new k d) }
-    ensures begun { OnOk result (HaveBegun t awake.new.items keepers.old keepers.new) }
-    ensures stopped { OnErr result (HaveBegunFirst t keepers.old keepers.new) }
-    ensures len { OnOk result (length awake.new.items ≡ length keepers.old) }
+    ensures begun { HaveBegun t awake.new.items keepers.old keepers.new }
+    ensures len { length awake.new.items ≡ length keepers.old }
 {
     for k in 0..keepers.len() {
-        let up = begin_turn(rt, &spindles[k], &mut keepers[k], t)?;
+        let up = begin_turn(rt, &spindles[k], &mut keepers[k], t);
         awake.push_reserved(up);
     }
-    Ok(())
 }
 
 // One turn of each volume's keeper.
@@ -73,8 +71,7 @@ fn begin_volumes<R: Wait, D: Disk>(
 }
 
 /// Begins a window at the moment `t`, in 100 ns: every spindle in order, and then every manager with the states found. The
-/// passes in `keepers` are one for each spindle, in order. After `NoMemory` the spindles before the one that had none have
-/// begun, that one's entry says that it stayed as it was, and nothing else changed.
+/// passes in `keepers` are one for each spindle, in order. After `NoMemory` no spindle had a turn, and nothing changed.
 pub fn begin_window<'l, D: Disk, R: Wait>(
     rt: &R,
     alloc: Global,
@@ -94,10 +91,10 @@ pub fn begin_window<'l, D: Disk, R: Wait>(
         × HaveBegunVolumes D.tells awake floor.old.keepers.items floor.new.keepers.items) }
     ensures unchanged { floor.new ≡ record floor.old { keepers = floor.new.keepers } }
     ensures refused { OnErr result (floor.new ≡ floor.old) }
-    ensures stopped { OnErr result (FailToBegin t keepers.old keepers.new) }
+    ensures stopped { OnErr result (keepers.new ≡ keepers.old) }
 {
     let mut awake = Vec::with_capacity(alloc, keepers.len())?;
-    begin_spindles(rt, shared.spindles.as_slice(), keepers, t, &mut awake)?;
+    begin_spindles(rt, shared.spindles.as_slice(), keepers, t, &mut awake);
     begin_volumes(
         rt,
         floor.locks,

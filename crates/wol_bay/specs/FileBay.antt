@@ -3,5 +3,5 @@ use Rattle.std.specs.Prelude.{None}
 use Rattle.wol_bay.specs.Bay.{BayState}
 use Rattle.wol_bay.specs.declared.files.FileBay.{FileBay}
 
-abbrev pub file_bay_state : {R Dir : Type 0} → FileBay R Dir → BayState
+abbrev pub file_bay_state : FileBay → BayState
 file_bay_state b = record { told = None; faults = b.faults }

@@ -6,38 +6,42 @@ ghost use Rattle.wol_disk.specs.Disk.{Rose};
 
 use crate::bays::Bay;
 use crate::fault::BayFault;
+use crate::image_file::ImageFile;
+use crate::kept_copies::drop_copies;
 use crate::lengths::{BLOCK_BYTES, bytes_of_parts, is_length};
 use std::alloc::Global;
-use std::fs::{self, File, Metadata, OpenOptions};
-use std::io::{self, ErrorKind};
-use std::os::unix::fs::{FileExt, MetadataExt};
+use std::fs::{self, File, Metadata, OpenOptions, TryLockError};
+use std::io::{self, ErrorKind, Seek, SeekFrom};
+use std::os::unix::fs::{FileExt, FileTypeExt, MetadataExt, OpenOptionsExt};
 use std::path::Path;
-use std::rt::Files;
 use std::sync::Arc;
-use std::sync::atomic::{AtomicBool, AtomicU64, Ordering};
+use std::thread::sleep;
+use std::time::Duration;
 use wol_disk::{Block, Disk, Failed, NoMemory};
 
+// How many syncs of an image may run at once.
+const SYNCS: u64 = 4;
+
+// A lock that another process has is tried again so often in a second.
+const TRIES: u64 = 50;
+
+const TRY_MILLIS: u64 = 20;
+
 /// A folder of images, which tells nothing of them. The image NAME is the file `NAME.vol`. The file is locked while
-/// the image is out, so another bay that would hand out the same image fails. An image is made only where no other image
-/// of the folder is the same file, as by a link. No call makes or writes a file beyond a bound on its bytes: such a call
-/// has failed, and the system, which might end the process for it, isn't asked.
+/// the image is out, so another bay that would hand out the same image fails. What goes out is what the disk has, also
+/// where a sync of an earlier run failed. The file may be a block device, which is as long as the image or longer; `create`
+/// refuses it. An image is made only where no other entry of the folder is the same file, as by a link, and its file is made
+/// for its owner alone. No call makes or writes a file beyond a bound on its bytes: such a call has failed, and the system,
+/// which might end the process for it, isn't asked.
 #[derive(Drop)]
-pub struct FileBay<'a, R: Files<File = File>> {
-    rt: R,
+pub struct FileBay<'a> {
+    rt: HostRuntime,
     alloc: Global,
     folder: &'a str,
     most_bytes: u64,
+    // how many more times a lock that another process has is tried again
+    tries: u64,
     faults: u64,
-}
-
-// The open file of an image, which its parts share, and what is synced of it: how many writes there were, of which the
-// first is whatever was written before the file was opened, and how many of these a sync has covered.
-#[derive(Drop)]
-struct ImageFile {
-    file: File,
-    written: AtomicU64,
-    synced: AtomicU64,
-    sync_failed: AtomicBool,
 }
 
 /// A part of an image in a file. The parts of an image share its open file, whose lock ends with the last of them. A part
@@ -55,12 +59,12 @@ pub struct FilePart {
     ghost small: { blocks < 2 ^ 64 },
 }
 
-impl<'a, R: Files<File = File>> FileBay<'a, R> {
+impl<'a> FileBay<'a> {
     ghost use Rattle.wol_bay.specs.Bay.{BayState};
     ghost use Rattle.wol_bay.specs.FileBay.{file_bay_state};
 
-    /// The bay of this folder, without a bound on files.
-    pub fn new(rt: R, alloc: Global, folder: &'a str) -> FileBay<'a, R>
+    /// The bay of this folder, without a bound on files. It waits for no lock.
+    pub fn new(rt: HostRuntime, alloc: Global, folder: &'a str) -> FileBay<'a>
         ensures { file_bay_state result ≡ record { told = None; faults = 0 } }
     {
         FileBay {
@@ -68,15 +72,24 @@ impl<'a, R: Files<File = File>> FileBay<'a, R> {
             alloc,
             folder,
             most_bytes: u64::MAX,
+            tries: 0,
             faults: 0,
         }
     }
 
     /// The same bay, none of whose calls makes a file longer than so many bytes.
-    pub fn within(self, most_bytes: u64) -> FileBay<'a, R>
+    pub fn within(self, most_bytes: u64) -> FileBay<'a>
         ensures { file_bay_state result ≡ file_bay_state self.entry }
     {
         FileBay { most_bytes, ..self }
+    }
+
+    /// The same bay, whose calls together wait for so many seconds, and hardly longer, for locks that others have.
+    pub fn waiting(self, seconds: u64) -> FileBay<'a>
+        ensures { file_bay_state result ≡ file_bay_state self.entry }
+    {
+        let tries = seconds.saturating_mul(TRIES);
+        FileBay { tries, ..self }
     }
 
     fn path_of(&self, name: &str) -> Result<String, NoMemory> {
@@ -84,42 +97,68 @@ impl<'a, R: Files<File = File>> FileBay<'a, R> {
         Ok(format!(in self.alloc; "{folder}/{name}.vol")?)
     }
 
+    // Locks the file, and waits for that as long as the bay still may.
+    fn lock(&mut self, file: &File) -> io::Result<()>
+        ensures { self.new.faults ≡ self.old.faults }
+    {
+        let (done, left) = lock_within(&self.rt, file, self.tries);
+        self.tries = left;
+        done
+    }
+
+    // The file at the path, made for its owner alone where nothing is there. A link that leads nowhere makes none.
+    fn made(&self, path: &str) -> io::Result<File> {
+        let new = OpenOptions::new()
+            .read(true)
+            .write(true)
+            .create_new(true)
+            .mode(0o600)
+            .open(&self.rt, path);
+        match new {
+            Err(e) if e.kind() == ErrorKind::AlreadyExists => OpenOptions::new()
+                .read(true)
+                .write(true)
+                .open(&self.rt, path),
+            new => new,
+        }
+    }
+
     // Makes the file anew, of so many zero bytes. It is emptied only once it is locked, since another bay may have
-    // it out, and is known to be no other image. Its entry in the folder is synced with it.
-    fn make(&self, name: &str, path: &str, bytes: u64) -> io::Result<File> {
+    // it out, and is known to be no other entry of the folder. Its entry in the folder is synced with it.
+    fn make(&mut self, name: &str, path: &str, bytes: u64) -> io::Result<ImageFile>
+        ensures { self.new.faults ≡ self.old.faults }
+    {
         if bytes > self.most_bytes {
             return Err(io::Error::from(ErrorKind::FileTooLarge));
         }
-        let file = OpenOptions::new()
-            .read(true)
-            .write(true)
-            .create(true)
-            .open(&self.rt, path)?;
-        file.try_lock()?;
-        if self.has_another(name, &file.metadata()?)? {
+        let file = self.made(path)?;
+        self.lock(&file)?;
+        if self.has_another(name, path, &file.metadata()?)? {
             return Err(io::Error::from(ErrorKind::AlreadyExists));
         }
         file.set_len(0)?;
         file.set_len(bytes)?;
         file.sync_all()?;
         File::open(&self.rt, self.folder)?.sync_all()?;
-        Ok(file)
+        self.image_of(path, file)
     }
 
-    // Whether another image of the folder than that of this name is this file. An entry whose name is no text is no image.
-    fn has_another(&self, name: &str, file: &Metadata) -> io::Result<bool> {
+    // Whether the folder has this file under another name too, or it has one elsewhere. An entry whose name is no text
+    // isn't looked at: no link to it is followed, and another name of the file is counted.
+    fn has_another(&self, name: &str, path: &str, file: &Metadata) -> io::Result<bool> {
         let rt = (&self.rt, self.alloc);
+        fs::canonicalize(&rt, path)?;
+        if file.nlink() != 1 {
+            return Ok(true);
+        }
         for entry in fs::read_dir(&rt, self.folder)? {
             let entry = match entry {
                 Ok(entry) => entry,
                 Err(e) if e.kind() == ErrorKind::InvalidFilename => continue,
                 Err(e) => return Err(e),
             };
-            let is_other = match entry.file_name().strip_suffix(".vol") {
-                Some(other) => other != name,
-                None => false,
-            };
-            if is_other && self.is_same(entry.path(), file) {
+            let is_own = entry.file_name().strip_suffix(".vol") == Some(name);
+            if !is_own && self.is_same(entry.path(), file) {
                 return Ok(true);
             }
         }
@@ -134,8 +173,10 @@ impl<'a, R: Files<File = File>> FileBay<'a, R> {
         }
     }
 
-    // Opens the file, locks it, and tells its length. `None` is std's answer that there is no such file.
-    fn open(&self, path: &str) -> io::Result<Option<(File, u64)>> {
+    // Opens the file and locks it. `None` is std's answer that there is no such file.
+    fn open(&mut self, path: &str) -> io::Result<Option<Found>>
+        ensures { self.new.faults ≡ self.old.faults }
+    {
         let opened = OpenOptions::new()
             .read(true)
             .write(true)
@@ -145,9 +186,49 @@ impl<'a, R: Files<File = File>> FileBay<'a, R> {
             Err(e) if e.kind() == ErrorKind::NotFound => return Ok(None),
             Err(e) => return Err(e),
         };
-        file.try_lock()?;
-        let bytes = file.metadata()?.len();
-        Ok(Some((file, bytes)))
+        self.lock(&file)?;
+        Ok(Some(Found::new(file)?))
+    }
+
+    // Opens once more the file that is open from this path.
+    fn open_again(&self, path: &str, file: &Metadata) -> io::Result<File> {
+        let again = OpenOptions::new()
+            .read(true)
+            .write(true)
+            .open(&self.rt, path)?;
+        let found = again.metadata()?;
+        if found.dev() == file.dev() && found.ino() == file.ino() {
+            Ok(again)
+        } else {
+            Err(io::Error::from(ErrorKind::NotFound))
+        }
+    }
+
+    // The open file with other openings of it for its syncs, fewer where no more files can be open.
+    fn image_of(&self, path: &str, file: File) -> io::Result<ImageFile> {
+        let found = file.metadata()?;
+        let mut others = Vec::new(self.alloc);
+        for _ in 0..SYNCS {
+            match self.open_again(path, &found) {
+                Ok(again) => others.push(again)?,
+                Err(e) if others.is_empty() => return Err(e),
+                Err(_) => break,
+            }
+        }
+        match ImageFile::new(self.rt, self.alloc, file, others) {
+            Ok(image) => Ok(image),
+            Err(_) => Err(io::Error::from(ErrorKind::OutOfMemory)),
+        }
+    }
+
+    // The same of an image that is there, of which the system keeps no copies then. Those of a device it drops itself,
+    // when the last that had it open closes it.
+    fn image_of_disk(&self, path: &str, found: Found) -> io::Result<ImageFile> {
+        let image = self.image_of(path, found.file)?;
+        if !found.is_device {
+            drop_copies(&self.rt, path)?;
+        }
+        Ok(image)
     }
 
     fn failed(&mut self) -> BayFault
@@ -160,7 +241,7 @@ impl<'a, R: Files<File = File>> FileBay<'a, R> {
     }
 }
 
-impl<'a, R: Files<File = File>> Bay for FileBay<'a, R> {
+impl<'a> Bay for FileBay<'a> {
     type Part = FilePart;
 
     ghost use Rattle.wol_bay.specs.FileBay.{file_bay_state};
@@ -176,12 +257,12 @@ impl<'a, R: Files<File = File>> Bay for FileBay<'a, R> {
         let Some(bytes) = bytes_of_parts(sizes) else {
             return Err(self.failed());
         };
-        let file = match self.make(name, path.as_str(), bytes) {
-            Ok(file) => file,
+        let image = match self.make(name, path.as_str(), bytes) {
+            Ok(image) => image,
             Err(e) if e.kind() == ErrorKind::OutOfMemory => return Err(BayFault::NoMemory),
             Err(_) => return Err(self.failed()),
         };
-        match parts_of(self.alloc, file, sizes, self.most_bytes) {
+        match parts_of(self.alloc, image, sizes, self.most_bytes) {
             Ok(parts) => Ok(parts),
             Err(_) => Err(BayFault::NoMemory),
         }
@@ -194,13 +275,19 @@ impl<'a, R: Files<File = File>> Bay for FileBay<'a, R> {
         let Ok(opened) = self.open(path.as_str()) else {
             return Err(self.failed());
         };
-        let Some((file, bytes)) = opened else {
+        let Some(found) = opened else {
             return Err(BayFault::Absent);
         };
-        if !is_length(bytes, sizes) {
+        if !found.has(sizes) {
+            let bytes = found.bytes;
             return Err(BayFault::WrongLength { bytes });
         }
-        match parts_of(self.alloc, file, sizes, self.most_bytes) {
+        let image = match self.image_of_disk(path.as_str(), found) {
+            Ok(image) => image,
+            Err(e) if e.kind() == ErrorKind::OutOfMemory => return Err(BayFault::NoMemory),
+            Err(_) => return Err(self.failed()),
+        };
+        match parts_of(self.alloc, image, sizes, self.most_bytes) {
             Ok(parts) => Ok(parts),
             Err(_) => Err(BayFault::NoMemory),
         }
@@ -223,43 +310,57 @@ impl<'a, R: Files<File = File>> Bay for FileBay<'a, R> {
     }
 }
 
-impl ImageFile {
-    fn new(file: File) -> ImageFile {
-        ImageFile {
+// Locks the file. A lock that another process has is tried again as often as is said; how often is left comes with it.
+fn lock_within(clock: &HostRuntime, file: &File, tries: u64) -> (io::Result<()>, u64) {
+    for tried in 0..=tries {
+        match file.try_lock() {
+            Ok(()) => return (Ok(()), tries.saturating_sub(tried)),
+            Err(TryLockError::WouldBlock) => {}
+            Err(TryLockError::Error(e)) => return (Err(e), tries.saturating_sub(tried)),
+        }
+        if tried < tries {
+            sleep(clock, Duration::from_millis(TRY_MILLIS));
+        }
+    }
+    (Err(io::Error::from(ErrorKind::WouldBlock)), 0)
+}
+
+// What is open at an image's name, and its length. Of a device the system tells none: it is where its end is.
+#[derive(Drop)]
+struct Found {
+    file: File,
+    bytes: u64,
+    is_device: bool,
+}
+
+impl Found {
+    fn new(mut file: File) -> io::Result<Found> {
+        let found = file.metadata()?;
+        let is_device = found.file_type().is_block_device();
+        let bytes = if is_device {
+            file.seek(SeekFrom::End(0))?
+        } else {
+            found.len()
+        };
+        Ok(Found {
             file,
-            written: AtomicU64::new(1),
-            synced: AtomicU64::new(0),
-            sync_failed: AtomicBool::new(false),
-        }
+            bytes,
+            is_device,
+        })
     }
 
-    // The number of a write that has just ended.
-    fn number_of_write(&self) -> u64 {
-        self.written.fetch_add(1, Ordering::SeqCst).wrapping_add(1)
-    }
-
-    // Syncs the file, unless a sync that began behind this write has ended.
-    fn sync(&self, write: u64) -> Result<(), Failed> {
-        if self.sync_failed.load(Ordering::SeqCst) {
-            return Err(Failed);
-        }
-        if write <= self.synced.load(Ordering::SeqCst) {
-            return Ok(());
-        }
-        let written = self.written.load(Ordering::SeqCst);
-        if self.file.sync_data().is_err() {
-            self.sync_failed.store(true, Ordering::SeqCst);
-            return Err(Failed);
-        }
-        self.synced.fetch_max(written, Ordering::SeqCst);
-        Ok(())
+    // Whether an image of these parts is there. A device may be longer.
+    fn has(&self, sizes: &[u64]) -> bool {
+        let is_longer = self.is_device
+            && bytes_of_parts(sizes).is_some_and(|needed| needed <= self.bytes);
+        is_longer || is_length(self.bytes, sizes)
     }
 }
 
 // The parts of a file.
 fn parts_of(
     alloc: Global,
-    file: File,
+    image: ImageFile,
     sizes: &[u64],
     most_bytes: u64,
 ) -> Result<Vec<FilePart>, NoMemory>
@@ -268,7 +369,7 @@ fn parts_of(
     ensures cut { IfOk result
         (λ parts. AreCut ⟦<FilePart as Disk>⟧.state None sizes.now parts.items) }
 {
-    let shared = Arc::new(alloc, ImageFile::new(file))?;
+    let shared = Arc::new(alloc, image)?;
     let mut parts = Vec::new(alloc);
     let mut first: u64 = 0;
     for size in sizes {

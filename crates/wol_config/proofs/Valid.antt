@@ -10,7 +10,7 @@ use Rattle.std.proofs.lemmas.Slice.Eq.{bytes_eq-Decides}
 use Rattle.toml.specs.Data.{Members, no_members, get_member}
 use Rattle.wol_model.specs.Heads.{IsViewList}
 use Rattle.wol_config.specs.declared.key.Key.{Key}
-use Rattle.wol_config.specs.declared.key.Key.TheVariants.{SegmentBlocks, TimeoutMs, AwakeMw, StandbyMw, WakeMj, Volume, Name, Host, Disk, HomeBlocks, Segments, View}
+use Rattle.wol_config.specs.declared.key.Key.TheVariants.{SegmentBlocks, TimeoutMs, AwakeMw, StandbyMw, WakeMj, WakeMs, Volume, Name, Host, Disk, HomeBlocks, Segments, View}
 use Rattle.wol_config.specs.declared.config.VolumeConf.{VolumeConf}
 use Rattle.wol_config.specs.declared.config.Config.{Config}
 use Rattle.wol_config.specs.declared.config.ConfigFault.{ConfigFault}
@@ -167,9 +167,9 @@ valid_config document config is =
     let rest = none_right (volumes_fault tables) _ left in
     let twice = none_left (twice_fault [] (map volume_in tables)) (view_fault names 0 tables) rest in
     let views = none_right (twice_fault [] (map volume_in tables)) (view_fault names 0 tables) rest in
-    let fault : (i : ℕ) → i < 6 → key_fault (get_or document_keys i SegmentBlocks) document ≡ None = λ i inside. each_key document_keys document i SegmentBlocks inside keys in
+    let fault : (i : ℕ) → i < 7 → key_fault (get_or document_keys i SegmentBlocks) document ≡ None = λ i inside. each_key document_keys document i SegmentBlocks inside keys in
     let count : (1 ≤ length tables) × (length tables ≤ 64) =
-    let n = tables_in_range Volume 1 64 (get_member (key_text Volume) document) refl (fault 5 (lit< tt)) in
+    let n = tables_in_range Volume 1 64 (get_member (key_text Volume) document) refl (fault 6 (lit< tt)) in
     rw (length-map (list_at Volume document) members_of) n in
     let size : length config.volumes.items ≡ length tables = ap length is.volumes ∙ length-map tables (volume_of names) in
     let named : length names ≡ length tables = length-map tables (text_at Name) in
@@ -178,10 +178,12 @@ valid_config document config is =
     let awake = number_in_range AwakeMw 0 1000000 (get_member (key_text AwakeMw) document) refl (fault 2 (lit< tt)) in
     let standby = number_in_range StandbyMw 0 1000000 (get_member (key_text StandbyMw) document) refl (fault 3 (lit< tt)) in
     let wake = number_in_range WakeMj 0 1000000000 (get_member (key_text WakeMj) document) refl (fault 4 (lit< tt)) in
+    let ready = number_or_default WakeMs 0 600000 10000 (get_member (key_text WakeMs) document) (lit≤ tt, lit≤ tt) (fault 5 (lit< tt)) in
     record {
       segment_blocks = rw is.segment_blocks blocks;
       timeout = (omega (arith, is.timeout, timeout.0), omega (arith, is.timeout, timeout.1));
       powers = record { awake = rw is.awake_mw awake.1; standby = rw is.standby_mw standby.1; wake = rw is.wake_mj wake.1 };
+      wake = omega (arith, is.wake, ready.1);
       count = rw size count;
       volumes = λ n d inside. valid_at tables n d (rw (← size) inside) count.1 volumes views config.volumes.items is.volumes;
       apart = λ i j d before inside. apart_at tables i j d before (rw (← size) inside) twice config.volumes.items is.volumes;

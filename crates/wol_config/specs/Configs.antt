@@ -5,7 +5,7 @@ use Rattle.toml.specs.Data.{Members}
 use Rattle.toml.specs.Parse.{parse_document}
 use Rattle.wol_model.specs.Heads.{IsViewList}
 use Rattle.wol_model.specs.Journal.{ArePowers}
-use Rattle.wol_config.specs.declared.key.Key.TheVariants.{Name, SegmentBlocks, TimeoutMs, AwakeMw, StandbyMw, WakeMj}
+use Rattle.wol_config.specs.declared.key.Key.TheVariants.{Name, SegmentBlocks, TimeoutMs, AwakeMw, StandbyMw, WakeMj, WakeMs}
 use Rattle.wol_config.specs.declared.config.VolumeConf.{VolumeConf}
 use Rattle.wol_config.specs.declared.config.Config.{Config}
 use Rattle.wol_config.specs.declared.config.ConfigFault.{ConfigFault}
@@ -34,6 +34,7 @@ pub record IsConfigOf (document : Members) (config : Config) : Type 0 where
   pub awake_mw : config.powers.awake_mw ≡ number_at AwakeMw document
   pub standby_mw : config.powers.standby_mw ≡ number_at StandbyMw document
   pub wake_mj : config.powers.wake_mj ≡ number_at WakeMj document
+  pub wake : config.wake ≡ number_or 10000 WakeMs document * 10000
   pub volumes : config.volumes.items ≡ volumes_of (tables_in document)
 
 abbrev pub byte_limit : ℕ
@@ -85,6 +86,7 @@ pub record IsValid (config : Config) : Type 0 where
   pub segment_blocks : (4 ≤ config.segment_blocks) × (config.segment_blocks ≤ 65536)
   pub timeout : (10000 ≤ config.timeout) × (config.timeout ≤ 864000000000)
   pub powers : ArePowers config.powers
+  pub wake : config.wake ≤ 6000000000
   pub count : (1 ≤ length config.volumes.items) × (length config.volumes.items ≤ 64)
   pub volumes : (n : ℕ) (d : VolumeConf) → n < length config.volumes.items
       → IsValidVolume (length config.volumes.items) n (slice_index_or config.volumes.items n d)

@@ -5,7 +5,7 @@ use Rattle.std.specs.Option.{option_or}
 use Rattle.std.specs.Str.{bytes_eq}
 use Rattle.toml.specs.Data.{Data, string, integer, array, table, Members, no_members, get_member}
 use Rattle.wol_config.specs.declared.key.Key.{Key}
-use Rattle.wol_config.specs.declared.key.Key.TheVariants.{SegmentBlocks, TimeoutMs, AwakeMw, StandbyMw, WakeMj, Volume, Name, Host, Disk, HomeBlocks, Segments, View}
+use Rattle.wol_config.specs.declared.key.Key.TheVariants.{SegmentBlocks, TimeoutMs, AwakeMw, StandbyMw, WakeMj, WakeMs, Volume, Name, Host, Disk, HomeBlocks, Segments, View}
 use Rattle.wol_config.specs.declared.config.VolumeConf.{VolumeConf}
 use Rattle.wol_config.specs.declared.config.ConfigFault.{ConfigFault}
 use Rattle.wol_config.specs.declared.config.ConfigFault.TheVariants.{Twice, BadView}
@@ -72,7 +72,7 @@ abbrev pub power_keys : List Key
 power_keys = AwakeMw ∷ StandbyMw ∷ WakeMj ∷ []
 
 abbrev pub document_keys : List Key
-document_keys = SegmentBlocks ∷ TimeoutMs ∷ power_keys ++ Volume ∷ []
+document_keys = SegmentBlocks ∷ TimeoutMs ∷ power_keys ++ WakeMs ∷ Volume ∷ []
 
 abbrev pub volume_keys : List Key
 volume_keys = Name ∷ Host ∷ Disk ∷ HomeBlocks ∷ Segments ∷ View ∷ []

@@ -3,7 +3,7 @@ use Rattle.std.specs.Prelude.{ℕ, ◌-◌, ◌^◌, ℤ, pos, negsuc, Bool, tru
 use Rattle.std.specs.List.{list_all}
 use Rattle.toml.specs.Data.{Data, string, integer, array, Items, no_items, item, Members, get_member, as_table, as_str}
 use Rattle.wol_config.specs.declared.key.Key.{Key}
-use Rattle.wol_config.specs.declared.key.Key.TheVariants.{SegmentBlocks, TimeoutMs, AwakeMw, StandbyMw, WakeMj, Volume, Name, Host, Disk, HomeBlocks, Segments, View}
+use Rattle.wol_config.specs.declared.key.Key.TheVariants.{SegmentBlocks, TimeoutMs, AwakeMw, StandbyMw, WakeMj, WakeMs, Volume, Name, Host, Disk, HomeBlocks, Segments, View}
 use Rattle.wol_config.specs.declared.config.ConfigFault.{ConfigFault}
 use Rattle.wol_config.specs.declared.config.ConfigFault.TheVariants.{Missing, WrongKind, OutOfRange}
 
@@ -14,6 +14,7 @@ key_text TimeoutMs = codes "timeout_ms"
 key_text AwakeMw = codes "awake_mw"
 key_text StandbyMw = codes "standby_mw"
 key_text WakeMj = codes "wake_mj"
+key_text WakeMs = codes "wake_ms"
 key_text Volume = codes "volume"
 key_text Name = codes "name"
 key_text Host = codes "host"
@@ -48,6 +49,7 @@ rule_of TimeoutMs = number_from_to 1 86400000
 rule_of AwakeMw = number_from_to 0 1000000
 rule_of StandbyMw = number_from_to 0 1000000
 rule_of WakeMj = number_from_to 0 1000000000
+rule_of WakeMs = number_from_to 0 600000
 rule_of Volume = tables_from_to 1 64
 rule_of Name = text_of 32 is_name_byte
 rule_of Host = text_of 64 is_host_byte
@@ -56,9 +58,10 @@ rule_of HomeBlocks = number_from_to 1 (2 ^ 32)
 rule_of Segments = number_from_to 0 1024
 rule_of View = texts_up_to 16
 
--- the key that may be missing
+-- the keys that may be missing
 abbrev pub may_miss : Key → Bool
 may_miss TimeoutMs = true
+may_miss WakeMs = true
 may_miss _ = false
 
 abbrev pub items_in : Items → List Data

@@ -35,6 +35,8 @@ pub struct Config {
     pub timeout: u64,
     /// What each disk draws.
     pub powers: Powers,
+    /// How long a disk takes to come up, in units of 100 ns.
+    pub wake: u64,
     /// The volumes, 1 to 64. A volume's number is its place here.
     pub volumes: Vec<VolumeConf>,
 }

@@ -6,7 +6,7 @@ ghost use Rattle.wol_config.specs.Configs.{IsDocument, IsConfigOf, IsAnswer, IsR
 ghost use Rattle.wol_config.specs.Documents.{number_or, number_at, first_fault, power_keys, document_fault};
 ghost use Rattle.wol_config.specs.Keys.{key_fault};
 
-use crate::values::{as_number, find, number, tables};
+use crate::values::{number, number_or, tables};
 use crate::volumes::volumes;
 use crate::{Config, ConfigFault, Key};
 use energy::Powers;
@@ -46,11 +46,13 @@ fn config_of(alloc: Global, document: &Table) -> Result<Config, ConfigFault>
     let segment_blocks = number(document, Key::SegmentBlocks, 4, 65_536)? as u32;
     let timeout = timeout(document)?;
     let powers = powers(document)?;
+    let wake = wake(document)?;
     let volumes = volumes(alloc, tables(document)?)?;
     Ok(Config {
         segment_blocks,
         timeout,
         powers,
+        wake,
         volumes,
     })
 }
@@ -63,19 +65,19 @@ fn timeout(document: &Table) -> Result<u64, ConfigFault>
         (λ units. key_fault Key.TimeoutMs (table_view document.now) ≡ None) }
     ensures err { IfErr result (λ e. key_fault Key.TimeoutMs (table_view document.now) ≡ Some e) }
 {
-    Ok(timeout_ms(document)? * 10_000)
+    let key = Key::TimeoutMs;
+    Ok(number_or(document, key, 1, 86_400_000, 60_000)? * 10_000)
 }
 
-fn timeout_ms(document: &Table) -> Result<u64, ConfigFault>
-    ensures ok { IfOk result (λ n. n ≡ number_or 60000 Key.TimeoutMs (table_view document.now)) }
-    ensures range { IfOk result (λ n. (1 ≤ n) × (n ≤ 86400000)) }
-    ensures faultless { IfOk result (λ n. key_fault Key.TimeoutMs (table_view document.now) ≡ None) }
-    ensures err { IfErr result (λ e. key_fault Key.TimeoutMs (table_view document.now) ≡ Some e) }
+// How long a disk takes to come up, in units of 100 ns: ten seconds where the key is missing.
+fn wake(document: &Table) -> Result<u64, ConfigFault>
+    ensures ok { IfOk result
+        (λ units. units ≡ number_or 10000 Key.WakeMs (table_view document.now) * 10000) }
+    ensures faultless { IfOk result
+        (λ units. key_fault Key.WakeMs (table_view document.now) ≡ None) }
+    ensures err { IfErr result (λ e. key_fault Key.WakeMs (table_view document.now) ≡ Some e) }
 {
-    match find(document, Key::TimeoutMs) {
-        Some(value) => as_number(value, Key::TimeoutMs, 1, 86_400_000),
-        None => Ok(60_000),
-    }
+    Ok(number_or(document, Key::WakeMs, 0, 600_000, 10_000)? * 10_000)
 }
 
 fn powers(document: &Table) -> Result<Powers, ConfigFault>

@@ -3,14 +3,14 @@ ghost use Rattle.std.specs.List.{list_all};
 ghost use Rattle.std.specs.Prelude.{◌≡◌, ◌≤◌, ℕ, Bool, false, true, None, Some, IfOk, IfErr, option_map, length};
 ghost use Rattle.toml.specs.Data.{get_member, string, array};
 ghost use Rattle.toml.specs.View.{table_view, view, items_view};
-ghost use Rattle.wol_config.specs.Documents.{number_of, number_at};
+ghost use Rattle.wol_config.specs.Documents.{number_of, number_or, number_at};
 ghost use Rattle.wol_config.specs.Keys.{key_text, key_fault, value_fault, number_from_to, text_of, tables_from_to, texts_up_to, judged, may_miss, is_table, is_text, is_between};
 
 use crate::{ConfigFault, Key};
 use toml::{Table, Value};
 
 // The value at a key.
-pub(crate) fn find<'a>(table: &'a Table, key: Key) -> Option<&'a Value>
+fn find<'a>(table: &'a Table, key: Key) -> Option<&'a Value>
     ensures { option_map (λ v. view v.now) result
         ≡ get_member (key_text key) (table_view table.now) }
 {
@@ -33,7 +33,7 @@ fn value<'a>(table: &'a Table, key: Key) -> Result<&'a Value, ConfigFault>
 }
 
 // A value as an integer from `least` to `most`.
-pub(crate) fn as_number(value: &Value, key: Key, least: u64, most: u64) -> Result<u64, ConfigFault>
+fn as_number(value: &Value, key: Key, least: u64, most: u64) -> Result<u64, ConfigFault>
     ensures ok { IfOk result (λ n. (value_fault (number_from_to least most) key (view value.now)
         ≡ None) × (number_of (view value.now) ≡ n)) }
     ensures range { IfOk result (λ n. (least ≤ n) × (n ≤ most)) }
@@ -60,6 +60,29 @@ pub(crate) fn number(table: &Table, key: Key, least: u64, most: u64) -> Result<u
         (get_member (key_text key) (table_view table.now)) ≡ Some e) }
 {
     as_number(value(table, key)?, key, least, most)
+}
+
+// The integer at a key that may be missing, from `least` to `most`; `default` where it is missing.
+pub(crate) fn number_or(
+    table: &Table,
+    key: Key,
+    least: u64,
+    most: u64,
+    default: u64,
+) -> Result<u64, ConfigFault>
+    requires missing { may_miss key ≡ true }
+    requires default { (least ≤ default) × (default ≤ most) }
+    ensures ok { IfOk result (λ n. n ≡ number_or default key (table_view table.now)) }
+    ensures range { IfOk result (λ n. (least ≤ n) × (n ≤ most)) }
+    ensures faultless { IfOk result (λ n. judged (number_from_to least most) key
+        (get_member (key_text key) (table_view table.now)) ≡ None) }
+    ensures err { IfErr result (λ e. judged (number_from_to least most) key
+        (get_member (key_text key) (table_view table.now)) ≡ Some e) }
+{
+    match find(table, key) {
+        Some(value) => as_number(value, key, least, most),
+        None => Ok(default),
+    }
 }
 
 // The text at a key.

@@ -16,9 +16,11 @@ use Rattle.command_words.specs.declared.command.Command.{Command}
 use Rattle.command_words.specs.declared.command.Command.TheVariants.{Check, Clean, Dump, Format, Gen, Nbd, Replay, Serve, Soak, Solo, ViewAdd, ViewRemove, WhatIf}
 use Rattle.command_words.specs.declared.command.Generated.{Generated}
 use Rattle.command_words.specs.declared.command.Options.{Options}
+use Rattle.command_words.specs.declared.command.Patience.{Patience}
 use Rattle.command_words.specs.declared.command.ServedName.{ServedName}
 use Rattle.nbd_serving.specs.declared.serving.Beginning.TheVariants.{AtOnce, Handshake}
 use Rattle.command_words.specs.declared.command.ViewNames.{ViewNames}
+use Rattle.command_words.specs.declared.command.WhatIfOptions.{WhatIfOptions}
 use Rattle.command_words.specs.Values.{named_by, served_by}
 use Rattle.view_commands.specs.declared.order.Verb.TheVariants.{Add, Remove}
 use Rattle.wol_run.specs.Causes.{AskFor}
@@ -105,11 +107,11 @@ module _ {D : Type 0} (tells : Bool) (state : D → State) (words : List (List �
       (record { config = λ none. absurd (used refl (none (Soak what options) is)); trace = λ none. trace; bay = λ none. absurd (used refl (none (Soak what options) is)) })
       (λ order calm. inl (complete (free (Soak what options) refl refl order.0 order.1 calm) order.2))
 
-  pub comparison_promise : IsCommand words WhatIf → OfRead before.config.bytes (λ read. IsComparisonOf read before after status) → (status ≡ 8 → Rose before.config.faults after.config.faults ⊎ Rose before.trace.faults after.trace.faults)
+  pub comparison_promise : (options : WhatIfOptions) → IsCommand words (WhatIf options) → OfRead before.config.bytes (λ read. IsComparisonOf options read before after status) → (status ≡ 8 → Rose before.config.faults after.config.faults ⊎ Rose before.trace.faults after.trace.faults)
       → ((lines : _) → IsGoodTrace before.trace.bytes lines → IsConfigured before.config.bytes → ¬ Rose before.config.faults after.config.faults → ¬ Rose before.trace.faults after.trace.faults → ¬ Rose before.sink.faults after.sink.faults
       → IsDoneOrMemory status) → after.bay ≡ before.bay → Run tells state words before after status
-  comparison_promise is run source complete bay = of_command tells state words before after status run.read run.has WhatIf is run.is (comparison_cause tells state run.read words before after status seven is source run.read run.is) later
-      (record { config = λ none. absurd (used refl (none WhatIf is)); trace = λ none. absurd (used refl (none WhatIf is)); bay = λ none. bay })
+  comparison_promise options is run source complete bay = of_command tells state words before after status run.read run.has (WhatIf options) is run.is (comparison_cause tells state run.read words before after status seven options is source run.read run.is) later
+      (record { config = λ none. absurd (used refl (none (WhatIf options) is)); trace = λ none. absurd (used refl (none (WhatIf options) is)); bay = λ none. bay })
       (λ order calm. inl (complete order.1 order.2 order.0 (calm.config refl) (calm.trace refl) calm.sink))
 
   -- a view was to be changed
@@ -149,11 +151,11 @@ module _ {D : Type 0} (tells : Bool) (state : D → State) (words : List (List �
         (record { config = λ none. absurd (used refl (none (Nbd name) is)); trace = λ none. absurd (used refl (none (Nbd name) is)); bay = λ none. absurd (used refl (none (Nbd name) is)) })
         (λ order calm. at_client refl (complete (free (Nbd name) refl refl order.0 order.1 calm) (calm.trace refl)))
 
-    pub serve_promise : (name : ServedName) → IsCommand words (Serve name) → OfRead before.config.bytes (λ read. IsServingOf tells state read before after status (Handshake, served_by name)) → Run tells state words before after status
-    serve_promise name is run = of_command tells state words before after status run.read run.has (Serve name) is run.is
-        (serving_cause tells state run.read words before after status seven (Serve name) is refl refl Handshake (served_by name) refl refl run.read refl run.is) later
-        (record { config = λ none. absurd (used refl (none (Serve name) is)); trace = λ none. absurd (used refl (none (Serve name) is)); bay = λ none. absurd (used refl (none (Serve name) is)) })
-        (λ order calm. at_client refl (complete (free (Serve name) refl refl order.0 order.1 calm) (calm.trace refl)))
+    pub serve_promise : (name : ServedName) (patience : Patience) → IsCommand words (Serve name patience) → OfRead before.config.bytes (λ read. IsServingOf tells state read before after status (Handshake, served_by name)) → Run tells state words before after status
+    serve_promise name patience is run = of_command tells state words before after status run.read run.has (Serve name patience) is run.is
+        (serving_cause tells state run.read words before after status seven (Serve name patience) is refl refl Handshake (served_by name) refl refl run.read refl run.is) later
+        (record { config = λ none. absurd (used refl (none (Serve name patience) is)); trace = λ none. absurd (used refl (none (Serve name patience) is)); bay = λ none. absurd (used refl (none (Serve name patience) is)) })
+        (λ order calm. at_client refl (complete (free (Serve name patience) refl refl order.0 order.1 calm) (calm.trace refl)))
 
   -- the lines of one volume were run on an image of its own
   module _ (own : Volume) (is : IsCommand words (Solo own)) (config : after.config ≡ before.config) where
@@ -190,12 +192,12 @@ module _ {D : Type 0} (tells : Bool) (state : D → State) (words : List (List �
   does_none Dump = look_untouched _ _ asked.Dump _ _ _ _ _ status _ _ fault.Memory tt refl (inr ends)
   does_none (Gen what) = told_unread what _ _ _ status _ _ fault.Memory tt (inr ends)
   does_none (Soak what options) = unreplayed _ _ _ _ _ _ _ _ _ fault.Memory tt tt (inr ends)
-  does_none WhatIf = uncompared _ _ _ _ _ _ _ _ fault.Memory tt refl (inr ends)
+  does_none (WhatIf options) = uncompared _ _ _ _ _ _ _ _ fault.Memory tt refl (inr ends)
   does_none (ViewAdd names) = not_begun _ _ _ _ _ status _ _ fault.Memory tt refl (inr ends)
   does_none (ViewRemove names) = not_begun _ _ _ _ _ status _ _ fault.Memory tt refl (inr ends)
   does_none Clean = not_begun _ _ _ _ _ status _ _ fault.Memory tt refl (inr ends)
   does_none (Nbd name) = inr (record { bay = refl; source = (refl, refl); ends = ends })
-  does_none (Serve name) = inr (record { bay = refl; source = (refl, refl); ends = ends })
+  does_none (Serve name patience) = inr (record { bay = refl; source = (refl, refl); ends = ends })
 
   pub memory_promise : (status ≡ 7 → Rose before.sink.faults sink.faults) → (before.sink.faults < sink.faults → status ≡ 7) → Run tells state words before after status
   memory_promise seven later = of_unread_words tells state words before after status None tt does_none ends seven later (record { config = λ none. refl; trace = λ none. refl; bay = λ none. refl })

@@ -67,7 +67,7 @@ module _ {D : Type 0} (tells : Bool) (state : D → State) (words : List (List �
     add = λ own other same does. subst (λ n. IsViewChangeOf tells state read before after status (Add, n)) same does;
     remove = λ own other same does. subst (λ n. IsViewChangeOf tells state read before after status (Remove, n)) same does;
     nbd = λ own other same does. subst (λ n. IsServingOf tells state read before after status (AtOnce, n)) same does;
-    serve = λ own other same does. subst (λ n. IsServingOf tells state read before after status (Handshake, n)) same does;
+    serve = λ own other patience same does. subst (λ n. IsServingOf tells state read before after status (Handshake, n)) same does;
   }
 
   headline_of : (how : Serving × GivenLines) → IsReplayOf tells state read before after status how → IsHeadlineOf tells state read before after status how
@@ -90,12 +90,12 @@ module _ {D : Type 0} (tells : Bool) (state : D → State) (words : List (List �
   of_replayed P gives Dump did = tt
   of_replayed P gives (Gen what) did = tt
   of_replayed P gives (Soak what options) did = gives _ did
-  of_replayed P gives WhatIf did = tt
+  of_replayed P gives (WhatIf options) did = tt
   of_replayed P gives (ViewAdd names) did = tt
   of_replayed P gives (ViewRemove names) did = tt
   of_replayed P gives Clean did = tt
   of_replayed P gives (Nbd name) did = tt
-  of_replayed P gives (Serve name) did = tt
+  of_replayed P gives (Serve name patience) did = tt
 
   -- ---- .. where the configuration is none
 
@@ -134,12 +134,12 @@ module _ {D : Type 0} (tells : Bool) (state : D → State) (words : List (List �
     unconfigured_none Dump uses did = look_unconfigured asked.Dump did
     unconfigured_none (Gen what) uses did = untold did.text did.wanted did.allowed did.ends
     unconfigured_none (Soak what options) uses did = replay_unconfigured (options_as options, lines_of what) did
-    unconfigured_none WhatIf uses did = untold did.text did.wanted did.line_ did.ends
+    unconfigured_none (WhatIf options) uses did = untold did.text did.wanted did.line_ did.ends
     unconfigured_none (ViewAdd names) uses did = not_begun_unconfigured did
     unconfigured_none (ViewRemove names) uses did = not_begun_unconfigured did
     unconfigured_none Clean uses did = not_begun_unconfigured did
     unconfigured_none (Nbd name) uses did = serving_unconfigured (AtOnce, served_by name) did
-    unconfigured_none (Serve name) uses did = serving_unconfigured (Handshake, served_by name) did
+    unconfigured_none (Serve name patience) uses did = serving_unconfigured (Handshake, served_by name) did
 
   unconfigured_of : (command : Command) → Did command → IsUnconfigured command before → TellsNoConfig status
   unconfigured_of command did (uses, bytes, told, none) =
@@ -157,7 +157,7 @@ module _ {D : Type 0} (tells : Bool) (state : D → State) (words : List (List �
     add = λ own other same completes order calm. completes order (record { config = calm.config; trace = calm.trace; bay = calm.bay; sink = calm.sink });
     remove = λ own other same completes order calm. completes order (record { config = calm.config; trace = calm.trace; bay = calm.bay; sink = calm.sink });
     nbd = λ own other same completes order calm. completes order (record { config = calm.config; trace = calm.trace; bay = calm.bay; sink = calm.sink });
-    serve = λ own other same completes order calm. completes order (record { config = calm.config; trace = calm.trace; bay = calm.bay; sink = calm.sink });
+    serve = λ own other patience same completes order calm. completes order (record { config = calm.config; trace = calm.trace; bay = calm.bay; sink = calm.sink });
   }
 
   pub promise : ((command : Command) → IsCommand words command → Did command)

@@ -1,5 +1,5 @@
 -- What commands use, and their numbers.
-use Rattle.std.specs.Prelude.{◌≡◌, Bool, true, false, ⊤, ℕ, ◌≤◌, ◌^◌, List}
+use Rattle.std.specs.Prelude.{◌≡◌, Bool, true, false, ⊤, ℕ, ◌≤◌, ◌^◌, List, Option, IfSome}
 use Rattle.solo.specs.Volume.{IsVolume, target_of}
 use Rattle.command_words.specs.Commands.{IsCommand}
 use Rattle.command_words.specs.declared.command.Command.{Command}
@@ -8,26 +8,26 @@ use Rattle.command_words.specs.declared.command.Command.TheVariants.{Solo, Nbd, 
 -- whether a command uses the bay
 abbrev pub uses_bay : Command → Bool
 uses_bay (Gen asked) = false
-uses_bay WhatIf = false
+uses_bay (WhatIf options) = false
 uses_bay command = true
 
 -- whether it runs the lines of the trace that it is given
 abbrev pub runs_trace : Command → Bool
 runs_trace (Solo volume) = true
 runs_trace (Replay options) = true
-runs_trace WhatIf = true
+runs_trace (WhatIf options) = true
 runs_trace command = false
 
 -- whether it uses the source of the trace, for that or for a client's requests
 abbrev pub uses_trace : Command → Bool
 uses_trace (Nbd name) = true
-uses_trace (Serve name) = true
+uses_trace (Serve name patience) = true
 uses_trace command = runs_trace command
 
 -- whether it serves a client
 abbrev pub serves_client : Command → Bool
 serves_client (Nbd name) = true
-serves_client (Serve name) = true
+serves_client (Serve name patience) = true
 serves_client command = false
 
 -- whether it uses the configuration
@@ -49,10 +49,15 @@ NoneOf test words = (command : Command) → IsCommand words command → test com
 abbrev pub IsCount : (workers : ℕ) → Type 0
 IsCount workers = (1 ≤ workers) × (workers ≤ 64)
 
+-- a timeout in milliseconds, where one is given
+abbrev pub IsTimeout : Option ℕ → Type 0
+IsTimeout timeout = IfSome timeout (λ ms. (1 ≤ ms) × (ms ≤ 86400000))
+
 -- a command whose numbers are in range
 abbrev pub IsInRange : Command → Type 0
 IsInRange (Solo volume) = IsVolume (target_of volume)
 IsInRange (Replay options) = IsCount options.workers
 IsInRange (Gen asked) = asked.lines ≤ 2 ^ 31
 IsInRange (Soak asked options) = (asked.lines ≤ 2 ^ 31) × IsCount options.workers
+IsInRange (WhatIf options) = IsTimeout options.timeout_ms
 IsInRange command = ⊤

@@ -117,10 +117,10 @@ IsSoloOf before after status volume =
     before.sink.bytes after.sink.bytes
 
 -- the policies were compared on the trace
-abbrev pub IsComparisonOf : (read : Option Config) → (before after : Outside) → (status : ℕ)
-    → Type 0
-IsComparisonOf read before after status =
-    RunsWhatIf read (trace_of before.trace.bytes) before.config.bytes
+abbrev pub IsComparisonOf : WhatIfOptions → (read : Option Config) → (before after : Outside)
+    → (status : ℕ) → Type 0
+IsComparisonOf options read before after status =
+    RunsWhatIf options read (trace_of before.trace.bytes) before.config.bytes
     before.config.faults after.config.faults after.trace.bytes
     before.sink.faults after.sink.faults status before.sink.bytes after.sink.bytes
 
@@ -146,7 +146,7 @@ module _ {D : Type 0} (tells : Bool) (state : D → State) (read : Option Config
   -- gen: the first lines of the seed
   Does (Gen what) = IsListingOf read before after status what
   -- whatif: what each policy would use for the trace, or why no further line came
-  Does WhatIf = IsComparisonOf read before after status
+  Does (WhatIf options) = IsComparisonOf options read before after status
   -- view-add, view-remove: the new view, what the images recover to, or why nothing changed
   Does (ViewAdd names) =
       IsViewChangeOf tells state read before after status (Add, named_by names)
@@ -158,7 +158,8 @@ module _ {D : Type 0} (tells : Bool) (state : D → State) (read : Option Config
   -- nbd: a session of requests and their replies, and what the images recover to after it
   Does (Nbd name) = IsServingOf tells state read before after status (AtOnce, served_by name)
   -- serve: the same behind a handshake on the volume, of which nothing is told before it is open
-  Does (Serve name) = IsServingOf tells state read before after status (Handshake, served_by name)
+  Does (Serve name patience) =
+      IsServingOf tells state read before after status (Handshake, served_by name)
 
 -- ---- What a run needs
 
@@ -186,7 +187,7 @@ ReadsInOrder tells (Soak what options) before =
     IsConfigured before.config.bytes
     × (images : HasSoundImages tells before.config.bytes before.bay)
     × HaveVersions before.config.bytes images.entry (seed_lines what)
-ReadsInOrder tells WhatIf before =
+ReadsInOrder tells (WhatIf options) before =
     IsConfigured before.config.bytes × (lines : List _) × IsGoodTrace before.trace.bytes lines
 ReadsInOrder tells (ViewAdd names) before =
     IsConfigured before.config.bytes × HasSoundImages tells before.config.bytes before.bay
@@ -198,7 +199,7 @@ ReadsInOrder tells Clean before =
     × HaveVersionsToClean before.config.bytes images.entry
 ReadsInOrder tells (Nbd name) before =
     IsConfigured before.config.bytes × HasSoundImages tells before.config.bytes before.bay
-ReadsInOrder tells (Serve name) before =
+ReadsInOrder tells (Serve name patience) before =
     IsConfigured before.config.bytes × HasSoundImages tells before.config.bytes before.bay
 
 -- the command is done, or out of memory; or a view can't be changed as the words ask, or a client's

@@ -1,3 +1,4 @@
+mod accounts;
 mod calls;
 mod forged;
 mod runs;

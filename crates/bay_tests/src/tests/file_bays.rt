@@ -2,14 +2,12 @@
 use super::bay_calls::{reads, writes};
 use fixtures::{folder_of_image, same};
 use std::fs;
-use std::fs::File;
 use std::process::id;
-use std::rt::Files;
 use std::test::Fail;
 use wol_bay::{Bay, BayFault, FileBay};
 
 // An image of four blocks, the first three of which hold sevens, goes out in parts.
-fn goes_out<R: Files<File = File>>(bay: &mut FileBay<'_, R>) -> Result<(), Fail> {
+fn goes_out(bay: &mut FileBay<'_>) -> Result<(), Fail> {
     reads(bay, "usr0", &[4], Ok(Ok((7, 7, 7))))?;
     reads(bay, "usr0", &[1, 3], Ok(Ok((7, 7, 0))))?;
     reads(bay, "web0", &[4], Err(BayFault::Absent))?;
@@ -18,10 +16,7 @@ fn goes_out<R: Files<File = File>>(bay: &mut FileBay<'_, R>) -> Result<(), Fail>
 }
 
 // It goes to one of the bays at a time, and is made anew.
-fn goes_out_once<R: Files<File = File>>(
-    one: &mut FileBay<'_, R>,
-    two: &mut FileBay<'_, R>,
-) -> Result<(), Fail> {
+fn goes_out_once(one: &mut FileBay<'_>, two: &mut FileBay<'_>) -> Result<(), Fail> {
     let parts = one.attach("usr0", &[1, 3])?;
     reads(two, "usr0", &[4], Err(BayFault::Failed))?;
     one.detach("usr0", parts);

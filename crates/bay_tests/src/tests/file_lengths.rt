@@ -6,7 +6,6 @@ use std::os::unix::fs::symlink;
 use std::process::id;
 use std::test::Fail;
 use wol_bay::{Bay, BayFault, FileBay};
-use wol_disk::{Disk, Failed};
 
 #[test]
 fn a_file_of_another_length_is_no_image(rt: HostRuntime) -> Result<(), Fail> {
@@ -31,16 +30,12 @@ fn a_file_of_another_length_is_no_image(rt: HostRuntime) -> Result<(), Fail> {
 
 // A file of the system's own takes an image without blocks, and can't be synced.
 #[test]
-fn a_sync_that_fails_is_told(rt: HostRuntime) -> Result<(), Fail> {
+fn what_cannot_be_synced_does_not_go_out(rt: HostRuntime) -> Result<(), Fail> {
     let alloc = rt.alloc();
     let (folder, file) = folder_of_image(&rt, "wol_syncs", id(rt.process()))?;
     symlink(&rt, "/proc/self/comm", file.as_str())?;
     let mut bay = FileBay::new(rt, alloc, folder.as_str());
-    let mut parts = bay.attach("usr0", &[0])?;
-    let Some(mut part) = parts.pop() else {
-        panic!(rt; "an image of one part");
-    };
-    same(&part.sync(), &Err(Failed))?;
+    reads(&mut bay, "usr0", &[0], Err(BayFault::Failed))?;
     fs::remove_dir_all(&rt, folder.as_str())?;
     Ok(())
 }

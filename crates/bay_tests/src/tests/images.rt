@@ -84,7 +84,7 @@ fn open_alone<R: Wait, B: Bay>(
     ensures { MatchOption result (outs (B.state bay.new) ≡ outs (B.state bay.old))
         (λ r. OnErr r (outs (B.state bay.new) ≡ outs (B.state bay.old))) }
 {
-    match TurnLock::new(alloc, Spindle::new(alloc, want.id, 600), 1, 0) {
+    match TurnLock::new(alloc, Spindle::new(want.id, 600), 1, 0) {
         Ok((lock, mut passes)) => {
             let opened = open_image(alloc, rt, bay, name, want, 2, &lock, &mut passes[0]);
             let _spindle = lock.close(passes);

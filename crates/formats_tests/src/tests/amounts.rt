@@ -1,22 +1,22 @@
 // Amounts that were worked out by hand.
-use energy::{Powers, Turned, calls};
+use energy::{Powers, Sums, calls};
 use fixtures::same;
 use std::test::Fail;
 
 #[test]
 fn sums_a_journal_that_ends_in_standby() -> Result<(), Fail> {
     let start = 128_166_372_000_000_000;
-    let journal = [
-        Turned::Down(start + 600_000_000),
-        Turned::Up(start + 2_000_000_000),
-        Turned::Down(start + 2_900_000_000),
-    ];
+    let sums = Sums {
+        wakes: 1,
+        sleeps: 2,
+        standby: (2_000_000_000 - 600_000_000) + (4_000_000_000 - 2_900_000_000),
+    };
     let powers = Powers {
         awake_mw: 8_000,
         standby_mw: 1_000,
         wake_mj: 50_000,
     };
-    let amounts = calls::amounts(&journal, start, start + 4_000_000_000, &powers);
+    let amounts = calls::amounts(&sums, start, start + 4_000_000_000, &powers);
     same(&amounts.wakes, &1)?;
     same(&amounts.sleeps, &2)?;
     same(&amounts.awake, &1_500_000_000)?;
@@ -32,7 +32,12 @@ fn a_disk_that_never_turned_was_awake() -> Result<(), Fail> {
         standby_mw: 0,
         wake_mj: 0,
     };
-    let amounts = calls::amounts(&[], 5, 12, &powers);
+    let sums = Sums {
+        wakes: 0,
+        sleeps: 0,
+        standby: 0,
+    };
+    let amounts = calls::amounts(&sums, 5, 12, &powers);
     same(&(amounts.wakes, amounts.sleeps), &(0, 0))?;
     same(&(amounts.awake, amounts.standby), &(7, 0))?;
     same(&amounts.units, &7_000_000)?;

@@ -38,6 +38,37 @@ fn each_command_is_read(rt: HostRuntime) -> Result<(), Fail> {
 }
 
 #[test]
+fn options_of_policies_and_of_waiting_are_read(rt: HostRuntime) -> Result<(), Fail> {
+    let alloc = rt.alloc();
+    let words = words_of(alloc, "whatif --volumes --timeout=86400000")?;
+    let Ok(Command::WhatIf(options)) = command_of(alloc, &words) else {
+        return Err(Fail::from("no policies"));
+    };
+    assert!(rt; options.volumes && !options.long && options.timeout_ms == Some(86_400_000));
+    let words = words_of(alloc, "whatif --long")?;
+    let Ok(Command::WhatIf(options)) = command_of(alloc, &words) else {
+        return Err(Fail::from("no policies"));
+    };
+    assert!(rt; !options.volumes && options.long && options.timeout_ms == None);
+    let words = words_of(alloc, "serve --wait 0 -- --wait")?;
+    let Ok(Command::Serve(served, patience)) = command_of(alloc, &words) else {
+        return Err(Fail::from("no volume"));
+    };
+    assert!(rt; served.volume == "--wait" && patience.seconds == 0);
+    let words = words_of(alloc, "serve usr0")?;
+    let Ok(Command::Serve(served, patience)) = command_of(alloc, &words) else {
+        return Err(Fail::from("no volume"));
+    };
+    assert!(rt; served.volume == "usr0" && patience.seconds == 10);
+    let words = words_of(alloc, "view-add -- -a -b")?;
+    let Ok(Command::ViewAdd(names)) = command_of(alloc, &words) else {
+        return Err(Fail::from("no view"));
+    };
+    assert!(rt; names.volume == "-a" && names.logger == "-b");
+    Ok(())
+}
+
+#[test]
 fn other_words_are_refused(rt: HostRuntime) -> Result<(), Fail> {
     let alloc = rt.alloc();
     let lines = [
@@ -56,6 +87,16 @@ fn other_words_are_refused(rt: HostRuntime) -> Result<(), Fail> {
         "gen +1 2",
         "solo -x 0 1",
         "solo usr 0 0",
+        "whatif --timeout 0",
+        "whatif --timeout 86400001",
+        "whatif --timeout=01",
+        "whatif --long --long",
+        "whatif trace.csv",
+        "serve",
+        "serve -x",
+        "serve usr0 --wait 3601",
+        "serve --wait=-1 usr0",
+        "nbd usr0 --wait 1",
     ];
     for line in lines {
         assert!(rt; is_refused(alloc, line)?);

@@ -52,11 +52,25 @@ fn a_log_of_one_segment(rt: HostRuntime) -> Result<(), Fail> {
         &600_000_000,
         &"the timeout where the key is missing",
     )?;
+    same_at(
+        &config.wake,
+        &100_000_000,
+        &"the time of a spin-up where the key is missing",
+    )?;
     same(&config.most(), &2)?;
     assert!(rt; config.volumes.len() == 2);
     same(&config.volumes[0].view.ids(), &[1].as_slice())?;
     same(&config.volumes[1].name.as_bytes(), &b"b".as_slice())?;
     same(&config.volumes[1].segments, &1)?;
+    Ok(())
+}
+
+#[test]
+fn a_disk_that_comes_up_in_two_and_a_half_seconds(rt: HostRuntime) -> Result<(), Fail> {
+    let mut text = String::from_str(rt.alloc(), "wake_ms = 2500\n")?;
+    text.push_str(A_LOG_OF_ONE_SEGMENT)?;
+    let config = read_config(rt.alloc(), text.as_bytes())?;
+    same(&config.wake, &25_000_000)?;
     Ok(())
 }
 

@@ -21,7 +21,7 @@ const LINES: [&str; 12] = [
 ];
 
 // The line to change, its new text, and the answer.
-const CASES: [(usize, &str, &str); 40] = [
+const CASES: [(usize, &str, &str); 46] = [
     (0, "", "missing segment_blocks"),
     (0, "segment_blocks = \"16\"", "wrong kind segment_blocks"),
     (0, "segment_blocks = 3", "out of range segment_blocks"),
@@ -39,6 +39,12 @@ const CASES: [(usize, &str, &str); 40] = [
     (3, "standby_mw = 1000001", "out of range standby_mw"),
     (4, "wake_mj = []", "wrong kind wake_mj"),
     (4, "wake_mj = 1000000001", "out of range wake_mj"),
+    (4, "wake_mj = 0\nwake_ms = 0", "read"),
+    (4, "wake_mj = 0\nwake_ms = 600000", "read"),
+    (4, "wake_mj = 0\nwake_ms = 600001", "out of range wake_ms"),
+    (4, "wake_mj = 0\nwake_ms = -1", "out of range wake_ms"),
+    (4, "wake_mj = 0\nwake_ms = \"1\"", "wrong kind wake_ms"),
+    (4, "wake_ms = 600001", "missing wake_mj"),
     (5, "", "missing volume"),
     (5, "volume = 3", "wrong kind volume"),
     (5, "volume = [1]", "wrong kind volume"),

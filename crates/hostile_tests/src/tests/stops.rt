@@ -168,8 +168,8 @@ fn tells_each(words: &str) -> bool {
     words == "check" || words == "dump"
 }
 
-// Stops at each call of a disk.
-fn try_choice<R: Threads + Wait + Sync>(
+/// Stops at each call of a disk.
+pub fn try_choice<R: Threads + Wait + Sync>(
     rt: &R,
     alloc: Global,
     case: Case<'_, '_, '_>,

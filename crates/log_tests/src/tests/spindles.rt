@@ -1,41 +1,45 @@
 // A spindle alone, and one under its lock with a part of its disk.
 ghost use Rattle.spin_model.specs.Operations.{has_token};
 ghost use Rattle.spin_model.specs.Spun.{volume_of, disk_of};
-ghost use Rattle.std.specs.Prelude.{false, ◌≡◌, ◌≤◌, ◌∷◌, [], IfOk};
+ghost use Rattle.std.specs.Prelude.{false, ◌≡◌, ◌≤◌, ℕ};
 ghost use Rattle.turn_lock.specs.Passes.{pass_lock, pass_mine, IsPassOf, IsFree};
 ghost use Rattle.wol_disk.specs.Memory.{mem_state};
-ghost use Rattle.wol_model.specs.declared.journal.Turned.TheVariants.{Down, Up};
+ghost use Rattle.spin_model.specs.Spindles.{sums_until};
 
+use energy::Sums;
 use spin_model::{Spindle, Spun, begin_turn, give_token, start_turn, take_token};
 use std::alloc::Global;
 use std::sync::Wait;
 use std::test::Fail;
 use turn_lock::{Pass, TurnLock};
-use wol_disk::{MemDisk, NoMemory};
-use wol_model::Turned;
+use wol_disk::MemDisk;
 
 // A disk with a timeout of a minute, whose account starts at 0, and which is needed after a window at 100 seconds:
 // whether it was awake in that window, and its spindle.
-fn needed_after_a_nap(alloc: Global) -> Result<(bool, Spindle), NoMemory>
-    ensures asleep { IfOk result (λ r. r.0 ≡ false) }
-    ensures journal { IfOk result (λ r. r.1.journal ≡ Down 600000000 ∷ Up 1000000000 ∷ []) }
+fn needed_after_a_nap() -> (bool, Spindle)
+    ensures asleep { result.0 ≡ false }
+    ensures sums { (to : ℕ) → sums_until result.1 to
+        ≡ record { wakes = 1; sleeps = 1; standby = 400000000 } }
 {
-    let mut spindle = Spindle::new(alloc, 3, 600_000_000);
+    let mut spindle = Spindle::new(3, 600_000_000);
     spindle.start(0);
-    let awake = spindle.begin(1_000_000_000)?;
+    let awake = spindle.begin(1_000_000_000);
     let token = spindle.need();
     spindle.done(token);
-    Ok((awake, spindle))
+    (awake, spindle)
 }
 
 #[test]
 fn sleeps_after_its_timeout_and_wakes_when_needed(rt: HostRuntime) -> Result<(), Fail> {
-    let (awake, spindle) = needed_after_a_nap(rt.alloc())?;
+    let (awake, spindle) = needed_after_a_nap();
     assert!(rt; !awake);
     assert!(rt; spindle.is_awake());
-    assert!(rt;
-        spindle.journal() == [Turned::Down(600_000_000), Turned::Up(1_000_000_000)].as_slice()
-    );
+    let sums = Sums {
+        wakes: 1,
+        sleeps: 1,
+        standby: 400_000_000,
+    };
+    assert!(rt; spindle.sums_until(spindle.moment()) == sums);
     Ok(())
 }
 
@@ -73,11 +77,11 @@ fn one_window<R: Wait>(
     rt: &R,
     alloc: Global,
     part: &mut Spun<MemDisk>,
-) -> Option<(Result<bool, NoMemory>, Option<u8>, Spindle)>
+) -> Option<(bool, Option<u8>, Spindle)>
     requires volume { volume_of part.old ≡ 5 }
     requires size { 2 ≤ (mem_state (disk_of part.old)).size }
 {
-    match TurnLock::new(alloc, Spindle::new(alloc, 5, 100), 1, 1) {
+    match TurnLock::new(alloc, Spindle::new(5, 100), 1, 1) {
         Ok((lock, mut passes)) => {
             start_turn(rt, &lock, &mut passes[1], 20);
             let awake = begin_turn(rt, &lock, &mut passes[1], 130);
@@ -92,8 +96,13 @@ fn one_window<R: Wait>(
 fn a_part_is_reached_in_turns_of_its_spindle(rt: HostRuntime) -> Result<(), Fail> {
     let mut part = Spun::new(5, MemDisk::new(rt.alloc(), 2)?);
     let (awake, byte, spindle) = one_window(&rt, rt.alloc(), &mut part).ok_or("no memory")?;
-    assert!(rt; awake == Ok(false));
+    assert!(rt; !awake);
     assert!(rt; byte == Some(7));
-    assert!(rt; spindle.journal() == [Turned::Down(120), Turned::Up(130)].as_slice());
+    let sums = Sums {
+        wakes: 1,
+        sleeps: 1,
+        standby: 10,
+    };
+    assert!(rt; spindle.sums_until(spindle.moment()) == sums);
     Ok(())
 }

@@ -94,7 +94,7 @@ fn store_load_and_free(rt: &impl Abort, alloc: Global, token: &Awake) -> Result<
 
 #[test]
 fn views_and_free_segments_are_stored_and_loaded(rt: HostRuntime) -> Result<(), Fail> {
-    let mut spindle = Spindle::new(rt.alloc(), 3, 100);
+    let mut spindle = Spindle::new(3, 100);
     let token = spindle.need();
     let done = store_load_and_free(&rt, rt.alloc(), &token);
     spindle.done(token);

@@ -60,7 +60,7 @@ pub fn spindle_of<R: Abort>(
 ) -> (TurnLock<Spindle>, Pass<Spindle>)
     ensures { HasSpindle volume result.0 result.1 }
 {
-    locked(rt, alloc, Spindle::new(alloc, volume, TIMEOUT))
+    locked(rt, alloc, Spindle::new(volume, TIMEOUT))
 }
 
 /// The spindle of a volume under its lock, with a keeper's pass and another.
@@ -71,7 +71,7 @@ pub fn kept_spindle<R: Abort>(
 ) -> (TurnLock<Spindle>, Pass<Spindle>, Pass<Spindle>)
     ensures { HasKeptSpindle volume result.0 result.1 result.2 }
 {
-    match TurnLock::new(alloc, Spindle::new(alloc, volume, TIMEOUT), 2, 0) {
+    match TurnLock::new(alloc, Spindle::new(volume, TIMEOUT), 2, 0) {
         Ok((lock, mut passes)) => {
             let Some(pass) = passes.pop() else {
                 unreachable!()
@@ -114,7 +114,7 @@ fn free_segment<R: Abort>(rt: &R, alloc: Global, volume: u32) -> FreeSegment<Cou
     write_seg(&SegHead::Free, &mut head);
     disk.write(0, &[head]).expect(rt, "a written head");
     disk.sync().expect(rt, "a synced head");
-    let mut spindle = Spindle::new(alloc, volume, TIMEOUT);
+    let mut spindle = Spindle::new(volume, TIMEOUT);
     let token = spindle.need();
     let opened = open_segment(alloc, &token, Spun::new(volume, CountingDisk::new(disk)));
     spindle.done(token);

@@ -10,6 +10,7 @@ ghost use Rattle.volume_tests.specs.Rigs.{IsNewLane, IsRig};
 use super::locked::{kept_spindle, pool_of, spindle_of, unlocked};
 use crate::counting::CountingDisk;
 use crate::rig::Rig;
+use energy::Sums;
 use log_segment::FreeSegment;
 use logger::{Lane, LaneParts, Shared};
 use manager::{Manager, ManagerParts};
@@ -22,16 +23,24 @@ use std::process::Abort;
 use std::sync::Wait;
 use turn_lock::{Pass, TurnLock};
 use wol_disk::MemDisk;
-use wol_model::Turned;
 
-/// What is left of a rig: the journals of both disks, the segments of volume 1 that are held, and how many of its segments are
+/// What is left of a rig: the sums of both disks, the segments of volume 1 that are held, and how many of its segments are
 /// free.
 #[derive(Drop)]
 pub struct Remains {
-    pub home: Vec<Turned>,
-    pub logger: Vec<Turned>,
+    pub home: Sums,
+    pub logger: Sums,
     pub held: Vec<(u32, Spun<CountingDisk>)>,
     pub free: u32,
+}
+
+/// The sums of a disk that came up and went down so often, and was in standby for so long.
+pub fn sums(wakes: u64, sleeps: u64, standby: u64) -> Sums {
+    Sums {
+        wakes,
+        sleeps,
+        standby,
+    }
 }
 
 // Two values in a row.
@@ -79,7 +88,7 @@ fn sleeping<R: Abort + Wait>(
     let (lock, mut keeper, pass) = kept_spindle(rt, alloc, 0);
     start_turn(rt, &lock, &mut keeper, 0);
     let awake = begin_turn(rt, &lock, &mut keeper, 700_000_000);
-    assert!(rt; awake.is_ok_and(|awake| !awake));
+    assert!(rt; !awake);
     (lock, keeper, pass)
 }
 
@@ -142,8 +151,8 @@ pub fn apart<R: Abort>(rt: &R, alloc: Global, rig: Rig) -> Remains
     let (home_lock, logger_lock) = both(spindles);
     unlocked(rt, alloc, own_pool_lock, own_pool);
     Remains {
-        home: kept_journal(rt, alloc, home_lock, keeper, spindle),
-        logger: journal(rt, alloc, logger_lock, logger_pass),
+        home: kept_sums(rt, alloc, home_lock, keeper, spindle),
+        logger: sums_of(rt, alloc, logger_lock, logger_pass),
         held,
         free: unlocked(rt, alloc, pool_lock, pool_pass).len(),
     }
@@ -176,33 +185,24 @@ fn both<T>(mut row: Vec<T>) -> (T, T)
     (first, second)
 }
 
-// The journal of a spindle.
-fn journal<R: Abort>(
-    rt: &R,
-    alloc: Global,
-    lock: TurnLock<Spindle>,
-    pass: Pass<Spindle>,
-) -> Vec<Turned>
+// The sums of a spindle.
+fn sums_of<R: Abort>(rt: &R, alloc: Global, lock: TurnLock<Spindle>, pass: Pass<Spindle>) -> Sums
     requires { HasOnePass lock pass }
 {
-    unlocked(rt, alloc, lock, pass)
-        .journal()
-        .to_vec(alloc)
-        .expect(rt, "a journal")
+    let spindle = unlocked(rt, alloc, lock, pass);
+    spindle.sums_until(spindle.moment())
 }
 
-// The journal of a spindle whose time was kept.
-fn kept_journal<R: Abort>(
+// The sums of a spindle whose time was kept.
+fn kept_sums<R: Abort>(
     rt: &R,
     alloc: Global,
     lock: TurnLock<Spindle>,
     keeper: Pass<Spindle>,
     pass: Pass<Spindle>,
-) -> Vec<Turned>
+) -> Sums
     requires { HasTwoPasses lock keeper pass }
 {
-    lock.close(two(rt, alloc, keeper, pass))
-        .journal()
-        .to_vec(alloc)
-        .expect(rt, "a journal")
+    let spindle = lock.close(two(rt, alloc, keeper, pass));
+    spindle.sums_until(spindle.moment())
 }

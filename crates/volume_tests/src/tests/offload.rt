@@ -1,8 +1,7 @@
 // A write to the log of another volume while the disk of its own is asleep.
-use super::making::{apart, resting_rig};
+use super::making::{apart, resting_rig, sums};
 use manager::{Place, Sources};
 use std::test::Fail;
-use wol_model::Turned;
 
 #[test]
 fn a_write_goes_to_the_log_of_an_awake_logger_and_home_stays_asleep(
@@ -16,8 +15,8 @@ fn a_write_goes_to_the_log_of_an_awake_logger_and_home_stays_asleep(
     assert!(rt; wrote == Ok(Place::Log { logger: 1 }));
     assert!(rt; read == Ok(Sources { home: 0, logged: 2 }));
     assert!(rt; out == [[7; 512], [8; 512]]);
-    assert!(rt; remains.home.as_slice() == [Turned::Down(600_000_000)].as_slice());
-    assert!(rt; remains.logger.as_slice() == [].as_slice());
+    assert!(rt; remains.home == sums(0, 1, 100_000_000));
+    assert!(rt; remains.logger == sums(0, 0, 0));
     assert!(rt; remains.free == 0);
     Ok(())
 }

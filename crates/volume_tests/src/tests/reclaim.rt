@@ -1,7 +1,7 @@
 // Records that lie over one another go home, and what they keep is given up.
 ghost use Rattle.volume_tests.specs.Rigs.{IsRig};
 
-use super::making::{apart, resting_rig};
+use super::making::{apart, resting_rig, sums};
 use crate::rig::Rig;
 use garbage_list::may_go;
 use manager::{Place, Sources};
@@ -11,7 +11,6 @@ use std::alloc::Global;
 use std::process::Abort;
 use std::sync::Wait;
 use std::test::Fail;
-use wol_model::Turned;
 
 // Where a record stands in its segment, and the blocks that it keeps, those of them that are live, may go, or are kept by
 // an older record too: bit i is block i of the record.
@@ -85,7 +84,7 @@ fn what_a_newer_record_covers_is_given_up_while_home_sleeps(rt: HostRuntime) -> 
     assert!(rt; gone == [Ok(Gone::Trimmed(1)), Ok(Gone::Nothing)]);
     assert!(rt; covered);
     assert!(rt; remains.free == 0);
-    assert!(rt; remains.home.as_slice() == [Turned::Down(600_000_000)].as_slice());
+    assert!(rt; remains.home == sums(0, 1, 100_000_000));
     Ok(())
 }
 
@@ -178,8 +177,6 @@ fn a_drain_wakes_home_and_leaves_no_record(rt: HostRuntime) -> Result<(), Fail> 
     let remains = apart(&rt, rt.alloc(), rig);
     assert!(rt; last == Ok(Drain::Bare));
     assert!(rt; remains.free == 1);
-    assert!(rt;
-        remains.home.as_slice() == [Turned::Down(600_000_000), Turned::Up(700_000_000)].as_slice()
-    );
+    assert!(rt; remains.home == sums(1, 1, 100_000_000));
     Ok(())
 }

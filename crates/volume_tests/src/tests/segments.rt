@@ -94,7 +94,7 @@ fn left_after(
 }
 
 fn records_left(alloc: Global, calls: u64, records: usize, choice: &[u32]) -> Result<usize, Fail> {
-    let mut spindle = Spindle::new(alloc, 3, 100);
+    let mut spindle = Spindle::new(3, 100);
     let token = spindle.need();
     let left = left_after(alloc, &token, calls, records, choice);
     spindle.done(token);
@@ -182,7 +182,7 @@ fn used_again(alloc: Global, token: &Awake) -> Result<(usize, u32), Fail>
 
 #[test]
 fn a_stale_head_behind_the_gate_is_no_record(rt: HostRuntime) -> Result<(), Fail> {
-    let mut spindle = Spindle::new(rt.alloc(), 3, 100);
+    let mut spindle = Spindle::new(3, 100);
     let token = spindle.need();
     let found = used_again(rt.alloc(), &token);
     spindle.done(token);

@@ -81,12 +81,16 @@ const IMAGES: [Forged<'_>; 7] = [
 const HEADS: [&[u8]; 6] = [MANY, OTHER_MANY, PAST, OTHER_PAST, LONG, OTHER_LONG];
 
 // The commands that do nothing where a volume isn't in order.
-const NEED_ALL: [&str; 4] = [
+const NEED_ALL: [&str; 5] = [
     "replay --each",
     "soak 7 3",
+    "clean",
     "view-add web0 src0",
     "view-remove src0 usr0",
 ];
+
+// So do these, whose output is the client's: nothing is told there.
+const SERVE: [&str; 2] = ["nbd usr0", "serve usr0"];
 
 const LINE: &[u8] = b"1,usr,0,Write,0,512,1\n";
 
@@ -146,6 +150,9 @@ fn try_image<R: Threads + Wait + Sync>(
     let first = first_told(alloc, image)?;
     for words in NEED_ALL {
         expect(rt, alloc, image, words, image.status, &first)?;
+    }
+    for words in SERVE {
+        expect(rt, alloc, image, words, image.status, "")?;
     }
     Ok(())
 }

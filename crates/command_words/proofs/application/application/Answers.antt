@@ -2,7 +2,7 @@ use Rattle.std.proofs.Common.{◌≡◌, ◌∙◌, true, ap, ap₂, codes}
 use Rattle.std.proofs.lemmas.Result.{IfOk-weaker}
 use Rattle.clap.specs.Words.{App, app_of, new_app, with_subcommand}
 use Rattle.clap.specs.Simple.{Shape, app_of_fields, on_top}
-use Rattle.command_words.specs.Application.{bare_app, with_name, with_names, with_options, with_trace, with_volume}
+use Rattle.command_words.specs.Application.{bare_app, with_name, with_names, with_options, with_served, with_trace, with_volume, with_what_if}
 use Rattle.command_words.proofs.application.application.Goals as goal
 
 pub returns : goal.returns
@@ -20,7 +20,8 @@ returns c =
     let view_add : app_of c.in_ok-of_pair-2.field-0 ≡ with_names (new_app (codes "view-add")) = c.in_ok-of_pair-2.ensures.app ∙ ap with_names c.new-9.ensures.app in
     let view_remove : app_of c.in_ok-of_pair-3.field-0 ≡ with_names (new_app (codes "view-remove")) = c.in_ok-of_pair-3.ensures.app ∙ ap with_names c.new-10.ensures.app in
     let nbd : app_of c.in_ok-of_name.field-0 ≡ with_name (new_app (codes "nbd")) = c.in_ok-of_name.ensures.app ∙ ap with_name c.new-12.ensures.app in
-    let serve : app_of c.in_ok-of_name-2.field-0 ≡ with_name (new_app (codes "serve")) = c.in_ok-of_name-2.ensures.app ∙ ap with_name c.new-13.ensures.app in
+    let what_if : app_of c.in_ok-of_what_if.field-0 ≡ with_what_if (new_app (codes "whatif")) = c.in_ok-of_what_if.ensures.app ∙ ap with_what_if c.new-8.ensures.app in
+    let serve : app_of c.in_ok-of_served.field-0 ≡ with_served (new_app (codes "serve")) = c.in_ok-of_served.ensures.app ∙ ap with_served c.new-13.ensures.app in
     let soak : app_of c.in_ok-of_options-2.field-0 ≡ with_options (with_trace (new_app (codes "soak"))) =
     c.in_ok-of_options-2.ensures.app ∙ ap with_options (c.in_ok-of_pair-4.ensures.app ∙ ap with_trace c.new-14.ensures.app) in
     let one = c.in_ok-subcommand.ensures.shape (c.in_ok-of_volume.ensures.globals ∙ c.new-2.ensures.local) ∙ ap₂ with_subcommand bare (ap (λ (a : App). a.top) solo) in
@@ -29,12 +30,12 @@ returns c =
     let four = c.in_ok-subcommand-4.ensures.shape c.new-5.ensures.local ∙ ap₂ with_subcommand three (ap (λ (a : App). a.top) c.new-5.ensures.app) in
     let five = c.in_ok-subcommand-5.ensures.shape c.new-6.ensures.local ∙ ap₂ with_subcommand four (ap (λ (a : App). a.top) c.new-6.ensures.app) in
     let six = c.in_ok-subcommand-6.ensures.shape (c.in_ok-of_pair.ensures.globals ∙ c.new-7.ensures.local) ∙ ap₂ with_subcommand five (ap (λ (a : App). a.top) gen) in
-    let seven = c.in_ok-subcommand-7.ensures.shape c.new-8.ensures.local ∙ ap₂ with_subcommand six (ap (λ (a : App). a.top) c.new-8.ensures.app) in
+    let seven = c.in_ok-subcommand-7.ensures.shape (c.in_ok-of_what_if.ensures.globals ∙ c.new-8.ensures.local) ∙ ap₂ with_subcommand six (ap (λ (a : App). a.top) what_if) in
     let eight = c.in_ok-subcommand-8.ensures.shape (c.in_ok-of_pair-2.ensures.globals ∙ c.new-9.ensures.local) ∙ ap₂ with_subcommand seven (ap (λ (a : App). a.top) view_add) in
     let nine = c.in_ok-subcommand-9.ensures.shape (c.in_ok-of_pair-3.ensures.globals ∙ c.new-10.ensures.local) ∙ ap₂ with_subcommand eight (ap (λ (a : App). a.top) view_remove) in
     let ten = c.in_ok-subcommand-10.ensures.shape c.new-11.ensures.local ∙ ap₂ with_subcommand nine (ap (λ (a : App). a.top) c.new-11.ensures.app) in
     let eleven = c.in_ok-subcommand-11.ensures.shape (c.in_ok-of_name.ensures.globals ∙ c.new-12.ensures.local) ∙ ap₂ with_subcommand ten (ap (λ (a : App). a.top) nbd) in
-    let twelve = c.in_ok-subcommand-12.ensures.shape (c.in_ok-of_name-2.ensures.globals ∙ c.new-13.ensures.local) ∙ ap₂ with_subcommand eleven (ap (λ (a : App). a.top) serve) in
+    let twelve = c.in_ok-subcommand-12.ensures.shape (c.in_ok-of_served.ensures.globals ∙ c.new-13.ensures.local) ∙ ap₂ with_subcommand eleven (ap (λ (a : App). a.top) serve) in
     IfOk-weaker c.subcommand-13.result _ _
     (λ made h. h.shape (c.in_ok-of_options-2.ensures.globals ∙ c.in_ok-of_pair-4.ensures.globals ∙ c.new-14.ensures.local) ∙ ap₂ with_subcommand twelve (ap (λ (a : App). a.top) soak))
     c.subcommand-13.ensures

@@ -29,7 +29,3 @@ returns-in_err-names_of-in-text-2-clause-none c =
 pub returns-in_err-served_of-in-nbd-clause-none : goal.returns-in_err-served_of-in-nbd-clause-none
 returns-in_err-served_of-in-nbd-clause-none c =
     rw c.from_residual-in_err-served_of-in-nbd.ensures (none_asked c.args.name.now (codes "nbd") (rows_of (found_of c.args.matches.now)) Nbd (by_name (codes "nbd")) (λ x. c.in_err-served_of-in-nbd.ensures.none (served_by x)) c.in-nbd.is)
-
-pub returns-in_err-served_of-in-serve-clause-none : goal.returns-in_err-served_of-in-serve-clause-none
-returns-in_err-served_of-in-serve-clause-none c =
-    rw c.from_residual-in_err-served_of-in-serve.ensures (none_asked c.args.name.now (codes "serve") (rows_of (found_of c.args.matches.now)) Serve (by_name (codes "serve")) (λ x. c.in_err-served_of-in-serve.ensures.none (served_by x)) c.in-serve.is)

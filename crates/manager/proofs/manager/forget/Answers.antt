@@ -3,7 +3,7 @@ use Rattle.std.proofs.lemmas.List.{length-replicate, drop_all}
 use Rattle.std.proofs.lemmas.List.Edits.{paste_none, paste_all, fill_from_more}
 use lib.Seq.{paste}
 use Rattle.offload_policy.specs.declared.Room.TheVariants.{Unknown}
-use Rattle.listed_records.proofs.Elements.{refill_set}
+use Rattle.volume_parts.proofs.Elements.{refill_set}
 use Rattle.manager.proofs.manager.forget.Goals as goal
 
 pub loop-k-init : goal.loop-k-init

@@ -1,6 +1,6 @@
 use Rattle.std.proofs.Common.{ap, take, ◌∙◌}
 use Rattle.offload_policy.specs.declared.Room.TheVariants.{Unknown}
-use Rattle.listed_records.proofs.Elements.{take-replicate}
+use Rattle.volume_parts.proofs.Elements.{take-replicate}
 use Rattle.manager.proofs.manager.unasked.Goals as goal
 
 pub returns : goal.returns

@@ -6,8 +6,8 @@ use Rattle.msr_trace.proofs.FirstLine.{gives_line, refuses_line}
 use Rattle.msr_trace.proofs.Feeds.{none_before}
 use Rattle.msr_trace.proofs.reading.give_first.Goals as goal
 
-pub parse_line-requires : goal.parse_line-requires
-parse_line-requires g c = rw c.bytes-held.ensures.value (none_before is_feed c.args.end c.args.intake.now.bytes (omega (arith, c.requires.first)))
+pub read_line-requires : goal.read_line-requires
+read_line-requires g c = rw c.bytes-held.ensures.value (none_before is_feed c.args.end c.args.intake.now.bytes (omega (arith, c.requires.first)))
 
 pub returns-in-Err-clause-bad : goal.returns-in-Err-clause-bad
 returns-in-Err-clause-bad g c = λ why is.

@@ -1,6 +1,6 @@
 use Rattle.std.proofs.Common.{◌≡◌, nat_eq}
 use Rattle.std.specs.HashMap.{get}
-use Rattle.version_marks.specs.Marks.{mask_of}
+use Rattle.redirect_map.specs.Marks.{mask_of}
 use Rattle.redirect_map.specs.Marked.{AreMarked}
 use Rattle.redirect_map.proofs.marking.mark_all_exactly.Given as goal
 

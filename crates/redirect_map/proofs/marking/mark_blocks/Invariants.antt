@@ -1,6 +1,6 @@
 use Rattle.std.proofs.Common.{◌≡◌, ◌+◌, ℕ, true, ◌&&◌, nat_lt, nat_eq}
 use Rattle.std.specs.HashMap.{get}
-use Rattle.version_marks.specs.Marks.{IsWithin, mask_of}
+use Rattle.redirect_map.specs.Marks.{IsWithin, mask_of}
 use Rattle.block_cells.specs.Masks.{in_mask}
 use Rattle.redirect_map.specs.Marked.{AreBegun}
 use Rattle.redirect_map.proofs.marking.mark_blocks.Given as goal

@@ -2,7 +2,7 @@ use Rattle.std.proofs.Common.{nat_eq, arith}
 use Rattle.std.specs.Int.{bit_not, w128}
 use Rattle.std.proofs.lemmas.Nat.{and_le_l}
 use Rattle.std.specs.HashMap.{get}
-use Rattle.version_marks.specs.Marks.{mask_of}
+use Rattle.redirect_map.specs.Marks.{mask_of}
 use Rattle.redirect_map.proofs.Marked.{begun_unhomed}
 use Rattle.redirect_map.proofs.Dues.{begun_else}
 use Rattle.redirect_map.proofs.marking.mark_given_up.Goals as goal

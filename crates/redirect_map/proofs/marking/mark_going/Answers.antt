@@ -1,6 +1,6 @@
 use Rattle.std.proofs.Common.{ℕ, ◌≡◌, subst, true}
 use Rattle.wol_model.specs.Log.{has_bit}
-use Rattle.version_marks.specs.Marks.{mask_of}
+use Rattle.redirect_map.specs.Marks.{mask_of}
 use Rattle.redirect_map.proofs.Marked.{more_with, going_with}
 use Rattle.redirect_map.proofs.marking.mark_going.Goals as goal
 

@@ -1,6 +1,6 @@
 use Rattle.std.proofs.Common.{nat_eq, sym, ◌∙◌}
 use Rattle.std.specs.HashMap.{get}
-use Rattle.version_marks.specs.Marks.{mask_of}
+use Rattle.redirect_map.specs.Marks.{mask_of}
 use Rattle.redirect_map.proofs.Marked.{begun_never, begun_not, begun_marked}
 use Rattle.redirect_map.proofs.marking.mark_newest.Goals as goal
 

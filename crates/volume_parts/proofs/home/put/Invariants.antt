@@ -1,5 +1,5 @@
 use Rattle.std.proofs.Common.{length, ◌-◌, ◌+◌, ◌≤◌}
-use Rattle.listed_records.specs.Changes.{put_block}
+use Rattle.volume_parts.specs.Changes.{put_block}
 use Rattle.volume_parts.proofs.Accesses.{Putting}
 use Rattle.volume_parts.proofs.home.put.Given as goal
 

@@ -6,7 +6,7 @@ use Rattle.std.proofs.lemmas.Bool.{eq-eqb, ne_eqb}
 use Rattle.wol_disk.specs.Disk.{AddsSomeOf, added}
 use Rattle.spin_model.specs.Spun.{state_of}
 use Rattle.wol_model.specs.Log.{has_bit}
-use Rattle.listed_records.specs.Changes.{put_block}
+use Rattle.volume_parts.specs.Changes.{put_block}
 use Rattle.volume_parts.proofs.Accesses.{Putting, putting_none, putting_skip, putting_more, put_failed, laid_all, laid_failed}
 use Rattle.volume_parts.proofs.laying.lay.Goals as goal
 use Rattle.volume_parts.proofs.laying.lay.Goals.{then-mask-at-eq1+in_ok-write, else-mask-at-eq1}

@@ -17,10 +17,10 @@ begin_volumes-requires-clause-owners g c k d within = subst (λ ps. k < length p
 
 pub begin_volumes-requires-clause-volumes : goal.begin_volumes-requires-clause-volumes
 begin_volumes-requires-clause-volumes g c =
-    let n : vec_len c.args.shared.now.spindles ≡ length c.as_slice-2.result.now = (let a = c.args.shared.now.spindles.ok in let b = c.requires.keepers.count in let d = c.in_ok-begin_spindles.ensures.len in let e = ap length c.as_slice-2.ensures.value in omega (arith, a, b, d, e)) in
+    let n : vec_len c.args.shared.now.spindles ≡ length c.as_slice-2.result.now = (let a = c.args.shared.now.spindles.ok in let b = c.requires.keepers.count in let d = c.begin_spindles.ensures.len in let e = ap length c.as_slice-2.ensures.value in omega (arith, a, b, d, e)) in
     subst (λ ps. length ps ≤ length c.as_slice-2.result.now) (sym c.as_mut_slice.ensures.value) (counted c.args.floor.now c.requires.floor c.args.shared.now _ c.requires.shared n)
 
 pub begin_volumes-requires-clause-views : goal.begin_volumes-requires-clause-views
 begin_volumes-requires-clause-views g c k d within =
-    let n : vec_len c.args.shared.now.spindles ≡ length c.as_slice-2.result.now = (let a = c.args.shared.now.spindles.ok in let b = c.requires.keepers.count in let m = c.in_ok-begin_spindles.ensures.len in let e = ap length c.as_slice-2.ensures.value in omega (arith, a, b, m, e)) in
+    let n : vec_len c.args.shared.now.spindles ≡ length c.as_slice-2.result.now = (let a = c.args.shared.now.spindles.ok in let b = c.requires.keepers.count in let m = c.begin_spindles.ensures.len in let e = ap length c.as_slice-2.ensures.value in omega (arith, a, b, m, e)) in
     subst (λ ps. k < length ps → AllByRecursion (λ (b : LaneBase). b.logger < length c.as_slice-2.result.now) (pass_lock (slice_index_or ps k d)).base.lanes) (sym c.as_mut_slice.ensures.value) (λ lt. viewed c.args.floor.now c.requires.floor k d lt c.args.shared.now _ c.requires.shared n) within

@@ -6,10 +6,10 @@ use Rattle.wol_model.specs.Index.{Indexed, listed_in, has_going}
 use Rattle.logger.specs.Lanes.{IsAt}
 use Rattle.volume_parts.proofs.Calm.{calm_trim}
 use Rattle.manager.proofs.Calm.{none_lane}
-use Rattle.listed_records.proofs.Elements.{refill_set, all_at}
+use Rattle.volume_parts.proofs.Elements.{refill_set, all_at}
 use Rattle.manager.proofs.DropCall.{IsFound, found_as, lane_in, AreGoing, HasTurned, trimmable_at, trimmed_at, old_lane, spot_ready, version_ready, count_ready, range_ready, its_head, its_owner, proper_keep, given_entries, gone_is, ready_then, ready_broke, dropped_then, keeps_then, stops_then, dropped_broke, cause_broke, stands_broke, stops_broke}
 use Rattle.manager.proofs.FetchRec.{lane_within}
-use Rattle.listed_records.proofs.Entries.{some_of}
+use Rattle.volume_parts.proofs.Entries.{some_of}
 use Rattle.manager.proofs.ReadyLanes.{at_lane}
 use Rattle.manager.proofs.manager.Manager.drop_rec.Given as given
 use Rattle.manager.proofs.manager.Manager.drop_rec.Goals.{After-may_go-given, After-trim, In-Some-find}

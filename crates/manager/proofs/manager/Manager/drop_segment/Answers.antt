@@ -5,8 +5,8 @@ use Rattle.wol_model.specs.Index.{Indexed}
 use Rattle.wol_promise.proofs.Lists.{all_map}
 use Rattle.logger.specs.Lanes.{IsAt}
 use Rattle.manager.proofs.Calm.{none_lane}
-use Rattle.listed_records.proofs.Elements.{refill_set, all_at}
-use Rattle.listed_records.proofs.Forgetting.{flag_set}
+use Rattle.volume_parts.proofs.Elements.{refill_set, all_at}
+use Rattle.volume_parts.proofs.Forgetting.{flag_set}
 use Rattle.manager.proofs.ReadyLanes.{at_lane}
 use Rattle.manager.proofs.RetireCall.{calm_then, cause_broke, counted_there, dropped_broke, dropped_then, keeps_then, none_live, old_lane, ready_broke, ready_then, retirable, stands_broke, stops_broke, stops_then}
 use Rattle.manager.proofs.DropCall.{IsFound, found_as, lane_in, HasTurned}

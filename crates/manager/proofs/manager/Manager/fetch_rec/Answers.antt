@@ -1,7 +1,7 @@
 -- The record of a version is read, or can't be.
 use Rattle.std.proofs.Common.{ℕ, Some, refl, sym, ap, subst, ◌∙◌}
 use Rattle.manager.specs.Reclaim.{AreOf, HasFetched}
-use Rattle.listed_records.proofs.Entries.{found_of}
+use Rattle.volume_parts.proofs.Entries.{found_of}
 use Rattle.manager.proofs.HomeSince.{since_read}
 use Rattle.manager.proofs.FetchRec.{same_record, same_entry, version_of, fetched_down}
 use Rattle.manager.proofs.ReadKeeps.{keeps_read, stands_broken}

@@ -10,7 +10,7 @@ use Rattle.manager.specs.Stands.{IsInVolume}
 use Rattle.manager.specs.Stops.{HoldsOn, HoldsSince}
 use Rattle.manager.specs.declared.part.Part.TheVariants.{Home}
 use Rattle.manager.proofs.Calm.{none_home}
-use Rattle.listed_records.proofs.Entries.{found_of, entry_of_version, among, entry_in}
+use Rattle.volume_parts.proofs.Entries.{found_of, entry_of_version, among, entry_in}
 use Rattle.manager.proofs.Frames.{ready_homed}
 use Rattle.volume_parts.proofs.Accesses.{laid_same, laid_like}
 use Rattle.volume_parts.proofs.PartReads.{never_some}

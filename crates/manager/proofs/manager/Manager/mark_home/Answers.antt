@@ -6,7 +6,7 @@ use Rattle.wol_model.specs.Log.{has_bit}
 use Rattle.wol_model.proofs.Counts.{both, either}
 use Rattle.block_cells.proofs.Bits.{has_bit-or}
 use Rattle.redirect_map.specs.Index.{entry_at}
-use Rattle.listed_records.proofs.Entries.{some_of, entry_of_version, noted_home}
+use Rattle.volume_parts.proofs.Entries.{some_of, entry_of_version, noted_home}
 use Rattle.manager.proofs.LaidHome.{mark_keeps, ready_marked}
 use Rattle.manager.proofs.manager.Manager.mark_home.Goals as goal
 

@@ -1,7 +1,7 @@
 use Rattle.std.proofs.Common.{◌≡◌, true, None, length, take, ◌∙◌}
 use Rattle.std.specs.Prelude.{replicate}
 use Rattle.offload_policy.specs.declared.Room.TheVariants.{Unknown}
-use Rattle.listed_records.proofs.Elements.{take-replicate}
+use Rattle.volume_parts.proofs.Elements.{take-replicate}
 use Rattle.manager.proofs.manager.Manager.new.Goals as goal
 
 pub returns : goal.returns

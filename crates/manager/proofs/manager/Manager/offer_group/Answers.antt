@@ -27,7 +27,7 @@ use Rattle.volume_parts.proofs.Calm.{calm_put}
 use Rattle.manager.proofs.Calm.{lane_at, none_lane}
 use Rattle.volume_parts.proofs.Claims.{put_claimed, put_tells}
 use Rattle.volume_parts.proofs.Records.{first_of_take}
-use Rattle.listed_records.proofs.Elements.{refill_set, all_at}
+use Rattle.volume_parts.proofs.Elements.{refill_set, all_at}
 use Rattle.manager.proofs.GroupOffering.{all_taken_front, items_small, first_few, offered_unready, offered_position, offered_ready, offered_look, offered_stands, offered_failed, offered_stops, offered_cause}
 use Rattle.manager.proofs.ReadyLanes.{at_lane}
 use Rattle.manager.proofs.Placed.{away_more, away_takes, ready_away, keeps_away}

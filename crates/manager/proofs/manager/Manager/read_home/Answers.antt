@@ -9,7 +9,7 @@ use Rattle.manager.proofs.Calm.{none_home}
 use Rattle.manager.proofs.Frames.{ready_homed}
 use Rattle.manager.proofs.ReadContent.{home_content}
 use Rattle.volume_parts.proofs.PartReads.{lanes_self, counted_of, same_lane_spindle, on_ok_like, needs_one, needs_none}
-use Rattle.listed_records.proofs.Contents.{bare_run_of}
+use Rattle.volume_parts.proofs.Contents.{bare_run_of}
 use Rattle.wol_promise.proofs.Woken.{woken_home, bare_reads_home, bare_reads_lane}
 use Rattle.manager.proofs.manager.Manager.read_home.Goals as goal
 

@@ -12,13 +12,13 @@ use Rattle.manager.specs.declared.part.Part.{Part}
 use Rattle.volume_parts.proofs.Calm.{calm_read}
 use Rattle.manager.proofs.FetchRec.{readable_at, read_at}
 use Rattle.manager.proofs.Calm.{none_lane, segment_rose}
-use Rattle.listed_records.proofs.Elements.{refill_set, all_at}
+use Rattle.volume_parts.proofs.Elements.{refill_set, all_at}
 use Rattle.manager.proofs.ReadContent.{log_content}
 use Rattle.manager.proofs.ReadRuns.{spotted, spotted_in, ready_after}
 use Rattle.manager.proofs.ReadThrough.{through_lane}
 use Rattle.manager.proofs.ReadyLanes.{at_lane}
 use Rattle.volume_parts.proofs.PartReads.{lane_read, whole_after, counted_after, stays_after, on_ok_like, err_like, needs_set, needs_none}
-use Rattle.listed_records.proofs.Contents.{lane_run_of}
+use Rattle.volume_parts.proofs.Contents.{lane_run_of}
 use Rattle.wol_promise.proofs.Woken.{woken_log, log_reads_home, log_reads_lane}
 use Rattle.manager.proofs.manager.Manager.read_log.Goals as goal
 

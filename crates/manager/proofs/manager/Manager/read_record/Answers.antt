@@ -9,8 +9,8 @@ use Rattle.manager.specs.Stands.{IsReady, IsReadyLane}
 use Rattle.manager.specs.declared.part.Part.{Part}
 use Rattle.volume_parts.proofs.Calm.{calm_read}
 use Rattle.manager.proofs.Calm.{none_lane, segment_rose}
-use Rattle.listed_records.proofs.Elements.{refill_set, all_at}
-use Rattle.listed_records.proofs.Entries.{found_of}
+use Rattle.volume_parts.proofs.Elements.{refill_set, all_at}
+use Rattle.volume_parts.proofs.Entries.{found_of}
 use Rattle.manager.proofs.FetchRec.{spot_of, spot_in, readable_at, read_at, data_blocks}
 use Rattle.volume_parts.proofs.PartReads.{lane_read, whole_after, counted_after, stays_after, on_ok_like, err_like}
 use Rattle.manager.proofs.ReadRuns.{ready_after}

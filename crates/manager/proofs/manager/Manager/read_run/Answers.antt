@@ -1,7 +1,7 @@
 -- The covered blocks of a run are all of them or none.
 use Rattle.std.proofs.Common.{length, sym, subst, arith}
 use Rattle.manager.specs.Reading.{IsSource}
-use Rattle.listed_records.proofs.Contents.{bare_count, log_count}
+use Rattle.volume_parts.proofs.Contents.{bare_count, log_count}
 use Rattle.manager.proofs.manager.Manager.read_run.Goals as goal
 
 pub returns-in_ok-read_home-in-None-clause-counted : goal.returns-in_ok-read_home-in-None-clause-counted

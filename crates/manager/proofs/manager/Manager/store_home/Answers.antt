@@ -13,7 +13,7 @@ use Rattle.manager.specs.Reclaim.{put_block, AreOf, StopsSince}
 use Rattle.manager.specs.Stands.{IsInVolume}
 use Rattle.manager.specs.declared.part.Part.TheVariants.{Home}
 use Rattle.manager.proofs.Calm.{none_home}
-use Rattle.listed_records.proofs.Entries.{some_of, found_of, entry_of_version, among, entry_in, noted_home}
+use Rattle.volume_parts.proofs.Entries.{some_of, found_of, entry_of_version, among, entry_in, noted_home}
 use Rattle.manager.proofs.Frames.{ready_homed}
 use Rattle.volume_parts.proofs.Accesses.{put_same, put_like}
 use Rattle.volume_parts.proofs.PartReads.{never_some}

@@ -9,7 +9,7 @@ use Rattle.manager.specs.Offers.{IsTurnedAway, ChangesLane}
 use Rattle.manager.specs.Stands.{passed_in}
 use Rattle.manager.specs.declared.manager.Manager.{Manager}
 use Rattle.manager.proofs.Bounds.{take_some, take_below, take_room, of_front, count_below}
-use Rattle.listed_records.proofs.Elements.{refill_set}
+use Rattle.volume_parts.proofs.Elements.{refill_set}
 use Rattle.manager.proofs.Frames.{reframed, ready_reframed}
 use Rattle.manager.proofs.GroupOffering.{all_taken_front}
 use Rattle.manager.proofs.Runs.{taken_of_front}

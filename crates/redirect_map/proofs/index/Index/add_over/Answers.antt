@@ -12,7 +12,7 @@ use Rattle.redirect_map.proofs.Adding.{new_entry, below_new, some_run, entries_a
 use Rattle.redirect_map.proofs.Tabling.{all_added}
 use Rattle.redirect_map.proofs.Without.{none_homed_added}
 use Rattle.redirect_map.proofs.Celled.{keepers_few}
-use Rattle.version_marks.specs.Marks.{mask_of}
+use Rattle.redirect_map.specs.Marks.{mask_of}
 use Rattle.redirect_map.proofs.Marked.{marks_added}
 use Rattle.redirect_map.proofs.index.Index.add_over.Goals as goal
 

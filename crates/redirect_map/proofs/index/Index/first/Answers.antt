@@ -1,6 +1,6 @@
 use Rattle.std.proofs.Common.{nat_eq, None}
 use Rattle.std.specs.HashMap.{get}
-use Rattle.version_marks.specs.Marks.{mask_of}
+use Rattle.redirect_map.specs.Marks.{mask_of}
 use Rattle.redirect_map.proofs.Marked.{first_sought}
 use Rattle.redirect_map.proofs.index.Index.first.Goals as goal
 

@@ -1,6 +1,6 @@
 use Rattle.std.proofs.Common.{refl, nat_eq}
 use Rattle.std.specs.HashMap.{get}
-use Rattle.version_marks.specs.Marks.{mask_of}
+use Rattle.redirect_map.specs.Marks.{mask_of}
 use Rattle.redirect_map.proofs.Marked.{all_kept}
 use Rattle.redirect_map.proofs.index.Index.reserve.Goals as goal
 

@@ -7,7 +7,7 @@ use Rattle.redirect_map.proofs.Answering.{is_there}
 use Rattle.redirect_map.proofs.Changing.{homed_entry, entries_homed, changed_homed}
 use Rattle.redirect_map.proofs.Celled.{cell_set_same}
 use Rattle.std.specs.HashMap.{get}
-use Rattle.version_marks.specs.Marks.{mask_of}
+use Rattle.redirect_map.specs.Marks.{mask_of}
 use Rattle.redirect_map.specs.Cells.{AreTabled}
 use Rattle.redirect_map.specs.declared.entry.Entry.{Entry}
 use Rattle.redirect_map.specs.Kept.{seen, AreEntries, NoneHomed}

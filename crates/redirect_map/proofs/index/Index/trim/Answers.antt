@@ -14,7 +14,7 @@ use Rattle.redirect_map.proofs.Tabling.{all_less, cell_emptied, cell_trimmed, ma
 use Rattle.std.specs.Int.{bit_not, w128}
 use Rattle.std.specs.Int.Bits.{and_zero_l}
 use Rattle.redirect_map.proofs.Without.{none_homed_at, none_homed_removed, none_homed_set}
-use Rattle.version_marks.specs.Marks.{mask_of}
+use Rattle.redirect_map.specs.Marks.{mask_of}
 use Rattle.redirect_map.specs.Marked.{there_bit, AreMarked}
 use Rattle.redirect_map.proofs.Marked.{get_set_here, marks_set, marks_removed, others_less}
 use Rattle.redirect_map.proofs.Dues.{alone_few}

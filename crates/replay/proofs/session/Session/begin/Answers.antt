@@ -1,5 +1,5 @@
 use Rattle.replay.proofs.Basics.{◌≡◌, ℕ, Bool, List, Vec, Global, length, arith, OnErr, OnOk, with_items_is}
-use Rattle.replay.proofs.Terms.{FailToBegin, HaveBegun, HaveBegunVolumes}
+use Rattle.replay.proofs.Terms.{HaveBegun, HaveBegunVolumes}
 use Rattle.std.specs.Vec.{with_items}
 use Rattle.replay.proofs.Serving.{on_err, on_ok, window_begun, window_failed}
 use Rattle.replay.proofs.session.Session.begin.Goals as goal
@@ -21,5 +21,5 @@ returns-clause-err g c =
     let v = c.start.new.self.keepers in
     let ws = c.begin_window.new.keepers in
     let same = same_items v ws _ c.begin_window.ensures.keepers.count c.start.ensures.ready.keepers_.count in
-    let failed : OnErr c.begin_window.result (FailToBegin c.args.moment v.items (with_items v ws).items) = rw same (rw c.as_mut_slice.ensures.value at c.begin_window.ensures.stopped) in
+    let failed : OnErr c.begin_window.result ((with_items v ws).items ≡ v.items) = rw same (rw c.as_mut_slice.ensures.value at c.begin_window.ensures.stopped) in
     on_err c.begin_window.result (window_failed c.args.moment c.args.self.now c.start.new.self _ c.start.ensures.only c.start.ensures.starts) failed c.begin_window.ensures.refused

@@ -7,4 +7,4 @@ use Rattle.spin_model.proofs.spindle.Spindle.need.Goals as goal
 
 pub returns-clause-stands : goal.returns-clause-stands
 returns-clause-stands c b es n st may =
-    subst (λ (v : SpindleView). StandsFor (record v { last_use = v.moment; out = v.out + 1 }) b (es ++ (n, operation_of Needed) ∷ [])) (sym (c.self.view_is ∙ c.wake.ensures)) (stands_needed c.args.self.now b es n st may)
+    subst (λ (v : SpindleView). StandsFor (record v { out = v.out + 1 }) b (es ++ (n, operation_of Needed) ∷ [])) (sym (c.self.view_is ∙ c.wake.ensures)) (stands_needed c.args.self.now b es n st may)

@@ -6,11 +6,11 @@ use Rattle.volume_tests.proofs.tests.making.apart.Goals as goal
 pub sole-requires : goal.sole-requires
 sole-requires g c = let lane = sole_lane c.args.rig c.requires in (lane.0, ap (λ (v : _). v.items) c.release-spindle.ensures.lanes ∙ lane.1)
 
-pub kept_journal-requires : goal.kept_journal-requires
-kept_journal-requires g c = subst (HasTwoPasses c.both-home_lock.result.0 c.args.rig.keeper) (sym c.release-spindle.ensures.spindle) (home_lock c.args.rig c.requires c.both-home_lock.result.0 c.both-home_lock.result.1 c.both-home_lock.ensures)
+pub kept_sums-requires : goal.kept_sums-requires
+kept_sums-requires g c = subst (HasTwoPasses c.both-home_lock.result.0 c.args.rig.keeper) (sym c.release-spindle.ensures.spindle) (home_lock c.args.rig c.requires c.both-home_lock.result.0 c.both-home_lock.result.1 c.both-home_lock.ensures)
 
-pub journal-requires : goal.journal-requires
-journal-requires g c =
+pub sums_of-requires : goal.sums_of-requires
+sums_of-requires g c =
     let sole = sym (ap (λ (v : _). v.items) c.release-spindle.ensures.lanes) ∙ c.sole.ensures in
     subst (HasOnePass c.both-home_lock.result.1) (sym c.release-held.ensures.spindle)
     (logger_lock c.args.rig c.requires c.sole.result sole c.both-home_lock.result.0 c.both-home_lock.result.1 c.both-home_lock.ensures)
