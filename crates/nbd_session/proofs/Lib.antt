@@ -5,3 +5,6 @@ pub mod Asked
 pub mod Replies
 pub mod Served
 pub mod Along
+pub mod Sent
+pub mod Takings
+pub mod Turns

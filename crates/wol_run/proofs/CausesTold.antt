@@ -16,7 +16,7 @@ use Rattle.report.specs.declared.fault.Fault.{Fault}
 use Rattle.report.specs.declared.fault.Fault.TheVariants as fault
 use Rattle.report.specs.declared.trouble.Trouble.{Trouble}
 use Rattle.report.specs.declared.trouble.Trouble.TheVariants as trouble
-use Rattle.troubles.specs.Troubles.{trouble_of, trouble_of_part}
+use Rattle.rack.specs.Troubles.{trouble_of, trouble_of_part}
 use Rattle.manager.specs.declared.part.Part.{Part}
 use Rattle.manager.specs.declared.part.Part.TheVariants as part
 use Rattle.trace_gen.specs.Generated.{targets_of}
@@ -60,10 +60,10 @@ use Rattle.nbd_session.specs.declared.session.Ended.TheVariants as nbd_ended
 use Rattle.nbd_session.specs.declared.session.NbdFault.{NbdFault}
 use Rattle.nbd_session.specs.declared.session.NbdFault.TheVariants as nbd_fault
 use Rattle.nbd_session.specs.Sessions.{CountsFaults}
-use Rattle.nbd_handshake.specs.declared.ending.Shaken.{Shaken}
-use Rattle.nbd_handshake.specs.declared.ending.Shaken.TheVariants.{Agreed, Unagreed as NotAgreed}
-use Rattle.nbd_handshake.specs.declared.ending.Unagreed.{Unagreed}
-use Rattle.nbd_handshake.specs.declared.ending.Unagreed.TheVariants as unagreed
+use Rattle.nbd_session.specs.declared.ending.Shaken.{Shaken}
+use Rattle.nbd_session.specs.declared.ending.Shaken.TheVariants.{Agreed, Unagreed as NotAgreed}
+use Rattle.nbd_session.specs.declared.ending.Unagreed.{Unagreed}
+use Rattle.nbd_session.specs.declared.ending.Unagreed.TheVariants as unagreed
 use Rattle.nbd_serving.proofs.Begun.{counts_behind, faults_begun}
 use Rattle.nbd_serving.specs.Racks.{Begins}
 use Rattle.nbd_serving.specs.declared.serving.Beginning.{Beginning}
@@ -82,7 +82,7 @@ use Rattle.wol_run.specs.Causes as row
 use Rattle.wol_run.specs.Cleaning.{IsCleaning}
 use Rattle.wol_run.specs.Commands.{changes_view, runs_trace, uses_bay, uses_config}
 use Rattle.inspection.specs.Runs.{Looked}
-use Rattle.rack_closing.specs.BayRuns.{BayLeft}
+use Rattle.rack.specs.BayRuns.{BayLeft}
 use Rattle.wol_run.specs.Inspecting.{IsLook, LooksFor, status_of_first}
 use Rattle.wol_run.specs.Outside.{Outside}
 use Rattle.wol_run.specs.Comparing.{IsComparison, details_of, with_timeout}
