@@ -157,7 +157,7 @@ configured() {
     expect "config of 70 disks: status" 0 $?
     expect "config of 70 disks: volumes" 64 "$(grep -c '^name = ' wol.toml)"
     expect "config of 70 disks: what is left out is told" 1 "$(grep -c 'left out are .*Host.0 0, Host.1 1, Host.2 2, Host.3 3, Host.4 4, Host.5 5$' errors)"
-    expect "config of 70 disks: wol takes it" 0 "$(wol whatif <many.csv >/dev/null; echo $?)"
+    expect "config of 70 disks: wol takes it" 0 "$(wol whatif <many.csv >/dev/null 2>&1; echo $?)"
     expect "config of 70 disks: their lines are read" "of no volume: 6" "$(wol-trace notes <many.csv | grep -o '^of no volume: [0-9]*')"
     echo nonsense | wol-trace config >/dev/null 2>errors
     expect "config of no trace: status" 1 $?
