@@ -6,7 +6,7 @@ pub mod Recovered
 pub mod Sessions
 pub mod Whole
 pub mod Making
-pub mod Serving
+pub mod StationServing
 pub mod Alone
 pub mod Noting
 pub mod Law

@@ -1,8 +1,8 @@
 pub mod Intakes
 pub mod Piecewise
 pub mod Stays
-pub mod Asked
-pub mod Replies
+pub mod RequestAnswers
+pub mod ReplyBytes
 pub mod Served
 pub mod Along
 pub mod Sent

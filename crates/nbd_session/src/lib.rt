@@ -17,7 +17,7 @@
 //! request has before the volume is asked), `Turns` (what is asked of a volume), `Ranges` (a range in pieces), `Answers`
 //! (what becomes of one request) and `Sessions` (requests one after another, and how a session ends). `Intake` and `Taking`
 //! serve the functions within. In `proofs/`: `Intakes` for bytes taken call by call, `Piecewise` for ranges, `Stays` for a
-//! volume that stays ready, `Asked` for what a volume was asked, `Replies` for what a sink takes, `Served` for requests one
+//! volume that stays ready, `RequestAnswers` for what a volume was asked, `ReplyBytes` for what a sink takes, `Served` for requests one
 //! after another, `Along` for a session seen at another volume.
 #![tactic(auto)]
 

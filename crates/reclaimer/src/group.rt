@@ -34,9 +34,10 @@ const MOST_RECORDS: usize = 128;
 /// A view has at most so many loggers, all of which a drain counts as awake.
 const ALL: [bool; 16] = [true; 16];
 
-/// Blocks of a record that were written home: bit i of the mask is block i of the record.
+/// Blocks of a record that were written home, as the contract of `put_group` names them: bit i of the mask is block i of the
+/// record of this version.
 #[derive(Clone, Copy, Default)]
-pub(crate) struct Laid {
+pub struct Laid {
     pub version: u64,
     pub mask: u128,
 }

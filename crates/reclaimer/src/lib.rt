@@ -21,7 +21,7 @@ mod room;
 pub use answers::{Drain, Fetched, Gone};
 pub use drain::drain_step;
 pub use give_up::invalidate_one;
-pub use group::put_group;
+pub use group::{Laid, put_group};
 pub use laws::{count_laws, fetch_laws, idle_laws};
 pub use put::put_home;
 pub use reading::fetch;

@@ -54,7 +54,7 @@ reclaims_then l k m (policy.more x j y first rest) step = policy.more x j m firs
 
 pub reclaims_joined : (l k m : Look) → AreReclaims l k → AreReclaims k m → AreReclaims l m
 reclaims_joined l k m (policy.none x) rest = rest
-reclaims_joined l k m (policy.more x j y first more) rest = policy.more x j m first (reclaims_joined j y m more rest)
+reclaims_joined l k m (policy.more x j y first others) rest = policy.more x j m first (reclaims_joined j y m others rest)
 
 module _ {D : Type 0} where
   pub gone_goes : (old new : Manager D) (g : Gone) → LooksGone (Ok g) old new → GoesOn (look_of_manager old) (look_of_manager new)

@@ -124,6 +124,35 @@ ups_kept : (l m : Look) → IsReclaim l m → m.ups ≡ l.ups
 ups_kept l m (policy.puts_home k put e up at due is) = ap (λ (x : Look). x.ups) is
 ups_kept l m (policy.gives_up k e first at is) = ap (λ (x : Look). x.ups) is
 
+ups_all : (l m : Look) → AreReclaims l m → m.ups ≡ l.ups
+ups_all l m (policy.none x) = refl
+ups_all l m (policy.more x k y step rest) = ups_all k m rest ∙ ups_kept l k step
+
+-- ---- Groups
+
+-- the logger of the record is awake
+abbrev IsAwake : List Bool → Indexed → Type 0
+IsAwake lanes e = slice_index_or lanes e.listed.lane false ≡ true
+
+passing_awake : (lanes : List Bool) (also : Indexed → Bool) (es : List Indexed) → AllByRecursion (IsAwake lanes) (filter (λ (d : Indexed). slice_index_or lanes d.listed.lane false && also d) es)
+passing_awake lanes also [] = tt
+passing_awake lanes also (x ∷ xs) = by (passing_awake lanes also xs) (slice_index_or lanes x.listed.lane false && also x) refl
+  where
+    by : AllByRecursion (IsAwake lanes) (filter (λ (d : Indexed). slice_index_or lanes d.listed.lane false && also d) xs) → (t : Bool) → (slice_index_or lanes x.listed.lane false && also x) ≡ t
+        → AllByRecursion (IsAwake lanes) (cond t (x ∷ filter (λ (d : Indexed). slice_index_or lanes d.listed.lane false && also d) xs) (filter (λ (d : Indexed). slice_index_or lanes d.listed.lane false && also d) xs))
+    by rest true is = (and_first (slice_index_or lanes x.listed.lane false) (also x) is, rest)
+    by rest false is = rest
+
+first_awake : (lanes : List Bool) (n : ℕ) (es : List Indexed) → AllByRecursion (IsAwake lanes) es → AllByRecursion (IsAwake lanes) (take n es)
+first_awake lanes zero [] all = tt
+first_awake lanes (suc n) [] all = tt
+first_awake lanes zero (x ∷ xs) all = tt
+first_awake lanes (suc n) (x ∷ xs) all = (all.0, first_awake lanes n xs all.1)
+
+-- of a group each record is on a logger that is awake
+group_awake : (lanes : List Bool) (also : Indexed → Bool) (es : List Indexed) (n : ℕ) → AllByRecursion (IsAwake lanes) (take n (filter (λ (d : Indexed). slice_index_or lanes d.listed.lane false && also d) es))
+group_awake lanes also es n = first_awake lanes n (filter (λ (d : Indexed). slice_index_or lanes d.listed.lane false && also d) es) (passing_awake lanes also es)
+
 module _ {D : Type 0} where
   ups_by_look : (m n : Manager D) → (look_of_manager n).ups ≡ (look_of_manager m).ups → (k : ℕ) → is_up_at n k ≡ is_up_at m k
   ups_by_look m n same k = ap (λ (ups : List Bool). slice_index_or ups k false) same
@@ -152,24 +181,6 @@ module _ {D : Type 0} where
   pub uses_then : (t u v : Tally) (l m n : Manager D) → HasTaken t u (look_of_manager l) (look_of_manager m) → HasTaken u v (look_of_manager m) (look_of_manager n) → ReclaimUses l m → ReclaimUses m n → ReclaimUses l n
   uses_then t u v l m n a b first next = uses_joined a.blocks b.blocks a.records b.records l m n a.taken b.taken first next
 
-  -- of a group each record is on a logger that is awake
-  group_awake : (lanes : List Bool) (also : Indexed → Bool) (es : List Indexed) (n : ℕ) → AllByRecursion (λ (e : Indexed). slice_index_or lanes e.listed.lane false ≡ true) (take n (filter (λ (d : Indexed). slice_index_or lanes d.listed.lane false && also d) es))
-  group_awake lanes also es n = first n (filter (λ (d : Indexed). slice_index_or lanes d.listed.lane false && also d) es) (passing es)
-    where
-      passing : (xs : List Indexed) → AllByRecursion (λ (e : Indexed). slice_index_or lanes e.listed.lane false ≡ true) (filter (λ (d : Indexed). slice_index_or lanes d.listed.lane false && also d) xs)
-      passing [] = tt
-      passing (x ∷ xs) = by (slice_index_or lanes x.listed.lane false && also x) refl
-        where
-          by : (t : Bool) → (slice_index_or lanes x.listed.lane false && also x) ≡ t → AllByRecursion (λ (e : Indexed). slice_index_or lanes e.listed.lane false ≡ true) (cond t (x ∷ filter (λ (d : Indexed). slice_index_or lanes d.listed.lane false && also d) xs) (filter (λ (d : Indexed). slice_index_or lanes d.listed.lane false && also d) xs))
-          by true is = (and_first (slice_index_or lanes x.listed.lane false) (also x) is, passing xs)
-          by false is = passing xs
-
-      first : (k : ℕ) (xs : List Indexed) → AllByRecursion (λ (e : Indexed). slice_index_or lanes e.listed.lane false ≡ true) xs → AllByRecursion (λ (e : Indexed). slice_index_or lanes e.listed.lane false ≡ true) (take k xs)
-      first zero [] all = tt
-      first (suc k) [] all = tt
-      first zero (x ∷ xs) all = tt
-      first (suc k) (x ∷ xs) all = (all.0, first k xs all.1)
-
   -- what the records of a group asked for that were laid home
   record LaidUses (old m : Manager D) (up : ℕ → Bool) (many : ℕ) : Type 0 where
     home : needs_of m.spindle ≡ needs_of old.spindle + many
@@ -196,10 +207,6 @@ module _ {D : Type 0} where
       back : (xs : List Indexed) (x : Indexed) → AllByRecursion (λ (d : Indexed). up d.listed.lane ≡ true) (xs ++ x ∷ []) → up x.listed.lane ≡ true
       back [] x all = all.0
       back (y ∷ ys) x all = back ys x all.1
-
-  ups_all : (l m : Look) → AreReclaims l m → m.ups ≡ l.ups
-  ups_all l m (policy.none x) = refl
-  ups_all l m (policy.more x k y step rest) = ups_all k m rest ∙ ups_kept l k step
 
   -- a group went home, or none
   pub uses_put : (state : D → State) (m n : Manager D) (count : ℕ) → HasPutGroup state false (Ok count) m n → AreReclaims (look_of_manager m) (look_of_manager n) → CountsPut (Ok count) (look_of_manager m) (look_of_manager n) → ReclaimUses m n

@@ -1,5 +1,5 @@
 use Rattle.nbd_serving.proofs.Making.{can_again}
-use Rattle.nbd_serving.proofs.Serving.{only, same_reference, seen}
+use Rattle.nbd_serving.proofs.StationServing.{only, same_reference, seen}
 use Rattle.nbd_serving.proofs.serve.serve_volume.Goals as goal
 
 pub returns-clause-same_reference : goal.returns-clause-same_reference

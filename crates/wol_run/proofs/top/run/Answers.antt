@@ -63,7 +63,7 @@ returns-in-Nbd-clause-promise g c =
 
 pub returns-in-Serve-clause-promise : goal.returns-in-Serve-clause-promise
 returns-in-Serve-clause-promise g c =
-    serve_promise _ _ _ _ _ _ c.serve-in-Serve.ensures.cause c.serve-in-Serve.ensures.calm c.serve-in-Serve.ensures.complete c.in-Serve.name c.in-Serve.patience (subst (IsCommand _) c.in-Serve.is c.in-Ok.ensures.ok) c.serve-in-Serve.ensures.content
+    serve_promise _ _ _ _ _ _ c.serve-in-Serve.ensures.cause c.serve-in-Serve.ensures.calm c.serve-in-Serve.ensures.complete c.in-Serve.name c.in-Serve._patience (subst (IsCommand _) c.in-Serve.is c.in-Ok.ensures.ok) c.serve-in-Serve.ensures.content
 
 -- the lines of one volume were run to their end
 pub returns-in-Ok-run-clause-promise : goal.returns-in-Ok-run-clause-promise

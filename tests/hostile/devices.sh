@@ -2,13 +2,12 @@
 # Images on block devices: loop devices that are longer than their images. Each command says there what it says over files, and leaves the same
 # bytes; a second process is refused from another folder too; a device that is shorter, or gone, is told by name; format touches none.
 #
-#   tests/devices.sh [PROGRAM [WORD..]]      the program, and words to put before each command's (default: build/wol)
+#   tests/hostile/devices.sh [PROGRAM [WORD..]]      the program, and words to put before each command's (default: build/wol)
 #
-# It prints a line for each test that fails, and how many passed. It ends with 1 if any failed. It needs root and losetup: elsewhere it is
+# It prints a line for each test that fails, and how many passed. It ends with 1 if any failed. It needs root, losetup and flock: elsewhere it is
 # skipped, which is said.
-# needs: losetup flock
 set -u
-cd "$(dirname "$0")/.." || exit 1
+cd "$(dirname "$0")/../.." || exit 1
 top=$PWD
 program=("$@")
 [ $# -gt 0 ] || program=("$top/build/wol")
@@ -31,7 +30,7 @@ skip() {
     exit 0
 }
 
-if [ "$(id -u)" != 0 ] || [ -z "$(command -v losetup)" ]; then skip "loop devices need root and losetup"; fi
+if [ "$(id -u)" != 0 ] || ! command -v losetup >/dev/null || ! command -v flock >/dev/null; then skip "loop devices need root, losetup and flock"; fi
 truncate -s 4096 "$room/probe"
 probe=$(losetup -f --show "$room/probe" 2>/dev/null) || skip "there is no loop device to be had"
 losetup -d "$probe"
