@@ -7,7 +7,7 @@ It says which clients are missing, and fails on none of these: nbdinfo and nbdco
 (qemu-utils), over a socket of socat or, without socat, one of its own. A disk of N MiB is copied in and out by each client that copies,
 and is byte for byte the same. Against the line of socat that docs/USAGE.md has, and against the units of contrib/systemd by
 systemd-socket-activate, fio, qemu-io and nbdcopy each come twice in a row, five times: each has to be served, though the session before
-may not have ended. Then a client of its own writes over blocks, some of which lie in logs, and N times the program is killed
+may not have ended. Through nbdkit and qemu-nbd, as USAGE starts them, requests of single bytes pass. Then a client of its own writes over blocks, some of which lie in logs, and N times the program is killed
 with SIGKILL while it does: `wol check` is content, and each block holds what the last acknowledged write left, or what one behind it
 did. It prints MiB a second beside `cp`, and ends with 1 and the folder at the first thing that is wrong.
 """
@@ -17,6 +17,7 @@ import contextlib
 import os
 import random
 import re
+import shlex
 import shutil
 import signal
 import socket
@@ -28,7 +29,7 @@ import time
 from pathlib import Path
 
 CLIENTS = {"nbdinfo": "libnbd-bin", "nbdcopy": "libnbd-bin", "qemu-img": "qemu-utils", "qemu-io": "qemu-utils", "socat": "socat"}
-CLIENTS |= {"fio": "fio", "systemd-socket-activate": "systemd"}
+CLIENTS |= {"fio": "fio", "systemd-socket-activate": "systemd", "nbdkit": "nbdkit", "qemu-nbd": "qemu-utils"}
 TOP = Path(__file__).resolve().parent.parent
 NAME = "disk"
 BLOCK = 512
@@ -175,6 +176,24 @@ def fronts(wol: str, socket_at: str, missing: list[str]) -> dict[str, list[str]]
     return {name: front for name, front in both.items() if name not in missing}
 
 
+@contextlib.contextmanager
+def listening(words: list[str], folder: Path, at: str):
+    """Something that listens at a socket meanwhile."""
+    with contextlib.suppress(FileNotFoundError):
+        os.unlink(at)
+    with open(folder / "front.log", "ab") as log:
+        listener = subprocess.Popen(words, cwd=folder, stdin=subprocess.DEVNULL, stdout=log, stderr=log)
+    try:
+        for _ in range(1000):
+            if os.path.exists(at):
+                break
+            time.sleep(0.01)
+        yield
+    finally:
+        listener.terminate()
+        listener.wait(60)
+
+
 def in_a_row(wol: str, folder: Path, mib: int, missing: list[str], rounds: int = 5) -> None:
     """Each client twice in a row, at a listener that goes on."""
     at = str(folder / "row.sock")
@@ -185,17 +204,9 @@ def in_a_row(wol: str, folder: Path, mib: int, missing: list[str], rounds: int =
         "qemu-io": ["qemu-io", "-f", "raw", "-c", "write -P 0x21 0 64k", "-c", "read -P 0x21 0 64k", uri],
         "nbdcopy": ["nbdcopy", "row.raw", uri],
     }
-    (folder / "row.raw").write_bytes(random.Random("row").randbytes(1 << 20).ljust(mib << 20, b"\0"))
+    (folder / "row.raw").write_bytes(random.Random("row").randbytes(1 << 20))
     for front, words in fronts(wol, at, missing).items():
-        with contextlib.suppress(FileNotFoundError):
-            os.unlink(at)
-        with open(folder / "front.log", "wb") as log:
-            listener = subprocess.Popen(words, cwd=folder, stdin=subprocess.DEVNULL, stdout=log, stderr=log)
-        try:
-            for _ in range(1000):
-                if os.path.exists(at):
-                    break
-                time.sleep(0.01)
+        with listening(words, folder, at):
             for name in (it for it in clients if it not in missing):
                 begin = time.monotonic()
                 for number in range(2 * rounds):
@@ -204,9 +215,12 @@ def in_a_row(wol: str, folder: Path, mib: int, missing: list[str], rounds: int =
                     well = run.returncode == 0 and "verification failed" not in said
                     assert well, f"{front}, {name}, session {number + 1} of {2 * rounds} in a row: {said[-600:]}\n{(folder / 'front.log').read_text()[-600:]}"
                 print(f"{front}: {2 * rounds} sessions of {name} in a row, {time.monotonic() - begin:.1f} s", flush=True)
-        finally:
-            listener.terminate()
-            listener.wait(60)
+    for name in (it for it in ("nbdkit", "qemu-nbd") if not {it, "socat", "qemu-io"} & {*missing}):
+        through = found_in("docs/USAGE.md", rf"^ *`({name} -f [^`]*)`").replace("/run/wol/usr0.sock", at).replace("/run/wol/", f"{folder}/")
+        with listening(fronts(wol, at, missing)["socat"], folder, at), listening(shlex.split(through), folder, f"{folder}/front.sock"):
+            asked = ("qemu-io", "-f", "raw", "-c", "write -P 9 3 5", "-c", "read -P 9 3 5", f"nbd+unix:///?socket={folder}/front.sock")
+            assert "verification failed" not in call(*asked, folder=folder), f"{name} in front: other bytes are read"
+        print(f"{name} in front of it: single bytes are written and read", flush=True)
     # (the last session may still be closing)
     for _ in range(300):
         if subprocess.run([wol, "check"], cwd=folder, stdin=subprocess.DEVNULL, capture_output=True).returncode == 0:

@@ -100,7 +100,7 @@ check_crates() {
     while read -r crate; do
         grep -q "\b$crate\b" docs/ARCHITECTURE.md || echo "docs/ARCHITECTURE.md has no layer for $crate"
         grep -qh "\b$crate\b" docs/PROOF.md docs/CLAUSES.md || echo "neither docs/PROOF.md nor docs/CLAUSES.md has $crate"
-        grep -q "^| $crate |" CONTRIBUTING.md || echo "CONTRIBUTING.md has no row for $crate"
+        grep -q "^| $crate |" bench/GATE.md || echo "bench/GATE.md has no row for $crate"
     done < <(sed -n 's/^\([a-z_]*\)[ :].*/\1/p' crates.txt | grep -v '_tests$')
 }
 

@@ -58,7 +58,7 @@ fresh() { # a folder with formatted images of small volumes
 
 usage_and_version() {
     local words
-    for words in "--help" "" "nonsense" "replay --workers 0" "gen 7"; do
+    for words in "--help" "" "replay --workers 0" "gen 7"; do
         # shellcheck disable=SC2086  # several words
         wol $words
         expect "[$words]: status" 1 "$status"
@@ -74,6 +74,29 @@ usage_and_version() {
     expect "--version: errors" "wol " "$(errors | cut -c 1-4)"
 }
 
+expect_meant() { # LINE COMMAND..: the usage, and this line behind it
+    local line=$1
+    shift
+    wol "$@"
+    expect "[$*]: status" 1 "$status"
+    expect "[$*]: output" "fault 1 words" "$(cat "$room/out")"
+    expect "[$*]: lines of the usage" 16 "$(errors | grep -vc "^wol: ")"
+    expect "[$*]: what was meant" "$line" "$(errors | tail -n 1)"
+}
+
+meant() {
+    expect_meant "wol: whatif reads the trace from its input: put < in front of trace.csv." whatif trace.csv
+    expect_meant "wol: whatif reads the trace from its input: put < in front of ./a?b." whatif --timeout 7 --long './a b'
+    expect_meant "wol: replay reads the trace from its input: put < in front of trace.csv." replay --workers=2 trace.csv
+    expect_meant "wol: solo reads the trace from its input: put < in front of trace.csv." solo web 0 64 trace.csv
+    expect_meant "wol: there is no command whatfi; was whatif meant?" whatfi
+    expect_meant "wol: there is no command chekc; was check meant?" chekc
+    expect_meant "wol: there is no command view_add; was view-add meant?" view_add usr0 web0
+    expect_meant "wol: there is no command 12345." 12345
+    expect_meant "wol: whatif has no option --time; was --timeout meant?" whatif --time=7
+    expect_meant "wol: replay has no option --zzz." replay --zzz
+}
+
 statuses() {
     fresh
     wol check
@@ -86,6 +109,15 @@ statuses() {
     echo nonsense >bad.csv
     wol replay <bad.csv
     expect_advice "a bad line" 3
+    {
+        echo Timestamp,Hostname,DiskNumber,Type,Offset,Size,ResponseTime
+        cat "$top/samples/offload.csv"
+    } >bad.csv
+    wol whatif <bad.csv
+    expect_advice "a heading" 3
+    gzip -c "$top/samples/offload.csv" >bad.csv.gz
+    wol whatif <bad.csv.gz
+    expect_advice "a compressed trace" 3
     exec 9<usr0.vol
     flock 9
     wol check
@@ -103,6 +135,8 @@ statuses() {
     expect_advice "no volume of this name" 15
     timeout 60 "${program[@]}" nbd usr0 <wol.toml >"$room/out" 2>"$room/errors"
     status=$?
+    expect "a client that sends no requests: its session" "wol: session over, the client sent no request: reads 0, writes 0, flushes 0, others 0." "$(errors | head -n 1)"
+    sed -i 1d "$room/errors"
     expect_advice "a client that sends no requests" 14
     expect "a client that sends no requests: output" "" "$(cat "$room/out")"
     timeout 60 "${program[@]}" serve usr0 <wol.toml >"$room/out" 2>"$room/errors"
@@ -116,6 +150,12 @@ statuses() {
     rm wol.toml
     wol check
     expect_advice "no file wol.toml" 8
+    mkdir wol.toml
+    wol check
+    expect_advice "a folder wol.toml" 8
+    fresh
+    wol replay <.
+    expect_advice "a folder as the trace" 8
     fresh
     rm usr0.vol
     wol check
@@ -139,7 +179,50 @@ progress() {
     expect "a slow trace: the line is ended" 1 "$(errors | wc -l)"
 }
 
+# Bytes of a number, the highest in front, of so many bytes.
+big() { # BYTES NUMBER
+    local n
+    for ((n = $1 - 1; n >= 0; n--)); do
+        # shellcheck disable=SC2059  # the format is a byte
+        printf "\\x$(printf '%02x' $((($2 >> (8 * n)) & 255)))"
+    done
+}
+
+# A request of NBD: a read, a write of so many bytes, a flush, or the end.
+request() { # COMMAND LENGTH
+    big 4 $((0x25609513))
+    big 2 0
+    big 2 "$1"
+    big 8 7
+    big 8 0
+    big 4 "$2"
+    [ "$1" -ne 1 ] || head -c "$2" /dev/zero
+}
+
+sessions() {
+    fresh
+    { request 0 512 && request 1 1024 && request 0 512 && request 3 0 && request 2 0; } >client
+    timeout 60 "${program[@]}" nbd usr0 <client >"$room/out" 2>"$room/errors"
+    expect "a session" "0 wol: session over, the client ended it: reads 2, writes 1, flushes 1, others 0." "$? $(errors)"
+    { request 1 512 && request 0 512; } >client
+    timeout 60 "${program[@]}" nbd usr0 <client >"$room/out" 2>"$room/errors"
+    expect "a session without an end" "0 wol: session over, the client went away: reads 1, writes 1, flushes 0, others 0." "$? $(errors)"
+    {
+        big 4 1
+        printf IHAVEOPT
+        big 4 1
+        big 4 4
+        printf usr0
+        cat client
+        request 2 0
+    } >shaken
+    timeout 60 "${program[@]}" serve --wait 0 usr0 <shaken >"$room/out" 2>"$room/errors"
+    expect "a session behind a handshake" "0 wol: session over, the client ended it: reads 1, writes 1, flushes 0, others 0." "$? $(errors)"
+}
+
 usage_and_version
+meant
+sessions
 statuses
 progress
 echo "help: $passed passed, $failed failed"

@@ -82,7 +82,8 @@ def main() -> int:
     words.add_argument("--lines", type=int, default=2_000)
     words.add_argument("--jobs", type=int, default=os.cpu_count())
     words.add_argument("--seed", type=int, default=1)
-    words.add_argument("--folder")
+    # syncs cost nothing in memory
+    words.add_argument("--folder", default="/dev/shm" if Path("/dev/shm").is_dir() else None)
     asked_for = words.parse_args()
     wol = str(Path(asked_for.wol).resolve())
     work = partial(one_config, wol, asked_for.lines, asked_for.seed, asked_for.folder)

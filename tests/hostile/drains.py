@@ -198,7 +198,8 @@ def main() -> int:
     words.add_argument("--stops", type=int, default=40)
     words.add_argument("--jobs", type=int, default=os.cpu_count())
     words.add_argument("--seed", type=int, default=1)
-    words.add_argument("--folder")
+    # syncs cost nothing in memory
+    words.add_argument("--folder", default="/dev/shm" if Path("/dev/shm").is_dir() else None)
     asked_for = words.parse_args()
     wol = str(Path(asked_for.wol).resolve())
     with tempfile.TemporaryDirectory(prefix="wol-record-") as room:

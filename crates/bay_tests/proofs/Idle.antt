@@ -11,8 +11,8 @@ use Rattle.rack.specs.Closes.{IsQuiet}
 use Rattle.rack.specs.Opens.{LeavesAll}
 use Rattle.rack.proofs.OpenedAll.{quiet_stations}
 use Rattle.rack_parts.specs.declared.rack.Rack.{Rack}
-use Rattle.open_rack.specs.Again.{IsRackAgain}
-use Rattle.open_rack.specs.Sessions.{OpensAndCloses}
+use Rattle.rack.specs.Again.{IsRackAgain}
+use Rattle.rack.specs.Sessions.{OpensAndCloses}
 
 each_self : {X : Type 0} (R : X → X → Type 0) → ((x : X) → R x x) → (xs : List X) → AllZip R xs xs
 each_self R self [] = tt

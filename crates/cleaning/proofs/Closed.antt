@@ -2,7 +2,7 @@
 use Rattle.std.proofs.Common.{◌≡◌, ◌<◌, ◌+◌, ℕ, zero, suc, List, [], ◌∷◌, length, Option, None, Some, refl, arith}
 use Rattle.std.specs.Prelude.{slice_get}
 use Rattle.rack_parts.specs.declared.volume_fault.VolumeFault.{VolumeFault}
-use Rattle.open_rack.specs.NotOpened.{first_closed}
+use Rattle.rack.specs.NotOpened.{first_closed}
 
 pub none_first : (n : ℕ) (faults : List (Option VolumeFault)) → ((k : ℕ) → k < length faults → slice_get faults k ≡ Some None) → first_closed n faults ≡ None
 none_first n [] open_ = refl

@@ -20,14 +20,14 @@ use Rattle.rack.specs.Racks.{IsRack}
 use Rattle.rack.specs.Rests.{IsImageOut}
 use Rattle.rack_parts.specs.declared.rack.Rack.{Rack}
 use Rattle.rack.proofs.StillThere.{kept_home, there_left}
-use Rattle.open_rack.specs.Sessions.{KeepsArrays, OpensAndCloses}
+use Rattle.rack.specs.Sessions.{KeepsArrays, OpensAndCloses}
 use Rattle.spin_model.specs.Spindles.{SpindleView}
-use Rattle.open_rack.specs.NotOpened.{first_closed}
+use Rattle.rack.specs.NotOpened.{first_closed}
 use Rattle.replay.specs.declared.stop.Stop.{Stop}
 use Rattle.replay.specs.declared.stop.Stop.TheVariants as stop
-use Rattle.open_rack.proofs.AllOut.{recovered_all}
-use Rattle.open_rack.proofs.FirstClosed.{first_unopened}
-use Rattle.open_rack.proofs.ViewsKept.{fronts_kept}
+use Rattle.rack.proofs.AllOut.{recovered_all}
+use Rattle.rack.proofs.FirstClosed.{first_unopened}
+use Rattle.rack.proofs.ViewsKept.{fronts_kept}
 use Rattle.replay.proofs.RacksServed.{a_member, station_count}
 use Rattle.replay.proofs.RunClosed.{quiet_all}
 use Rattle.cleaning.specs.Racks.{CanCleanAll, CleansRack}
@@ -135,6 +135,6 @@ module _ {D : Type 0} (tells : Bool) (state : D → State) (config : Config) (di
 
 -- the rack has again all that it came with
 pub again_cleaned : {D : Type 0} (tells : Bool) (state : D → State) (config : Config) (old new : Rack D) (sink sink' : ℕ) (printed printed' : Option (List ℕ)) (answer : Result (Unit {0}) Stop) → CleansRack tells state config old new sink sink' printed printed' answer
-    → Rattle.open_rack.specs.Again.IsRackAgain old new
-again_cleaned tells state config old new sink sink' printed printed' answer (racks.closed f is same calm kept) = subst (Rattle.open_rack.specs.Again.IsRackAgain old) (sym same) (Rattle.cleaning.proofs.Stations.again_worked old old (Rattle.cleaning.proofs.Stations.worked_self old))
+    → Rattle.rack.specs.Again.IsRackAgain old new
+again_cleaned tells state config old new sink sink' printed printed' answer (racks.closed f is same calm kept) = subst (Rattle.rack.specs.Again.IsRackAgain old) (sym same) (Rattle.cleaning.proofs.Stations.again_worked old old (Rattle.cleaning.proofs.Stations.worked_self old))
 again_cleaned tells state config old new sink sink' printed printed' answer (racks.ran r open_ worked all) = Rattle.cleaning.proofs.Stations.again_worked old new worked

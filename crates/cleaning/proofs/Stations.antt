@@ -14,7 +14,7 @@ use Rattle.manager.proofs.Lanes.{get_set, get_other}
 use Rattle.manager.proofs.ReadThrough.{zip_self, zip_set, zip_then}
 use Rattle.rack.specs.Racks.{IsStation, base_of_station}
 use Rattle.rack_parts.specs.declared.rack.Rack.{Rack}
-use Rattle.open_rack.specs.Again.{IsRackAgain}
+use Rattle.rack.specs.Again.{IsRackAgain}
 use Rattle.inspection.proofs.WorkedRacks.{again_by, all_by, station_by}
 use Rattle.log_cleaner.specs.declared.answer.Cleaned.{Cleaned}
 use Rattle.log_cleaner.specs.declared.answer.CleanFault.{CleanFault}

@@ -37,15 +37,15 @@ use Rattle.rack.specs.Racks.{IsStation, IsUnused, base_of_station}
 use Rattle.rack.specs.Rests.{IsImageOut}
 use Rattle.rack_parts.specs.declared.rack.Rack.{Rack}
 use Rattle.rack_parts.specs.declared.rack.Rest.{Rest}
-use Rattle.open_rack.specs.Sessions.{OpensAndCloses}
+use Rattle.rack.specs.Sessions.{OpensAndCloses}
 use Rattle.inspection.specs.Logs.{LeavesDistinct, LeavesLogs}
-use Rattle.open_rack.proofs.RacksAgain.{rest_again}
-use Rattle.open_rack.proofs.Since.{rose_before}
+use Rattle.rack.proofs.RacksAgain.{rest_again}
+use Rattle.rack.proofs.Since.{rose_before}
 use Rattle.spin_model.specs.Spindles.{SpindleView}
-use Rattle.open_rack.specs.NotOpened.{first_closed}
-use Rattle.open_rack.proofs.AllOut.{accepted_all, recovered_all, taken_all}
-use Rattle.open_rack.proofs.FirstClosed.{none_closed}
-use Rattle.open_rack.proofs.OpenedKept.{opened_out}
+use Rattle.rack.specs.NotOpened.{first_closed}
+use Rattle.rack.proofs.AllOut.{accepted_all, recovered_all, taken_all}
+use Rattle.rack.proofs.FirstClosed.{none_closed}
+use Rattle.rack.proofs.OpenedKept.{opened_out}
 use Rattle.replay.proofs.RacksServed.{at_place, each_station}
 use Rattle.log_cleaner.specs.Chunks.{NoneHomed}
 use Rattle.log_cleaner.specs.Cleans.{CanClean, HasCleaned, TellsCleaned}

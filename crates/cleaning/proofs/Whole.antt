@@ -27,9 +27,9 @@ use Rattle.rack.proofs.FailedParts.{faulty_since}
 use Rattle.rack.specs.Opens.{BeganWith, HasFaulty}
 use Rattle.rack.specs.Owners.{IsBegun}
 use Rattle.rack_parts.specs.declared.rack.Rack.{Rack}
-use Rattle.open_rack.specs.Sessions.{KeepsArrays, OpensAndCloses}
+use Rattle.rack.specs.Sessions.{KeepsArrays, OpensAndCloses}
 use Rattle.spin_model.specs.Spindles.{SpindleView}
-use Rattle.open_rack.specs.NotOpened.{first_closed}
+use Rattle.rack.specs.NotOpened.{first_closed}
 use Rattle.replay.specs.declared.stop.Stop.{Stop}
 use Rattle.replay.proofs.MarksLeft.{told_through}
 use Rattle.replay.proofs.RacksServed.{a_member, station_count}

@@ -13,7 +13,7 @@ use Rattle.report.specs.declared.fault.Fault.{Fault}
 use Rattle.report.specs.declared.fault.Fault.TheVariants.{Memory}
 use Rattle.rack.specs.Racks.{IsStation, base_of_station}
 use Rattle.rack_parts.specs.declared.rack.Rack.{Rack}
-use Rattle.open_rack.specs.NotOpened.{first_closed}
+use Rattle.rack.specs.NotOpened.{first_closed}
 use Rattle.replay.specs.declared.stop.Stop.{Stop}
 use Rattle.replay.specs.declared.stop.Stop.TheVariants as stop
 use Rattle.log_cleaner.specs.declared.answer.Cleaned.{Cleaned}

@@ -16,15 +16,15 @@ use Rattle.manager.specs.declared.base.ManagerBase.{ManagerBase}
 use Rattle.manager.specs.declared.manager.Manager.{Manager}
 use Rattle.manager.specs.declared.part.Part.{Part}
 use Rattle.report.specs.declared.fault.Fault.TheVariants.{Memory, Volume}
-use Rattle.troubles.specs.Troubles.{trouble_of}
+use Rattle.rack.specs.Troubles.{trouble_of}
 use Rattle.volume_images.specs.Left.{IsTold}
 use Rattle.volume_images.specs.Volumes.{images_read}
 use Rattle.rack.specs.Closes.{HasFaultyPart}
 use Rattle.rack.specs.Opens.{LeavesFronts}
 use Rattle.rack.specs.Owners.{IsBegun}
 use Rattle.rack_parts.specs.declared.volume_fault.VolumeFault.{VolumeFault}
-use Rattle.open_rack.specs.NotOpened.{IsFirstClosed}
-use Rattle.open_rack.specs.Sessions.{KeepsArrays}
+use Rattle.rack.specs.NotOpened.{IsFirstClosed}
+use Rattle.rack.specs.Sessions.{KeepsArrays}
 use Rattle.inspection.specs.Logs.{LeavesDistinct, LeavesLogs}
 use Rattle.inspection.specs.Runs as look
 use Rattle.replay.specs.declared.stop.Stop.{Stop}

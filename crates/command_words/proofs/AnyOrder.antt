@@ -6,7 +6,7 @@ use Rattle.std.specs.Str.{bytes_eq}
 use Rattle.clap.specs.Lexer.{long_of}
 use Rattle.clap.specs.Walk.{Held, arg_by_id, arg_by_long, has_row, reacted}
 use Rattle.clap.specs.Simple.{Shape}
-use Rattle.clap.specs.Words.{Row, Text}
+use Rattle.clap.specs.Words.{Row, Rule, Text}
 use Rattle.command_words.specs.Table.{AreAllDifferent, Place, next_word, option_words, same_word}
 use Rattle.command_words.proofs.Rows.{given_row, has_more}
 use Rattle.command_words.proofs.Steps.{Holds, Leads, by_name, by_next, by_same, filled, filled_holds, leads_nowhere, leads_on, reacted_holds, standing, switch, switched_holds, valued}
@@ -29,7 +29,7 @@ abbrev pub words_of_use : Use → List Text
 words_of_use (flag name) = (45 ∷ 45 ∷ name) ∷ []
 words_of_use (option place name value) = option_words place (45 ∷ 45 ∷ name) value
 
-abbrev pub named : Text → _
+abbrev pub named : Text → Rule
 named name = valued name (Some name) None false
 
 -- the subcommand has the flag

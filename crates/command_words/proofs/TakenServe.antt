@@ -1,5 +1,5 @@
 -- The words of `serve` are a command.
-use Rattle.std.proofs.Common.{◌≡◌, ◌∙◌, ◌≤◌, ℕ, false, refl, sym, ap, arith, List, [], ◌∷◌, ◌++◌, map, append-nil, subst, Option, None, Some, option_map, codes}
+use Rattle.std.proofs.Common.{◌≡◌, ◌∙◌, ◌≤◌, ℕ, false, true, refl, sym, ap, arith, List, [], ◌∷◌, ◌++◌, map, append-nil, subst, Option, None, Some, option_map, codes}
 use Rattle.std.specs.Prelude.{decimal, unwrap_or, option_and_then, slice_get}
 use Rattle.std.proofs.lemmas.Fmt.{decimal_digit, decimal_step}
 use Rattle.std.specs.List.{AllByRecursion, flat_map, fold}
@@ -66,8 +66,8 @@ found_in order given name = rows_in order (map row_of_use (uses_of given)) name
 
 -- the words, with what begins the name apart
 abbrev words_in : Order → List Text → Text → List Text
-words_in name_first option name = name ∷ option
-words_in (option_first form) option name = option ++ (formed form [] ++ name ∷ [])
+words_in name_first words name = name ∷ words
+words_in (option_first form) words name = words ++ (formed form [] ++ name ∷ [])
 
 same_words : (order : Order) (given : Option (Place × ℕ)) (name : Text) → serve_words order (wait_words given) name ≡ words_in order (flat_map words_of_use (uses_of given)) name
 same_words name_first given name = ap (λ (ws : List Text). name ∷ ws) (same_wait given)

@@ -3,3 +3,4 @@ pub mod Behind
 pub mod Taking
 pub mod Lines
 pub mod Telling
+pub mod Further

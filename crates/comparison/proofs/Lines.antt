@@ -19,12 +19,13 @@ use Rattle.replay.specs.declared.given.Given.{Given}
 use Rattle.replay.specs.declared.stop.Stop.{Stop}
 use Rattle.replay.specs.declared.stop.Stop.TheVariants as stop
 use Rattle.replay.proofs.Refused.{no_refusal}
+use Rattle.whatif.specs.declared.policy.Details.{Details}
 use Rattle.comparison.specs.Asked.{comparison_of}
 use Rattle.comparison.specs.Compares.{Compares, EndsBehind, MakesWhole, MayCompare, StopsBefore, memory, no_line, sink_failed, whole}
 use Rattle.comparison.specs.Side.{HasTaken}
 use Rattle.comparison.specs.declared.windows.Comparison.{Comparison}
 
-module _ {S : Type 0} (left : S → Option (List ℕ)) (config : Config) (start : Given S) where
+module _ {S : Type 0} (left : S → Option (List ℕ)) (details : Details) (config : Config) (start : Given S) where
   -- these lines came, and were taken
   pub record SoFar (now : Given S) (c : Cutting) (s : Comparison) : Type 0 where
     pub run : List (Option TraceLine)
@@ -32,12 +33,12 @@ module _ {S : Type 0} (left : S → Option (List ℕ)) (config : Config) (start 
     pub taken : HasTaken config run c s
 
   module _ (now : Given S) (sink sink' : ℕ) (printed printed' : Option (List ℕ)) where
-    -- the four lines were printed
-    pub prints : {T : Type 0} (done : T) (text : List ℕ) → MakesWhole left config start now text → sink' ≡ sink → Appends printed printed' text → Compares left config start now sink sink' printed printed' (let r : Result T Stop = Ok done in r)
+    -- the lines were printed
+    pub prints : {T : Type 0} (done : T) (text : List ℕ) → MakesWhole left details config start now text → sink' ≡ sink → Appends printed printed' text → Compares left details config start now sink sink' printed printed' (let r : Result T Stop = Ok done in r)
     prints done text made calm appends = record { run = made.run; given = made.given; ends = whole done made.all calm (rw (← made.text_is) appends) }
 
     -- or the sink failed
-    pub fails : {T : Type 0} (text : List ℕ) → MakesWhole left config start now text → Rose sink sink' → AppendsFront printed printed' text → Compares left config start now sink sink' printed printed' (let r : Result T Stop = Err stop.Sink in r)
+    pub fails : {T : Type 0} (text : List ℕ) → MakesWhole left details config start now text → Rose sink sink' → AppendsFront printed printed' text → Compares left details config start now sink sink' printed printed' (let r : Result T Stop = Err stop.Sink in r)
     fails text made rose front = record { run = made.run; given = made.given; ends = sink_failed made.all rose (rw (← made.text_is) front) }
 
   -- no further line came
@@ -48,7 +49,7 @@ module _ {S : Type 0} (left : S → Option (List ℕ)) (config : Config) (start 
   stops_at now trace.NoMemory run given refuses = record { run = run; given = given; cause = inr refl }
 
   -- or nothing was
-  pub stops : {T : Type 0} (now : Given S) (sink : ℕ) (printed : Option (List ℕ)) (e : Stop) → StopsBefore left config start now e → Compares left config start now sink sink printed printed (let r : Result T Stop = Err e in r)
+  pub stops : {T : Type 0} (now : Given S) (sink : ℕ) (printed : Option (List ℕ)) (e : Stop) → StopsBefore left config start now e → Compares left details config start now sink sink printed printed (let r : Result T Stop = Err e in r)
   stops {T} now sink printed e stopped = record {
     run = stopped.run;
     given = stopped.given;
@@ -58,12 +59,12 @@ module _ {S : Type 0} (left : S → Option (List ℕ)) (config : Config) (start 
   }
 
 -- it comes to its end where nothing stands in the way
-module _ {S T : Type 0} (left : S → Option (List ℕ)) (config : Config) (start now : Given S) (sink sink' source source' : ℕ) (printed printed' : Option (List ℕ)) (result : Result T Stop)
-    (compares : Compares left config start now sink sink' printed printed' result) (may : MayCompare left start now sink sink' source source') where
+module _ {S T : Type 0} (left : S → Option (List ℕ)) (details : Details) (config : Config) (start now : Given S) (sink sink' source source' : ℕ) (printed printed' : Option (List ℕ)) (result : Result T Stop)
+    (compares : Compares left details config start now sink sink' printed printed' result) (may : MayCompare left start now sink sink' source source') where
   pub completes : (result ≡ Err (stop.Fault TraceSource) → Rose source source') → Completes result
   completes source_is = by result compares.ends refl
     where
-      by : (x : Result T Stop) → EndsBehind left config start now sink sink' printed printed' compares.run x → x ≡ result → Completes x
+      by : (x : Result T Stop) → EndsBehind left details config start now sink sink' printed printed' compares.run x → x ≡ result → Completes x
       by (Ok x) ends is = inl refl
       by (Err (stop.Fault _)) (no_line refusal other refuses calm keeps) is = absurd (no_refusal left start now compares.run result (λ e. may.source_calm (source_is e)) (λ number why. may.spelled number why compares.run) (may.few compares.run) refusal other refuses is)
       by (Err (stop.Fault _)) (memory calm keeps) is = inr refl

@@ -14,18 +14,19 @@ use Rattle.replay.specs.Stops.{fault_of_trace}
 use Rattle.replay.specs.declared.given.Given.{Given}
 use Rattle.replay.specs.declared.stop.Stop.{Stop}
 use Rattle.replay.specs.declared.stop.Stop.TheVariants as stop
+use Rattle.whatif.specs.declared.policy.Details.{Details}
 use Rattle.comparison.specs.Asked.{comparison_of}
 
-module _ {S : Type 0} (left : S → Option (List ℕ)) (config : Config) (start now : Given S)
+module _ {S : Type 0} (left : S → Option (List ℕ)) (details : Details) (config : Config) (start now : Given S)
     (sink sink' : ℕ) (printed printed' : Option (List ℕ)) where
   -- Why a comparison ended behind the lines `run`, and what was printed: all lines were run, and
-  -- their four lines were printed; or the sink failed at these; or no further line came; or there
+  -- their lines were printed; or the sink failed at these; or no further line came; or there
   -- was no memory.
   pub data EndsBehind {T : Type 0} (run : List (Option TraceLine)) : Result T Stop → Type 0 where
     whole : (done : T) → HasGivenAll left (targets_of config) start now run → sink' ≡ sink
-        → Appends printed printed' (comparison_of config run) → EndsBehind run (Ok done)
+        → Appends printed printed' (comparison_of details config run) → EndsBehind run (Ok done)
     sink_failed : HasGivenAll left (targets_of config) start now run → Rose sink sink'
-        → AppendsFront printed printed' (comparison_of config run) → EndsBehind run (Err stop.Sink)
+        → AppendsFront printed printed' (comparison_of details config run) → EndsBehind run (Err stop.Sink)
     no_line : (refusal : TraceFault) → refusal ≢ trace.NoMemory → Refuses left refusal start now run
         → sink' ≡ sink → Keeps printed printed'
         → EndsBehind run (Err (stop.Fault (fault_of_trace refusal)))
@@ -44,14 +45,15 @@ pub record MayCompare {S : Type 0} (left : S → Option (List ℕ)) (start now :
   pub gives : MayGiveAll left start now source source'
   pub open gives use *
 
-module _ {S : Type 0} (left : S → Option (List ℕ)) (config : Config) (start now : Given S) where
-  -- all lines were run, and these are the four lines of them
+module _ {S : Type 0} (left : S → Option (List ℕ)) (details : Details) (config : Config) (start now : Given S) where
+  -- all lines were run, and these are the lines of them
   pub record MakesWhole (text : List ℕ) : Type 0 where
     pub run : List (Option TraceLine)
     pub given : HasGiven left (targets_of config) start now run
     pub all : HasGivenAll left (targets_of config) start now run
-    pub text_is : text ≡ comparison_of config run
+    pub text_is : text ≡ comparison_of details config run
 
+module _ {S : Type 0} (left : S → Option (List ℕ)) (config : Config) (start now : Given S) where
   -- no further line came, or there was no memory
   pub record StopsBefore (e : Stop) : Type 0 where
     pub run : List (Option TraceLine)

@@ -1,25 +1,28 @@
--- Machines of the four policies, side by side, behind windows.
-use Rattle.std.specs.Prelude.{◌≡◌, ℕ, ◌≤◌, ◌*◌, Bool, true, false, List, [], ◌∷◌, ◌++◌, length, map, Option}
+-- Machines of the policies, side by side, behind windows.
+use Rattle.std.specs.Prelude.{◌≡◌, ℕ, ◌≤◌, ◌<◌, ◌+◌, ◌*◌, ◌^◌, Bool, true, false, List, [], ◌∷◌, ◌++◌, length, map, Option, None, Some, IfSome}
+use Rattle.std.specs.List.{AllByRecursion}
 use Rattle.wol_model.specs.Trace.{TraceLine, Window}
 use Rattle.wol_config.specs.declared.config.Config.{Config}
 use Rattle.trace_gen.specs.Generated.{targets_of}
 use Rattle.trace_windows.specs.Cutting.{Cutting, HasCut}
 use Rattle.whatif.specs.declared.policy.Policy.{Policy}
-use Rattle.whatif.specs.declared.policy.Policy.TheVariants.{Always, SpinDown, Host, All}
+use Rattle.whatif.specs.declared.policy.Policy.TheVariants.{Always, SpinDown, Host, All, Views}
+use Rattle.whatif.specs.declared.policy.Ask.{Ask}
 use Rattle.whatif.specs.declared.machine.Machine.{Machine}
 use Rattle.whatif.specs.Machine.{Asked}
-use Rattle.whatif.specs.Stands.{HasRun, IsMachine}
+use Rattle.whatif.specs.Stands.{HasRun, IsAsk, IsMachine}
 use Rattle.comparison.specs.Asked.{asked_in}
 use Rattle.comparison.specs.declared.machines.Machines.{Machines}
 use Rattle.comparison.specs.declared.windows.Comparison.{Comparison}
 use Rattle.wol_config.specs.Configs.{most_of}
 
--- so of the machine of each policy
+-- so of the machine of each policy that there is
 pub record Each (P : Policy → Machine → Type 0) (ms : Machines) : Type 0 where
   pub always : P Always ms.always
   pub spin_down : P SpinDown ms.spin_down
   pub host : P Host ms.host
   pub all : P All ms.all
+  pub views : IfSome ms.views (P Views)
 
 -- a live machine of so many volumes, at this moment, of which so many requests were asked
 pub record IsAt (volumes moment asked : ℕ) (m : Machine) : Type 0 where
@@ -28,6 +31,27 @@ pub record IsAt (volumes moment asked : ℕ) (m : Machine) : Type 0 where
   pub count : length m.volumes.items ≡ volumes
   pub moment_is : m.moment ≡ moment
   pub asked_is : m.asked ≡ asked
+
+-- a machine that may run a window of these requests at this moment
+pub record MayRunAt (at : ℕ) (asks : List Ask) (m : Machine) : Type 0 where
+  pub machine : IsMachine m
+  pub live : m.live ≡ true
+  pub later : m.moment ≤ at
+  pub asks_ : AllByRecursion (IsAsk (length m.volumes.items)) asks
+  pub few : m.asked + length asks < 2 ^ 63
+
+-- .. that ran it
+pub record RanAt (at : ℕ) (asks : List Ask) (old new : Machine) : Type 0 where
+  pub at_ : IsAt (length old.volumes.items) at (old.asked + length asks) new
+  pub run : (p : Policy) (config : Config) (from : ℕ) (ws : List Asked) → HasRun p config from ws old
+      → HasRun p config from (ws ++ record { moment = at; asks = asks } ∷ []) new
+
+-- .. if there is one
+abbrev pub RanOn : (at : ℕ) → List Ask → (old new : Option Machine) → Type 0
+RanOn at asks None None = Unit {0}
+RanOn at asks (Some m) (Some n) = RanAt at asks m n
+RanOn at asks None (Some n) = ⊥
+RanOn at asks (Some m) None = ⊥
 
 abbrev pub AreAt : (volumes moment asked : ℕ) → Machines → Type 0
 AreAt volumes moment asked ms = Each (λ p m. IsAt volumes moment asked m) ms

@@ -10,7 +10,7 @@ use Rattle.wol_config.specs.declared.config.Config.{Config}
 use Rattle.report.specs.declared.trouble.Trouble.{Trouble}
 use Rattle.volume_images.specs.Volumes.{images_read, shape_in, shapes_of}
 use Rattle.rack_parts.specs.declared.rack.Rack.{Rack}
-use Rattle.open_rack.specs.Sessions.{OpensAndCloses}
+use Rattle.rack.specs.Sessions.{OpensAndCloses}
 use Rattle.spin_model.specs.Spindles.{SpindleView}
 use Rattle.inspection.specs.Lines.{PrintsBy, PrintsVolumes, Telling, first_of, first_trouble}
 use Rattle.inspection.specs.Runs.{Completes, MayComplete}

@@ -4,10 +4,10 @@ use Rattle.std.specs.Prelude.{OnErr}
 use Rattle.wol_disk.specs.Disk.{State}
 use Rattle.wol_config.specs.declared.config.Config.{Config}
 use Rattle.manager.specs.declared.part.Part.{Part}
-use Rattle.log_dump.specs.declared.fault.DumpFault.{DumpFault}
-use Rattle.log_dump.specs.declared.fault.DumpFault.TheVariants.{DiskFault, Down, NoMemory}
+use Rattle.inspection.specs.declared.fault.DumpFault.{DumpFault}
+use Rattle.inspection.specs.declared.fault.DumpFault.TheVariants.{DiskFault, Down, NoMemory}
 use Rattle.report.specs.declared.trouble.Trouble.{Trouble}
-use Rattle.troubles.specs.Troubles.{trouble_of_part}
+use Rattle.rack.specs.Troubles.{trouble_of_part}
 use Rattle.rack_parts.specs.declared.rack.Rack.{Rack}
 use Rattle.inspection.specs.Lines.{IsTelling, LooksAtVolume, trouble_line, trouble_told}
 use Rattle.inspection.specs.declared.asked.Asked.{Asked}

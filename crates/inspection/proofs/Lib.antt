@@ -15,3 +15,8 @@ pub mod Halves
 pub mod Ahead
 pub mod AsFound
 pub mod AsPrinted
+pub mod Digesting
+pub mod Dumping
+pub mod HeldCount
+pub mod Naming
+pub mod Noting

@@ -18,9 +18,9 @@ use Rattle.manager.specs.declared.manager.Manager.{Manager}
 use Rattle.manager.specs.declared.part.Part.{Part}
 use Rattle.request_turns.specs.Turns.{ManagerPass, coded, notes_seen, HasLeft, WasDown}
 use Rattle.request_turns.proofs.Noting.{notes_at}
-use Rattle.log_dump.specs.Faults.{was_told}
-use Rattle.log_dump.specs.declared.fault.DumpFault.{DumpFault}
-use Rattle.log_dump.specs.declared.fault.DumpFault.TheVariants.{DiskFault, Down, NoMemory}
+use Rattle.inspection.specs.Faults.{was_told}
+use Rattle.inspection.specs.declared.fault.DumpFault.{DumpFault}
+use Rattle.inspection.specs.declared.fault.DumpFault.TheVariants.{DiskFault, Down, NoMemory}
 use Rattle.inspection.specs.Looks.{AppendsAsked, BreaksIn, HasAdded, LooksAt, note_told}
 use Rattle.inspection.specs.declared.asked.Asked.{Asked}
 

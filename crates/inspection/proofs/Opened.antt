@@ -15,7 +15,7 @@ use Rattle.manager.specs.declared.base.ManagerBase.{ManagerBase}
 use Rattle.manager.specs.declared.station.Station.{Station}
 use Rattle.report.specs.Names.{printed_names}
 use Rattle.report.specs.Troubles.{IsAmong, trouble_status}
-use Rattle.troubles.specs.Troubles.{trouble_of}
+use Rattle.rack.specs.Troubles.{trouble_of}
 use Rattle.volume_images.specs.Volumes.{shape_in, shapes_of}
 use Rattle.rack.specs.Opens.{RefusesVolume, fault_in_image}
 use Rattle.rack.specs.Racks.{IsOpenBase, IsRack, IsStation, NamesVolumes, base_of_station}

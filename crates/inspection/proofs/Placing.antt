@@ -10,7 +10,7 @@ use Rattle.wol_disk.specs.Disk.{State}
 use Rattle.wol_config.specs.declared.config.Config.{Config}
 use Rattle.manager.specs.declared.station.Station.{Station}
 use Rattle.manager.proofs.Lanes.{get_set, get_other}
-use Rattle.log_dump.specs.declared.fault.DumpFault.{DumpFault}
+use Rattle.inspection.specs.declared.fault.DumpFault.{DumpFault}
 use Rattle.rack_parts.specs.declared.rack.Rack.{Rack}
 use Rattle.inspection.specs.Looks.{LooksAt}
 use Rattle.inspection.specs.Racks.{numbers_of, IsSameStation, IsSameRack, IsStationAt}

@@ -9,7 +9,7 @@ use Rattle.wol_io.proofs.Appending.{appends_both, front_last}
 use Rattle.wol_config.specs.declared.config.Config.{Config}
 use Rattle.manager.specs.declared.station.Station.{Station}
 use Rattle.manager.proofs.ReadThrough.{zip_back}
-use Rattle.log_dump.specs.declared.fault.DumpFault.{DumpFault}
+use Rattle.inspection.specs.declared.fault.DumpFault.{DumpFault}
 use Rattle.report.specs.declared.trouble.Trouble.{Trouble}
 use Rattle.rack_parts.specs.declared.rack.Rack.{Rack}
 use Rattle.inspection.specs.Racks.{IsSameStation, IsSameRack, LeavesOthers}

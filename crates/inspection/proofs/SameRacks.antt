@@ -11,7 +11,7 @@ use Rattle.manager.specs.declared.station.Station.{Station}
 use Rattle.manager.proofs.ReadThrough.{zip_self, zip_set, zip_then}
 use Rattle.rack.specs.Racks.{IsStation, base_of_station}
 use Rattle.rack_parts.specs.declared.rack.Rack.{Rack}
-use Rattle.open_rack.specs.Again.{IsRackAgain}
+use Rattle.rack.specs.Again.{IsRackAgain}
 use Rattle.inspection.specs.Looks.{IsConfiguredBase}
 use Rattle.inspection.specs.Racks.{numbers_of, CanLook, IsSameStation, IsSameRack}
 use Rattle.inspection.proofs.WorkedRacks.{again_by, all_by, station_by}

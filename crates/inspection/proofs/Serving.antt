@@ -14,11 +14,11 @@ use Rattle.manager.specs.declared.base.ManagerBase.{ManagerBase}
 use Rattle.manager.specs.declared.manager.Manager.{Manager}
 use Rattle.manager.specs.declared.part.Part.{Part}
 use Rattle.manager.specs.declared.part.Part.TheVariants.{Home, Segment}
-use Rattle.log_dump.specs.Volumes.{IsVolumeOf}
+use Rattle.inspection.specs.Volumes.{IsVolumeOf}
 use Rattle.report.specs.Names.{printed_names}
 use Rattle.report.specs.Troubles.{IsAmong}
 use Rattle.report.proofs.VolumeNames.{is_named}
-use Rattle.troubles.specs.Troubles.{trouble_of_part}
+use Rattle.rack.specs.Troubles.{trouble_of_part}
 use Rattle.inspection.specs.Looks.{IsConfiguredBase}
 
 -- of each element of a list that was mapped

@@ -29,15 +29,15 @@ use Rattle.manager.specs.declared.manager.Manager.{Manager}
 use Rattle.manager.specs.declared.station.Station.{Station}
 use Rattle.manager_recovery.specs.Opened.{StandsInOwned}
 use Rattle.manager_recovery.specs.Owned.{Owned}
-use Rattle.log_dump.specs.Texts.{check_text}
-use Rattle.log_dump.specs.Volumes.{held_segments}
-use Rattle.log_dump.specs.declared.fault.DumpFault.{DumpFault}
-use Rattle.log_dump.specs.declared.fault.DumpFault.TheVariants as dump
+use Rattle.inspection.specs.Texts.{check_text}
+use Rattle.inspection.specs.Volumes.{held_segments}
+use Rattle.inspection.specs.declared.fault.DumpFault.{DumpFault}
+use Rattle.inspection.specs.declared.fault.DumpFault.TheVariants as dump
 use Rattle.report.specs.Names.{name_at}
 use Rattle.report.specs.Troubles.{trouble_status}
 use Rattle.report.specs.declared.trouble.Trouble.{Trouble}
-use Rattle.troubles.specs.Troubles.{trouble_of, trouble_of_part}
-use Rattle.troubles.proofs.Named.{named_alike}
+use Rattle.rack.specs.Troubles.{trouble_of, trouble_of_part}
+use Rattle.rack.proofs.Named.{named_alike}
 use Rattle.request_turns.specs.Turns.{IsBroken, WasDown, coded}
 use Rattle.request_turns.proofs.Gaining.{down_breaks}
 use Rattle.request_turns.proofs.Noting.{notes_at}
@@ -46,15 +46,15 @@ use Rattle.rack.specs.Closes.{is_kept_home}
 use Rattle.rack.specs.Opens.{BeganWith}
 use Rattle.rack.specs.Owners.{BeganInPlace, IsBegun, StandAsRead, images_taken}
 use Rattle.rack.specs.Racks.{IsStation, IsUnused, NamesVolumes, base_of_station}
-use Rattle.rack_closing.specs.BayRuns.{BayRun, History, IsUnbroken}
-use Rattle.rack_closing.specs.RackRuns.{IsHistoryOf}
-use Rattle.rack_closing.proofs.Cases.{none_or}
+use Rattle.rack.specs.BayRuns.{BayRun, History, IsUnbroken}
+use Rattle.rack.specs.RackRuns.{IsHistoryOf}
+use Rattle.rack.proofs.Cases.{none_or}
 use Rattle.rack_parts.proofs.Members.{in_map}
 use Rattle.rack_parts.specs.declared.rack.Rack.{Rack}
 use Rattle.rack_parts.specs.declared.rack.Rest.{Rest}
 use Rattle.rack_parts.specs.declared.volume_fault.VolumeFault.{VolumeFault}
-use Rattle.open_rack.specs.Sessions.{OpensAndCloses}
-use Rattle.open_rack.proofs.RacksAgain.{numbers_again, rest_again}
+use Rattle.rack.specs.Sessions.{OpensAndCloses}
+use Rattle.rack.proofs.RacksAgain.{numbers_again, rest_again}
 use Rattle.spin_model.specs.Spindles.{SpindleView}
 use Rattle.inspection.specs.Looks.{AppendsAsked, BreaksIn}
 use Rattle.inspection.specs.Lines.{Telling, TellsFailed, IsTelling, LooksAtVolume, trouble_line}

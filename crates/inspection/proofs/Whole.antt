@@ -8,11 +8,11 @@ use Rattle.wol_io.proofs.Appending.{appends_none, keeps_same}
 use Rattle.report.specs.declared.trouble.Trouble.{Trouble}
 use Rattle.spin_model.specs.Spindles.{SpindleView}
 use Rattle.rack_parts.specs.declared.rack.Rack.{Rack}
-use Rattle.rack_closing.specs.BayRuns.{QuietRun}
-use Rattle.rack_closing.proofs.RunLaws.{quiet_of}
-use Rattle.open_rack.specs.Sessions.{OpensAndCloses}
-use Rattle.open_rack.proofs.RacksAgain.{closable_again}
-use Rattle.open_rack.proofs.Since.{not_out}
+use Rattle.rack.specs.BayRuns.{QuietRun}
+use Rattle.rack.proofs.RunLaws.{quiet_of}
+use Rattle.rack.specs.Sessions.{OpensAndCloses}
+use Rattle.rack.proofs.RacksAgain.{closable_again}
+use Rattle.rack.proofs.Since.{not_out}
 use Rattle.inspection.specs.Lines.{PrintsVolumes}
 use Rattle.inspection.specs.Runs.{Inspects}
 use Rattle.inspection.specs.declared.asked.Asked.{Asked}

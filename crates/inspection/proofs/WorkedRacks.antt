@@ -14,8 +14,8 @@ use Rattle.manager.proofs.Touched.{zip_all}
 use Rattle.manager.proofs.ReadThrough.{zip_self}
 use Rattle.rack.specs.Racks.{IsStation}
 use Rattle.rack_parts.specs.declared.rack.Rack.{Rack}
-use Rattle.open_rack.specs.Again.{IsPassAgain, IsRackAgain, IsStationAgain}
-use Rattle.open_rack.proofs.RacksAgain.{zip_weaker}
+use Rattle.rack.specs.Again.{IsPassAgain, IsRackAgain, IsStationAgain}
+use Rattle.rack.proofs.RacksAgain.{zip_weaker}
 
 module _ {D : Type 0} (S : Station D → Station D → Type 0) (only : (s t : Station D) → S s t → (t ≡ record s { worker = t.worker }) × IsSamePass s.worker t.worker × (IsFree s.worker → IsFree t.worker)) where
   pub station_by : (s t : Station D) → S s t → IsStation s → IsStation t

@@ -5,11 +5,11 @@ use Rattle.wol_config.specs.declared.config.Config.{Config}
 use Rattle.logger.specs.declared.shared.Shared.{Shared}
 use Rattle.manager.specs.declared.part.Part.{Part}
 use Rattle.manager.specs.declared.station.Station.{Station}
-use Rattle.log_dump.specs.declared.fault.DumpFault.TheVariants as dump
+use Rattle.inspection.specs.declared.fault.DumpFault.TheVariants as dump
 use Rattle.report.specs.Names.{printed_names}
 use Rattle.report.specs.Troubles.{IsAmong}
 use Rattle.report.specs.declared.trouble.Trouble.{Trouble}
-use Rattle.troubles.specs.Troubles.{trouble_of_part}
+use Rattle.rack.specs.Troubles.{trouble_of_part}
 use Rattle.rack.specs.Racks.{IsStation, base_of_station}
 use Rattle.rack_parts.specs.declared.rack.Rack.{Rack}
 use Rattle.inspection.specs.Looks.{IsConfiguredBase, LooksAt}

@@ -4,3 +4,7 @@ pub mod Logs
 pub mod Lines
 pub mod Findings
 pub mod Runs
+pub mod Faults
+pub mod Texts
+pub mod Segments
+pub mod Volumes

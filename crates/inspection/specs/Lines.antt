@@ -8,13 +8,13 @@ use Rattle.wol_config.specs.declared.config.Config.{Config}
 use Rattle.manager.specs.declared.part.Part.{Part}
 use Rattle.manager.specs.declared.station.Station.{Station}
 use Rattle.request_turns.specs.Turns.{ManagerPass}
-use Rattle.log_dump.specs.declared.fault.DumpFault.{DumpFault}
-use Rattle.log_dump.specs.declared.fault.DumpFault.TheVariants as dump
+use Rattle.inspection.specs.declared.fault.DumpFault.{DumpFault}
+use Rattle.inspection.specs.declared.fault.DumpFault.TheVariants as dump
 use Rattle.report.specs.Names.{name_at, printed_names}
 use Rattle.report.specs.Troubles.{trouble_text}
 use Rattle.report.specs.Words.{line_of}
 use Rattle.report.specs.declared.trouble.Trouble.{Trouble}
-use Rattle.troubles.specs.Troubles.{trouble_of, trouble_of_part}
+use Rattle.rack.specs.Troubles.{trouble_of, trouble_of_part}
 use Rattle.rack_parts.specs.declared.rack.Rack.{Rack}
 use Rattle.rack_parts.specs.declared.volume_fault.VolumeFault.{VolumeFault}
 use Rattle.inspection.specs.Looks.{LooksAt}

@@ -8,7 +8,7 @@ use Rattle.wol_model.specs.Index.{Listed}
 use Rattle.wol_model.specs.Recovered.{extents_of}
 use Rattle.volume_images.specs.Volumes.{AreLeft, shapes_of}
 use Rattle.rack.specs.Closes.{IsOnLogger}
-use Rattle.open_rack.specs.Sessions.{LeavesRecords}
+use Rattle.rack.specs.Sessions.{LeavesRecords}
 
 -- whatever images a crash leaves, each of these records lies in a log of volume v on a logger of
 -- this view

@@ -16,11 +16,11 @@ use Rattle.manager.specs.Stands.{Stands, IsShared, notes_of}
 use Rattle.manager.specs.declared.base.ManagerBase.{ManagerBase}
 use Rattle.manager.specs.declared.manager.Manager.{Manager}
 use Rattle.request_turns.specs.Turns.{ManagerPass, coded, WasDown}
-use Rattle.log_dump.specs.Faults.{was_told}
-use Rattle.log_dump.specs.Texts.{check_text}
-use Rattle.log_dump.specs.Volumes.{IsDump, array_of, held_segments}
-use Rattle.log_dump.specs.declared.fault.DumpFault.{DumpFault}
-use Rattle.log_dump.specs.declared.fault.DumpFault.TheVariants.{DiskFault, Down, NoMemory}
+use Rattle.inspection.specs.Faults.{was_told}
+use Rattle.inspection.specs.Texts.{check_text}
+use Rattle.inspection.specs.Volumes.{IsDump, array_of, held_segments}
+use Rattle.inspection.specs.declared.fault.DumpFault.{DumpFault}
+use Rattle.inspection.specs.declared.fault.DumpFault.TheVariants.{DiskFault, Down, NoMemory}
 use Rattle.report.specs.Names.{name_at}
 use Rattle.inspection.specs.declared.asked.Asked.{Asked}
 use Rattle.inspection.specs.declared.asked.Asked.TheVariants.{Check, Dump}

@@ -14,20 +14,20 @@ use Rattle.manager.specs.declared.base.ManagerBase.{ManagerBase}
 use Rattle.manager.specs.declared.manager.Manager.{Manager}
 use Rattle.manager.specs.declared.part.Part.{Part}
 use Rattle.manager_recovery.specs.declared.refusal.OpenRefusal.TheVariants.{DiskFault}
-use Rattle.log_dump.specs.Texts.{check_text}
-use Rattle.log_dump.specs.Volumes.{IsDump, held_segments}
+use Rattle.inspection.specs.Texts.{check_text}
+use Rattle.inspection.specs.Volumes.{IsDump, held_segments}
 use Rattle.report.specs.Names.{name_at}
 use Rattle.report.specs.Troubles.{trouble_status}
 use Rattle.report.specs.declared.trouble.Trouble.{Trouble}
-use Rattle.troubles.specs.Troubles.{trouble_of, trouble_of_part}
+use Rattle.rack.specs.Troubles.{trouble_of, trouble_of_part}
 use Rattle.volume_images.specs.Left.{IsTold}
 use Rattle.volume_images.specs.Volumes.{images_read, shapes_of}
-use Rattle.rack_closing.specs.BayRuns.{Histories, History, IsUnbroken, QuietRun}
+use Rattle.rack.specs.BayRuns.{Histories, History, IsUnbroken, QuietRun}
 use Rattle.rack.specs.Closes.{CameBackFaulty, is_kept_home, part_named}
 use Rattle.rack.specs.Opens.{RefusesVolume}
 use Rattle.rack.specs.Owners.{StandAsRead}
 use Rattle.rack.specs.Racks.{NamesVolumes}
-pub use Rattle.open_rack.specs.Sessions.{MayComplete}
+pub use Rattle.rack.specs.Sessions.{MayComplete}
 use Rattle.rack_parts.specs.declared.rack.ImageRest.{ImageRest}
 use Rattle.rack_parts.specs.declared.volume_fault.VolumeFault.{VolumeFault}
 use Rattle.rack_parts.specs.declared.volume_fault.VolumeFault.TheVariants.{Refused}

@@ -4,9 +4,9 @@ ghost use Rattle.std.specs.Prelude.{◌≡◌, ◌<◌, ◌≤◌, ◌+◌, leng
 ghost use Rattle.std.specs.Thread.{IsSend, IsSync};
 ghost use Rattle.wol_config.specs.Configs.{IsValid};
 
+use crate::DumpFault;
 use crate::asked::Asked;
 use crate::lines::look_station;
-use log_dump::DumpFault;
 use logger::Shared;
 use manager::Station;
 use std::alloc::Global;

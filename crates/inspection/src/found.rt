@@ -2,7 +2,7 @@
 ghost use Rattle.inspection.specs.Findings.{AppendsFound, AppendsNext, AreAhead, AreFoundTo, HasRoom, IsKnown, lines_of};
 ghost use Rattle.inspection.specs.Lines.{trouble_told};
 ghost use Rattle.inspection.specs.Racks.{CanLook};
-ghost use Rattle.log_dump.specs.declared.fault.DumpFault.TheVariants.{NoMemory as no_memory};
+ghost use Rattle.inspection.specs.declared.fault.DumpFault.TheVariants.{NoMemory as no_memory};
 ghost use Rattle.manager.specs.declared.station.Station.{Station};
 ghost use Rattle.rack_parts.specs.declared.rack.Rack.{Rack};
 ghost use Rattle.std.specs.Prelude.{◌≡◌, ◌++◌, ◌<◌, List, [], length, Err, IfOk};

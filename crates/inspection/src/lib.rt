@@ -14,15 +14,26 @@
 //! all, `Halves` for stations that are split among threads, `Ahead` for a run of them, `Judging` for what is told,
 //! `AsFound` and `Printing` for the loop side by side and one after another, `AsPrinted` for both, `WorkedRacks` and
 //! `SameRacks` for racks of whose stations only the workers' passes are others.
+//!
+//! The lines themselves: `check.rt` and `dump.rt` have the two calls, `digest.rt` the digest of an array in pieces, `segments.rt`
+//! the number of segments; `specs/Texts` is the lines.
 #![tactic(auto)]
 
 mod asked;
 mod beside;
 mod calls;
+mod check;
+mod digest;
+mod dump;
+mod fault;
 mod found;
 mod lines;
+mod segments;
 mod turn;
 
 pub use asked::Asked;
 pub use calls::{Stop, inspect};
+pub use check::check_line;
+pub use dump::{append_record, dump_lines, mask_digits};
+pub use fault::DumpFault;
 pub use lines::place_of;

@@ -8,20 +8,19 @@ ghost use Rattle.rack.specs.Racks.{IsStation, AreUnused, base_of_station};
 ghost use Rattle.report.specs.Names.{printed_names};
 ghost use Rattle.report.specs.Troubles.{IsAmong};
 ghost use Rattle.std.specs.Prelude.{◌≡◌, ◌⊎◌, ◌<◌, ◌++◌, ℕ, [], length, Some, Err, Ok, Contains, IfOk, OnOk, OnErr};
-ghost use Rattle.troubles.specs.Troubles.{trouble_of, trouble_of_part};
+ghost use Rattle.rack.specs.Troubles.{trouble_of, trouble_of_part};
 ghost use Rattle.wol_config.specs.Configs.{IsValid};
 
+use crate::DumpFault;
 use crate::asked::Asked;
 use crate::turn::look;
-use log_dump::DumpFault;
 use logger::Shared;
 use manager::Station;
-use rack::{Rack, VolumeFault};
+use rack::{Rack, VolumeFault, trouble_of, trouble_of_part};
 use report::Word::Text;
 use report::{Trouble, append_line, trouble_text};
 use std::alloc::Global;
 use std::sync::Wait;
-use troubles::{trouble_of, trouble_of_part};
 use wol_config::Config;
 use wol_disk::{Disk, NoMemory};
 

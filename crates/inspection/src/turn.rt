@@ -1,7 +1,7 @@
 // A volume is looked at in one turn.
 ghost use Rattle.inspection.specs.Looks.{AppendsAsked, IsConfiguredBase, LooksAt, note_told};
-ghost use Rattle.log_dump.specs.Faults.{was_told};
-ghost use Rattle.log_dump.specs.Volumes.{IsVolumeOf};
+ghost use Rattle.inspection.specs.Faults.{was_told};
+ghost use Rattle.inspection.specs.Volumes.{IsVolumeOf};
 ghost use Rattle.manager.specs.Seen.{look_of_manager};
 ghost use Rattle.manager.specs.Stands.{Keeps, Stands, IsReady, IsHome, Leaves};
 ghost use Rattle.manager.specs.declared.base.ManagerBase.{ManagerBase};
@@ -10,14 +10,14 @@ ghost use Rattle.report.specs.Names.{printed_names};
 ghost use Rattle.report.specs.Troubles.{IsAmong};
 ghost use Rattle.request_turns.specs.Turns.{notes_seen, HasLeft, WasDown};
 ghost use Rattle.std.specs.Prelude.{◌≡◌, ◌⊎◌, ◌++◌, ◌∷◌, ℕ, List, [], length, Some, Err, IsTrue, OnOk, OnErr};
-ghost use Rattle.troubles.specs.Troubles.{trouble_of_part};
+ghost use Rattle.rack.specs.Troubles.{trouble_of_part};
 ghost use Rattle.turn_lock.specs.Passes.{pass_lock, pass_number, IsPassOf, IsFree, IsInTurn};
 ghost use Rattle.wol_config.specs.Configs.{IsValid};
 ghost use Rattle.wol_model.specs.History.{worker};
 ghost use Rattle.wol_promise.specs.Ruled.{Noted};
 
 use crate::asked::Asked;
-use log_dump::{DumpFault, check_line, dump_lines};
+use crate::{DumpFault, check_line, dump_lines};
 use logger::Shared;
 use manager::Manager;
 use request_turns::{Memo, leave_noted};

@@ -4,8 +4,8 @@ use Rattle.std.specs.Prelude.{slice_index_or}
 use Rattle.wol_config.specs.Configs.{IsValid, IsValidVolume}
 use Rattle.wol_config.specs.declared.config.Config.{Config}
 use Rattle.wol_config.specs.declared.config.VolumeConf.{VolumeConf}
-use Rattle.nbd_handshake.specs.declared.ending.Shaken.{Shaken}
-use Rattle.nbd_handshake.specs.declared.ending.Shaken.TheVariants.{Agreed}
+use Rattle.nbd_session.specs.declared.ending.Shaken.{Shaken}
+use Rattle.nbd_session.specs.declared.ending.Shaken.TheVariants.{Agreed}
 use Rattle.nbd_session.specs.Sessions.{CountsFaults}
 use Rattle.nbd_session.specs.declared.session.NbdFault.{NbdFault}
 use Rattle.nbd_session.proofs.Served.{counts_still}

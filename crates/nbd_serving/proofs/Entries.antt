@@ -19,10 +19,10 @@ use Rattle.request_turns.specs.declared.outcome.Outcome.TheVariants as outcome
 use Rattle.request_turns.proofs.Gaining.{stays_so}
 use Rattle.request_turns.proofs.Noting.{notes_at}
 use Rattle.nbd_session.specs.Turns.{Turn, Looked, NotLooked, Read, NotRead, Wrote, NotWrote}
-use Rattle.nbd_station.specs.Pieces.{IsTurnAt, Pieces, pieces_of}
-use Rattle.nbd_station.specs.Turns.{MakesTurn, write_refusal}
-use Rattle.nbd_station.proofs.Alone.{AreOf, all_begins, own_all}
-use Rattle.nbd_station.proofs.Law.{IsWorkerOf, step}
+use Rattle.nbd_serving.specs.Pieces.{IsTurnAt, Pieces, pieces_of}
+use Rattle.nbd_serving.specs.Turns.{MakesTurn, write_refusal}
+use Rattle.nbd_serving.proofs.Alone.{AreOf, all_begins, own_all}
+use Rattle.nbd_serving.proofs.Law.{IsWorkerOf, step}
 use Rattle.nbd_serving.specs.Entries.{AddsEntry, BreaksAt, LackedMemory}
 use Rattle.nbd_serving.proofs.Flights.{kept_breaks, read_breaks, wrote_breaks, not_read_breaks, not_written_breaks}
 

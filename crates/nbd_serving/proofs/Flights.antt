@@ -27,7 +27,7 @@ use Rattle.request_turns.specs.Turns.{ManagerPass, began, notes_seen, HasTurned,
 use Rattle.request_turns.specs.declared.outcome.Outcome.TheVariants as outcome
 use Rattle.request_turns.proofs.Noting.{notes_at}
 use Rattle.nbd_session.specs.Turns.{Turn}
-use Rattle.nbd_station.proofs.Noting.{no_flight}
+use Rattle.nbd_serving.proofs.Noting.{no_flight}
 use Rattle.nbd_serving.specs.Entries.{AddsEntry, BreaksAt}
 
 -- ---- The part that is down in the entry in which a call failed

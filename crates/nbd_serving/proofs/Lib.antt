@@ -5,3 +5,8 @@ pub mod Placed
 pub mod Recovered
 pub mod Sessions
 pub mod Whole
+pub mod Making
+pub mod StationServing
+pub mod Alone
+pub mod Noting
+pub mod Law

@@ -15,17 +15,17 @@ use Rattle.manager.specs.declared.station.Station.{Station}
 use Rattle.manager.proofs.ReadThrough.{zip_self, zip_set}
 use Rattle.rack.specs.Racks.{IsStation, base_of_station}
 use Rattle.rack_parts.specs.declared.rack.Rack.{Rack}
-use Rattle.open_rack.specs.Again.{IsPassAgain, IsRackAgain, IsStationAgain}
-use Rattle.open_rack.specs.NotOpened.{first_closed}
-use Rattle.open_rack.proofs.FirstClosed.{none_closed}
-use Rattle.open_rack.proofs.Since.{all_at}
+use Rattle.rack.specs.Again.{IsPassAgain, IsRackAgain, IsStationAgain}
+use Rattle.rack.specs.NotOpened.{first_closed}
+use Rattle.rack.proofs.FirstClosed.{none_closed}
+use Rattle.rack.proofs.Since.{all_at}
 use Rattle.inspection.specs.Looks.{IsConfiguredBase}
 use Rattle.inspection.specs.Racks.{numbers_of, CanLook, IsStationAt}
 use Rattle.nbd_session.specs.Sessions.{CountsFaults, IsSession}
 use Rattle.nbd_session.specs.declared.session.Ended.{Ended}
 use Rattle.nbd_session.specs.declared.session.NbdFault.{NbdFault}
-use Rattle.nbd_station.specs.Stations.{CanServe, OnlyWorks}
-use Rattle.nbd_station.specs.Turns.{MakesTurn}
+use Rattle.nbd_serving.specs.Stations.{CanServe, OnlyWorks}
+use Rattle.nbd_serving.specs.Turns.{MakesTurn}
 use Rattle.nbd_serving.specs.Racks.{ServesStation}
 use Rattle.nbd_serving.specs.Wires.{Wire}
 use Rattle.wol_config.specs.Configs.{most_of}

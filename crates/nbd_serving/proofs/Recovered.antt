@@ -9,7 +9,7 @@ use Rattle.wol_model.proofs.Arrays.{after_versions}
 use Rattle.wol_model.proofs.Overlay.{after_more}
 use Rattle.wol_promise.specs.Policy.{Look}
 use Rattle.wol_promise.specs.Ruled.{Noted, entries_of}
-use Rattle.nbd_station.specs.Pieces.{pieces_of}
+use Rattle.nbd_serving.specs.Pieces.{pieces_of}
 
 -- versions don't matter to the writes before a cut
 same_after : (a : List Block) (ws flight : List Write) → after a (map unversioned ws ++ flight) ≡ after a (ws ++ flight)

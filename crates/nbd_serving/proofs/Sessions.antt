@@ -39,28 +39,28 @@ use Rattle.rack.specs.Racks.{IsStation, IsUnused, base_of_station}
 use Rattle.rack.specs.Rests.{IsImageOut, image_here}
 use Rattle.rack_parts.specs.declared.rack.ImageRest.{ImageRest}
 use Rattle.rack_parts.specs.declared.rack.Rack.{Rack}
-use Rattle.rack_closing.proofs.LoggersNamed.{names_logger}
-use Rattle.rack_closing.proofs.Places.{some_at}
-use Rattle.rack_closing.proofs.ViewsLeft.{front_left}
+use Rattle.rack.proofs.LoggersNamed.{names_logger}
+use Rattle.rack.proofs.Places.{some_at}
+use Rattle.rack.proofs.ViewsLeft.{front_left}
 use Rattle.rack_parts.proofs.Members.{of_map}
 use Rattle.std.proofs.lemmas.List.Elements.{All-contains}
-use Rattle.open_rack.specs.Sessions.{LeavesRecords, OpensAndCloses}
-use Rattle.open_rack.proofs.RacksAgain.{began_again, closable_again, numbers_again, rest_again}
-use Rattle.open_rack.proofs.Since.{all_at, rose_before, unmapped}
-use Rattle.open_rack.specs.NotOpened.{first_closed}
-use Rattle.open_rack.proofs.FirstClosed.{none_closed}
-use Rattle.open_rack.proofs.OpenedKept.{opened_out}
+use Rattle.rack.specs.Sessions.{LeavesRecords, OpensAndCloses}
+use Rattle.rack.proofs.RacksAgain.{began_again, closable_again, numbers_again, rest_again}
+use Rattle.rack.proofs.Since.{all_at, rose_before, unmapped}
+use Rattle.rack.specs.NotOpened.{first_closed}
+use Rattle.rack.proofs.FirstClosed.{none_closed}
+use Rattle.rack.proofs.OpenedKept.{opened_out}
 use Rattle.inspection.proofs.Unhelped.{none_before}
 use Rattle.inspection.specs.Logs.{LeavesDistinct, LeavesLogs, LeavesOnLoggers}
-use Rattle.open_rack.proofs.AllOut.{accepted_all, recovered_all, taken_all}
+use Rattle.rack.proofs.AllOut.{accepted_all, recovered_all, taken_all}
 use Rattle.nbd_session.specs.Sessions.{IsSession}
 use Rattle.nbd_session.specs.declared.session.Ended.{Ended}
 use Rattle.nbd_session.specs.declared.session.NbdFault.{NbdFault}
 use Rattle.nbd_session.proofs.Along.{session_along, session_keeps}
-use Rattle.nbd_station.specs.Pieces.{pieces_of}
-use Rattle.nbd_station.specs.Turns.{MakesTurn}
-use Rattle.nbd_station.proofs.Alone.{AreOf, all_of, own_all}
-use Rattle.nbd_station.proofs.Law.{IsWorkerOf}
+use Rattle.nbd_serving.specs.Pieces.{pieces_of}
+use Rattle.nbd_serving.specs.Turns.{MakesTurn}
+use Rattle.nbd_serving.proofs.Alone.{AreOf, all_of, own_all}
+use Rattle.nbd_serving.proofs.Law.{IsWorkerOf}
 use Rattle.nbd_serving.specs.Entries.{AddsEntry}
 use Rattle.nbd_serving.proofs.Entries.{adds, noted}
 use Rattle.nbd_serving.proofs.Flights.{IsOnWay, none_on_way, on_way_more}

@@ -13,15 +13,15 @@ use Rattle.volume_images.specs.Left.{IsTold}
 use Rattle.volume_images.specs.Volumes.{images_read, shapes_of}
 use Rattle.rack.specs.Opens.{KeepsAllSound, LeavesAll}
 use Rattle.rack_parts.specs.declared.rack.Rack.{Rack}
-use Rattle.open_rack.specs.Sessions.{OpensAndCloses}
-use Rattle.open_rack.specs.NotOpened.{first_closed}
-use Rattle.open_rack.proofs.FirstClosed.{first_is, first_unopened}
-use Rattle.open_rack.proofs.ViewsKept.{views_kept}
+use Rattle.rack.specs.Sessions.{OpensAndCloses}
+use Rattle.rack.specs.NotOpened.{first_closed}
+use Rattle.rack.proofs.FirstClosed.{first_is, first_unopened}
+use Rattle.rack.proofs.ViewsKept.{views_kept}
 use Rattle.inspection.specs.Racks.{IsSameRack}
 use Rattle.inspection.specs.Runs.{MayComplete}
 use Rattle.inspection.proofs.Quiet.{all_quiet}
 use Rattle.inspection.proofs.SameRacks.{rack_self}
-use Rattle.nbd_handshake.specs.declared.ending.Shaken.{Shaken}
+use Rattle.nbd_session.specs.declared.ending.Shaken.{Shaken}
 use Rattle.nbd_session.specs.Sessions.{CountsFaults}
 use Rattle.nbd_session.specs.declared.session.Ended.{Ended}
 use Rattle.nbd_session.specs.declared.session.NbdFault.{NbdFault}

@@ -11,7 +11,7 @@ use Rattle.request_turns.specs.Entries.{IsFlightAt}
 use Rattle.request_turns.specs.Turns.{Stays}
 use Rattle.nbd_session.specs.Turns.{NotWrote, Turn}
 use Rattle.nbd_session.specs.declared.volume.Refusal.TheVariants as refusal
-use Rattle.nbd_station.specs.Pieces.{IsTurnAt, piece, pieces_of}
+use Rattle.nbd_serving.specs.Pieces.{IsTurnAt, piece, pieces_of}
 
 -- the turn refused the write w for want of memory
 abbrev pub LackedMemory : Turn → (w : Write) → Type 0

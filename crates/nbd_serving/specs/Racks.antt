@@ -8,15 +8,15 @@ use Rattle.request_turns.specs.Turns.{ManagerPass}
 use Rattle.report.specs.declared.fault.Fault.{Fault}
 use Rattle.rack_parts.specs.declared.rack.Rack.{Rack}
 use Rattle.inspection.specs.Racks.{IsStationAt}
-use Rattle.open_rack.specs.NotOpened.{first_closed}
-use Rattle.nbd_handshake.specs.Shakes.{IsShake}
-use Rattle.nbd_handshake.specs.declared.ending.Shaken.{Shaken}
-use Rattle.nbd_handshake.specs.declared.ending.Shaken.TheVariants.{Agreed, Unagreed as NotAgreed}
-use Rattle.nbd_handshake.specs.declared.ending.Unagreed.{Unagreed}
+use Rattle.rack.specs.NotOpened.{first_closed}
+use Rattle.nbd_session.specs.Shakes.{IsShake}
+use Rattle.nbd_session.specs.declared.ending.Shaken.{Shaken}
+use Rattle.nbd_session.specs.declared.ending.Shaken.TheVariants.{Agreed, Unagreed as NotAgreed}
+use Rattle.nbd_session.specs.declared.ending.Unagreed.{Unagreed}
 use Rattle.nbd_session.specs.Sessions.{CountsFaults, IsSession}
 use Rattle.nbd_session.specs.declared.session.Ended.{Ended}
 use Rattle.nbd_session.specs.declared.session.NbdFault.{NbdFault}
-use Rattle.nbd_station.specs.Turns.{MakesTurn}
+use Rattle.nbd_serving.specs.Turns.{MakesTurn}
 use Rattle.nbd_serving.specs.Wires.{Wire, answer_of}
 use Rattle.nbd_serving.specs.declared.serving.Beginning.{Beginning}
 use Rattle.nbd_serving.specs.declared.serving.Beginning.TheVariants as beginning

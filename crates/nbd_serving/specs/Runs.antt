@@ -13,7 +13,7 @@ use Rattle.wol_promise.specs.Manager.{Base}
 use Rattle.wol_promise.specs.Ruled.{Noted, entries_of, last_look}
 use Rattle.wol_promise.specs.Stands.{IsOpening}
 use Rattle.report.specs.declared.fault.Fault.TheVariants.{Memory, Volume}
-use Rattle.troubles.specs.Troubles.{trouble_of}
+use Rattle.rack.specs.Troubles.{trouble_of}
 use Rattle.manager.specs.Stands.{takes_in}
 use Rattle.volume_images.specs.Left.{IsTold}
 use Rattle.volume_images.specs.Volumes.{AreLeft, images_read, shapes_of}
@@ -21,13 +21,13 @@ use Rattle.rack.specs.Closes.{HasFaultyPart, part_named}
 use Rattle.rack.specs.PoolUses.{ArePools, PassesEmpty, TakesFew}
 use Rattle.rack_parts.specs.declared.volume_fault.VolumeFault.{VolumeFault}
 use Rattle.request_turns.specs.Entries.{IsFlightAt}
-use Rattle.open_rack.specs.NotOpened.{IsFirstClosed, LeavesViews}
-use Rattle.nbd_handshake.specs.declared.ending.Shaken.TheVariants.{Agreed, Unagreed as NotAgreed}
-use Rattle.nbd_handshake.specs.declared.ending.Unagreed.{Unagreed}
+use Rattle.rack.specs.NotOpened.{IsFirstClosed, LeavesViews}
+use Rattle.nbd_session.specs.declared.ending.Shaken.TheVariants.{Agreed, Unagreed as NotAgreed}
+use Rattle.nbd_session.specs.declared.ending.Unagreed.{Unagreed}
 use Rattle.nbd_session.specs.Sessions.{CountsFaults, IsSession}
 use Rattle.nbd_session.specs.declared.session.Ended.{Ended}
 use Rattle.nbd_session.specs.declared.session.NbdFault.{NbdFault}
-use Rattle.nbd_station.specs.Pieces.{Pieces, pieces_of}
+use Rattle.nbd_serving.specs.Pieces.{Pieces, pieces_of}
 use Rattle.nbd_serving.specs.Racks.{Begins}
 use Rattle.nbd_serving.specs.Volumes.{IsKept, IsOpen, KeepsBay}
 use Rattle.inspection.specs.Logs.{LeavesDistinct, LeavesLogs}

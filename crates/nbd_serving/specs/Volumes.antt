@@ -11,7 +11,7 @@ use Rattle.volume_images.specs.Left.{IsTold}
 use Rattle.volume_images.specs.Volumes.{AreLeft, images_read, shapes_of}
 use Rattle.rack.specs.Opens.{LeavesFront, WasAccepted}
 use Rattle.rack.specs.Owners.{IsBegun}
-use Rattle.open_rack.specs.NotOpened.{LeavesBay}
+use Rattle.rack.specs.NotOpened.{LeavesBay}
 use Rattle.inspection.specs.Logs.{LeavesLogs}
 
 -- Volume v was open: its image was accepted, and this base is what the images gave as they were

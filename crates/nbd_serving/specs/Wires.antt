@@ -1,7 +1,7 @@
 -- The source and the sink of a client, and what a command answers.
 use Rattle.std.specs.Prelude.{ℕ, List, Option, Result, Ok, Err}
-use Rattle.nbd_handshake.specs.declared.ending.Unagreed.{Unagreed}
-use Rattle.nbd_handshake.specs.declared.ending.Unagreed.TheVariants as unagreed
+use Rattle.nbd_session.specs.declared.ending.Unagreed.{Unagreed}
+use Rattle.nbd_session.specs.declared.ending.Unagreed.TheVariants as unagreed
 use Rattle.nbd_session.specs.declared.session.Ended.{Ended}
 use Rattle.nbd_session.specs.declared.session.Ended.TheVariants as ended
 use Rattle.nbd_session.specs.declared.session.NbdFault.{NbdFault}

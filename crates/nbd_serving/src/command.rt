@@ -13,7 +13,7 @@ ghost use Rattle.wol_disk.specs.Disk.{Rose};
 use crate::serving::{Beginning, Serving};
 use crate::stop::Stop;
 use nbd_session::Ended;
-use open_rack::{Closed, with_open};
+use rack::{Closed, with_open};
 use std::alloc::Global;
 use std::sync::Wait;
 use wol_bay::Bay;

@@ -2,17 +2,15 @@
 ghost use Rattle.inspection.specs.Racks.{numbers_of, CanLook};
 ghost use Rattle.nbd_serving.specs.Racks.{Begins, ServesStation};
 ghost use Rattle.nbd_serving.specs.Wires.{wire};
-ghost use Rattle.open_rack.specs.Again.{IsRackAgain};
+ghost use Rattle.rack.specs.Again.{IsRackAgain};
 ghost use Rattle.std.specs.Prelude.{◌≡◌, ◌<◌, ◌≤◌, Contains, length};
 ghost use Rattle.wol_config.specs.Configs.{IsValid, most_of};
 
+use crate::serve_station;
 use crate::stop::{Stop, answer_of};
 use inspection::place_of;
-use nbd_handshake::{Export, Shaken, shake};
-use nbd_session::{Ended, NbdFault};
-use nbd_station::serve_station;
-use open_rack::{Work, first_closed};
-use rack::Rack;
+use nbd_session::{Ended, Export, NbdFault, Shaken, shake};
+use rack::{Rack, Work, first_closed};
 use std::alloc::Global;
 use std::sync::Wait;
 use wol_config::Config;

@@ -4,8 +4,7 @@ ghost use Rattle.nbd_serving.specs.declared.stop.Stop.TheVariants as stop;
 ghost use Rattle.report.specs.declared.fault.Fault.TheVariants.{Memory as no_memory};
 ghost use Rattle.std.specs.Prelude.{◌≡◌};
 
-use nbd_handshake::Unagreed;
-use nbd_session::{Ended, NbdFault};
+use nbd_session::{Ended, NbdFault, Unagreed};
 use report::Fault;
 use wol_disk::NoMemory;
 

@@ -1,7 +1,10 @@
 pub mod Intakes
 pub mod Piecewise
 pub mod Stays
-pub mod Asked
-pub mod Replies
+pub mod RequestAnswers
+pub mod ReplyBytes
 pub mod Served
 pub mod Along
+pub mod Sent
+pub mod Takings
+pub mod Turns

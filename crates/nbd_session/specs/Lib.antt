@@ -6,3 +6,6 @@ pub mod Ranges
 pub mod Answers
 pub mod Sessions
 pub mod Taking
+pub mod Options
+pub mod OptionTaking
+pub mod Shakes

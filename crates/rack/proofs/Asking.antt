@@ -7,8 +7,8 @@ use Rattle.rack.proofs.Terms.{Said, ImageRest, VolumeFault, Absent, WrongLength,
 use Rattle.volume_images.proofs.Refused.{rose_since}
 use Rattle.rack.specs.Opening.{IsOut}
 use Rattle.rack.specs.declared.images.Images.{Images}
-use Rattle.rack_closing.proofs.NewFaults.{told_each, sent_faulty, fault_since, fault_later}
-use Rattle.rack_closing.proofs.Places.{at_less, at_new, push_cases}
+use Rattle.rack.proofs.NewFaults.{told_each, sent_faulty, fault_since, fault_later}
+use Rattle.rack.proofs.Places.{at_less, at_new, push_cases}
 use Rattle.rack.specs.Making.{said_by, fault_by}
 
 -- ---- Faults that rise

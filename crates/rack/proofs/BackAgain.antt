@@ -15,9 +15,9 @@ use Rattle.rack.proofs.Terms.{Refused, Values, IsLane, taken_in, HasGiven, IsUse
 use Rattle.rack.proofs.Fates.{FateAt, stayed, went, fate_at, kept_owned, held_before, held_still, none_freed, freed_owned, kept_had, freed_gone, partner_of, order_apart, kept_in_order, zip_map}
 use Rattle.rack_parts.proofs.Members.{all_member, segment_in_image, a_value, none_in, no_value, of_map, here_within, first_in, later_in, in_map}
 use Rattle.rack.proofs.Openable.{IsInImage, parts, no_home, no_lane, owned_in_image, can_open, all_out, all_inside, said_id, image_id, ids_below, can_take, place_away, had_at, says_kept, foreign_kept, nowhere}
-use Rattle.rack_closing.proofs.SameOut.{same_out, none_too, out_too, opening_too, refuses_too}
+use Rattle.rack.proofs.SameOut.{same_out, none_too, out_too, opening_too, refuses_too}
 use Rattle.rack.proofs.Without.{here_still, here_now, IsImageNow, image_home, home_none, home_segments, same_passes, no_indexes, none_returned}
-use Rattle.rack_closing.proofs.Cases.{by_option}
+use Rattle.rack.proofs.Cases.{by_option}
 use Rattle.rack.proofs.OpeningOf.{opening_of}
 use Rattle.std.proofs.lemmas.List.Kept.{AllPairs-filter}
 use Rattle.rack_parts.specs.Parts.{KeepsPlace}
@@ -799,7 +799,7 @@ module _ {D : Type 0} (state : D → State) (tells : Bool) (config : Config) (va
             after = n;
             of = λ t telling told.
                 let opening = opening_of state config valid b said id r own ready lt at view own_view away o takes t (begun telling t told).cut in
-                subst (λ (j : ℕ). Rattle.rack_closing.specs.Owners.IsOpeningOf state config last.images.items (images_taken config last.images.items t) j o) (sym e)
+                subst (λ (j : ℕ). Rattle.rack.specs.Owners.IsOpeningOf state config last.images.items (images_taken config last.images.items t) j o) (sym e)
                 (opening_too r.rest.images.items last.images.items (sym out_back) state config t id o opening);
             refuses = refuses;
           })))

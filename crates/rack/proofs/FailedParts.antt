@@ -5,8 +5,8 @@ use Rattle.rack.proofs.Terms.{State, Rose, BayState, Name, Told, Config, VolumeC
 use Rattle.rack.proofs.Terms.{HasFaultyPart, IsNamedHere, IsPartHere, ListsFaulty, part_named, place_in, AreRefused, HasFaulty, HasNewFault, fault_in_image, IsImageOut, Rack, Rest, Refused}
 use Rattle.rack.proofs.Terms.{IsCallFault}
 use Rattle.wol_promise.specs.Policy.{PartName}
-use Rattle.rack_closing.proofs.Places.{some_at}
-use Rattle.rack_closing.proofs.NewFaults.{told_each}
+use Rattle.rack.proofs.Places.{some_at}
+use Rattle.rack.proofs.NewFaults.{told_each}
 use Rattle.rack.proofs.Asking.{told_then}
 use Rattle.manager.specs.declared.part.Part.TheVariants as part
 use Rattle.volume_images.specs.declared.reading.ImageFault.TheVariants as fault

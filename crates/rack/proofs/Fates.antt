@@ -10,7 +10,7 @@ use Rattle.std.proofs.lemmas.List.Kept.{AllPairs-cons}
 use Rattle.seg_pool.specs.Operations.{operation_of}
 use Rattle.seg_pool.proofs.Holding.{holds-push}
 use Rattle.rack_parts.proofs.Members.{first_in, later_in, in_cases, none_in, of_recursion, all_member, all_reverse, in_map}
-use Rattle.rack_closing.proofs.OwnedSegments.{never_itself}
+use Rattle.rack.proofs.OwnedSegments.{never_itself}
 use Rattle.wol_model.specs.Heads as head
 
 -- ---- What became of each segment that a volume owned when it was opened

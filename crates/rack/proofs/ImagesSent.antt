@@ -17,11 +17,11 @@ use Rattle.wol_bay.proofs.NamedApart.{other_gone}
 use Rattle.wol_bay.proofs.OneImage.{all_told}
 use Rattle.volume_images.proofs.SettledParts.{cut_image}
 use Rattle.rack.specs.declared.images.Images.{Images}
-use Rattle.rack_closing.proofs.Places.{still_there, at_less, at_new, some_at, both_slices}
+use Rattle.rack.proofs.Places.{still_there, at_less, at_new, some_at, both_slices}
 use Rattle.rack.proofs.Asking.{SameAt, told_then}
-use Rattle.rack_closing.proofs.CutParts.{reads_range, cut_reads, cut_had, cut_synced, cut_at}
-use Rattle.rack_closing.proofs.Names.{cases_name, names_differ}
-use Rattle.rack_closing.proofs.NewFaults.{told_each}
+use Rattle.rack.proofs.CutParts.{reads_range, cut_reads, cut_had, cut_synced, cut_at}
+use Rattle.rack.proofs.Names.{cases_name, names_differ}
+use Rattle.rack.proofs.NewFaults.{told_each}
 use Rattle.rack_parts.proofs.Members.{here_within, in_map, element_at}
 use Rattle.rack_parts.proofs.GivenBack.{none_names}
 use Rattle.wol_model.specs.Journal.{Needed, Done}

@@ -9,16 +9,16 @@ use Rattle.rack.proofs.Terms.{place_of, Opening, shape_in, shapes_of, TakesOpeni
 use Rattle.rack.proofs.Terms.{IsNewPass, TurnLock, PassOf, Manager, IsLocked, reads, Image, Told, at_name, Part, HasFaultOf, HasBegun, image_reads, Shape, Images, image_of, recovered_from}
 use Rattle.rack.proofs.Terms.{VolumeConf, Base, shape_of, segment_head, HasView, Shared, Begins, StandsInOwned, Opens, IsListedOf, read_of, all_owned, records_in, writes_in, heads_in}
 use Rattle.rack.proofs.Terms.{recovered_of, AreIntact, HaveNoTwins, IsRecoverable, head_place, IsLeftHere, IsGone, images_taken, AreOwnedIn, BeganInPlace, IsBegun, IsOpeningOf, VolumeFault}
-use Rattle.rack_closing.proofs.Places.{some_at}
+use Rattle.rack.proofs.Places.{some_at}
 use Rattle.rack_parts.proofs.Members.{segment_in_image, a_value, no_value, here_within, none_in, of_map}
 use Rattle.rack.proofs.OpenAway.{open_away, owner_new, view_new, all_new, inside_new, base_new}
 use Rattle.rack.proofs.Openable.{image_id, said_id, ids_below, one_owner, owned_in_image, nowhere}
 use Rattle.wol_promise.proofs.Lists.{rising_push}
 use Rattle.wol_promise.specs.Stands.{next_version}
-use Rattle.rack_closing.proofs.CutParts.{reads_range}
+use Rattle.rack.proofs.CutParts.{reads_range}
 use Rattle.rack.proofs.OpeningOf.{sized, opening_of, read_at}
-use Rattle.rack_closing.proofs.OwnedSegments.{recovered_owned}
-use Rattle.rack_closing.proofs.SameOut.{taken_same}
+use Rattle.rack.proofs.OwnedSegments.{recovered_owned}
+use Rattle.rack.proofs.SameOut.{taken_same}
 use Rattle.rack.proofs.Without as without
 use Rattle.rack_parts.proofs.ManagerBack.{base_stays}
 use Rattle.wol_model.specs.Heads as head

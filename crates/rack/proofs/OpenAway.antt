@@ -13,13 +13,13 @@ use Rattle.rack_parts.proofs.ManagerBack.{lane_stays, lane_came, lane_cases, hom
 use Rattle.manager.proofs.Touched.{zip_all}
 use Rattle.rack_parts.proofs.Members.{segment_in_image, a_value, none_in, of_recursion}
 use Rattle.rack.proofs.Openable.{parts, all_out, all_inside, can_open, image_id, no_home, can_take, IsTakenLane, lanes_taken, owned_in_image, had_at, foreign_kept, nowhere}
-use Rattle.rack_closing.proofs.Places.{some_at}
+use Rattle.rack.proofs.Places.{some_at}
 use Rattle.rack.proofs.Without.{here_still, here_gone, no_indexes, none_returned}
 use Rattle.manager.specs.Stands.{IsNamed}
 use Rattle.manager.specs.declared.manager.ManagerParts.{ManagerParts}
 use Rattle.rack.proofs.Fates.{FateAt, stayed, went, fate_at, partner_of, held_before, kept_had, same_by, freed_gone, zip_map}
-use Rattle.rack_closing.proofs.SameOut.{same_out}
-use Rattle.rack_closing.proofs.Cases.{by_option, none_or}
+use Rattle.rack.proofs.SameOut.{same_out}
+use Rattle.rack.proofs.Cases.{by_option, none_or}
 use Rattle.rack_parts.proofs.LanesTaken.{pairs_apart}
 use Rattle.rack.proofs.Without as without
 use Rattle.rack_parts.proofs.ManagerBack as back

@@ -13,10 +13,10 @@ use Rattle.rack.proofs.Terms.{HadBefore, shape_in, IsDisk, TellsContent, IsFateO
 use Rattle.seg_pool.specs.declared.base.Holder.TheVariants.{HeldBy}
 use Rattle.manager_recovery.proofs.Indexing.{all_named}
 use Rattle.manager_recovery.proofs.Places.{at_position, loggers_are}
-use Rattle.rack_closing.proofs.Names.{valid_shape}
-use Rattle.rack_closing.proofs.Places.{some_at}
+use Rattle.rack.proofs.Names.{valid_shape}
+use Rattle.rack.proofs.Places.{some_at}
 use Rattle.rack_parts.proofs.Members.{a_value, of_recursion, of_map, here_within, segment_in_image, in_map, none_in}
-use Rattle.rack_closing.proofs.Cases.{some_or, by_option}
+use Rattle.rack.proofs.Cases.{some_or, by_option}
 use Rattle.rack_parts.specs.Parts.{segment_count}
 use Rattle.rack.proofs.Fates.{kept_says}
 use Rattle.rack.proofs.Without as without

@@ -17,20 +17,20 @@ use Rattle.std.specs.Prelude.{vec_capacity}
 use Rattle.wol_model.specs.History.{writes}
 use Rattle.wol_promise.specs.Ruled.{entries_of}
 use Rattle.rack_parts.proofs.Members.{none_in, a_value, element_at, here_within, segment_in_image}
-use Rattle.rack_closing.specs.Opens.{BeganWith, KeepsViews}
-use Rattle.rack_closing.specs.PoolUses.{HadSegments, holder_of}
-use Rattle.rack_closing.proofs.Places.{some_at}
-use Rattle.rack_closing.proofs.Names.{names_differ}
-use Rattle.rack_closing.proofs.CutParts.{reads_range}
-use Rattle.rack_closing.proofs.NewFaults.{told_each, told_with}
-use Rattle.rack_closing.proofs.ViewsLeft.{views_left}
-use Rattle.rack_closing.proofs.Cases.{by_option, none_or, some_or}
+use Rattle.rack.specs.Opens.{BeganWith, KeepsViews}
+use Rattle.rack.specs.PoolUses.{HadSegments, holder_of}
+use Rattle.rack.proofs.Places.{some_at}
+use Rattle.rack.proofs.Names.{names_differ}
+use Rattle.rack.proofs.CutParts.{reads_range}
+use Rattle.rack.proofs.NewFaults.{told_each, told_with}
+use Rattle.rack.proofs.ViewsLeft.{views_left}
+use Rattle.rack.proofs.Cases.{by_option, none_or, some_or}
 use Rattle.rack.specs.Opening.{IsOut}
 use Rattle.rack.specs.declared.all.Taken.{Taken}
 use Rattle.rack.proofs.Asking.{refuses_later}
 use Rattle.rack.proofs.ImagesSent.{names_out, names_alike, none_named, names_home}
 use Rattle.rack.proofs.StillThere.{kept_home, there_left}
-use Rattle.rack_closing.proofs.SameOut.{out_at}
+use Rattle.rack.proofs.SameOut.{out_at}
 use Rattle.turn_lock.specs.LockIds.{LockId}
 use Rattle.seg_pool.specs.declared.base.Holder.TheVariants.{Elsewhere, HeldBy}
 use Rattle.rack_parts.specs.declared.rack.VolumePasses.{VolumePasses}
@@ -720,10 +720,10 @@ module _ {D : Type 0} (tells : Bool) (state : D → State) (config : Config) (va
       pub begun_first : HasBegun state config old t.images.said.items 0 r
       begun_first = record {
         began = record {
-          stations = subst (All (λ (s : Station D). Rattle.rack_closing.specs.Owners.IsBegun config (images_taken config r.rest.images.items old) (base_of_station s).volume.began)) (sym set_up.stations.0)
-              (All-nil (λ (s : Station D). Rattle.rack_closing.specs.Owners.IsBegun config (images_taken config r.rest.images.items old) (base_of_station s).volume.began));
-          placed = subst (All (λ (s : Station D). Rattle.rack_closing.specs.Owners.BeganInPlace config (images_taken config r.rest.images.items old) (base_of_station s))) (sym set_up.stations.0)
-              (All-nil (λ (s : Station D). Rattle.rack_closing.specs.Owners.BeganInPlace config (images_taken config r.rest.images.items old) (base_of_station s)));
+          stations = subst (All (λ (s : Station D). Rattle.rack.specs.Owners.IsBegun config (images_taken config r.rest.images.items old) (base_of_station s).volume.began)) (sym set_up.stations.0)
+              (All-nil (λ (s : Station D). Rattle.rack.specs.Owners.IsBegun config (images_taken config r.rest.images.items old) (base_of_station s).volume.began));
+          placed = subst (All (λ (s : Station D). Rattle.rack.specs.Owners.BeganInPlace config (images_taken config r.rest.images.items old) (base_of_station s))) (sym set_up.stations.0)
+              (All-nil (λ (s : Station D). Rattle.rack.specs.Owners.BeganInPlace config (images_taken config r.rest.images.items old) (base_of_station s)));
           left = λ k v before image at there here.
               let e = entered k v image at (sym (now k) ∙ here) in
               let same : e.entry.image ≡ before = same_Some e.entry.image before (sym e.entry.there ∙ there) in

@@ -5,12 +5,12 @@ use Rattle.rack.proofs.Terms.{Shape, owned_block, IsValid, Config, VolumeConf, s
 use Rattle.rack.proofs.Terms.{segment_of, one_segment_head, Image, Told, BayState, at_name, shape_of, segment_head, SegHead, Free, Owned, HasView, state_of, AreInOrder, place_of, read_of}
 use Rattle.rack.proofs.Terms.{owned_of, all_owned, Opening, OwnedPart, said_at, SaysOf, AreStillCut, IsOpeningRack, images_taken, IsOwnedIn, IsOpeningOf, TakesOpening, IsOwnedPlace}
 use Rattle.rack.proofs.Terms.{image_here, Said, ImageRest, Rack, Rest}
-use Rattle.rack_closing.proofs.Places.{some_at}
-use Rattle.rack_closing.proofs.LeftImage.{accepted_gone, accepted_same, volume_at}
-use Rattle.rack_closing.proofs.LoggersNamed.{image_is_read}
+use Rattle.rack.proofs.Places.{some_at}
+use Rattle.rack.proofs.LeftImage.{accepted_gone, accepted_same, volume_at}
+use Rattle.rack.proofs.LoggersNamed.{image_is_read}
 use Rattle.rack_parts.proofs.Members.{all_member, of_map, in_map, map_map, here_within}
 use Rattle.rack.proofs.Openable.{IsInImage, image_id, first_block, owned_in_image}
-use Rattle.rack_closing.proofs.Cases.{some_or}
+use Rattle.rack.proofs.Cases.{some_or}
 use Rattle.wol_model.specs.Heads as head
 use Rattle.manager_recovery.specs.Owned as owned
 

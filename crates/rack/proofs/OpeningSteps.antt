@@ -3,8 +3,8 @@ use Rattle.rack.proofs.Basics.{◌≡◌, ◌≢◌, inl, inr, ⊎_elim, ℕ, �
 use Rattle.rack.proofs.Basics.{get_or_from_slice_get}
 use Rattle.rack.proofs.Terms.{State, BayState, Told, Config, shapes_of, said_at, view_at, fault_at, IsOpeningRack, HasBegun, AreRefusedBelow, HaveFaults, AreRefused, IsRack, image_here}
 use Rattle.rack.proofs.Terms.{Said, Rack}
-use Rattle.rack_closing.proofs.Places.{some_at}
-use Rattle.rack_closing.proofs.Cases.{none_or}
+use Rattle.rack.proofs.Places.{some_at}
+use Rattle.rack.proofs.Cases.{none_or}
 use Rattle.rack.proofs.Openable.{ids_below}
 
 module _ {D : Type 0} (tells : Bool) (state : D → State) (config : Config) (said : List (Option Said)) (r : Rack D) where

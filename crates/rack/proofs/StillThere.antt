@@ -4,9 +4,9 @@ use Rattle.rack.proofs.Basics.{get_or_from_slice_get, slice_get-map}
 use Rattle.rack.proofs.Terms.{Block, State, Shape, Images, image_of, IsThere, Name, Told, at_name, Config, VolumeConf, shapes_of, image_read, images_read, MayLeave, AreLeft, AreLeftOfParts}
 use Rattle.rack.proofs.Terms.{HadRefused, ImageRest, WasAccepted, WereThere, image_here, is_kept_home, Rack}
 use Rattle.manager.proofs.Lanes.{get_set, get_other}
-use Rattle.rack_closing.proofs.LeftImage.{may_at, volume_at}
-use Rattle.rack_closing.proofs.SoundClosed.{reads_are_left}
-use Rattle.rack_closing.proofs.Cases.{by_option, none_or}
+use Rattle.rack.proofs.LeftImage.{may_at, volume_at}
+use Rattle.rack.proofs.SoundClosed.{reads_are_left}
+use Rattle.rack.proofs.Cases.{by_option, none_or}
 
 -- whatever a crash had left of the images, that of volume v was there
 abbrev pub WasThere : Config → Told → (v : ℕ) → Type 0

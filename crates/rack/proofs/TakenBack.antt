@@ -9,25 +9,25 @@ use Rattle.rack.proofs.Terms.{RefusesVolume, WereThere, AreAsked, HasSentOut, sa
 use Rattle.wol_model.specs.Recovered.{extents_in}
 use Rattle.wol_model.proofs.Images.{idle_none}
 use Rattle.rack_parts.proofs.Members.{a_value, here_within}
-use Rattle.rack_closing.specs.BayRuns.{BayLeft, KeepsHome, QuietRun, SegmentFate, kept as left_as_was, used}
-use Rattle.rack_closing.specs.Opens.{KeepsOthers, front_of}
-use Rattle.rack_closing.proofs.BayRuns.{left_of_less, no_history, run_of_none}
-use Rattle.rack_closing.proofs.KeptLogs.{image_slice}
-use Rattle.rack_closing.proofs.LoggersNamed.{image_is_read}
+use Rattle.rack.specs.BayRuns.{BayLeft, KeepsHome, QuietRun, SegmentFate, kept as left_as_was, used}
+use Rattle.rack.specs.Opens.{KeepsOthers, front_of}
+use Rattle.rack.proofs.BayRuns.{left_of_less, no_history, run_of_none}
+use Rattle.rack.proofs.KeptLogs.{image_slice}
+use Rattle.rack.proofs.LoggersNamed.{image_is_read}
 use Rattle.volume_images.specs.Accepted.{head_place}
 use Rattle.volume_images.specs.Volumes.{images_read}
-use Rattle.rack_closing.proofs.Places.{some_at, both_slices, slice_join}
-use Rattle.rack_closing.proofs.Names.{names_differ}
-use Rattle.rack_closing.proofs.CutParts.{reads_range}
-use Rattle.rack_closing.proofs.KeptImages.{IsKeptImage, AreTwo, IsBefore, kept_before, before_same, before_all}
-use Rattle.rack_closing.proofs.LeftImage.{IsLeftNow, left_image, may_at, out_taken, volume_at}
-use Rattle.rack_closing.proofs.NewFaults.{told_each}
-use Rattle.rack_closing.proofs.SameRecovered.{SegmentsKeep, keeping}
-use Rattle.rack_closing.proofs.SoundBefore.{sound_before}
-use Rattle.rack_closing.proofs.Cases.{by_option, none_or, some_or}
-use Rattle.rack_closing.specs.Opens.{KeepsViews}
-use Rattle.rack_closing.specs.Owners.{IsSegmentOf, KeepsLog, blocks_of_segment}
-use Rattle.rack_closing.proofs.KeptLogs.{log_may, logs_stay, owned_not_idle}
+use Rattle.rack.proofs.Places.{some_at, both_slices, slice_join}
+use Rattle.rack.proofs.Names.{names_differ}
+use Rattle.rack.proofs.CutParts.{reads_range}
+use Rattle.rack.proofs.KeptImages.{IsKeptImage, AreTwo, IsBefore, kept_before, before_same, before_all}
+use Rattle.rack.proofs.LeftImage.{IsLeftNow, left_image, may_at, out_taken, volume_at}
+use Rattle.rack.proofs.NewFaults.{told_each}
+use Rattle.rack.proofs.SameRecovered.{SegmentsKeep, keeping}
+use Rattle.rack.proofs.SoundBefore.{sound_before}
+use Rattle.rack.proofs.Cases.{by_option, none_or, some_or}
+use Rattle.rack.specs.Opens.{KeepsViews}
+use Rattle.rack.specs.Owners.{IsSegmentOf, KeepsLog, blocks_of_segment}
+use Rattle.rack.proofs.KeptLogs.{log_may, logs_stay, owned_not_idle}
 use Rattle.rack.specs.declared.images.Images.{Images as Asked}
 use Rattle.rack.proofs.Asking.{refuses_later, told_then}
 use Rattle.rack.proofs.ImagesSent.{names_alike, none_named}

@@ -1,8 +1,8 @@
 -- The terms of disks, images, logs, locks and volumes that these proofs are written in.
-pub use Rattle.rack_closing.proofs.Terms.{image_reads, State, Block, TellsContent, IsImageOf, Rose, Values, IsDisk, reads, IsImage, AreCut, blocks_of, one_segment_head, Images, image_of, image_size}
-pub use Rattle.rack_closing.proofs.Terms.{home_of, segment_of, recovered_from, IsSoundSegment, AreSound, Record, IsLog, IsIdle, Config, VolumeConf, TurnLock, PassOf, state_of, volume_of, disk_of}
-pub use Rattle.rack_closing.proofs.Terms.{Spindle, SpindleBase, Spun, HasView, PoolBase, Pool, FreeSegment, HeldSegment, Lane, ManagerBase, Part, Station, part_sizes, IsTold, IsComplete, KeepsButHome}
-pub use Rattle.rack_closing.proofs.Terms.{home_here, GivesBack, LeavesNoneOut, IsForeign, AreForeign, ImageRest, Rack, Rest, VolumeFault, Absent, WrongLength, Refused, LabelFault, BayFailed}
+pub use Rattle.rack.proofs.ClosingTerms.{image_reads, State, Block, TellsContent, IsImageOf, Rose, Values, IsDisk, reads, IsImage, AreCut, blocks_of, one_segment_head, Images, image_of, image_size}
+pub use Rattle.rack.proofs.ClosingTerms.{home_of, segment_of, recovered_from, IsSoundSegment, AreSound, Record, IsLog, IsIdle, Config, VolumeConf, TurnLock, PassOf, state_of, volume_of, disk_of}
+pub use Rattle.rack.proofs.ClosingTerms.{Spindle, SpindleBase, Spun, HasView, PoolBase, Pool, FreeSegment, HeldSegment, Lane, ManagerBase, Part, Station, part_sizes, IsTold, IsComplete, KeepsButHome}
+pub use Rattle.rack.proofs.ClosingTerms.{home_here, GivesBack, LeavesNoneOut, IsForeign, AreForeign, ImageRest, Rack, Rest, VolumeFault, Absent, WrongLength, Refused, LabelFault, BayFailed}
 pub use Rattle.wol_disk.proofs.Calls.{now_leaves}
 pub use Rattle.wol_bay.specs.Bay.{BayState, Name, Told, at_name, Image, each_place, outs, sent_out, IsHome, IsOut}
 pub use Rattle.wol_bay.specs.Refusals.{refusal, refusal_of, blocks_at}
@@ -38,13 +38,13 @@ pub use Rattle.volume_images.specs.Accepted.{HasHead, head_place, IsAccepted, Is
 pub use Rattle.volume_images.specs.Refusals.{IsCutOpenable, SaysSo, GaveBack, IsCallFault, IsFaultAt}
 pub use Rattle.volume_images.specs.Volumes.{shape_in, shapes_of, image_read, images_read, MayLeave, NoneOut, AreLeft}
 pub use Rattle.volume_images.specs.declared.reading.ImageFault.{ImageFault}
-pub use Rattle.rack_closing.specs.Closes.{AreLeftOfParts, HasFaultAt, IsNamedHere, has_station, is_kept_home, flight_in, IsQuiet, LeavesVolumes, CameBackFaulty, HasFaultIn, HasFaultyPart, IsPartHere, ListsFaulty, part_named, place_in}
+pub use Rattle.rack.specs.Closes.{AreLeftOfParts, HasFaultAt, IsNamedHere, has_station, is_kept_home, flight_in, IsQuiet, LeavesVolumes, CameBackFaulty, HasFaultIn, HasFaultyPart, IsPartHere, ListsFaulty, part_named, place_in}
 pub use Rattle.rack.specs.Locked.{IsLocked, IsUnopened}
 pub use Rattle.rack.specs.Making.{AreNewImages, PushesImage, AreEmptyPasses, last_of, ArePopped, AreEmptied, CanDeal, Deals, AreLists, PutsSpindles, PutsPools, IsSetUp, image_by}
 pub use Rattle.rack.specs.Opening.{said_at, view_at, fault_at, IsSaidOf, AreTried, IsOpeningRack, IsRefused, WasAtEntry, AreAsked, StayedAs, IsNextOpened, IsNextRefused, HasBegun, AreRefusedBelow, HaveFaults, SaysOf, AreStillCut, HaveHeads, IsCutOf, AreCutOf, AreOwnersHere, IsStopped, HasFaultOf, StayedSo, HasSentOut, IsBackAtOnce, HasAllBack, LeavesNoMore, AreSameOut, IsTaken}
 pub use Rattle.rack.specs.declared.lists.Lists.{Lists}
-pub use Rattle.rack_closing.specs.Opens.{HasFaulty, RefusesVolume, RefusesImage, AreRefused, HadBefore, HadSegmentBefore, IsGone, IsAsRead, fault_in_image, fault_of_image, IsFaultAmong, HasNewFault, IsLeftHere, BeganWith, KeepsOthers, AreViewsAsRead, WasAccepted, WereThere, LeavesAll, KeepsAllSound, IsThere}
-pub use Rattle.rack_closing.specs.Owners.{images_taken, IsOwnedIn, IsOpeningOf, BeganInPlace, IsBegun, AreOwnedIn, HadRefused, RecoversSame}
+pub use Rattle.rack.specs.Opens.{HasFaulty, RefusesVolume, RefusesImage, AreRefused, HadBefore, HadSegmentBefore, IsGone, IsAsRead, fault_in_image, fault_of_image, IsFaultAmong, HasNewFault, IsLeftHere, BeganWith, KeepsOthers, AreViewsAsRead, WasAccepted, WereThere, LeavesAll, KeepsAllSound, IsThere}
+pub use Rattle.rack.specs.Owners.{images_taken, IsOwnedIn, IsOpeningOf, BeganInPlace, IsBegun, AreOwnedIn, HadRefused, RecoversSame}
 pub use Rattle.rack_parts.specs.Locks.{IsInOrder, AreSettled, AreSpindlesOf, IsWholeLock}
 pub use Rattle.rack_parts.specs.Parts.{TakesOpening, IsOwnedPlace, loggers_out, IsNewLane, IsBarePlace, CanPutLanes, IsOwedPlace, CanPutOwned, HasPlace, segments_of, IsUsablePlace, CanTake, segment_in, IsTakenOf, holder_by, IsHomeAway, IsSameBut, with_home, IsLaidOut, PutsOpening, IsSameRest, PutsManager, IsTogether, HasBack, of_head, IsIssuedPool, TakesFree, Supplies, in_image, CanIssue, Restores, IsRestored}
 pub use Rattle.wol_model.specs.Index.{AreRising}

@@ -7,8 +7,8 @@ use Rattle.rack.proofs.Terms.{IsSameRest, TakesOpening, IsSameBut, loggers_out, 
 use Rattle.rack.proofs.Terms.{place_of, Opening, PassOf, FreeSegment, Owned, PoolBase, Pool, Spindle, SpindleBase, OnlyAccess, IsTakenOf, IsOwnedPlace, IsClosable}
 use Rattle.rack.proofs.Terms.{Rooms, AreSameOut, AreForeign, VolumeFault, in_image, AreHandedBack, IsRow}
 use Rattle.rack_parts.proofs.Members.{segment_in_image, in_cases, first_in, later_in, is_member, none_in, of_map}
-use Rattle.rack_closing.proofs.SameOut.{same_out, out_too, none_too, out_at, taken_same}
-use Rattle.rack_closing.proofs.Cases.{by_option}
+use Rattle.rack.proofs.SameOut.{same_out, out_too, none_too, out_at, taken_same}
+use Rattle.rack.proofs.Cases.{by_option}
 use Rattle.rack_parts.proofs.ManagerBack.{base_stays}
 use Rattle.rack_parts.specs.Parts.{KeepsRows, KeepsPlace, ChangesHome}
 

@@ -33,8 +33,8 @@ use Rattle.rack_parts.specs.Locks.{AreSpindlesOf}
 use Rattle.rack_parts.specs.Parts.{holder_by, IsIssuedPool, Supplies, IsOwnedPlace, segment_in}
 use Rattle.rack_parts.specs.Racks.{IsClosable, NamesVolumes, AreUnused, KeepToViews}
 use Rattle.rack_parts.specs.Closing.{IsComplete}
-use Rattle.rack_closing.specs.BayRuns.{QuietRun}
-use Rattle.rack_closing.specs.Opens.{HadBefore, IsAsRead, BeganWith, HasFaulty, KeepsOthers, KeepsAllSound, KeepsViews, LeavesAll, RefusesVolume}
+use Rattle.rack.specs.BayRuns.{QuietRun}
+use Rattle.rack.specs.Opens.{HadBefore, IsAsRead, BeganWith, HasFaulty, KeepsOthers, KeepsAllSound, KeepsViews, LeavesAll, RefusesVolume}
 use Rattle.rack.specs.declared.all.Taken.{Taken}
 use Rattle.rack_parts.specs.declared.heads_said.Said.{Said}
 use Rattle.rack.specs.declared.images.Images.{Images}

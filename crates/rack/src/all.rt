@@ -2,10 +2,10 @@
 ghost use Rattle.manager.specs.declared.part.Part.{Part};
 ghost use Rattle.manager_recovery.specs.declared.refusal.OpenRefusal.TheVariants.{DiskFault};
 ghost use Rattle.rack.specs.Opening.{IsTaken, BringsAllBack};
-ghost use Rattle.rack_closing.specs.BayRuns.{QuietRun};
-ghost use Rattle.rack_closing.specs.Closes.{HasFaultAt, HasFaultIn};
-ghost use Rattle.rack_closing.specs.Opens.{AreViewsAsRead, BeganWith, WereThere, AreRefused, LeavesAll, HasFaulty, KeepsOthers, KeepsAllSound, KeepsViews};
-ghost use Rattle.rack_closing.specs.Owners.{HadRefused};
+ghost use Rattle.rack.specs.BayRuns.{QuietRun};
+ghost use Rattle.rack.specs.Closes.{HasFaultAt, HasFaultIn};
+ghost use Rattle.rack.specs.Opens.{AreViewsAsRead, BeganWith, WereThere, AreRefused, LeavesAll, HasFaulty, KeepsOthers, KeepsAllSound, KeepsViews};
+ghost use Rattle.rack.specs.Owners.{HadRefused};
 ghost use Rattle.rack_parts.specs.Racks.{IsRack, IsUnused, AreUnused, KeepToViews};
 ghost use Rattle.rack_parts.specs.Rests.{IsImageOut, out_names};
 ghost use Rattle.rack_parts.specs.declared.volume_fault.VolumeFault.TheVariants.{Refused};
@@ -17,10 +17,10 @@ ghost use Rattle.wol_config.specs.Configs.{IsValid};
 ghost use Rattle.wol_disk.specs.Disk.{Rose};
 ghost use Rattle.wol_model.specs.Images.{AreSound};
 
+use crate::close_all;
 use crate::images::{Images, open_images};
 use crate::lists::Lists;
 use crate::volumes::open_volumes;
-use rack_closing::close_all;
 use rack_parts::{Issued, IssuedPool, Rack, end_spindles, give_back, issue_pools, issue_spindles};
 use spin_model::Spindle;
 use std::alloc::Global;

@@ -1,6 +1,6 @@
 // The images of a configuration are taken out of their bay.
 ghost use Rattle.rack.specs.Opening.{IsNextOpened, IsNextRefused, IsBackAtOnce, AreAsked, HasSentOut, HasAllBack};
-ghost use Rattle.rack_closing.specs.Opens.{KeepsOthers, fault_in_image, fault_of_image};
+ghost use Rattle.rack.specs.Opens.{KeepsOthers, fault_in_image, fault_of_image};
 ghost use Rattle.rack_parts.specs.Locks.{IsInOrder, AreSettled, AreSpindlesOf};
 ghost use Rattle.rack_parts.specs.Rests.{IsSpindleLock};
 ghost use Rattle.std.specs.Prelude.{◌≡◌, ◌<◌, length, slice_get, Some, ℕ, IfOk, IfErr, OnErr};

@@ -3,7 +3,7 @@ ghost use Rattle.manager_recovery.specs.Opening.{CanOpen};
 ghost use Rattle.manager_recovery.specs.declared.opening.Opening.{Opening};
 ghost use Rattle.rack.specs.Locked.{IsLocked, IsUnopened};
 ghost use Rattle.rack.specs.Opening.{view_at, IsOpeningRack, HasBegun, AreRefusedBelow, HaveFaults, AreSameOut, IsStopped};
-ghost use Rattle.rack_closing.specs.Opens.{BeganWith, AreRefused};
+ghost use Rattle.rack.specs.Opens.{BeganWith, AreRefused};
 ghost use Rattle.rack_parts.specs.Racks.{IsRack, AreUnused, KeepToViews};
 ghost use Rattle.rack_parts.specs.declared.heads_said.Said.{Said};
 ghost use Rattle.std.specs.Prelude.{◌≡◌, ◌<◌, ◌+◌, Some, length, IfOk, OnOk, OnErr, IfErr, ℕ, slice_get, IsTrue};

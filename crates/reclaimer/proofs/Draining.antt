@@ -39,7 +39,7 @@ any_set test [] k x y is same = absurd (none-some x is)
 any_set test (z ∷ xs) zero x y is same = λ i. (same ∙ ap test (sym (same_Some z x is))) i || list_any test xs
 any_set test (z ∷ xs) (suc k) x y is same = λ i. test z || any_set test xs k x y is same i
 
-map_same : {X Y : Type 0} (f g : X → Y) (xs : List X) → ((x : X) → f x ≡ g x) → map f xs ≡ map g xs
+pub map_same : {X Y : Type 0} (f g : X → Y) (xs : List X) → ((x : X) → f x ≡ g x) → map f xs ≡ map g xs
 map_same f g [] same = refl
 map_same f g (x ∷ xs) same = λ i. same x i ∷ map_same f g xs same i
 

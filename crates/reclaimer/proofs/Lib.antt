@@ -2,6 +2,7 @@ pub mod Counting
 pub mod Draining
 pub mod DrainStep
 pub mod Fetching
+pub mod Firsts
 pub mod Pools
 pub mod PutHome
 pub mod Putting
@@ -19,3 +20,8 @@ pub mod Counted
 pub mod CountedDrain
 pub mod CountedGone
 mod Empty
+pub mod Groups
+pub mod LaidSoFar
+pub mod MarkedSoFar
+pub mod LaysOne
+pub mod PutFirst

@@ -1,4 +1,4 @@
--- The due blocks of one record are read and put home in one call.
+-- A record that was read, and a step behind the read.
 use Rattle.std.proofs.Common.{◌≡◌, ◌<◌, ◌≤◌, ◌+◌, ◌^◌, ℕ, Bool, true, false, not, List, length, take, Option, None, Some, Result, Ok, Err, is_ok, refl, sym, ap, subst, ◌∙◌, arith}
 use Rattle.std.specs.Prelude.{IsSomeAnd, IsTrue, count_by}
 use Rattle.std.specs.Int.RustNames.{count_ones}
@@ -19,25 +19,11 @@ use Rattle.manager.specs.declared.part.StepFault.{StepFault}
 use Rattle.manager.specs.declared.part.StepFault.TheVariants.{DiskFault, Down}
 use Rattle.manager.proofs.ReadKeeps.{keeps_read}
 use Rattle.manager.proofs.ReadThrough.{through_then, rose_through}
-use Rattle.reclaimer.specs.Drains.{HasMoved, put}
 use Rattle.reclaimer.specs.Fetches.{IsFetchOf, HasData}
 use Rattle.reclaimer.specs.Records.{record_of}
-use Rattle.reclaimer.specs.declared.answers.Drain.{Drain}
-use Rattle.reclaimer.specs.declared.answers.Drain.TheVariants.{Moved}
 use Rattle.reclaimer.specs.declared.room.Filled.{Filled}
-use Rattle.reclaimer.proofs.Counting.{blocks_counted}
 use Rattle.reclaimer.proofs.Fetching.{and_of}
-use Rattle.reclaimer.proofs.GiveUp.{some_and}
 use Rattle.garbage_list.proofs.Nexts.{found_passes}
-use Rattle.reclaimer.proofs.Putting.{never, stored_as}
-
--- no block outside the record's range is due
-behind_due : (es : List Listed) (e : Listed) (b : ℕ) → e.first + length e.keep ≤ b → is_due es e b ≡ false
-behind_due es e b le = never (is_due es e b) (λ passes.
-    let live = (and_parts (is_live es e b) (not (is_homed e b)) passes).0 in
-    let covered = (and_parts ((cover_of e).covers b) (not (has_newer (listed_covers es) e.version b)) live).0 in
-    let within = marked_within e.first e.keep b covered in
-    omega (arith, within.1, le))
 
 -- the entry that there is
 pub entry_there : (es : List Indexed) (version : ℕ) (P : Indexed → Type 0) → IsSomeAnd (entry_at es version) P → (e : Indexed) × (entry_at es version ≡ Some e) × P e
@@ -50,13 +36,13 @@ entry_there es version P some = at (entry_at es version) refl some
 module _ {D : Type 0} (m m1 : Manager D) (version : ℕ) (e : Indexed) (is : entry_at m.index.entries version ≡ Some e) (f : Filled) (blocks : List Block) (long : length blocks ≡ 128) (few : (f.count ≤ 128) × (f.due < 2 ^ 128))
     (filled : IsSomeAnd (entry_at m.index.entries version) (λ d. IsSomeAnd (record_of (Some f) blocks) (IsFetchOf (listed_in m.index.entries) d) × (f.count ≡ length d.listed.keep)))
     (was : (d : Indexed) → entry_at m.index.entries version ≡ Some d → HasFetched d.listed.lane m m1) where
-  fetch : IsFetchOf (listed_in m.index.entries) e (record { version = f.version; first = f.lbn; due = f.due; blocks = take f.count blocks }) × (f.count ≡ length e.listed.keep)
+  pub fetch : IsFetchOf (listed_in m.index.entries) e (record { version = f.version; first = f.lbn; due = f.due; blocks = take f.count blocks }) × (f.count ≡ length e.listed.keep)
   fetch = and_of _ (entry_at m.index.entries version) e filled is
 
-  version_is : e.listed.version ≡ version
+  pub version_is : e.listed.version ≡ version
   version_is = eqb-true e.listed.version version (found_passes (has_version version) m.index.entries e is)
 
-  same_index : m1.index.entries ≡ m.index.entries
+  pub same_index : m1.index.entries ≡ m.index.entries
   same_index = ap (λ (k : Manager D). k.index.entries) (was e is).rest
 
   same_entry : (x : Indexed) → entry_at m1.index.entries version ≡ Some x → e ≡ x
@@ -71,21 +57,6 @@ module _ {D : Type 0} (m m1 : Manager D) (version : ℕ) (e : Indexed) (is : ent
         range = d.range ∙ fetch.0.first ∙ ap (λ (d : Indexed). d.listed.first) (same_entry x there);
         data_ = d.data_;
       }
-
-  counted_due : count_ones f.due ≡ count_by (is_due (listed_in m.index.entries) e.listed) (block_numbers e.listed)
-  counted_due = blocks_counted f.due e.listed.first (length e.listed.keep) (is_due (listed_in m.index.entries) e.listed) few.1 (let n = fetch.1 in let k = few.0 in omega arith) fetch.0.due (behind_due (listed_in m.index.entries) e.listed)
-
-  module _ (state : D → State) (new : Manager D) where
-    pub moved : {T : Type 0} (r : Result T StepFault) → is_ok r ≡ true → HasStored state version f.due (take f.count blocks) m1 new r → HasMoved state e m new (Ok (Moved (count_ones f.due) 0))
-    moved r done h =
-        let answer : Result Drain StepFault = Ok (Moved (count_ones f.due) 0) in
-        put m1 f.due (take f.count blocks) (was e is) fetch.0.due (subst (λ (v : ℕ). HasStored state v f.due (take f.count blocks) m1 new answer) (sym version_is) (stored_as state version f.due (take f.count blocks) m1 new r answer (sym done) h)) (counted_due, refl)
-
-    pub not_moved : (T : Type 0) (fault : StepFault) → OnTried {T = T} (Err fault) (HasStored {T = T} state version f.due (take f.count blocks) m1 new (Err fault)) → OnTried {T = T} (Err fault) (IsSomeAnd (entry_at m.index.entries version) (λ d. HasMoved state d m new (Err fault)))
-    not_moved T (DiskFault p) h =
-        let failed : Result T StepFault = Err (DiskFault p) in let answer : Result Drain StepFault = Err (DiskFault p) in
-        some_and _ (entry_at m.index.entries version) e is (put m1 f.due (take f.count blocks) (was e is) fetch.0.due (subst (λ (v : ℕ). HasStored state v f.due (take f.count blocks) m1 new answer) (sym version_is) (stored_as state version f.due (take f.count blocks) m1 new failed answer refl h)) tt)
-    not_moved T (Down p) h = tt
 
 -- ---- two steps, one behind the other
 

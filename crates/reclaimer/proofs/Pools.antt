@@ -9,13 +9,12 @@ use Rattle.seg_pool.specs.Operations.{operation_of}
 use Rattle.logger.specs.Lanes.{pool_of}
 use Rattle.logger.specs.declared.lane.Lane.{Lane}
 use Rattle.manager.specs.Offers.{ChangesLane}
-use Rattle.manager.specs.Reclaim.{HasFetched, IsTrimmedLane}
+use Rattle.wol_model.specs.Index.{Indexed}
+use Rattle.manager.specs.Reclaim.{HasDropped, HasFetched, IsTrimmedLane}
 use Rattle.manager.specs.Stands.{nones_in, nones_at, entries_at}
 use Rattle.manager.specs.declared.base.LaneBase.{LaneBase}
 use Rattle.manager.specs.declared.manager.Manager.{Manager}
 use Rattle.manager.proofs.ReadyLanes.{nones_more, nones_at_set}
-use Rattle.reclaimer.specs.Drains.{Drains, nothing_left, gave_up, put_home, put, not_read}
-use Rattle.reclaimer.specs.declared.answers.Drain.{Drain}
 use Rattle.manager.specs.declared.part.StepFault.{StepFault}
 
 nones_gave : (es : List Entry) (pass index : ℕ) → nones_in (es ++ (pass, operation_of (Gave index)) ∷ []) ≡ nones_in es
@@ -28,7 +27,7 @@ module _ {D : Type 0} (bs : List LaneBase) where
   changed_lane : (Change : Lane D → Lane D → Type 0) → ((o n : Lane D) → Change o n → nones_in (pass_mine (pool_of o)) ≤ nones_in (pass_mine (pool_of n))) → (k : ℕ) (old new : List (Lane D)) → ChangesLane Change k old new → (j : ℕ) → nones_at old bs j ≤ nones_at new bs j
   changed_lane Change less k old new c j = subst (λ (l : List (Lane D)). nones_at old bs j ≤ nones_at l bs j) (sym c.set) (nones_at_set old bs k c.before c.after c.there (less c.before c.after c.change) j)
 
-  fetched_no_fewer : (lane : ℕ) (old new : Manager D) → HasFetched lane old new → (j : ℕ) → nones_at old.lanes.items bs j ≤ nones_at new.lanes.items bs j
+  pub fetched_no_fewer : (lane : ℕ) (old new : Manager D) → HasFetched lane old new → (j : ℕ) → nones_at old.lanes.items bs j ≤ nones_at new.lanes.items bs j
   fetched_no_fewer lane old new f j = changed_lane _ (λ o n used. same_pool o n used.pool) lane old.lanes.items new.lanes.items f.lanes j
 
   trimmed_no_fewer : (index left : ℕ) (o n : Lane D) → IsTrimmedLane index (left ≡ 0) o n → nones_in (pass_mine (pool_of o)) ≤ nones_in (pass_mine (pool_of n))
@@ -37,9 +36,5 @@ module _ {D : Type 0} (bs : List LaneBase) where
       (λ some. same_pool o n (t.kept some).0)
       (cases_eq left 0)
 
-  pub no_fewer : (state : D → State) (old new : Manager D) (res : Result Drain StepFault) → Drains state old new res → (j : ℕ) → nones_at old.lanes.items bs j ≤ nones_at new.lanes.items bs j
-  no_fewer state old new res (nothing_left empty same is) j = subst (λ (m : Manager D). nones_at old.lanes.items bs j ≤ nones_at m.lanes.items bs j) (sym same) (omega arith)
-  no_fewer state old new res (gave_up e first dropped told) j = changed_lane _ (λ o n t. trimmed_no_fewer e.index (entries_at e.listed.lane e.index new.index.entries) o n t) e.listed.lane old.lanes.items new.lanes.items dropped.lanes j
-  no_fewer state old new res (put_home e none first (put read mask blocks fetched is stored told)) j =
-      subst (λ (l : List (Lane D)). nones_at old.lanes.items bs j ≤ nones_at l bs j) (ap (λ (m : Manager D). m.lanes.items) (sym stored.rest)) (fetched_no_fewer e.listed.lane old read fetched j)
-  no_fewer state old new res (put_home e none first (not_read failed fetched)) j = fetched_no_fewer e.listed.lane old new fetched j
+  pub dropped_no_fewer : {T : Type 0} (version : ℕ) (e : Indexed) (old new : Manager D) (res : Result T StepFault) → HasDropped version e old new res → (j : ℕ) → nones_at old.lanes.items bs j ≤ nones_at new.lanes.items bs j
+  dropped_no_fewer version e old new res dropped j = changed_lane _ (λ o n t. trimmed_no_fewer e.index (entries_at e.listed.lane e.index new.index.entries) o n t) e.listed.lane old.lanes.items new.lanes.items dropped.lanes j

@@ -15,7 +15,7 @@ use Rattle.manager.specs.Stands.{IsReady}
 use Rattle.manager.specs.declared.manager.Manager.{Manager}
 use Rattle.manager.specs.declared.part.StepFault.{StepFault}
 use Rattle.manager.specs.declared.part.StepFault.TheVariants.{DiskFault, Down}
-use Rattle.reclaimer.specs.Drains.{HasWoken, HasDrained, Drains, TellsMoved, nothing_left, gave_up, put_home, put, not_read}
+use Rattle.reclaimer.specs.Drains.{HasWoken, HasDrained, Drains, TellsMoved, TellsPut, nothing_left, gave_up, put_home}
 use Rattle.reclaimer.specs.Steps.{StopsWithin}
 use Rattle.reclaimer.specs.declared.answers.Drain.{Drain}
 use Rattle.reclaimer.specs.declared.answers.Drain.TheVariants.{Bare}
@@ -37,12 +37,15 @@ bare_drained ups = same_flags ups 0 (λ k. slice_index_or ups k false || false) 
 moved_nothing : (blocks records : ℕ) (answer : Result Drain StepFault) → answer ≡ Ok Bare → TellsMoved blocks records answer → ⊥
 moved_nothing blocks records answer is told = subst (TellsMoved blocks records) is told
 
+put_nothing : (put : Result ℕ StepFault) (answer : Result Drain StepFault) → answer ≡ Ok Bare → TellsPut put answer → ⊥
+put_nothing (Ok count) answer is told = subst (TellsPut (Ok count)) is told
+put_nothing (Err fault) answer is told = subst (TellsPut (Err fault)) is told
+
 -- an answer that tells nothing left
 bare_step : {D : Type 0} (state : D → State) (old new : Manager D) (answer : Result Drain StepFault) → Drains state old new answer → answer ≡ Ok Bare → (old.index.entries ≡ []) × (new ≡ old)
 bare_step state old new answer (nothing_left empty same is) bare = (empty, same)
-bare_step state old new answer (gave_up e first dropped told) bare = absurd (moved_nothing _ _ answer bare told)
-bare_step state old new answer (put_home e none first (put read mask blocks fetched is stored told)) bare = absurd (moved_nothing _ _ answer bare told)
-bare_step state old new answer (put_home e none first (not_read failed fetched)) bare = absurd (let wrong : false ≡ true = subst (λ (a : Result Drain StepFault). IsErr a) bare failed in cc)
+bare_step state old new answer (put_home put has told) bare = absurd (put_nothing put answer bare told)
+bare_step state old new answer (gave_up e due first dropped told) bare = absurd (moved_nothing _ _ answer bare told)
 
 -- no count rose where none rose once home was woken
 pub step_calm : {D : Type 0} (state : D → State) (m w n : Manager D) → w ≡ record m { home_up = true; spindle = w.spindle } → (answer : Result Drain StepFault) → OnOk answer (NoneRose state w n) → OnOk answer (NoneRose state m n)

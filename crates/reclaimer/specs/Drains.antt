@@ -1,13 +1,13 @@
 -- What the steps of a drain do to a manager, by their answers.
-use Rattle.std.specs.Prelude.{⊤, ◌≡◌, ◌<◌, ℕ, true, List, [], find, Option, None, Some, is_none, IsErr, Result, Ok, Err, count_by, if◌then◌else◌}
-use Rattle.wol_disk.specs.Disk.{State, Block}
-use Rattle.wol_model.specs.Index.{Indexed, listed_in, is_due, has_due, has_going, block_numbers, left}
-use Rattle.block_cells.specs.Masks.{IsMask}
+use Rattle.std.specs.Prelude.{⊤, ◌≡◌, ◌<◌, ℕ, true, List, [], find, Option, None, Some, is_none, Result, Ok, Err, if◌then◌else◌}
+use Rattle.wol_disk.specs.Disk.{State}
+use Rattle.wol_model.specs.Index.{Indexed, listed_in, has_due, has_going, left}
 use Rattle.redirect_map.specs.Index.{entry_at}
 use Rattle.manager.specs.Accesses.{HasUsedOnce}
-use Rattle.manager.specs.Reclaim.{HasFetched, HasStored, HasDropped}
+use Rattle.manager.specs.Reclaim.{HasDropped}
 use Rattle.manager.specs.declared.manager.Manager.{Manager}
 use Rattle.manager.specs.declared.part.StepFault.{StepFault}
+use Rattle.reclaimer.specs.Groups.{HasPutGroup}
 use Rattle.reclaimer.specs.declared.answers.Drain.{Drain}
 use Rattle.reclaimer.specs.declared.answers.Drain.TheVariants.{Bare, Moved}
 
@@ -30,29 +30,25 @@ TellsMoved blocks records (Ok Bare) = ⊥
 TellsMoved blocks records (Ok (Moved b r)) = (b ≡ blocks) × (r ≡ records)
 TellsMoved blocks records (Err fault) = ⊤
 
--- The record of this entry was read, by one access to its logger, and its due blocks were written
--- home and synced, by one access to home; or it couldn't be read.
-pub data HasMoved {D : Type 0} (state : D → State) (e : Indexed) (old new : Manager D)
-    (answer : Result Drain StepFault) : Type 0 where
-  put : (read : Manager D) (mask : ℕ) (blocks : List Block) → HasFetched e.listed.lane old read
-      → IsMask e.listed.first (is_due (listed_in old.index.entries) e.listed) mask
-      → HasStored state e.listed.version mask blocks read new answer
-      → TellsMoved (count_by (is_due (listed_in old.index.entries) e.listed)
-      (block_numbers e.listed)) 0 answer → HasMoved state e old new answer
-  not_read : IsErr answer → HasFetched e.listed.lane old new → HasMoved state e old new answer
+-- the blocks that went home are told on, and so is a refusal
+abbrev pub TellsPut : Result ℕ StepFault → Result Drain StepFault → Type 0
+TellsPut (Ok count) (Ok Bare) = ⊥
+TellsPut (Ok count) (Ok (Moved b r)) = (0 < count) × (b ≡ count) × (r ≡ 0)
+TellsPut (Ok count) (Err fault) = ⊥
+TellsPut (Err fault) (Ok moved) = ⊥
+TellsPut (Err fault) (Err told) = told ≡ fault
 
--- With home awake, the first record of which something may go gave that up; or, where nothing may
--- go, the due blocks of the first record that has one went home. Nothing was done where no record
--- is left.
+-- With home awake, the due blocks of the first records that have one went home; or, where nothing is
+-- due, the first record of which something may go gave that up. Nothing was done where no record is
+-- left.
 pub data Drains {D : Type 0} (state : D → State) (old new : Manager D)
     (answer : Result Drain StepFault) : Type 0 where
   nothing_left : old.index.entries ≡ [] → new ≡ old → answer ≡ Ok Bare → Drains state old new answer
-  gave_up : (e : Indexed) → first_going old.index.entries ≡ Some e
-      → HasDropped e.listed.version e old new answer
-      → TellsMoved 0 (if is_none (entry_at new.index.entries e.listed.version) then 1 else 0) answer
+  put_home : (put : Result ℕ StepFault) → HasPutGroup state true put old new → TellsPut put answer
       → Drains state old new answer
-  put_home : (e : Indexed) → first_going old.index.entries ≡ None
-      → first_due old.index.entries ≡ Some e → HasMoved state e old new answer
+  gave_up : (e : Indexed) → first_due old.index.entries ≡ None
+      → first_going old.index.entries ≡ Some e → HasDropped e.listed.version e old new answer
+      → TellsMoved 0 (if is_none (entry_at new.index.entries e.listed.version) then 1 else 0) answer
       → Drains state old new answer
 
 -- home was woken before

@@ -1,5 +1,6 @@
 pub mod Counts
 pub mod Drains
 pub mod Fetches
+pub mod Groups
 pub mod Records
 pub mod Steps

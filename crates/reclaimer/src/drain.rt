@@ -5,55 +5,60 @@ ghost use Rattle.manager.specs.Seen.{look_of_manager};
 ghost use Rattle.manager.specs.Stands.{IsReady, IsHome, nones_at};
 ghost use Rattle.manager.specs.declared.base.LaneBase.{LaneBase};
 ghost use Rattle.reclaimer.specs.Counts.{CountsMoved};
-ghost use Rattle.reclaimer.specs.Drains.{HasMoved, Drains, HasDrained, Lowers};
+ghost use Rattle.reclaimer.specs.Drains.{Drains, HasDrained, Lowers, first_due};
 ghost use Rattle.reclaimer.specs.Steps.{StopsWithin};
-ghost use Rattle.redirect_map.specs.Index.{IsIndex, entry_at};
-ghost use Rattle.std.specs.Prelude.{◌≡◌, ◌↔◌, ◌≤◌, ℕ, List, [], true, None, Ok, IsTrue, IsSomeAnd, length, OnOk};
-ghost use Rattle.wol_model.specs.Index.{listed_in, has_due};
+ghost use Rattle.redirect_map.specs.Index.{IsIndex};
+ghost use Rattle.std.specs.Prelude.{◌≡◌, ◌↔◌, ◌<◌, ◌≤◌, ℕ, List, [], true, None, Ok, IsTrue, length, OnOk};
 ghost use Rattle.wol_promise.specs.Policy.{drained};
 
+use crate::group::put_first;
 use crate::next::{due_next, going};
-use crate::room::read_record;
 use crate::{Drain, Fetch};
 use logger::Shared;
 use manager::{Manager, StepFault};
-use redirect_map::Rec;
 use std::sync::Wait;
 use wol_disk::{Block, Disk};
 
 /// A view has at most so many loggers, all of which a drain counts as awake.
 const ALL: [bool; 16] = [true; 16];
 
-// Reads the record that is next, which has due blocks, and puts them home.
-fn move_home<R: Wait, D: Disk>(
+// Gives up what may go of the first record of which something may go, where nothing is due.
+fn drop_first<R: Wait, D: Disk>(
     rt: &R,
     m: &mut Manager<D>,
     shared: &Shared<D>,
-    next: &Rec,
-    room: &mut [Block],
 ) -> Result<Drain, StepFault>
     requires ready { IsReady D.state m.old }
     requires at { IsHome shared.now m.old }
-    requires room { length room.old ≡ 128 }
-    requires due { IsSomeAnd (entry_at m.old.index.entries next.now.version)
-        (λ e. has_due (listed_in m.old.index.entries) e.listed ≡ true) }
+    requires up { m.old.down ≡ None }
+    requires some { 0 < length m.old.index.entries }
+    requires index { IsIndex m.old.index.entries }
+    requires due { first_due m.old.index.entries ≡ None }
     ensures ready { IsReady D.state m.new }
     ensures at { IsHome shared.now m.new }
     ensures fault { TellsStep D.state result m.old m.new }
     ensures calm { OnOk result (NoneRose D.state m.old m.new) }
-    ensures moved { OnTried result (IsSomeAnd (entry_at m.old.index.entries next.now.version)
-        (λ e. HasMoved D.state e m.old m.new result)) }
+    ensures drains { Drains D.state m.old m.new result }
+    ensures moved { result ≡ Ok Drain.Bare → ⊥ }
+    ensures awake { OnTried result (m.new.home_up ≡ m.old.home_up) }
+    ensures counted { CountsMoved result (look_of_manager m.old) (look_of_manager m.new) }
+    ensures passed { (lanes : List LaneBase) (k : ℕ)
+        → nones_at m.old.lanes.items lanes k ≤ nones_at m.new.lanes.items lanes k }
+    ensures lowers { Lowers result m.old m.new }
+    ensures look { OnKept result (drained (look_of_manager m.new) ≡ drained (look_of_manager m.old)) }
     ensures keeps { OnKept result (KeepsOn D.tells D.state m.old m.new Always) }
     ensures broke { OnFailed result (BreaksOff D.tells D.state m.old m.new Always) }
     ensures any_moment { OnTried result
         (IsTrue D.tells → StopsSince D.tells D.state m.old m.new Always) }
 {
-    let filled = read_record(rt, m, shared, next.version, room)?;
-    let blocks = &room[..filled.count as usize];
-    match m.store_home(rt, shared, next.version, filled.due, blocks) {
-        Ok(()) => Ok(Drain::Moved {
-            blocks: filled.due.count_ones(),
-            records: 0,
+    let Some(record) = going(m.index(), &ALL) else {
+        // Each kept block of the record of least version may go or is due.
+        unreachable!()
+    };
+    match m.drop_rec(rt, shared, record.version) {
+        Ok(gone) => Ok(Drain::Moved {
+            blocks: 0,
+            records: u32::from(gone),
         }),
         Err(fault) => Err(fault),
     }
@@ -76,7 +81,11 @@ fn drain_awake<R: Wait, D: Disk>(
     ensures fault { TellsStep D.state result m.old m.new }
     ensures calm { OnOk result (NoneRose D.state m.old m.new) }
     ensures drains { Drains D.state m.old m.new result }
-    ensures index { IsIndex m.old.index.entries }
+    ensures bare { (result ≡ Ok Drain.Bare) ↔ (m.old.index.entries ≡ []) }
+    ensures awake { OnTried result (m.new.home_up ≡ true) }
+    ensures counted { CountsMoved result (look_of_manager m.old) (look_of_manager m.new) }
+    ensures passed { (lanes : List LaneBase) (k : ℕ)
+        → nones_at m.old.lanes.items lanes k ≤ nones_at m.new.lanes.items lanes k }
     ensures lowers { Lowers result m.old m.new }
     ensures look { OnKept result (drained (look_of_manager m.new) ≡ drained (look_of_manager m.old)) }
     ensures keeps { OnKept result (KeepsOn D.tells D.state m.old m.new Always) }
@@ -87,24 +96,19 @@ fn drain_awake<R: Wait, D: Disk>(
     if m.index().len() == 0 {
         return Ok(Drain::Bare);
     }
-    if let Some(record) = going(m.index(), &ALL) {
-        return match m.drop_rec(rt, shared, record.version) {
-            Ok(gone) => Ok(Drain::Moved {
-                blocks: 0,
-                records: u32::from(gone),
-            }),
-            Err(fault) => Err(fault),
-        };
+    let due = due_next(m.index(), &ALL).is_some();
+    if !due {
+        return drop_first(rt, m, shared);
     }
-    let Some(record) = due_next(m.index(), &ALL) else {
-        // Each kept block of the record of least version may go or is due.
-        unreachable!()
-    };
-    move_home(rt, m, shared, &record, room)
+    match put_first(rt, m, shared, true, room) {
+        Ok(blocks) => Ok(Drain::Moved { blocks, records: 0 }),
+        Err(fault) => Err(fault),
+    }
 }
 
-/// Wakes home, and then gives up what may go of the record of least version of which something may go; or, where nothing may
-/// go, puts home the due blocks of the record of least version that has one. The logger of that record is woken. `Bare` comes
+/// Wakes home, and then puts home the due blocks of the records of least version that have one, at most 128 of them, with one
+/// sync; or, where nothing is due, gives up what may go of the record of least version of which something may go. The loggers of
+/// these records are woken. `Bare` comes
 /// exactly where no record is left. `DiskFault` comes only where a part's count of faults rose in this call, and brings the
 /// manager down; `Down` exactly where it is down, which is tried first. The fetch is empty afterwards.
 pub fn drain_step<R: Wait, D: Disk>(

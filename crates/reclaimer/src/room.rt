@@ -3,6 +3,7 @@ ghost use Rattle.manager.specs.Causes.{NoneRose};
 ghost use Rattle.manager.specs.Reading.{IsReadThrough};
 ghost use Rattle.manager.specs.Reclaim.{OnTried, OnKept, OnFailed, TellsStep, KeepsOn, BreaksOff, StopsSince, Always, HasFetched};
 ghost use Rattle.manager.specs.Stands.{Keeps, IsReady, IsHome};
+ghost use Rattle.manager.specs.Stops.{HoldsOn};
 ghost use Rattle.manager.specs.declared.base.ManagerBase.{ManagerBase};
 ghost use Rattle.reclaimer.specs.Fetches.{IsFetchOf, HasData};
 ghost use Rattle.reclaimer.specs.Records.{record_of};
@@ -101,6 +102,7 @@ pub(crate) fn read_record<R: Wait, D: Disk>(
     ensures broke { OnFailed result (BreaksOff D.tells D.state m.old m.new Always) }
     ensures any_moment { OnTried result
         (IsTrue D.tells → StopsSince D.tells D.state m.old m.new Always) }
+    ensures since { OnTried result (HoldsOn D.tells D.state m.old m.new Always) }
 {
     let Some(record) = m.index().find(version) else {
         unreachable!()

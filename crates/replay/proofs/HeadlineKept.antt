@@ -9,7 +9,7 @@ use Rattle.replay.proofs.Terms.{VolumeFault, HasGivenAll, AreAllOpen, ArePrinted
 use Rattle.replay.proofs.Terms.{BeginAsRead, History, answers_in, is_broken, is_broken_at, LeavesImages, AsksNone, LeavesBay, Replayed}
 use Rattle.replay.proofs.Terms.{Replays, status_in, ServedWindow, PrintsRun, lines_asked, Given, Options, Stop}
 use Rattle.replay.proofs.Terms.{CameBackFaulty, HasFaultyPart, IsFlightAt, PartName, Write, part_named}
-use Rattle.rack_closing.proofs.NewFaults.{told_with}
+use Rattle.rack.proofs.NewFaults.{told_with}
 use Rattle.replay.proofs.ImagesLeft.{none_or}
 use Rattle.replay.proofs.RacksServed.{a_member}
 use Rattle.replay.proofs.Statuses.{not_success}

@@ -7,7 +7,7 @@ use Rattle.replay.proofs.Terms.{Write, IsFlightAt, ImageRest, WasDown, down_brea
 use Rattle.wol_promise.proofs.DownStays.{down_at_end}
 use Rattle.manager.specs.Seen.{name_of}
 use Rattle.manager.specs.declared.part.Part.TheVariants.{Home, Segment}
-use Rattle.troubles.proofs.Named.{named_alike}
+use Rattle.rack.proofs.Named.{named_alike}
 use Rattle.replay.proofs.HistoriesLeft.{histories_of, history_at}
 use Rattle.replay.proofs.WindowBroken.{HasDown, not_none}
 use Rattle.wol_model.specs.History as history

@@ -10,8 +10,8 @@ use Rattle.replay.proofs.Terms.{closed, locks_of, no_memory, served, ServesSome,
 use Rattle.replay.proofs.Terms.{opened_out}
 use Rattle.rack.proofs.Asking.{told_then}
 use Rattle.rack.proofs.FailedParts.{gained_parts}
-use Rattle.rack_closing.proofs.NewFaults.{told_each, told_with}
-use Rattle.rack_closing.proofs.ViewsLeft.{front_left, told_left, views_left}
+use Rattle.rack.proofs.NewFaults.{told_each, told_with}
+use Rattle.rack.proofs.ViewsLeft.{front_left, told_left, views_left}
 use Rattle.replay.proofs.HistoriesLeft.{histories_of}
 use Rattle.replay.proofs.RacksServed.{a_member, at_place, each_station, station_count}
 use Rattle.replay.proofs.RunClosed.{leaves_bay, runs_closed}

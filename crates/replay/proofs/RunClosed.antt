@@ -9,10 +9,10 @@ use Rattle.replay.proofs.Terms.{first_closed, RunsNone, Given, Options}
 use Rattle.replay.specs.Replays.{closed}
 use Rattle.rack.proofs.Asking.{refuses_later, rose_on}
 use Rattle.rack.proofs.FailedParts.{gained_parts, part_came_back, part_failed}
-use Rattle.rack_closing.proofs.NewFaults.{told_each, told_with}
+use Rattle.rack.proofs.NewFaults.{told_each, told_with}
 use Rattle.rack.proofs.StillThere.{kept_home, there_left}
-use Rattle.open_rack.proofs.FirstClosed.{first_refused}
-use Rattle.open_rack.proofs.Since.{not_out, refused_alone, refused_missing}
+use Rattle.rack.proofs.FirstClosed.{first_refused}
+use Rattle.rack.proofs.Since.{not_out, refused_alone, refused_missing}
 use Rattle.replay.proofs.CauseServed.{rose_from}
 use Rattle.replay.proofs.RunFlown.{run_told}
 use Rattle.manager_recovery.specs.declared.refusal.OpenRefusal.TheVariants as refusal

@@ -18,8 +18,8 @@ use Rattle.replay.proofs.Terms.{pass_number, HasNoHelp, HasHistory, answers_of, 
 use Rattle.wol_model.specs.Trace.{requests, windows}
 use Rattle.replay.proofs.HistoriesLeft.{each_closed, histories_of}
 use Rattle.rack.specs.PoolUses.{HadLogger}
-use Rattle.rack_closing.proofs.Cases.{by_option}
-use Rattle.rack_closing.proofs.LoggersNamed.{names_logger}
+use Rattle.rack.proofs.Cases.{by_option}
+use Rattle.rack.proofs.LoggersNamed.{names_logger}
 use Rattle.rack_parts.proofs.Members.{a_value, none_in}
 use Rattle.rack.proofs.FailedParts.{faulty_since}
 use Rattle.replay.proofs.AllAsked.{AreAllCounted, all_counted_asked}

@@ -50,10 +50,10 @@ pub use Rattle.errands.specs.declared.ends.Errands.{Errands}
 pub use Rattle.msr_trace.specs.Lines.{is_feed, trace_line}
 pub use Rattle.msr_trace.specs.Reading.{Reading, IsDone, RefusesLine, pending, is_no_memory}
 pub use Rattle.msr_trace.specs.declared.format.TraceFault.{TraceFault}
-pub use Rattle.open_rack.proofs.AllOut.{accepted_all, recovered_all, taken_all}
-pub use Rattle.open_rack.proofs.FirstClosed.{none_closed}
-pub use Rattle.open_rack.proofs.OpenedKept.{opened_out}
-pub use Rattle.open_rack.specs.NotOpened.{first_closed}
+pub use Rattle.rack.proofs.AllOut.{accepted_all, recovered_all, taken_all}
+pub use Rattle.rack.proofs.FirstClosed.{none_closed}
+pub use Rattle.rack.proofs.OpenedKept.{opened_out}
+pub use Rattle.rack.specs.NotOpened.{first_closed}
 pub use Rattle.replay.specs.Completes.{Completes, MayComplete, writes_to}
 pub use Rattle.replay.specs.Counts.{was_drained, most_count, no_totals, was_logged, went_home, AddsAtMost, was_read, was_written, CountsWindow, CountsOutcomes}
 pub use Rattle.replay.specs.Ended.{EndsFor, HasRefusedWrite, IsPartFault, memory, no_line, refused, sink_failed}
@@ -119,7 +119,7 @@ pub use Rattle.trace_windows.specs.Batches.{Batched, IsBatchOf}
 pub use Rattle.trace_windows.specs.Cutting.{AreWindows, Cutting, HasCut, next_number}
 pub use Rattle.trace_windows.specs.Requests.{asked, requests_in_all, IsInside, numbered}
 pub use Rattle.trace_windows.specs.declared.request.Request.{Request}
-pub use Rattle.troubles.specs.Troubles.{trouble_of_part, trouble_of}
+pub use Rattle.rack.specs.Troubles.{trouble_of_part, trouble_of}
 pub use Rattle.window_desks.specs.declared.desk.Desk.{Desk}
 pub use Rattle.window_desks.specs.declared.floor.Floor.{Floor}
 pub use Rattle.window_desks.specs.declared.request.Reclaim.{Reclaim}

@@ -7,7 +7,7 @@ use Rattle.wol_promise.specs.Outcomes.{of_volume}
 use Rattle.wol_config.specs.declared.config.Config.{Config}
 use Rattle.volume_images.specs.Volumes.{images_read}
 use Rattle.rack.specs.Owners.{IsBegun}
-use Rattle.open_rack.specs.Sessions as session
+use Rattle.rack.specs.Sessions as session
 use Rattle.report.specs.declared.fault.Fault.TheVariants.{Memory}
 use Rattle.trace_gen.specs.Generated.{targets_of}
 use Rattle.replay.specs.Givens.{HasGiven, MayGiveAll}

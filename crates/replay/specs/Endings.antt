@@ -15,7 +15,7 @@ use Rattle.trace_windows.specs.declared.request.Request.{Request}
 use Rattle.request_turns.specs.declared.outcome.Outcome.{Outcome}
 use Rattle.request_turns.specs.declared.outcome.Outcome.TheVariants.{Read, Wrote, NoRead, NoWrite, NotRun}
 use Rattle.window_desks.specs.declared.request.Window.{Window}
-use Rattle.troubles.specs.Troubles.{trouble_of_part}
+use Rattle.rack.specs.Troubles.{trouble_of_part}
 
 -- a call of a part failed
 abbrev pub fault_of_part : (volume : ℕ) → Part → Fault

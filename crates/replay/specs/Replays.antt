@@ -12,7 +12,7 @@ use Rattle.report.specs.Faults.{status_of}
 use Rattle.report.specs.declared.fault.Fault.TheVariants.{Memory, Versions, Volume}
 use Rattle.report.specs.declared.trouble.Trouble.{Trouble}
 use Rattle.trace_gen.specs.Generated.{targets_of}
-use Rattle.troubles.specs.Troubles.{trouble_of, trouble_of_part}
+use Rattle.rack.specs.Troubles.{trouble_of, trouble_of_part}
 use Rattle.rack.specs.Closes.{HasFaultyPart, part_named}
 use Rattle.rack.specs.PoolUses.{ArePools, PassesEmpty, TakesFew}
 use Rattle.rack_parts.specs.declared.volume_fault.VolumeFault.{VolumeFault}

@@ -15,7 +15,7 @@ use Rattle.wol_config.specs.declared.config.Config.{Config}
 use Rattle.report.specs.declared.fault.Fault.{Fault}
 use Rattle.report.specs.declared.fault.Fault.TheVariants.{Memory}
 use Rattle.rack_parts.specs.declared.rack.Rack.{Rack}
-use Rattle.open_rack.specs.NotOpened.{first_closed}
+use Rattle.rack.specs.NotOpened.{first_closed}
 use Rattle.replay.specs.Counts.{no_totals}
 use Rattle.replay.specs.Served.{AreSamePasses}
 use Rattle.replay.specs.Sessions.{AreVolumes, ServesSome, ServesWhole}

@@ -4,9 +4,9 @@ ghost use Rattle.std.specs.List.{list_any};
 ghost use Rattle.std.specs.Prelude.{◌≡◌, length};
 
 use manager::{Part, ReadRefusal, StepFault, WriteRefusal};
+use rack::trouble_of_part;
 use report::Fault;
 use request_workers::{Outcome, Request, Window};
-use troubles::trouble_of_part;
 
 // A call of a part failed, and its volume is down.
 fn fault_of_part(volume: u32, part: Part) -> Fault

@@ -1,5 +1,5 @@
 // A trace is replayed on all volumes of a bay.
-ghost use Rattle.open_rack.specs.NotOpened.{first_closed};
+ghost use Rattle.rack.specs.NotOpened.{first_closed};
 ghost use Rattle.rack.specs.Opens.{KeepsOthers};
 ghost use Rattle.replay.specs.Account.{KeepsAccount};
 ghost use Rattle.replay.specs.Completes.{Completes, MayComplete};
@@ -23,8 +23,7 @@ use crate::printing::print_summary;
 use crate::session::{Options, Session};
 use crate::stop::Stop;
 use manager::Manager;
-use open_rack::first_closed;
-use rack::{Rack, close_all, open_all};
+use rack::{Rack, close_all, first_closed, open_all};
 use report::Fault;
 use request_workers::{Floor, Passes, Station, set_up, take_down};
 use std::alloc::Global;

@@ -8,6 +8,7 @@ pub mod Turning
 pub mod ReadNotes
 pub mod WroteTurn
 pub mod StepNotes
+mod Uses
 mod Reclaiming
 pub mod ClosedTurn
 pub mod Payloads

@@ -11,13 +11,15 @@ use Rattle.manager.specs.declared.manager.Manager.{Manager}
 use Rattle.manager.specs.declared.part.StepFault.{StepFault}
 use Rattle.manager.specs.declared.part.StepFault.TheVariants as fault
 use Rattle.reclaimer.specs.Counts.{CountsGone}
-use Rattle.reclaimer.specs.Steps.{LooksGone}
+use Rattle.reclaimer.specs.Steps.{HasGivenUp, LooksGone}
 use Rattle.reclaimer.specs.declared.answers.Gone.{Gone}
 use Rattle.request_turns.specs.Closed.{GoesOn, Reclaims}
 use Rattle.request_turns.specs.Counts.{CountsMore, HasTaken, gone_count}
 use Rattle.request_turns.specs.declared.tally.Tally.{Tally}
 use Rattle.request_turns.proofs.Counting.{taken_none, taken_both}
+use Rattle.request_turns.specs.Used.{ReclaimUses}
 use Rattle.request_turns.proofs.StepNotes.{gone_goes, gone_taken}
+use Rattle.request_turns.proofs.Uses.{uses_none, uses_then, uses_gone}
 
 module _ {D : Type 0} (tells : Bool) (state : D → State) (shared : Shared D) where
   -- what steps that were done come to
@@ -26,11 +28,11 @@ module _ {D : Type 0} (tells : Bool) (state : D → State) (shared : Shared D) w
 
   -- before the first one
   pub nothing_yet : (t : Tally) (m : Manager D) → IsReady state m → IsHome shared m → Done t t m m
-  nothing_yet t m ready at = record { ready = ready; at = at; down = tt; look = λ l r. r; taken = taken_none t (look_of_manager m) (look_of_manager m) refl; keeps = λ b notes w k. k; broke = tt }
+  nothing_yet t m ready at = record { ready = ready; at = at; down = tt; look = λ l r. r; taken = taken_none t (look_of_manager m) (look_of_manager m) refl; keeps = λ b notes w k. k; broke = tt; uses = uses_none m }
 
   -- a record was read
-  pub read : (t : Tally) (m n : Manager D) → IsReady state n → IsHome shared n → look_of_manager n ≡ look_of_manager m → KeepsOn tells state m n Always → Done t t m n
-  read t m n ready at same keeps = record {
+  pub read : (t : Tally) (m n : Manager D) → IsReady state n → IsHome shared n → look_of_manager n ≡ look_of_manager m → KeepsOn tells state m n Always → ReclaimUses m n → Done t t m n
+  read t m n ready at same keeps uses = record {
     ready = ready;
     at = at;
     down = tt;
@@ -38,13 +40,14 @@ module _ {D : Type 0} (tells : Bool) (state : D → State) (shared : Shared D) w
     taken = taken_none t (look_of_manager m) (look_of_manager n) (ap (λ (l : Look). l.listed) same);
     keeps = keeps;
     broke = tt;
+    uses = uses;
   }
 
   module _ (t u : Tally) (l m : Manager D) where
     -- a refusal is told on
     pub told_on : {T U : Type 0} (f : StepFault) → Reclaims {T = T} tells state shared (Err f) t u l m → Reclaims {T = U} tells state shared (Err f) t u l m
-    told_on (fault.DiskFault p) r = record { ready = r.ready; at = r.at; down = r.down; look = tt; taken = tt; keeps = tt; broke = r.broke }
-    told_on (fault.Down p) r = record { ready = r.ready; at = r.at; down = r.down; look = r.look; taken = r.taken; keeps = r.keeps; broke = tt }
+    told_on (fault.DiskFault p) r = record { ready = r.ready; at = r.at; down = r.down; look = tt; taken = tt; keeps = tt; broke = r.broke; uses = tt }
+    told_on (fault.Down p) r = record { ready = r.ready; at = r.at; down = r.down; look = r.look; taken = r.taken; keeps = r.keeps; broke = tt; uses = r.uses }
 
     module _ (first : Done t u l m) (n : Manager D) where
       -- and further ones
@@ -57,8 +60,9 @@ module _ {D : Type 0} (tells : Bool) (state : D → State) (shared : Shared D) w
         taken = taken_both t u v (look_of_manager l) (look_of_manager m) (look_of_manager n) first.taken next.taken;
         keeps = λ b notes w k. next.keeps b notes tt (first.keeps b notes tt k);
         broke = tt;
+        uses = uses_then t u v l m n first.taken next.taken first.uses next.uses;
       }
-      then_ v (Err (fault.DiskFault p)) next = record { ready = next.ready; at = next.at; down = next.down; look = tt; taken = tt; keeps = tt; broke = λ b notes e w is k. next.broke b notes e tt is (first.keeps b notes tt k) }
+      then_ v (Err (fault.DiskFault p)) next = record { ready = next.ready; at = next.at; down = next.down; look = tt; taken = tt; keeps = tt; broke = λ b notes e w is k. next.broke b notes e tt is (first.keeps b notes tt k); uses = tt }
       then_ v (Err (fault.Down p)) next = record {
         ready = next.ready;
         at = next.at;
@@ -67,14 +71,15 @@ module _ {D : Type 0} (tells : Bool) (state : D → State) (shared : Shared D) w
         taken = taken_both t u v (look_of_manager l) (look_of_manager m) (look_of_manager n) first.taken next.taken;
         keeps = λ b notes w k. next.keeps b notes tt (first.keeps b notes tt k);
         broke = tt;
+        uses = uses_then t u v l m n first.taken next.taken first.uses next.uses;
       }
 
       pub and_done : (v : Tally) → {T : Type 0} (x : T) → Reclaims tells state shared (Ok x) u v m n → Done t v l n
-      and_done v x next = let both = then_ v (Ok x) next in record { ready = both.ready; at = both.at; down = tt; look = both.look; taken = both.taken; keeps = both.keeps; broke = tt }
+      and_done v x next = let both = then_ v (Ok x) next in record { ready = both.ready; at = both.at; down = tt; look = both.look; taken = both.taken; keeps = both.keeps; broke = tt; uses = both.uses }
 
       -- a step that was refused ends them
       pub refused : (T : Type 0) {U : Type 0} (f : StepFault) → IsReady state n → IsHome shared n → TellsStep {T = T} state (Err f) m n → OnFailed {T = T} (Err f) (BreaksOff tells state l n Always) → Reclaims {T = U} tells state shared (Err f) t u l n
-      refused T (fault.DiskFault p) ready at told broke = record { ready = ready; at = at; down = told.1; look = tt; taken = tt; keeps = tt; broke = broke }
+      refused T (fault.DiskFault p) ready at told broke = record { ready = ready; at = at; down = told.1; look = tt; taken = tt; keeps = tt; broke = broke; uses = tt }
       refused T (fault.Down p) ready at told broke = record {
         ready = ready;
         at = at;
@@ -83,6 +88,7 @@ module _ {D : Type 0} (tells : Bool) (state : D → State) (shared : Shared D) w
         taken = subst (λ (k : Manager D). HasTaken t u (look_of_manager l) (look_of_manager k)) (sym told.1) first.taken;
         keeps = subst (λ (k : Manager D). KeepsOn tells state l k Always) (sym told.1) first.keeps;
         broke = tt;
+        uses = subst (ReclaimUses l) (sym told.1) first.uses;
       }
 
   -- ---- Records that are given up
@@ -96,8 +102,8 @@ module _ {D : Type 0} (tells : Bool) (state : D → State) (shared : Shared D) w
 
   -- a record gave something up, and so many records are gone
   pub gave_up : (m n : Manager D) (g : Gone) (records : ℕ) (t u : Tally) → IsReady state n → IsHome shared n → LooksGone (Ok g) m n → CountsGone (Ok g) (look_of_manager m) (look_of_manager n) → KeepsOn tells state m n Always
-      → CountsMore 0 records t u → records ≡ gone_count g → Done t u m n
-  gave_up m n g records t u ready at look counted keeps more is = record {
+      → CountsMore 0 records t u → records ≡ gone_count g → HasGivenUp (Ok g) m n → Done t u m n
+  gave_up m n g records t u ready at look counted keeps more is gone = record {
     ready = ready;
     at = at;
     down = tt;
@@ -105,6 +111,7 @@ module _ {D : Type 0} (tells : Bool) (state : D → State) (shared : Shared D) w
     taken = gone_taken (look_of_manager m) (look_of_manager n) g records counted t u more is;
     keeps = keeps;
     broke = tt;
+    uses = uses_gone m n g gone look counted;
   }
 
   pub gives_more : (some : Bool) (t u v : Tally) (l m n : Manager D) → GivesUp some t u l m → Done u v m n → left (listed_in n.index.entries) < left (listed_in m.index.entries) → GivesUp true t v l n

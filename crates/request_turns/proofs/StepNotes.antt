@@ -14,8 +14,8 @@ use Rattle.manager.specs.declared.manager.Manager.{Manager}
 use Rattle.manager.specs.declared.part.StepFault.{StepFault}
 use Rattle.manager.specs.declared.part.StepFault.TheVariants as fault
 use Rattle.manager.proofs.Frames.{stands_kept, none_passed}
-use Rattle.reclaimer.specs.Counts.{TakesOff, CountsPut, CountsGone, CountsMoved}
-use Rattle.reclaimer.specs.Steps.{LooksPut, LooksGone}
+use Rattle.reclaimer.specs.Counts.{TakesOff, CountsGone, CountsMoved}
+use Rattle.reclaimer.specs.Steps.{LooksGone}
 use Rattle.reclaimer.specs.declared.answers.Drain.{Drain}
 use Rattle.reclaimer.specs.declared.answers.Drain.TheVariants as drain
 use Rattle.reclaimer.specs.declared.answers.Gone.{Gone}
@@ -52,11 +52,11 @@ pub reclaims_then : (l k m : Look) → AreReclaims l k → IsReclaim k m → Are
 reclaims_then l k m (policy.none x) step = policy.more x m m step (policy.none m)
 reclaims_then l k m (policy.more x j y first rest) step = policy.more x j m first (reclaims_then j y m rest step)
 
-module _ {D : Type 0} where
-  pub put_goes : (old mid new : Manager D) (k : ℕ) → look_of_manager mid ≡ look_of_manager old → LooksPut (Ok k) mid new → GoesOn (look_of_manager old) (look_of_manager new)
-  put_goes old mid new zero same put l r = subst (AreReclaims l) (sym (put.0 refl ∙ same)) r
-  put_goes old mid new (suc k) same put l r = reclaims_then l (look_of_manager mid) (look_of_manager new) (subst (AreReclaims l) (sym same) r) (put.1 (omega arith))
+pub reclaims_joined : (l k m : Look) → AreReclaims l k → AreReclaims k m → AreReclaims l m
+reclaims_joined l k m (policy.none x) rest = rest
+reclaims_joined l k m (policy.more x j y first others) rest = policy.more x j m first (reclaims_joined j y m others rest)
 
+module _ {D : Type 0} where
   pub gone_goes : (old new : Manager D) (g : Gone) → LooksGone (Ok g) old new → GoesOn (look_of_manager old) (look_of_manager new)
   gone_goes old new (gone.Version v) step l r = reclaims_then l (look_of_manager old) (look_of_manager new) r step
   gone_goes old new (gone.Trimmed v) step l r = reclaims_then l (look_of_manager old) (look_of_manager new) r step
@@ -79,15 +79,6 @@ module _ {D : Type 0} (tells : Bool) (state : D → State) (old mid new : Manage
   breaks_off Where data_ first then b notes n w note k = then b notes n (data_ b notes (first b notes tt k)) note (first b notes tt k)
 
 -- ---- What is counted
-
-module _ {D : Type 0} where
-  pub put_taken : (old mid new : Manager D) (k : ℕ) → look_of_manager mid ≡ look_of_manager old → CountsPut (Ok k) (look_of_manager mid) (look_of_manager new) → (t u : Tally) → CountsMore k 0 t u → HasTaken t u (look_of_manager old) (look_of_manager new)
-  put_taken old mid new k same put t u more = record { blocks = k; records = 0; taken = subst (λ (l : Look). TakesOff k 0 l (look_of_manager new)) same put; counts = more }
-
-  -- where a block went home less is left
-  pub put_lowers : (old mid new : Manager D) (k : ℕ) → look_of_manager mid ≡ look_of_manager old → (0 < k → left (listed_in new.index.entries) < left (listed_in mid.index.entries)) → 0 < k
-      → left (listed_in new.index.entries) < left (listed_in old.index.entries)
-  put_lowers old mid new k same lowers some = subst (λ (l : Look). left (listed_in new.index.entries) < left l.listed) same (lowers some)
 
 pub gone_takes : (l m : Look) (g : Gone) → CountsGone (Ok g) l m → TakesOff 0 (gone_count g) l m
 gone_takes l m (gone.Version v) taken = taken

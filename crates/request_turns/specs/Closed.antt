@@ -13,6 +13,7 @@ use Rattle.manager.specs.declared.manager.Manager.{Manager}
 use Rattle.manager.specs.declared.part.StepFault.{StepFault}
 use Rattle.request_turns.specs.Counts.{Counts, HasTaken}
 use Rattle.request_turns.specs.Turns.{ManagerPass, notes_seen, WasDown, faulty_part, HasTurned}
+use Rattle.request_turns.specs.Used.{ReclaimUses}
 use Rattle.request_turns.specs.declared.tally.Tally.{Tally}
 
 -- steps of reclaim led from one look to the other, wherever steps led to the first
@@ -31,6 +32,8 @@ pub record Reclaims {D T : Type 0} (tells : Bool) (state : D → State) (shared 
   pub taken : OnKept answer (HasTaken t u (look_of_manager m) (look_of_manager n))
   pub keeps : OnKept answer (KeepsOn tells state m n Always)
   pub broke : OnFailed answer (BreaksOff tells state m n Always)
+  -- no disk was woken, and home was asked for where blocks of it were put there alone
+  pub uses : OnKept answer (ReclaimUses m n)
 
 -- a manager from which all that was due or could go was reclaimed, with this answer, and what was
 -- counted

@@ -7,6 +7,7 @@ pub mod Counts
 pub mod Causes
 pub mod Written
 pub mod Tried
+pub mod Used
 pub mod Blocks
 pub mod Groups
 pub mod Full

@@ -9,9 +9,9 @@
 //! has. Of `specs/`: `Turns` has what a pass gains, `Tried` what a manager makes of the steps of a turn, `Stepped` how
 //! a turn with steps of reclaim ends, `Entries` the entry of each outcome and the entries of requests in order
 //! (`AreMade`), `Causes` why it came, `Full` what a write for which no log had room leaves within its turn, `Answered`,
-//! `Blocks`, `Closed`, `Helped` and `Begun` what becomes of a pass, `Groups` what several writes leave, `Counts` what
-//! its own entries put home and dropped. `proofs/CountLaws` has the laws of these counts and `proofs/MadeLaws` those of
-//! the entries for callers.
+//! `Blocks`, `Closed`, `Helped` and `Begun` what becomes of a pass, `Used` which disks steps of reclaim ask for,
+//! `Groups` what several writes leave, `Counts` what its own entries put home and dropped. `proofs/CountLaws` has the
+//! laws of these counts and `proofs/MadeLaws` those of the entries for callers.
 #![tactic(auto)]
 
 mod answer;

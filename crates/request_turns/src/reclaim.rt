@@ -15,12 +15,12 @@ use crate::noted::leave_step_in_place;
 use crate::tally::Tally;
 use logger::Shared;
 use manager::{Manager, StepFault};
-use reclaimer::{Fetch, Fetched, Gone, fetch, invalidate_one, put_home};
+use reclaimer::{Fetch, Gone, invalidate_one, put_group};
 use std::sync::Wait;
 use turn_lock::{Pass, TurnLock};
 use wol_disk::Disk;
 
-// Puts home what is due, record by record.
+// Puts home what is due, in groups of records with one sync each.
 fn put_due<R: Wait, D: Disk>(
     rt: &R,
     m: &mut Manager<D>,
@@ -36,13 +36,11 @@ fn put_due<R: Wait, D: Disk>(
         (left (listed_in m.new.index.entries) ≤ left (listed_in m.old.index.entries)) }
 {
     'steps: loop {
-        match fetch(rt, m, shared, room)? {
-            Fetched::Nothing => return Ok(()),
-            Fetched::Some { .. } => match put_home(rt, m, shared, room) {
-                Ok(blocks) => tally.count(blocks, 0),
-                Err(fault) => return Err(fault),
-            },
+        let blocks = put_group(rt, m, shared, room)?;
+        if blocks == 0 {
+            return Ok(());
         }
+        tally.count(blocks, 0);
     }
 }
 

@@ -16,7 +16,7 @@ use Rattle.volume_images.specs.Volumes.{shapes_of}
 use Rattle.rack.specs.Closes.{LeavesNoLog}
 use Rattle.rack.specs.Opens.{HasFaulty, KeepsAllSound, KeepsOthers, LeavesAll}
 use Rattle.rack_parts.specs.declared.rack.Rack.{Rack}
-use Rattle.open_rack.specs.Sessions.{KeepsArrays, OpensAndCloses}
+use Rattle.rack.specs.Sessions.{KeepsArrays, OpensAndCloses}
 use Rattle.inspection.specs.Racks.{IsSameRack}
 use Rattle.inspection.specs.Runs.{MayComplete}
 use Rattle.inspection.proofs.Unhelped.{there_is}

@@ -21,15 +21,15 @@ use Rattle.wol_promise.proofs.Wholes.{all_filtered}
 use Rattle.manager.proofs.Lanes.{get_set, get_other}
 use Rattle.volume_images.specs.Volumes.{AreLeft, MayLeave, images_read, shape_in, shapes_of}
 use Rattle.rack.specs.Opens.{IsThere, KeepsAllSound}
-use Rattle.rack_closing.proofs.Names.{names_differ}
-use Rattle.rack_closing.proofs.SoundBefore.{at_front, some_image}
+use Rattle.rack.proofs.Names.{names_differ}
+use Rattle.rack.proofs.SoundBefore.{at_front, some_image}
 use Rattle.inspection.proofs.Unhelped.{there_is}
 use Rattle.report.specs.declared.fault.Fault.{Fault}
 use Rattle.view_change.specs.Changes.{Allows, changed, id_of}
 use Rattle.view_change.specs.declared.answers.Change.{Change}
 use Rattle.view_change.specs.declared.answers.Change.TheVariants.{Add, Remove}
 use Rattle.view_change.proofs.Ids.{view_with, view_without}
-use Rattle.open_rack.specs.Sessions.{KeepsArrays}
+use Rattle.rack.specs.Sessions.{KeepsArrays}
 use Rattle.view_commands.specs.Images.{AnswersFront, ChangesImage, LeavesBy, LeavesNewView, front_of}
 use Rattle.view_commands.specs.Views.{BecomesBy, ChangesViewOf, HasViewIn, KeepsOtherViews, LeavesThere, MayChange, MayNotChange}
 use Rattle.view_commands.specs.declared.order.Stop.{Stop}

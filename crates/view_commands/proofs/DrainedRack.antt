@@ -26,7 +26,7 @@ use Rattle.inspection.proofs.Unhelped.{all_at, there_is}
 use Rattle.wol_config.specs.declared.config.Config.{Config}
 use Rattle.inspection.proofs.SameRacks.{rack_set}
 use Rattle.view_change.specs.Drained.{HasDrainedAll, drain_operation}
-use Rattle.open_rack.proofs.FirstClosed.{none_closed}
+use Rattle.rack.proofs.FirstClosed.{none_closed}
 use Rattle.view_commands.specs.Drains.{AllOpen, IsDrained}
 
 drain_helps : (answer : Result (ℕ × ℕ) StepFault) → IsHelp (drain_operation answer)

@@ -21,10 +21,10 @@ use Rattle.rack.specs.Closes.{HasFaultyPart, IsClosedVolume, part_named}
 use Rattle.rack.specs.Racks.{IsStation, IsUnused, base_of_station}
 use Rattle.rack_parts.specs.declared.rack.Rack.{Rack}
 use Rattle.rack.proofs.FailedParts.{faulty_since}
-use Rattle.open_rack.specs.Sessions.{OpensAndCloses}
+use Rattle.rack.specs.Sessions.{OpensAndCloses}
 use Rattle.spin_model.specs.Spindles.{SpindleView}
-use Rattle.troubles.specs.Troubles.{trouble_of_part}
-use Rattle.troubles.proofs.Named.{named_alike}
+use Rattle.rack.specs.Troubles.{trouble_of_part}
+use Rattle.rack.proofs.Named.{named_alike}
 use Rattle.volume_images.specs.Left.{IsTold}
 use Rattle.inspection.proofs.Unhelped.{all_at, broken_still, none_before, one_down, only_one}
 use Rattle.view_change.specs.Drained.{HasDrainedAll}

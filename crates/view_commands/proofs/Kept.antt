@@ -14,7 +14,7 @@ use Rattle.wol_model.specs.Images.{Images, image_of, image_size}
 use Rattle.logger_view.specs.Stored.{HasLabel, HasView, IsFirstFault}
 use Rattle.volume_images.specs.Volumes.{AreLeft, MayLeave, image_read, images_read, shape_in}
 use Rattle.rack.specs.Opens.{WasAccepted}
-use Rattle.rack_closing.proofs.SoundBefore.{at_front}
+use Rattle.rack.proofs.SoundBefore.{at_front}
 use Rattle.view_commands.specs.Views.{HasViewIn}
 
 -- The image of volume k that is left: it has its length, and its label and view read as those at entry. `ids` is its view.

@@ -6,10 +6,10 @@ use Rattle.wol_bay.specs.Bay.{BayState, Told}
 use Rattle.wol_config.specs.declared.config.Config.{Config}
 use Rattle.report.specs.declared.fault.Fault.{Fault}
 use Rattle.report.specs.declared.fault.Fault.TheVariants.{Memory, Volume}
-use Rattle.troubles.specs.Troubles.{trouble_of}
+use Rattle.rack.specs.Troubles.{trouble_of}
 use Rattle.volume_images.specs.Left.{IsTold}
 use Rattle.rack.specs.Opens.{KeepsAllSound, LeavesAll}
-use Rattle.rack_closing.proofs.KeptLogs.{logs_stay}
+use Rattle.rack.proofs.KeptLogs.{logs_stay}
 use Rattle.inspection.specs.Runs.{MayComplete}
 use Rattle.view_change.specs.declared.answers.Change.{Change}
 use Rattle.view_commands.specs.Orders.{AreNamed, change_of}

@@ -15,7 +15,7 @@ use Rattle.manager.specs.declared.part.StepFault.TheVariants.{DiskFault, Down}
 use Rattle.manager.specs.declared.station.Station.{Station}
 use Rattle.request_turns.specs.Turns.{IsBroken, faulty_part, notes_seen}
 use Rattle.request_turns.proofs.Gaining.{down_breaks}
-use Rattle.troubles.specs.Troubles.{trouble_of_part}
+use Rattle.rack.specs.Troubles.{trouble_of_part}
 use Rattle.spin_model.specs.Spindles.{SpindleView}
 use Rattle.volume_images.specs.Left.{IsTold}
 use Rattle.volume_images.specs.Volumes.{images_read, shape_in, shapes_of}
@@ -26,15 +26,15 @@ use Rattle.rack.specs.Racks.{IsStation, base_of_station}
 use Rattle.rack.specs.Rests.{IsImageOut, image_here}
 use Rattle.rack_parts.specs.declared.rack.ImageRest.{ImageRest}
 use Rattle.rack_parts.specs.declared.rack.Rack.{Rack}
-use Rattle.open_rack.specs.Sessions.{KeepsArrays, OpensAndCloses}
-use Rattle.open_rack.proofs.Since.{rose_before, unmapped}
+use Rattle.rack.specs.Sessions.{KeepsArrays, OpensAndCloses}
+use Rattle.rack.proofs.Since.{rose_before, unmapped}
 use Rattle.inspection.specs.Racks.{IsSameRack, numbers_of}
 use Rattle.inspection.proofs.Quiet.{all_quiet}
 use Rattle.inspection.proofs.SameRacks.{numbers_same}
 use Rattle.inspection.proofs.Unhelped.{all_at, broken_still}
-use Rattle.open_rack.proofs.AllOut.{recovered_all, taken_all}
-use Rattle.open_rack.proofs.FirstClosed.{none_closed}
-use Rattle.open_rack.proofs.OpenedKept.{opened_at, opened_out}
+use Rattle.rack.proofs.AllOut.{recovered_all, taken_all}
+use Rattle.rack.proofs.FirstClosed.{none_closed}
+use Rattle.rack.proofs.OpenedKept.{opened_at, opened_out}
 use Rattle.view_commands.specs.Drains.{AllOpen, IsDrained, trouble_of_step}
 use Rattle.view_commands.specs.Runs.{FailsWith}
 use Rattle.view_commands.specs.Runs as runs

@@ -12,8 +12,8 @@ use Rattle.wol_model.specs.Log.{Record, IsLog}
 use Rattle.wol_model.specs.Recovered.{extents_in, extents_of, recovered}
 use Rattle.logger_view.specs.Stored.{HasView, with_view}
 use Rattle.manager.proofs.Lanes.{get_set, get_other}
-use Rattle.rack_closing.proofs.SameRecovered.{ImagesGo, same_extents}
-use Rattle.rack_closing.proofs.SoundBefore.{image_some, rows_pass, segments_are, some_image}
+use Rattle.rack.proofs.SameRecovered.{ImagesGo, same_extents}
+use Rattle.rack.proofs.SoundBefore.{image_some, rows_pass, segments_are, some_image}
 
 -- ---- Block 1
 

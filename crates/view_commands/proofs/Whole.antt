@@ -22,11 +22,11 @@ use Rattle.volume_images.specs.Volumes.{images_read, shape_in, shapes_of}
 use Rattle.rack.specs.Opens.{KeepsAllSound, LeavesAll, WasAccepted}
 use Rattle.rack.specs.Owners.{recovered_but}
 use Rattle.rack_parts.specs.declared.rack.Rack.{Rack}
-use Rattle.rack_closing.proofs.SoundBefore.{some_image}
-use Rattle.open_rack.specs.Sessions.{KeepsArrays, OpensAndCloses}
-use Rattle.open_rack.proofs.FirstClosed.{first_is, first_unopened}
-use Rattle.open_rack.proofs.Since.{rose_before}
-use Rattle.open_rack.proofs.ViewsKept.{views_kept as views_as_before}
+use Rattle.rack.proofs.SoundBefore.{some_image}
+use Rattle.rack.specs.Sessions.{KeepsArrays, OpensAndCloses}
+use Rattle.rack.proofs.FirstClosed.{first_is, first_unopened}
+use Rattle.rack.proofs.Since.{rose_before}
+use Rattle.rack.proofs.ViewsKept.{views_kept as views_as_before}
 use Rattle.inspection.specs.Racks.{IsSameRack}
 use Rattle.inspection.specs.Runs.{MayComplete}
 use Rattle.inspection.proofs.Quiet.{all_quiet}

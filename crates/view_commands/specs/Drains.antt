@@ -8,10 +8,10 @@ use Rattle.request_turns.specs.Turns.{ManagerPass}
 use Rattle.report.specs.declared.fault.Fault.{Fault}
 use Rattle.report.specs.declared.fault.Fault.TheVariants.{Volume, Memory}
 use Rattle.report.specs.declared.trouble.Trouble.{Trouble}
-use Rattle.troubles.specs.Troubles.{trouble_of_part}
+use Rattle.rack.specs.Troubles.{trouble_of_part}
 use Rattle.rack_parts.specs.declared.rack.Rack.{Rack}
 use Rattle.rack_parts.specs.declared.volume_fault.VolumeFault.{VolumeFault}
-use Rattle.open_rack.specs.NotOpened.{first_closed}
+use Rattle.rack.specs.NotOpened.{first_closed}
 use Rattle.inspection.specs.Racks.{IsSameRack, IsStationAt}
 use Rattle.view_change.specs.Drained.{HasDrainedAll}
 use Rattle.view_change.specs.declared.answers.Change.{Change}

@@ -10,14 +10,14 @@ use Rattle.report.specs.declared.fault.Fault.{Fault}
 use Rattle.report.specs.declared.fault.Fault.TheVariants.{Volume, Memory}
 use Rattle.report.specs.declared.trouble.Trouble.{Trouble}
 use Rattle.report.specs.declared.trouble.Trouble.TheVariants as trouble
-use Rattle.troubles.specs.Troubles.{trouble_of, trouble_of_part}
+use Rattle.rack.specs.Troubles.{trouble_of, trouble_of_part}
 use Rattle.volume_images.specs.Left.{IsTold}
 use Rattle.volume_images.specs.Volumes.{images_read}
 use Rattle.rack.specs.Closes.{HasFaultyPart, part_named}
 use Rattle.rack.specs.Owners.{IsBegun}
 use Rattle.rack_parts.specs.declared.volume_fault.VolumeFault.{VolumeFault}
-use Rattle.open_rack.specs.NotOpened.{IsFirstClosed, LeavesViews}
-use Rattle.open_rack.specs.Sessions.{KeepsArrays}
+use Rattle.rack.specs.NotOpened.{IsFirstClosed, LeavesViews}
+use Rattle.rack.specs.Sessions.{KeepsArrays}
 use Rattle.view_change.specs.declared.answers.Change.{Change}
 use Rattle.view_commands.specs.Orders.{AreNamed, IsOfWords, change_of, unknown_word}
 use Rattle.view_commands.specs.Printed.{PrintsNothing, PrintsView}

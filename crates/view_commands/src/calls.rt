@@ -1,6 +1,6 @@
 // The view of a volume of a bay is changed.
 ghost use Rattle.inspection.specs.Runs.{MayComplete};
-ghost use Rattle.open_rack.specs.NotOpened.{LeavesBay};
+ghost use Rattle.rack.specs.NotOpened.{LeavesBay};
 ghost use Rattle.rack.specs.Opens.{KeepsOthers};
 ghost use Rattle.std.specs.Prelude.{◌≡◌, ◌<◌, ◌≤◌, length, Err, IsTrue};
 ghost use Rattle.view_change.specs.Changes.{id_of};
@@ -16,7 +16,7 @@ use crate::image::change_image;
 use crate::order::{Order, Stop, ViewRefusal};
 use crate::printing::print_view;
 use log_layout::View;
-use open_rack::{Closed, with_open};
+use rack::{Closed, with_open};
 use std::alloc::Global;
 use std::sync::Wait;
 use view_change::Change;

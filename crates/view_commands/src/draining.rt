@@ -7,13 +7,11 @@ ghost use Rattle.wol_config.specs.Configs.{IsValid};
 
 use inspection::place_of;
 use manager::StepFault;
-use open_rack::{Work, first_closed};
-use rack::Rack;
+use rack::{Rack, Work, first_closed, trouble_of_part};
 use reclaimer::Fetch;
 use report::Fault;
 use std::alloc::Global;
 use std::sync::Wait;
-use troubles::trouble_of_part;
 use view_change::{Change, drain_all};
 use wol_config::Config;
 use wol_disk::{Disk, NoMemory};

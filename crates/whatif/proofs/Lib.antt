@@ -11,3 +11,8 @@ pub mod New
 pub mod Sums
 pub mod Waiting
 pub mod Served
+pub mod Counting
+pub mod Waited
+pub mod Lined
+pub mod Longest
+pub mod Risers

@@ -1,6 +1,9 @@
 -- What a machine is made of: loggers, volumes and disks.
-use Rattle.std.proofs.Common.{◌≡◌, ◌<◌, ◌≤◌, ◌+◌, ℕ, zero, suc, Bool, true, false, cond, List, [], ◌∷◌, ◌++◌, map, length, replicate, refl, sym, ap, subst, ◌∙◌, append-nil, arith}
+use Rattle.std.proofs.Common.{◌≡◌, ◌<◌, ◌≤◌, ◌+◌, ℕ, zero, suc, Bool, true, false, cond, List, [], ◌∷◌, ◌++◌, map, length, replicate, get_or, Some, refl, sym, ap, subst, ◌∙◌, append-nil, arith}
+use Rattle.std.specs.Prelude.{slice_get}
 use Rattle.std.specs.List.{AllByRecursion, AllZip, filter, range_with_len}
+use Rattle.std.proofs.lemmas.Option.{none-some, same_Some}
+use Rattle.wol_config.specs.Configs.{IsValid, IsValidVolume}
 use Rattle.std.proofs.lemmas.List.{length-map, map-append}
 use Rattle.std.proofs.lemmas.List.Elements.{filter-append}
 use Rattle.wol_config.specs.declared.config.Config.{Config}
@@ -13,11 +16,11 @@ use Rattle.whatif.specs.declared.volume.Volume.{Volume}
 use Rattle.whatif.specs.Disks.{AreDisks, IsDisk, IsKept, moments_of}
 use Rattle.whatif.specs.Machine as machine
 use Rattle.whatif.specs.Machine.{Reach, first_look, first_machine, first_volume}
-use Rattle.whatif.specs.Policies.{loggers_of, machine_after, reach_of, setting_of}
+use Rattle.whatif.specs.Policies.{HaveViews, loggers_of, machine_after, reach_of, setting_of}
 use Rattle.whatif.specs.Stands.{Stands}
 use Rattle.whatif.specs.Volumes.{look_in, reach_in, volume_in}
 
-range_more : (k : ℕ) → range_with_len 0 (k + 1) ≡ range_with_len 0 k ++ k ∷ []
+pub range_more : (k : ℕ) → range_with_len 0 (k + 1) ≡ range_with_len 0 k ++ k ∷ []
 range_more k =
     let more : k + 1 ≡ suc k = omega arith in let none : 0 + k ≡ k = omega arith in
     ap (λ (n : ℕ). range_with_len 0 n) more ∙ range_push 0 k ∙ (λ i. range_with_len 0 k ++ none i ∷ [])
@@ -34,6 +37,23 @@ mapped_more f k = ap (map f) (range_more k) ∙ map-append f (range_with_len 0 k
 pub volume_made : (p : Policy) (confs : List VolumeConf) (k : ℕ) (loggers : List ℕ) (v : Volume) → loggers ≡ loggers_of p confs k → reach_in v ≡ (let r : Reach = record { own = k; loggers = loggers } in r) → look_in v ≡ first_look (reach_in v)
     → volume_in v ≡ first_volume (reach_of p confs k)
 volume_made p confs k loggers v are reach look = (λ i. record { reach = reach_in v; look = look i }) ∙ ap first_volume (reach ∙ (λ i. record { own = k; loggers = are i }))
+
+-- ---- views
+
+all_by : (P : ℕ → Type 0) (xs : List ℕ) → ((k d : ℕ) → k < length xs → P (get_or xs k d)) → AllByRecursion P xs
+all_by P [] all = tt
+all_by P (x ∷ xs) all = (all 0 x (omega arith), all_by P xs (λ k d lt. all (suc k) d (omega (arith, lt))))
+
+found_at : (vs : List VolumeConf) (k : ℕ) (v d : VolumeConf) → slice_get vs k ≡ Some v → (k < length vs) × (get_or vs k d ≡ v)
+found_at [] k v d at = absurd (none-some v at)
+found_at (w ∷ vs) zero v d at = (omega arith, same_Some w v at)
+found_at (w ∷ vs) (suc k) v d at = let rest = found_at vs k v d at in (omega (arith, rest.0), rest.1)
+
+pub valid_views : (c : Config) → IsValid c → HaveViews c.volumes.items
+valid_views c valid k v at =
+    let found = found_at c.volumes.items k v v at in
+    let volume = subst (λ (w : VolumeConf). IsValidVolume (length c.volumes.items) k w) found.1 (valid.volumes k v found.0) in
+    (all_by (λ w. w < length c.volumes.items) v.view volume.known, (let few = volume.view.few in omega (arith, few)))
 
 -- ---- disks
 

@@ -9,7 +9,11 @@ use Rattle.wol_model.specs.Journal.{SpindleState}
 use Rattle.wol_model.specs.Blocks.{changed_at}
 use Rattle.whatif.specs.declared.disk.Disk.{Disk}
 use Rattle.whatif.specs.Disks.{AreDisks, IsDisk}
-use Rattle.whatif.specs.Machine.{accessed, all_accessed}
+use Rattle.wol_model.specs.Placing.{Place, Full}
+use Rattle.wol_promise.specs.Policy.{place_of}
+use Rattle.whatif.specs.declared.volume.Volume.{Volume}
+use Rattle.whatif.specs.Machine.{accessed, all_accessed, disk_of, write_of, writing}
+use Rattle.whatif.specs.Volumes.{IsLate, look_in, reach_in}
 use Rattle.whatif.specs.Waits.{lag, lag_among, wait_on}
 
 -- what is so of the disk at a place is so of the spindle there
@@ -44,3 +48,15 @@ late_more t wake f first i ss =
     ∙ ap (λ (l : List ℕ). wait_on t wake l ss) (map-append f (range_with_len first i) ((first + i) ∷ []))
     ∙ wait_more t wake (map f (range_with_len first i)) (f (first + i) ∷ []) ss
     ∙ ap (max before) (max_none (lag_among wake (changed_at (f (first + i)) (accessed t) (all_accessed t (map f (range_with_len first i)) ss)) (f (first + i))))
+
+-- a write waits for the disk of its place
+pub late_write : (wake first count : ℕ) (p : Place) (v : Volume) (was is : List Disk) (d wait : ℕ) → place_of [] (look_in v) (write_of first count) ≡ p → disk_of (reach_in v) p ≡ d ∷ []
+    → ((t : ℕ) (ss : List SpindleState) → AreDisks was ss → AreDisks is (changed_at d (accessed t) ss)) → ((ss : List SpindleState) → AreDisks is ss → wait ≡ lag_among wake ss d)
+    → IsLate wake (writing first count) v was wait
+late_write wake first count p v was is d wait at one used lags t ss are =
+    lags (changed_at d (accessed t) ss) (used t ss are) ∙ sym (max_none (lag_among wake (changed_at d (accessed t) ss) d))
+    ∙ ap (λ (us : List ℕ). wait_on t wake us ss) (sym (ap (disk_of (reach_in v)) at ∙ one))
+
+-- .. and for none where it has none
+pub late_nowhere : (wake first count : ℕ) (v : Volume) (was : List Disk) → place_of [] (look_in v) (write_of first count) ≡ Full → IsLate wake (writing first count) v was 0
+late_nowhere wake first count v was at t ss are = ap (λ (us : List ℕ). wait_on t wake us ss) (sym (ap (disk_of (reach_in v)) at))

@@ -1,6 +1,6 @@
 -- Who waits for a disk to come up, and how long. Times are in units of 100 ns; `wake` is how long a disk takes to come up.
-use Rattle.std.specs.Prelude.{ℕ, ◌+◌, ◌-◌, ◌*◌, ◌/◌, max, Bool, true, false, not, nat_le, nat_lt, List, [], ◌∷◌, ◌++◌, map, length, Option, None, Some, slice_get, position, sum_by}
-use Rattle.std.specs.List.{range_with_len, filter, count_by}
+use Rattle.std.specs.Prelude.{◌≡◌, ℕ, ◌+◌, ◌-◌, ◌*◌, ◌/◌, ◌^◌, ◌<◌, ◌≤◌, max, Bool, true, false, not, nat_le, nat_lt, List, [], ◌∷◌, ◌++◌, map, length, Option, None, Some, slice_get, slice_index, slice_index_or, ◌==◌, unwrap_or, position, sum, count_by}
+use Rattle.std.specs.List.{AllByRecursion, range_with_len, filter}
 use Rattle.std.specs.Option.{option_map_or}
 use Rattle.wol_model.specs.declared.journal.Turned.{Turned}
 use Rattle.wol_model.specs.declared.journal.Turned.TheVariants.{Down, Up}
@@ -9,6 +9,9 @@ use Rattle.wol_model.specs.Trace.{is_write}
 use Rattle.wol_model.specs.Blocks.{changed_at}
 use Rattle.wol_model.specs.Journal.{SpindleState}
 use Rattle.whatif.specs.declared.policy.Ask.{Ask}
+use Rattle.whatif.specs.declared.waits.Tallies.{Tallies}
+use Rattle.whatif.specs.declared.waits.Told.{Told}
+use Rattle.whatif.specs.declared.waits.Waits.{Waits}
 use Rattle.whatif.specs.Machine.{Volume, Machine, Setting, Asked, accessed, answering, asking, turned, begun, after_window}
 
 -- ---- One disk
@@ -67,24 +70,64 @@ waits_in s wake (w ∷ ws) m =
 
 -- ---- What is told of them
 
--- those of reads, or of writes
-abbrev pub of_kind : (writes : Bool) → List Waited → List Waited
-of_kind true ws = filter (λ (w : Waited). is_write w.kind) ws
-of_kind false ws = filter (λ (w : Waited). not (is_write w.kind)) ws
+-- the waits of the reads, or of the writes
+abbrev pub waits_of : (writes : Bool) → List Waited → List ℕ
+waits_of true ws = map (λ (w : Waited). w.wait) (filter (λ (w : Waited). is_write w.kind) ws)
+waits_of false ws = map (λ (w : Waited). w.wait) (filter (λ (w : Waited). not (is_write w.kind)) ws)
 
--- how many wait longer than k tenths of a coming up
-abbrev pub over : (wake k : ℕ) → List Waited → ℕ
-over wake k ws = count_by (λ (w : Waited). nat_lt (k * wake) (10 * w.wait)) ws
+-- a wait is longer than k tenths of a coming up
+abbrev pub is_over : (wake k wait : ℕ) → Bool
+is_over wake k wait = nat_lt (k * wake) (10 * wait)
 
--- the least number of tenths that at most one in `share` of them waits longer than
-abbrev pub late : (wake share : ℕ) → List Waited → ℕ
-late wake share ws = option_map_or (λ (k : ℕ). k)
-    (position (λ (k : ℕ). nat_le (share * over wake k ws) (length ws)) (range_with_len 0 10)) 10
+-- how many waits are
+abbrev pub over : (wake k : ℕ) → (waits : List ℕ) → ℕ
+over wake k waits = count_by (is_over wake k) waits
+
+-- the least number of tenths, up to ten, that at most one in `share` waits is longer than
+abbrev pub late : (wake share : ℕ) → (waits : List ℕ) → ℕ
+late wake share waits = unwrap_or
+    (position (λ k. nat_le (share * over wake k waits) (length waits)) (range_with_len 0 10)) 10
 
 -- the same in ms, rounded up
-abbrev pub late_ms : (wake share : ℕ) → List Waited → ℕ
-late_ms wake share ws = (late wake share ws * (wake / 10000) + 9) / 10
+abbrev pub late_ms : (wake share : ℕ) → (waits : List ℕ) → ℕ
+late_ms wake share waits = (late wake share waits * (wake / 10000) + 9) / 10
 
--- all waits together, in ms
-abbrev pub sum_ms : List Waited → ℕ
-sum_ms ws = sum_by (λ (w : Waited). w.wait) ws / 10000
+-- all waits together, in ms, rounded down
+abbrev pub sum_ms : (waits : List ℕ) → ℕ
+sum_ms waits = sum waits / 10000
+
+-- the program tells this of these waits
+pub record IsTold (wake : ℕ) (waits : List ℕ) (t : Waits) : Type 0 where
+  pub count : t.count ≡ length waits
+  pub over_ : t.over ≡ map (λ k. over wake k waits) (range_with_len 0 10)
+  pub sum_ : t.sum ≡ sum waits
+
+-- .. and this of these requests
+pub record AreTold (wake : ℕ) (ws : List Waited) (t : Told) : Type 0 where
+  pub reads : IsTold wake (waits_of false ws) t.reads
+  pub writes : IsTold wake (waits_of true ws) t.writes
+
+-- the requests of a volume
+abbrev pub of_volume : (volume : ℕ) → List Waited → List Waited
+of_volume volume ws = filter (λ (w : Waited). w.volume == volume) ws
+
+-- .. and this of these requests, and of those of each volume
+pub record AreTallied (wake : ℕ) (ws : List Waited) (t : Tallies) : Type 0 where
+  pub all : AreTold wake ws t.all
+  pub each : (k : ℕ) (d : Told) → k < length t.each.items
+      → AreTold wake (of_volume k ws) (slice_index_or t.each.items k d)
+
+-- so many requests were told of at most
+pub record IsFew (asked : ℕ) (t : Waits) : Type 0 where
+  pub count : t.count ≤ asked
+  pub over_ : (k : ℕ) → k < 10 → slice_index t.over k ≤ asked
+  pub sum_ : t.sum ≤ asked * 2 ^ 64
+
+pub record AreFew (asked : ℕ) (t : Told) : Type 0 where
+  pub reads : IsFew asked t.reads
+  pub writes : IsFew asked t.writes
+
+pub record AreFewIn (volumes asked : ℕ) (t : Tallies) : Type 0 where
+  pub count : length t.each.items ≡ volumes
+  pub all : AreFew asked t.all
+  pub each : AllByRecursion (AreFew asked) t.each.items

@@ -5,9 +5,9 @@ ghost use Rattle.whatif.specs.Disks.{AreDisks, IsDisk, IsKept, moments_of, stand
 ghost use Rattle.wol_model.specs.Blocks.{changed_at};
 ghost use Rattle.whatif.specs.Machine.{accessed};
 ghost use Rattle.whatif.specs.Waits.{lag, lag_among};
-ghost use Rattle.wol_model.specs.Journal.{SpindleState, Started, Began, ArePowers, new_spindle, used, wakes, sleeps, units};
+ghost use Rattle.wol_model.specs.Journal.{SpindleState, Started, Began, ArePowers, awake_time, new_spindle, used, wakes, sleeps, standby, units};
 
-use crate::policy::Compared;
+use crate::policy::Used;
 use wol_model::Powers;
 
 /// A disk of which no journal is kept, but the sums over it. All moments and times count units of 100 ns.
@@ -124,7 +124,7 @@ impl Disk {
     }
 
     /// What it used until the end of the account.
-    pub(crate) fn used_until(&self, to: u64, powers: &Powers) -> Compared
+    pub(crate) fn used_until(&self, to: u64, powers: &Powers) -> Used
         requires kept { IsKept self.now }
         requires to { self.now.moment ≤ to }
         requires powers { ArePowers powers.now }
@@ -132,6 +132,8 @@ impl Disk {
             → result ≡ record {
               wakes = wakes s.journal;
               sleeps = sleeps s.journal;
+              awake = awake_time s.journal s.from to;
+              standby = standby s.journal to;
               units = units powers.now s.journal s.from to;
             } }
         ensures few_wakes { 10000 * result.wakes < 2 ^ 64 }
@@ -140,9 +142,11 @@ impl Disk {
     {
         let standby = self.standby_until(to);
         let awake = to - self.from - standby;
-        Compared {
+        Used {
             wakes: self.wakes,
             sleeps: self.sleeps,
+            awake,
+            standby,
             units: u128::from(awake) * u128::from(powers.awake_mw)
                 + u128::from(standby) * u128::from(powers.standby_mw)
                 + u128::from(self.wakes) * u128::from(powers.wake_mj) * 10_000_000,

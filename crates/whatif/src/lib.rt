@@ -1,10 +1,12 @@
-//! What a trace would cost by four policies: disks that never sleep, disks that sleep after a timeout, and off-loading of
-//! writes among the volumes of a host or among all.
+//! What a trace would cost by several policies: disks that never sleep, disks that sleep after a timeout, and off-loading of
+//! writes among the volumes of a host, among all, or by the views of the configuration; and how long requests would wait for
+//! disks that come up.
 //!
 //! No image is read or written: a `Machine` keeps, for each volume, an index of the blocks that are logged, and for each disk
 //! its sums. `policy.rt` has the policies and what is asked and told, `views.rt` who logs for whom, `disk.rt` one disk,
-//! `volume.rt` one volume, `reclaim.rt` what it puts home and gives up, `machine.rt` the machine, `lines.rt` the lines that are
-//! printed. `specs/Machine` is the machine of one thread, as the definition that the contracts cite.
+//! `volume.rt` one volume, `reclaim.rt` what it puts home and gives up, `machine.rt` the machine, `waits.rt` what it tells of
+//! waits, `lines.rt` the lines that are printed and `telling.rt` all lines of a policy. `specs/Machine` is the machine of one
+//! thread, as the definition that the contracts cite.
 #![tactic(auto)]
 
 mod disk;
@@ -13,10 +15,12 @@ mod lines;
 mod machine;
 mod policy;
 mod reclaim;
+mod telling;
 mod views;
 mod volume;
+mod waits;
 
-pub use laws::policy_laws;
+pub use laws::{policy_laws, waits_laws};
 pub use lines::policy_line;
 pub use machine::Machine;
-pub use policy::{Ask, Compared, Policy};
+pub use policy::{Ask, Compared, Details, Policy};

@@ -2,10 +2,12 @@
 ghost use Rattle.std.specs.List.{AllByRecursion, range_with_len};
 ghost use Rattle.std.specs.Prelude.{◌≡◌, ◌<◌, ◌≤◌, ◌+◌, ◌^◌, ◌++◌, ◌∷◌, [], ℕ, true, false, List, length, map, OnOk, OnErr, IfOk, if◌then◌else◌};
 ghost use Rattle.whatif.specs.Disks.{AreDisks, AreKeptTo, IsKept, moments_of};
+ghost use Rattle.whatif.specs.Lines.{volumes_text};
 ghost use Rattle.whatif.specs.Machine.{Asked, all_sleeps, all_units, all_wakes, asking, seeing, tidying};
-ghost use Rattle.whatif.specs.Policies.{compared, goes_down, machine_after};
-ghost use Rattle.whatif.specs.Stands.{AreNew, AreReady, HasRun, HaveTurned, IsAmong, IsAsk, IsMachine, Stands};
+ghost use Rattle.whatif.specs.Policies.{HaveViews, compared, goes_down, machine_after, waits_by};
+ghost use Rattle.whatif.specs.Stands.{AreNew, AreReady, AreRules, HasRun, HaveTurned, HaveWaited, IsAmong, IsAsk, IsMachine, Stands};
 ghost use Rattle.whatif.specs.Volumes.{volume_in};
+ghost use Rattle.whatif.specs.Waits.{AreFewIn, AreTallied, AreTold};
 ghost use Rattle.whatif.specs.declared.policy.Policy.{Policy};
 ghost use Rattle.wol_config.specs.Configs.{IsValid};
 ghost use Rattle.wol_config.specs.declared.config.Config.{Config};
@@ -13,12 +15,23 @@ ghost use Rattle.wol_model.specs.Journal.{SpindleState, Began, ArePowers, used};
 
 use crate::disk::Disk;
 use crate::policy::{Ask, Compared, Policy};
+use crate::telling::volume_lines;
 use crate::views::loggers_of;
 use crate::volume::Volume;
+use crate::waits::{Tallies, Told};
 use std::alloc::Global;
 use wol_config::{Config, VolumeConf};
 use wol_disk::NoMemory;
 use wol_model::Powers;
+
+// When disks go down and how long they take to come up, in units of 100 ns.
+#[derive(Clone, Copy)]
+pub(crate) struct Rules {
+    pub timeout: u64,
+    // Whether disks go down at all.
+    pub sleeps: bool,
+    pub wake: u64,
+}
 
 /// All volumes of a configuration and their disks, by one policy, between two windows of requests.
 ///
@@ -26,16 +39,16 @@ use wol_model::Powers;
 /// and not with the trace.
 #[derive(Drop)]
 pub struct Machine {
-    timeout: u64,
+    rules: Rules,
     powers: Powers,
-    // Whether disks go down at all.
-    sleeps: bool,
     volumes: Vec<Volume>,
     disks: Vec<Disk>,
     // The moment of the last window, or the beginning of the account.
     moment: u64,
     // How many requests were asked.
     asked: u64,
+    // What is told of their waits.
+    tallies: Tallies,
     live: bool,
 }
 
@@ -46,6 +59,7 @@ fn volumes_of(
     volumes: &[VolumeConf],
 ) -> Result<Vec<Volume>, NoMemory>
     requires few { length volumes.now ≤ 64 }
+    requires views { HaveViews volumes.now }
     ensures volumes { IfOk result (λ made. AreNew policy volumes.now made.items) }
 {
     let mut made = Vec::new(alloc);
@@ -75,7 +89,7 @@ fn goes_down(policy: Policy) -> bool
 {
     match policy {
         Policy::Always => false,
-        Policy::SpinDown | Policy::Host | Policy::All => true,
+        Policy::SpinDown | Policy::Host | Policy::All | Policy::Views => true,
     }
 }
 
@@ -104,41 +118,57 @@ fn show_disks(volumes: &mut [Volume], disks: &[Disk], asked: u64)
     }
 }
 
-// Does what is asked of its volume.
+// Does what is asked of its volume, and tells its wait.
 fn serve(
     volumes: &mut [Volume],
     disks: &mut [Disk],
+    tallies: &mut Tallies,
     ask: &Ask,
+    wake: u64,
     asked: u64,
     moment: u64,
 ) -> Result<(), NoMemory>
     requires ready { AreReady volumes.old disks.old asked moment }
+    requires tallies { AreFewIn (length volumes.old) asked tallies.old }
     requires ask { IsAsk (length volumes.old) ask.now }
     requires few { asked + 1 < 2 ^ 63 }
     ensures ready { OnOk result (AreReady volumes.new disks.new (asked + 1) moment) }
+    ensures tallies { OnOk result (AreFewIn (length volumes.old) (asked + 1) tallies.new) }
     ensures turn { OnOk result
         (HaveTurned (asking ask.now ∷ []) volumes.old disks.old volumes.new disks.new) }
+    ensures waits { OnOk result
+        (HaveWaited wake (ask.now ∷ []) volumes.old disks.old tallies.old tallies.new) }
 {
-    volumes[ask.volume as usize].serve(disks, ask)
+    let wait = volumes[ask.volume as usize].serve(disks, ask, wake)?;
+    tallies.add(ask, wait, wake, asked);
+    Ok(())
 }
 
 // Serves the requests of a window, in order.
 fn serve_all(
     volumes: &mut [Volume],
     disks: &mut [Disk],
+    tallies: &mut Tallies,
     asks: &[Ask],
+    wake: u64,
     asked: u64,
     moment: u64,
 ) -> Result<(), NoMemory>
     requires ready { AreReady volumes.old disks.old asked moment }
+    requires tallies { AreFewIn (length volumes.old) asked tallies.old }
     requires asks { AllByRecursion (IsAsk (length volumes.old)) asks.now }
     requires few { asked + length asks.now < 2 ^ 63 }
     ensures ready { OnOk result (AreReady volumes.new disks.new (asked + length asks.now) moment) }
+    ensures tallies { OnOk result
+        (AreFewIn (length volumes.old) (asked + length asks.now) tallies.new) }
     ensures turns { OnOk result
         (HaveTurned (map asking asks.now) volumes.old disks.old volumes.new disks.new) }
+    ensures waits { OnOk result
+        (HaveWaited wake asks.now volumes.old disks.old tallies.old tallies.new) }
 {
     for place in 0..asks.len() {
-        serve(volumes, disks, &asks[place], asked + place as u64, moment)?;
+        let before = asked + place as u64;
+        serve(volumes, disks, tallies, &asks[place], wake, before, moment)?;
     }
     Ok(())
 }
@@ -169,26 +199,33 @@ fn reclaim_all(volumes: &mut [Volume], disks: &mut [Disk], asked: u64, moment: u
 fn run(
     volumes: &mut [Volume],
     disks: &mut [Disk],
+    tallies: &mut Tallies,
     asks: &[Ask],
-    timeout: u64,
-    sleeps: bool,
+    rules: &Rules,
     at: u64,
     asked: u64,
 ) -> Result<(), NoMemory>
     requires ready { AreReady volumes.old disks.old asked at }
-    requires timeout { 10000 ≤ timeout }
+    requires tallies { AreFewIn (length volumes.old) asked tallies.old }
+    requires timeout { 10000 ≤ rules.now.timeout }
     requires asks { AllByRecursion (IsAsk (length volumes.old)) asks.now }
     requires few { asked + length asks.now < 2 ^ 63 }
     ensures ready { OnOk result (AreReady volumes.new disks.new (asked + length asks.now) at) }
+    ensures tallies { OnOk result
+        (AreFewIn (length volumes.old) (asked + length asks.now) tallies.new) }
     ensures run { OnOk result ((p : Policy) (c : Config) (from : ℕ) (ws : List Asked)
-        → timeout ≡ c.timeout → sleeps ≡ goes_down p
-        → Stands volumes.old disks.old (machine_after p c from ws)
+        → AreRules p c rules.now → Stands volumes.old disks.old (machine_after p c from ws)
         → Stands volumes.new disks.new
         (machine_after p c from (ws ++ record { moment = at; asks = asks.now } ∷ []))) }
+    ensures waits { OnOk result ((p : Policy) (c : Config) (from : ℕ) (ws : List Asked)
+        → AreRules p c rules.now → Stands volumes.old disks.old (machine_after p c from ws)
+        → AreTallied c.wake (waits_by p c from ws) tallies.old
+        → AreTallied c.wake
+        (waits_by p c from (ws ++ record { moment = at; asks = asks.now } ∷ [])) tallies.new) }
 {
-    begin_if(disks, sleeps, at, timeout);
+    begin_if(disks, rules.sleeps, at, rules.timeout);
     show_disks(volumes, disks, asked);
-    serve_all(volumes, disks, asks, asked, at)?;
+    serve_all(volumes, disks, tallies, asks, rules.wake, asked, at)?;
     reclaim_all(volumes, disks, asked + asks.len() as u64, at);
     Ok(())
 }
@@ -237,14 +274,19 @@ impl Machine {
     {
         let volumes = volumes_of(alloc, policy, config.volumes.as_slice())?;
         let disks = vec![in alloc; Disk::new(from); volumes.len()]?;
+        let tallies = Tallies::new(alloc, volumes.len())?;
         Ok(Machine {
-            timeout: config.timeout,
+            rules: Rules {
+                timeout: config.timeout,
+                sleeps: goes_down(policy),
+                wake: config.wake,
+            },
             powers: config.powers,
-            sleeps: goes_down(policy),
             volumes,
             disks,
             moment: from,
             asked: 0,
+            tallies,
             live: true,
         })
     }
@@ -270,9 +312,9 @@ impl Machine {
         run(
             self.volumes.as_mut_slice(),
             self.disks.as_mut_slice(),
+            &mut self.tallies,
             asks,
-            self.timeout,
-            self.sleeps,
+            &self.rules,
             at,
             self.asked,
         )?;
@@ -289,14 +331,43 @@ impl Machine {
         self.live
     }
 
+    /// What is told of the waits of all requests that were asked.
+    pub fn told(&self) -> Told
+        requires { IsMachine self.now }
+        ensures { (p : Policy) (c : Config) (from : ℕ) (ws : List Asked) → HasRun p c from ws self.now
+            → AreTold c.wake (waits_by p c from ws) result }
+    {
+        self.tallies.all
+    }
+
     /// What all disks used until `to`, where the account ends, in units of 100 ns.
-    pub fn finish(self, to: u64) -> Compared
-        requires machine { IsMachine self }
-        requires live { self.live ≡ true }
-        requires later { self.moment ≤ to }
-        ensures { (p : Policy) (c : Config) (from : ℕ) (ws : List Asked) → HasRun p c from ws self
+    pub fn used_until(&self, to: u64) -> Compared
+        requires machine { IsMachine self.now }
+        requires live { self.now.live ≡ true }
+        requires later { self.now.moment ≤ to }
+        ensures { (p : Policy) (c : Config) (from : ℕ) (ws : List Asked) → HasRun p c from ws self.now
             → result ≡ compared p c from ws to }
     {
         sum_up(self.disks.as_slice(), to, &self.powers)
+    }
+
+    // Appends the line of each volume. The account ends at `to`, in units of 100 ns.
+    pub(crate) fn volume_lines(
+        &self,
+        policy: Policy,
+        volumes: &[VolumeConf],
+        to: u64,
+        out: &mut Vec<u8>,
+    ) -> Result<(), NoMemory>
+        requires machine { IsMachine self.now }
+        requires later { self.now.moment ≤ to }
+        requires count { length volumes.now ≡ length self.now.volumes.items }
+        ensures { (c : Config) (from : ℕ) (ws : List Asked) → HasRun policy c from ws self.now
+            → volumes.now ≡ c.volumes.items
+            → OnOk result (out.new.items ≡ out.old.items ++ volumes_text policy c from ws to) }
+    {
+        let disks = self.disks.as_slice();
+        let told = self.tallies.each.as_slice();
+        volume_lines(policy, volumes, disks, told, &self.powers, to, out)
     }
 }

@@ -12,6 +12,8 @@ pub enum Policy {
     Host,
     /// The same, and all volumes log for one another.
     All,
+    /// The same, and the volumes that its view names log for a volume, in the view's order.
+    Views,
 }
 
 /// What one request asks of a volume.
@@ -24,6 +26,30 @@ pub struct Ask {
     pub lbn: u64,
     /// How many blocks, 1 to 128.
     pub count: u32,
+}
+
+/// What one disk used. Times are in units of 100 ns.
+#[derive(Clone, Copy, Debug, PartialEq, Eq)]
+pub struct Used {
+    /// How often it came up.
+    pub wakes: u64,
+    /// How often it went down.
+    pub sleeps: u64,
+    /// How long it was awake.
+    pub awake: u64,
+    /// How long it was in standby.
+    pub standby: u64,
+    /// The energy, in units of 100 pJ.
+    pub units: u128,
+}
+
+/// What is told of a policy beside how often disks came up and went down and what they used.
+#[derive(Clone, Copy, Debug, PartialEq, Eq)]
+pub struct Details {
+    /// How many reads and writes wait, and how late they are.
+    pub long: bool,
+    /// A line for each volume.
+    pub volumes: bool,
 }
 
 /// What all disks together used.

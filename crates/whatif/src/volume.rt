@@ -181,8 +181,14 @@ impl Volume {
         Ok(())
     }
 
-    // Writes blocks where the rule of placing says.
-    fn write(&mut self, disks: &mut [Disk], lbn: u64, count: u32) -> Result<(), NoMemory>
+    // Writes blocks where the rule of placing says. Answers how long it waits, where a disk takes `spin_up` to come up.
+    fn write(
+        &mut self,
+        disks: &mut [Disk],
+        lbn: u64,
+        count: u32,
+        spin_up: u64,
+    ) -> Result<u64, NoMemory>
         requires volume { IsVolume self.old }
         requires within { IsWithin (length disks.old) (reach_in self.old) }
         requires kept { AllByRecursion IsKept disks.old }
@@ -195,6 +201,7 @@ impl Volume {
         ensures moments { OnOk result (moments_of disks.new ≡ moments_of disks.old) }
         ensures done { OnOk result
             (HasDone (writing lbn count) self.old self.new disks.old disks.new) }
+        ensures late { IfOk result (IsLate spin_up (writing lbn count) self.old disks.old) }
     {
         let covered = self.index.covered(lbn, count);
         match place(
@@ -206,18 +213,25 @@ impl Volume {
             Step::Home | Step::WakeHome => {
                 self.see_home(true);
                 access_at(disks, self.own);
+                Ok(lag_at(disks, self.own, spin_up))
             }
             Step::Log(lane) | Step::WakeLog(lane) | Step::Ask(lane) => {
                 self.log(lane, lbn, count)?;
-                access_at(disks, self.loggers[lane as usize]);
+                let disk = self.loggers[lane as usize];
+                access_at(disks, disk);
+                Ok(lag_at(disks, disk, spin_up))
             }
-            Step::Full => {}
+            Step::Full => Ok(0),
         }
-        Ok(())
     }
 
-    /// Does what is asked of the volume.
-    pub(crate) fn serve(&mut self, disks: &mut [Disk], ask: &Ask) -> Result<(), NoMemory>
+    /// Does what is asked of the volume. Answers how long the request waits, where a disk takes `spin_up` to come up.
+    pub(crate) fn serve(
+        &mut self,
+        disks: &mut [Disk],
+        ask: &Ask,
+        spin_up: u64,
+    ) -> Result<u64, NoMemory>
         requires volume { IsVolume self.old }
         requires within { IsWithin (length disks.old) (reach_in self.old) }
         requires kept { AllByRecursion IsKept disks.old }
@@ -230,13 +244,12 @@ impl Volume {
         ensures moments { OnOk result (moments_of disks.new ≡ moments_of disks.old) }
         ensures done { OnOk result (HasDone (answering ask.now.kind ask.now.lbn ask.now.count)
             self.old self.new disks.old disks.new) }
+        ensures late { IfOk result (IsLate spin_up
+            (answering ask.now.kind ask.now.lbn ask.now.count) self.old disks.old) }
     {
         match ask.kind {
-            Kind::Read => {
-                let _wait = self.read(disks, ask.lbn, ask.count, 0);
-                Ok(())
-            }
-            Kind::Write => self.write(disks, ask.lbn, ask.count),
+            Kind::Read => Ok(self.read(disks, ask.lbn, ask.count, spin_up)),
+            Kind::Write => self.write(disks, ask.lbn, ask.count, spin_up),
         }
     }
 }

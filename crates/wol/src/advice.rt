@@ -11,21 +11,35 @@ usage: wol COMMAND, in the folder that has wol.toml and the images (NAME.vol)
   wol replay [OPTION..] < TRACE       serve a block trace on the images
   wol check                           print each volume's state and the SHA-256 of its content
   wol dump                            print the records in logs
-  wol whatif < TRACE                  compare four policies on a trace, without images
+  wol whatif [OPTION..] < TRACE       compare policies on a trace, without images
   wol clean                           rewrite the records in logs as few
-  wol serve NAME                      serve NAME to an NBD client on the input and output
+  wol serve [--wait SECONDS] NAME     serve NAME to an NBD client on the input and output
   wol nbd NAME                        the same without NBD's handshake
   wol gen SEED LINES                  print a generated trace
   wol soak SEED LINES [OPTION..]      replay a generated trace without printing it
   wol solo HOST DISK BLOCKS < TRACE   run one disk's lines on a new solo.vol, without wol.toml
   wol view-add NAME LOGGER            let LOGGER log for NAME
   wol view-remove NAME LOGGER         drain NAME; LOGGER logs for it no more
-OPTION: --each | --workers N (1 to 64) | --reclaim off|between|beside
-Numbers have no sign and no leading zero. README.md and docs/USAGE.md say more.
+OPTION: --each | --workers N (1 to 64) | --reclaim off|between|beside; of whatif: --long | --volumes | --timeout MS
+Numbers have no sign and no leading zero; -- stands before a NAME with a dash in front. docs/USAGE.md says more.
 ";
 
+/// What is known of why a run ended so.
+#[derive(Clone, Copy, PartialEq, Eq)]
+pub enum Cause {
+    Unknown,
+    /// The trace is compressed.
+    Compressed,
+    /// The trace begins with a heading.
+    Heading,
+    /// There is no wol.toml.
+    NoConfiguration,
+    /// There is one that can't be read.
+    Configuration,
+}
+
 /// What is said at a status, in whole lines; nothing where the command was done.
-pub fn advice(status: u8) -> Option<&'static str>
+pub fn advice(status: u8, cause: Cause) -> Option<&'static str>
     ensures done { status ≡ 0 → result ≡ None }
     ensures told { 1 ≤ status → status ≤ 12 → IsSome result }
     ensures refused { 14 ≤ status → status ≤ 15 → IsSome result }
@@ -35,11 +49,19 @@ pub fn advice(status: u8) -> Option<&'static str>
         2 => {
             "wol: wol.toml is not a valid configuration; no image was touched. Mend the key or name in the last line.\n"
         }
-        3 => {
-            "wol: a line of the trace was refused; all lines before it were run. Mend it; only replay goes on from there.\n"
-        }
+        3 => match cause {
+            Cause::Compressed => {
+                "wol: the trace is compressed; no line was run. gunzip -c FILE | wol .. gives its lines.\n"
+            }
+            Cause::Heading => {
+                "wol: the trace begins with a heading; no line was run. tail -n +2 FILE | wol .. gives its lines.\n"
+            }
+            _ => {
+                "wol: a line of the trace was refused; all lines before it were run. Mend it; only replay goes on from there.\n"
+            }
+        },
         4 => {
-            "wol: a call on the folder or an image failed. Look for a second wol, linked images, rights, space and ulimit -f.\n"
+            "wol: a call on the folder or an image failed. Look for a second wol, links, rights, space, ulimit -f; then start again.\n"
         }
         5 => {
             "wol: an image is damaged or not the one in wol.toml. Put back the right images or the right wol.toml.\n"
@@ -50,9 +72,17 @@ pub fn advice(status: u8) -> Option<&'static str>
         7 => {
             "wol: standard output failed: closed, full, or a pipe that nobody reads. wol check shows the images' state.\n"
         }
-        8 => {
-            "wol: wol.toml or the trace can't be read; lines before were run. Look for the file, its kind and its rights.\n"
-        }
+        8 => match cause {
+            Cause::NoConfiguration => {
+                "wol: this folder has no wol.toml; nothing was run. Go to the one that has it; README.md shows one.\n"
+            }
+            Cause::Configuration => {
+                "wol: wol.toml can't be read; nothing was run. Look for its kind and its rights.\n"
+            }
+            _ => {
+                "wol: the input can't be read; what came before was run. Look for the file, its kind and its rights.\n"
+            }
+        },
         9 => "wol: out of memory. Give it more and start again; after format, format again.\n",
         10 =>
             "wol: the trace has more than 4294967296 lines; those were run. Split it; only replay goes on with the rest.\n",

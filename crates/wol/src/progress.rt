@@ -1,4 +1,5 @@
 // How far a long trace is, on standard error.
+use std::cell::Cell;
 use std::env;
 use std::io::IsTerminal;
 use std::rt::Env;
@@ -7,16 +8,18 @@ use wol_io::Watch;
 
 /// Counts the lines that go by, and tells them and their rate at most once a second, each time over what it told before.
 #[derive(Drop)]
-pub struct Progress<R: Clock + Eprint> {
+pub struct Progress<'a, R: Clock + Eprint> {
     rt: R,
     lines: u64,
     began: Option<Instant>,
     told: Option<Instant>,
+    is_told: &'a Cell<bool>,
 }
 
-impl<R: Clock + Eprint> Progress<R> {
-    /// It begins at this moment. It tells nothing where it is not wanted, or where there is no clock.
-    pub fn new(rt: R, is_wanted: bool) -> Progress<R> {
+impl<'a, R: Clock + Eprint> Progress<'a, R> {
+    /// It begins at this moment. It tells nothing where it is not wanted, or where there is no clock. The cell says whether the
+    /// line that it told stands on the terminal yet.
+    pub fn new(rt: R, is_wanted: bool, is_told: &'a Cell<bool>) -> Progress<'a, R> {
         let began = if is_wanted {
             Instant::now(&rt).ok()
         } else {
@@ -27,12 +30,14 @@ impl<R: Clock + Eprint> Progress<R> {
             lines: 0,
             began,
             told: None,
+            is_told,
         }
     }
 
-    /// Ends the line, if one was told.
+    /// Ends the line, if one stands there.
     pub fn end(&self) {
-        if self.told.is_some() {
+        if self.is_told.get() {
+            self.is_told.set(false);
             let _ = self.rt.eprintln("");
         }
     }
@@ -46,13 +51,15 @@ impl<R: Clock + Eprint> Progress<R> {
             return;
         }
         self.told = Some(now);
+        self.is_told.set(true);
         let lines = self.lines;
+        let s = if lines == 1 { "" } else { "s" };
         let rate = lines / now.duration_since(began).as_secs().max(1);
-        let _ = eprint!(self.rt; "\rwol: {lines} lines, {rate} a second  ");
+        let _ = eprint!(self.rt; "\rwol: {lines} line{s}, {rate} a second  ");
     }
 }
 
-impl<R: Clock + Eprint> Watch for Progress<R> {
+impl<'a, R: Clock + Eprint> Watch for Progress<'a, R> {
     fn see(&mut self, bytes: &[u8]) {
         let Some(began) = self.began else {
             return;

@@ -35,9 +35,9 @@ fn uses_trace(command: &Command<'_>) -> bool
     match command {
         Command::Solo(_)
         | Command::Replay(_)
-        | Command::WhatIf
+        | Command::WhatIf(_)
         | Command::Nbd(_)
-        | Command::Serve(_) => true,
+        | Command::Serve(..) => true,
         Command::Gen(_)
         | Command::Format
         | Command::Check
@@ -59,12 +59,78 @@ fn are_of_trace(alloc: Global, words: &[String]) -> bool
     }
 }
 
-/// Whether the words are a command that serves a client, to whom no text is sent.
-pub fn are_of_client(alloc: Global, words: &[String]) -> bool {
-    match command_of(alloc, words) {
-        Ok(Command::Nbd(_) | Command::Serve(_)) => true,
-        Ok(_) => false,
-        Err(_) => false,
+/// What of a command is seen on its streams.
+#[derive(Clone, Copy)]
+pub struct Asked {
+    /// Whether wol.toml is read.
+    pub uses_config: bool,
+    /// Whether the lines of a trace are read from the input.
+    pub runs_trace: bool,
+    /// Whether the input is a client's, to whom no text is sent, and whether that begins with a handshake.
+    pub client: Option<bool>,
+    /// How long other processes' locks are waited for.
+    pub wait_seconds: u64,
+    /// Of a generated trace, how many lines it has.
+    pub generated: Option<u32>,
+    /// Whether timeouts are compared, and by which of them, where the words give one.
+    pub compared: Option<Option<u32>>,
+}
+
+// What most commands have.
+const PLAIN: Asked = Asked {
+    uses_config: true,
+    runs_trace: false,
+    client: None,
+    wait_seconds: 0,
+    generated: None,
+    compared: None,
+};
+
+// What words have that are no command.
+const NOTHING: Asked = Asked {
+    uses_config: false,
+    ..PLAIN
+};
+
+/// What the words ask for.
+pub fn asked_of(alloc: Global, words: &[String]) -> Asked {
+    let Ok(command) = command_of(alloc, words) else {
+        return NOTHING;
+    };
+    match command {
+        Command::Solo(_) => Asked {
+            runs_trace: true,
+            ..NOTHING
+        },
+        Command::Replay(_) => Asked {
+            runs_trace: true,
+            ..PLAIN
+        },
+        Command::WhatIf(options) => Asked {
+            runs_trace: true,
+            compared: Some(options.timeout_ms),
+            ..PLAIN
+        },
+        Command::Soak(trace, _) => Asked {
+            generated: Some(trace.lines),
+            ..PLAIN
+        },
+        Command::Nbd(_) => Asked {
+            client: Some(false),
+            ..PLAIN
+        },
+        Command::Serve(_, patience) => Asked {
+            client: Some(true),
+            wait_seconds: u64::from(patience.seconds),
+            ..PLAIN
+        },
+        Command::Format
+        | Command::Check
+        | Command::Dump
+        | Command::Gen(_)
+        | Command::ViewAdd(_)
+        | Command::ViewRemove(_)
+        | Command::Clean => PLAIN,
     }
 }
 
@@ -81,7 +147,7 @@ pub fn begin<R: Env + AllocGlobal + Print + Input, K: Sink>(
         return Err(end_with(out, NO_MEMORY, 9));
     };
     if are_of_trace(alloc, &words) && !gives_input(rt) {
-        if are_of_client(alloc, &words) {
+        if asked_of(alloc, &words).client.is_some() {
             return Err(8);
         }
         return Err(tell(alloc, out, Fault::Source));

@@ -8,10 +8,11 @@ use Rattle.command_words.specs.declared.command.Command.TheVariants.{Solo, Forma
 use Rattle.command_words.specs.declared.command.Generated.{Generated}
 use Rattle.command_words.specs.declared.command.Options.{Options}
 use Rattle.command_words.specs.declared.command.Patience.{Patience}
+use Rattle.command_words.specs.declared.command.WhatIfOptions.{WhatIfOptions}
 use Rattle.command_words.specs.declared.command.ServedName.{ServedName}
 use Rattle.command_words.specs.declared.command.ViewNames.{ViewNames}
 use Rattle.command_words.specs.Values.{named_by, served_by}
-use Rattle.wol_run.specs.Commands.{IsCount, IsInRange, runs_trace}
+use Rattle.wol_run.specs.Commands.{IsCount, IsInRange, IsTimeout, runs_trace}
 use Rattle.command_words.specs.Laws.{AreSame}
 use Rattle.command_words.specs.Laws as law
 use Rattle.command_words.proofs.Unique.{commands_are_one}
@@ -51,7 +52,7 @@ in_range words Check is = tt
 in_range words Dump is = tt
 in_range words (Gen asked) is = omega (arith, is.asks.values.most)
 in_range words (Soak asked options) is = (omega (arith, is.asks.values.0.most), (is.asks.values.1.workers.some, is.asks.values.1.workers.most))
-in_range words (WhatIf options) is = tt
+in_range words (WhatIf options) is = is.asks.values.timeout.range
 in_range words (ViewAdd names) is = tt
 in_range words (ViewRemove names) is = tt
 in_range words Clean is = tt
@@ -63,6 +64,9 @@ range_of_solo command volume is h = subst IsInRange is h
 
 pub range_of_gen : (command : Command) (asked : Generated) → command ≡ Gen asked → IsInRange command → asked.lines ≤ 2 ^ 31
 range_of_gen command asked is h = subst IsInRange is h
+
+pub range_of_what_if : (command : Command) (options : WhatIfOptions) → command ≡ WhatIf options → IsInRange command → IsTimeout options.timeout_ms
+range_of_what_if command options is h = subst IsInRange is h
 
 pub range_of_replay : (command : Command) (options : Options) → command ≡ Replay options → IsInRange command → IsCount options.workers
 range_of_replay command options is h = subst IsInRange is h

@@ -16,7 +16,7 @@ use Rattle.report.specs.declared.fault.Fault.{Fault}
 use Rattle.report.specs.declared.fault.Fault.TheVariants as fault
 use Rattle.report.specs.declared.trouble.Trouble.{Trouble}
 use Rattle.report.specs.declared.trouble.Trouble.TheVariants as trouble
-use Rattle.troubles.specs.Troubles.{trouble_of, trouble_of_part}
+use Rattle.rack.specs.Troubles.{trouble_of, trouble_of_part}
 use Rattle.manager.specs.declared.part.Part.{Part}
 use Rattle.manager.specs.declared.part.Part.TheVariants as part
 use Rattle.trace_gen.specs.Generated.{targets_of}
@@ -60,10 +60,10 @@ use Rattle.nbd_session.specs.declared.session.Ended.TheVariants as nbd_ended
 use Rattle.nbd_session.specs.declared.session.NbdFault.{NbdFault}
 use Rattle.nbd_session.specs.declared.session.NbdFault.TheVariants as nbd_fault
 use Rattle.nbd_session.specs.Sessions.{CountsFaults}
-use Rattle.nbd_handshake.specs.declared.ending.Shaken.{Shaken}
-use Rattle.nbd_handshake.specs.declared.ending.Shaken.TheVariants.{Agreed, Unagreed as NotAgreed}
-use Rattle.nbd_handshake.specs.declared.ending.Unagreed.{Unagreed}
-use Rattle.nbd_handshake.specs.declared.ending.Unagreed.TheVariants as unagreed
+use Rattle.nbd_session.specs.declared.ending.Shaken.{Shaken}
+use Rattle.nbd_session.specs.declared.ending.Shaken.TheVariants.{Agreed, Unagreed as NotAgreed}
+use Rattle.nbd_session.specs.declared.ending.Unagreed.{Unagreed}
+use Rattle.nbd_session.specs.declared.ending.Unagreed.TheVariants as unagreed
 use Rattle.nbd_serving.proofs.Begun.{counts_behind, faults_begun}
 use Rattle.nbd_serving.specs.Racks.{Begins}
 use Rattle.nbd_serving.specs.declared.serving.Beginning.{Beginning}
@@ -82,10 +82,10 @@ use Rattle.wol_run.specs.Causes as row
 use Rattle.wol_run.specs.Cleaning.{IsCleaning}
 use Rattle.wol_run.specs.Commands.{changes_view, runs_trace, uses_bay, uses_config}
 use Rattle.inspection.specs.Runs.{Looked}
-use Rattle.rack_closing.specs.BayRuns.{BayLeft}
+use Rattle.rack.specs.BayRuns.{BayLeft}
 use Rattle.wol_run.specs.Inspecting.{IsLook, LooksFor, status_of_first}
 use Rattle.wol_run.specs.Outside.{Outside}
-use Rattle.wol_run.specs.Comparing.{IsComparison}
+use Rattle.wol_run.specs.Comparing.{IsComparison, details_of, with_timeout}
 use Rattle.wol_run.specs.Replaying.{EndsReplay, GivenLines, HasLeft, IsReplay, trace_of}
 use Rattle.wol_run.specs.Run.{IsCleaningOf, IsComparisonOf, IsFormat, IsListingOf, IsLookFor, IsReplayOf, IsServingOf, IsViewChangeOf}
 use Rattle.wol_run.specs.Serving.{HasBadBytes, served_as}
@@ -205,16 +205,16 @@ module _ {D : Type 0} (tells : Bool) (state : D → State) (read : Option Config
       no_further now run trace.Spent other refuses same = at_status 10 status same (row.more_lines for_lines (more_of before.trace.bytes now run trace.Spent refl refuses))
       no_further now run trace.NoMemory other refuses same = absurd (other refl)
 
-      module _ (config : Config) (run : IsComparison config (trace_of before.trace.bytes) after.trace.bytes before.sink.faults after.sink.faults status before.sink.bytes after.sink.bytes) where
-        of_behind : (ls : List (Option TraceLine)) (x : Result (Unit {0}) Stop) → EndsBehind (λ bytes. bytes) config (trace_of before.trace.bytes) run.now before.sink.faults run.over.sink_then before.sink.bytes run.over.printed_then ls x
+      module _ (config : Config) (run : IsComparison (details_of options) config (trace_of before.trace.bytes) after.trace.bytes before.sink.faults after.sink.faults status before.sink.bytes after.sink.bytes) where
+        of_behind : (ls : List (Option TraceLine)) (x : Result (Unit {0}) Stop) → EndsBehind (λ bytes. bytes) (details_of options) config (trace_of before.trace.bytes) run.now before.sink.faults run.over.sink_then before.sink.bytes run.over.printed_then ls x
             → EndsReplay config x status run.over.printed_then after.sink.bytes → Cause status
         of_behind ls x (behind.whole done all calm more) ends = at_status 0 status ends.0 (row.done (WhatIf options) is (λ asks. at_end before.trace.bytes after.trace.bytes run.now ls config run.rest all))
         of_behind ls x (behind.sink_failed all rose front) ends = of_sink ends.0
         of_behind ls x (behind.no_line refusal other refuses calm kept) ends = told_cause _ (fault_of_trace refusal) run.over.printed_then ends (no_further run.now ls refusal other refuses)
         of_behind ls x (behind.memory calm kept) ends = told_cause _ fault.Memory run.over.printed_then ends memory_cause
 
-      pub comparison_cause : (o : Option Config) → IsComparisonOf o before after status → Cause status
-      comparison_cause (Some config) run = of_behind config run run.compares.run run.over.result run.compares.ends run.over.ends
+      pub comparison_cause : (o : Option Config) → IsComparisonOf options o before after status → Cause status
+      comparison_cause (Some config) run = of_behind (with_timeout options.timeout_ms config) run run.compares.run run.over.result run.compares.ends run.over.ends
       comparison_cause None unread = ended_cause unread.text unread.wanted _ unread.ends (unread_cause (record { command = WhatIf options; is = is; does = refl }) unread.text unread.wanted unread.line_)
 
     pub gen_cause : (what : Generated) → IsCommand words (Gen what) → IsListingOf read before after status what → Cause status

@@ -107,7 +107,7 @@ module _ {D : Type 0} (tells : Bool) (state : D → State) (words : List (List �
       (record { config = λ none. absurd (used refl (none (Soak what options) is)); trace = λ none. trace; bay = λ none. absurd (used refl (none (Soak what options) is)) })
       (λ order calm. inl (complete (free (Soak what options) refl refl order.0 order.1 calm) order.2))
 
-  pub comparison_promise : (options : WhatIfOptions) → IsCommand words (WhatIf options) → OfRead before.config.bytes (λ read. IsComparisonOf read before after status) → (status ≡ 8 → Rose before.config.faults after.config.faults ⊎ Rose before.trace.faults after.trace.faults)
+  pub comparison_promise : (options : WhatIfOptions) → IsCommand words (WhatIf options) → OfRead before.config.bytes (λ read. IsComparisonOf options read before after status) → (status ≡ 8 → Rose before.config.faults after.config.faults ⊎ Rose before.trace.faults after.trace.faults)
       → ((lines : _) → IsGoodTrace before.trace.bytes lines → IsConfigured before.config.bytes → ¬ Rose before.config.faults after.config.faults → ¬ Rose before.trace.faults after.trace.faults → ¬ Rose before.sink.faults after.sink.faults
       → IsDoneOrMemory status) → after.bay ≡ before.bay → Run tells state words before after status
   comparison_promise options is run source complete bay = of_command tells state words before after status run.read run.has (WhatIf options) is run.is (comparison_cause tells state run.read words before after status seven options is source run.read run.is) later

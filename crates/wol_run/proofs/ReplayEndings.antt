@@ -22,7 +22,7 @@ use Rattle.replay.specs.declared.given.Given.TheVariants as given
 use Rattle.replay.specs.declared.session.Options.{Options}
 use Rattle.replay.specs.declared.stop.Stop.{Stop}
 use Rattle.replay.specs.declared.stop.Stop.TheVariants as stop
-use Rattle.troubles.specs.Troubles.{trouble_of}
+use Rattle.rack.specs.Troubles.{trouble_of}
 use Rattle.command_words.specs.declared.command.Generated.{Generated}
 use Rattle.wol_run.specs.Replaying.{EndsReplay, GivenLines, HasLeft, IsReplay, IsUnreplayed, RunsReplay, lines_of, trace_of}
 use Rattle.wol_run.specs.Settings.{HasNoConfig, IsUnread, line_of_fault}

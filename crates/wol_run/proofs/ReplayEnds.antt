@@ -20,7 +20,7 @@ use Rattle.replay.specs.declared.given.Given.{Given}
 use Rattle.replay.specs.declared.session.Options.{Options}
 use Rattle.replay.specs.declared.stop.Stop.{Stop}
 use Rattle.replay.specs.declared.stop.Stop.TheVariants as stop
-use Rattle.troubles.specs.Troubles.{trouble_of}
+use Rattle.rack.specs.Troubles.{trouble_of}
 use Rattle.wol_run.proofs.ReplayFaults.{CanEnd, IsOfWindow, of_window, trace_can, window_can}
 
 -- ---- What ended a run

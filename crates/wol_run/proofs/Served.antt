@@ -6,7 +6,7 @@ use Rattle.wol_config.specs.declared.config.Config.{Config}
 use Rattle.report.specs.Faults.{status_of}
 use Rattle.report.specs.declared.fault.Fault.{Fault}
 use Rattle.report.specs.declared.fault.Fault.TheVariants.{Volume}
-use Rattle.troubles.specs.Troubles.{trouble_of}
+use Rattle.rack.specs.Troubles.{trouble_of}
 use Rattle.replay.proofs.Statuses.{not_sink}
 use Rattle.nbd_session.specs.Sessions.{CountsFaults, HasServed, IsSession}
 use Rattle.nbd_session.specs.Sessions as session
@@ -22,10 +22,10 @@ use Rattle.nbd_serving.specs.Racks.{Begins}
 use Rattle.nbd_serving.specs.declared.serving.Beginning.{Beginning}
 use Rattle.nbd_serving.specs.declared.serving.Beginning.TheVariants as beginning
 use Rattle.nbd_serving.proofs.Begun.{calm_begun, counts_behind, faults_begun}
-use Rattle.nbd_handshake.specs.declared.ending.Shaken.{Shaken}
-use Rattle.nbd_handshake.specs.declared.ending.Shaken.TheVariants.{Agreed, Unagreed as NotAgreed}
-use Rattle.nbd_handshake.specs.declared.ending.Unagreed.{Unagreed}
-use Rattle.nbd_handshake.specs.declared.ending.Unagreed.TheVariants as unagreed
+use Rattle.nbd_session.specs.declared.ending.Shaken.{Shaken}
+use Rattle.nbd_session.specs.declared.ending.Shaken.TheVariants.{Agreed, Unagreed as NotAgreed}
+use Rattle.nbd_session.specs.declared.ending.Unagreed.{Unagreed}
+use Rattle.nbd_session.specs.declared.ending.Unagreed.TheVariants as unagreed
 use Rattle.nbd_serving.specs.declared.stop.Stop.{Stop}
 use Rattle.nbd_serving.specs.declared.stop.Stop.TheVariants as stop
 use Rattle.wol_run.specs.Serving.{AreRequests, EndsAtClient, HasBadBytes, HasBadRequests}

@@ -16,7 +16,7 @@ use Rattle.trace_windows.specs.declared.request.Request.{Request}
 use Rattle.request_turns.specs.declared.outcome.Outcome.{Outcome}
 use Rattle.request_turns.specs.declared.outcome.Outcome.TheVariants.{Read, Wrote, NoRead, NoWrite, NotRun}
 use Rattle.window_desks.specs.declared.request.Window.{Window}
-use Rattle.troubles.specs.Troubles.{trouble_of_part}
+use Rattle.rack.specs.Troubles.{trouble_of_part}
 use Rattle.replay.specs.Ended.{IsPartFault}
 use Rattle.replay.specs.Endings.{fault_of_outcome, fault_of_part, fault_of_reclaim, fault_of_window, first_refused, lacked_memory}
 

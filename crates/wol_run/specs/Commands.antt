@@ -1,5 +1,5 @@
 -- What commands use, and their numbers.
-use Rattle.std.specs.Prelude.{◌≡◌, Bool, true, false, ⊤, ℕ, ◌≤◌, ◌^◌, List}
+use Rattle.std.specs.Prelude.{◌≡◌, Bool, true, false, ⊤, ℕ, ◌≤◌, ◌^◌, List, Option, IfSome}
 use Rattle.solo.specs.Volume.{IsVolume, target_of}
 use Rattle.command_words.specs.Commands.{IsCommand}
 use Rattle.command_words.specs.declared.command.Command.{Command}
@@ -49,10 +49,15 @@ NoneOf test words = (command : Command) → IsCommand words command → test com
 abbrev pub IsCount : (workers : ℕ) → Type 0
 IsCount workers = (1 ≤ workers) × (workers ≤ 64)
 
+-- a timeout in milliseconds, where one is given
+abbrev pub IsTimeout : Option ℕ → Type 0
+IsTimeout timeout = IfSome timeout (λ ms. (1 ≤ ms) × (ms ≤ 86400000))
+
 -- a command whose numbers are in range
 abbrev pub IsInRange : Command → Type 0
 IsInRange (Solo volume) = IsVolume (target_of volume)
 IsInRange (Replay options) = IsCount options.workers
 IsInRange (Gen asked) = asked.lines ≤ 2 ^ 31
 IsInRange (Soak asked options) = (asked.lines ≤ 2 ^ 31) × IsCount options.workers
+IsInRange (WhatIf options) = IsTimeout options.timeout_ms
 IsInRange command = ⊤

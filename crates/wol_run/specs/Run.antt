@@ -117,10 +117,10 @@ IsSoloOf before after status volume =
     before.sink.bytes after.sink.bytes
 
 -- the policies were compared on the trace
-abbrev pub IsComparisonOf : (read : Option Config) → (before after : Outside) → (status : ℕ)
-    → Type 0
-IsComparisonOf read before after status =
-    RunsWhatIf read (trace_of before.trace.bytes) before.config.bytes
+abbrev pub IsComparisonOf : WhatIfOptions → (read : Option Config) → (before after : Outside)
+    → (status : ℕ) → Type 0
+IsComparisonOf options read before after status =
+    RunsWhatIf options read (trace_of before.trace.bytes) before.config.bytes
     before.config.faults after.config.faults after.trace.bytes
     before.sink.faults after.sink.faults status before.sink.bytes after.sink.bytes
 
@@ -146,7 +146,7 @@ module _ {D : Type 0} (tells : Bool) (state : D → State) (read : Option Config
   -- gen: the first lines of the seed
   Does (Gen what) = IsListingOf read before after status what
   -- whatif: what each policy would use for the trace, or why no further line came
-  Does (WhatIf options) = IsComparisonOf read before after status
+  Does (WhatIf options) = IsComparisonOf options read before after status
   -- view-add, view-remove: the new view, what the images recover to, or why nothing changed
   Does (ViewAdd names) =
       IsViewChangeOf tells state read before after status (Add, named_by names)

@@ -13,9 +13,9 @@ use Rattle.nbd_session.specs.Sessions.{IsCut}
 use Rattle.nbd_session.specs.declared.header.Command.TheVariants as command
 use Rattle.nbd_session.specs.declared.header.Header.{Header}
 use Rattle.nbd_session.specs.declared.session.Ended.{Ended}
-use Rattle.nbd_handshake.specs.Shakes.{IsShake}
-use Rattle.nbd_handshake.specs.declared.ending.Shaken.TheVariants.{Agreed, Unagreed as NotAgreed}
-use Rattle.nbd_handshake.specs.declared.ending.Unagreed.{Unagreed}
+use Rattle.nbd_session.specs.Shakes.{IsShake}
+use Rattle.nbd_session.specs.declared.ending.Shaken.TheVariants.{Agreed, Unagreed as NotAgreed}
+use Rattle.nbd_session.specs.declared.ending.Unagreed.{Unagreed}
 use Rattle.command_words.specs.Values.{served_by}
 use Rattle.command_words.specs.declared.command.Command.{Command}
 use Rattle.command_words.specs.declared.command.Command.TheVariants.{Nbd, Serve}

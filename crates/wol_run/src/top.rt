@@ -87,7 +87,7 @@ where
         },
         Command::Replay(options) => replay(rt, alloc, options, config, trace, out, bay, gate),
         Command::Soak(asked, options) => soak(rt, alloc, asked, options, config, out, bay, gate),
-        Command::WhatIf(_options) => compare(alloc, config, trace, out),
+        Command::WhatIf(options) => compare(alloc, options, config, trace, out),
         Command::ViewAdd(names) => change_view(rt, alloc, Verb::Add, names, config, out, bay),
         Command::ViewRemove(names) => change_view(rt, alloc, Verb::Remove, names, config, out, bay),
         Command::Clean => clean(rt, alloc, config, out, bay),

@@ -1,6 +1,6 @@
 // The smallest command over all volumes: it opens them, does nothing with them, and closes them.
-ghost use Rattle.open_rack.specs.NotOpened.{LeavesBay};
-ghost use Rattle.open_rack.specs.Sessions.{OpensAndCloses};
+ghost use Rattle.rack.specs.NotOpened.{LeavesBay};
+ghost use Rattle.rack.specs.Sessions.{OpensAndCloses};
 ghost use Rattle.rack.specs.Opens.{KeepsOthers};
 ghost use Rattle.std.specs.Prelude.{◌≡◌, [], Some, IfOk};
 ghost use Rattle.volume_images.specs.Left.{IsTold};
@@ -12,8 +12,7 @@ ghost use Rattle.wol_config.specs.Configs.{IsValid};
 use super::inspected::{FIVE, tries};
 use fixtures::{Change, OWNED, SRC0, THREE, USR0, WEB0, put};
 use inspection::Asked;
-use open_rack::{Closed, Work, with_open};
-use rack::Rack;
+use rack::{Closed, Rack, Work, with_open};
 use std::alloc::Global;
 use std::process::Abort;
 use std::sync::Wait;

@@ -1,5 +1,5 @@
 // The line of a record, which was worked out by hand from the formats.
-use log_dump::{append_record, mask_digits};
+use inspection::{append_record, mask_digits};
 use redirect_map::Rec;
 use std::test::Fail;
 

@@ -1,5 +1,5 @@
 // Handshakes, byte by byte: what clients send, and what they get.
-use nbd_handshake::{Export, Shaken, Unagreed, shake};
+use nbd_session::{Export, Shaken, Unagreed, shake};
 use std::alloc::{AllocError, Global};
 use std::process::Abort;
 use std::test::Fail;

@@ -169,7 +169,7 @@ fn a_block_that_was_overwritten_since_it_was_fetched_is_not_put_home(
 #[test]
 fn a_drain_wakes_home_and_leaves_no_record(rt: HostRuntime) -> Result<(), Fail> {
     let mut rig = overlapping(&rt, rt.alloc());
-    for (blocks, records) in [(0, 0), (2, 0), (0, 1), (2, 0), (0, 1)] {
+    for (blocks, records) in [(4, 0), (0, 1), (0, 1)] {
         let step = rig.drain_step(&rt);
         assert!(rt; step == Ok(Drain::Moved { blocks, records }), "{step:?}");
     }

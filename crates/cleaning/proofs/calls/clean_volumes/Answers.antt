@@ -3,7 +3,7 @@ use Rattle.std.proofs.lemmas.Result.{err_from_is_err_and}
 use Rattle.wol_io.proofs.Appending.{keeps_same}
 use Rattle.cleaning.specs.Runs.{unopened}
 use Rattle.cleaning.proofs.Leaving.{cleans_by, completes_by, left_by}
-use Rattle.open_rack.proofs.ViewsKept.{views_kept}
+use Rattle.rack.proofs.ViewsKept.{views_kept}
 use Rattle.cleaning.proofs.calls.clean_volumes.Goals as goal
 
 pub returns-in_err-closed-clause-leaves : goal.returns-in_err-closed-clause-leaves

@@ -26,6 +26,7 @@ loop-init g c = record {
       few = (let none = c.in_ok-comparison.ensures.none in omega (arith, none));
     };
   };
+  more = c.in_ok-comparison.ensures.more ∙ c.tells_more.ensures;
   live = c.requires.new.0;
   turns = c.requires.new.1;
   lines = c.new-cutter.ensures.lines;
@@ -39,7 +40,7 @@ pub returns-in-Err-clause-some : goal.returns-in-Err-clause-some
 returns-in-Err-clause-some g c =
     let so = c.loop.invariant.so_far in
     let has = c.in-Err.ensures.refused c.args.given.now so.run so.given in
-    rw c.fault_of_trace.ensures (stops_at g.S.Source.left c.args.config.now c.args.given.now c.next.new.self c.in-Err.fault so.run has.0 has.1)
+    rw c.fault_of_trace.ensures (stops_at g.S.Source.left c.args.details c.args.config.now c.args.given.now c.next.new.self c.in-Err.fault so.run has.0 has.1)
 
 pub loop-preserved : goal.loop-preserved
 loop-preserved g c =
@@ -53,6 +54,7 @@ loop-preserved g c =
         given = next c.args.given.now so.run so.given;
         taken = rw (copied_line c.as_ref-line.result c.in-Ok-Some.line c.as_ref-line.ensures.value) at (e.taken so.run so.taken);
       };
+      more = e.more ∙ i.more;
       live = c.in-Ok-Some.ensures.live;
       turns = (rw c.in-Ok-Some.field-0-is at c.in-Ok-Some.ensures.count) ∙ ap (λ n. n + 1) i.turns;
       lines = e.lines ∙ ap (λ n. n + 1) i.lines;

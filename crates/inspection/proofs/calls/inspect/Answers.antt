@@ -1,8 +1,8 @@
 use Rattle.std.proofs.Common.{inr, refl}
 use Rattle.std.proofs.lemmas.Result.{err_from_is_err_and}
-use Rattle.open_rack.specs.Sessions.{IsClosed, IsOpened, OpensAndCloses}
-use Rattle.open_rack.proofs.RacksAgain.{closable_again, rest_again}
-use Rattle.open_rack.proofs.Since.{began_in, home_again, none_out_still, opens_and_closes, sound_since}
+use Rattle.rack.specs.Sessions.{IsClosed, IsOpened, OpensAndCloses}
+use Rattle.rack.proofs.RacksAgain.{closable_again, rest_again}
+use Rattle.rack.proofs.Since.{began_in, home_again, none_out_still, opens_and_closes, sound_since}
 use Rattle.rack.proofs.FailedParts.{gained_parts}
 use Rattle.inspection.specs.Lines.{PrintsVolumes}
 use Rattle.inspection.proofs.Completing.{look_completes}

@@ -1,6 +1,6 @@
 use Rattle.turn_lock.specs.Passes.{pass_number}
 use Rattle.manager.specs.Seen.{look_of_manager}
-use Rattle.log_dump.specs.Faults.{was_told}
+use Rattle.inspection.specs.Faults.{was_told}
 use Rattle.inspection.specs.Looks.{note_told}
 use Rattle.inspection.proofs.turn.look.Given as goal
 

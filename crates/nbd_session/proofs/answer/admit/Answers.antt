@@ -1,5 +1,5 @@
 use Rattle.std.proofs.Common.{arith, length}
-use Rattle.nbd_session.proofs.Asked.{payload_fits}
+use Rattle.nbd_session.proofs.RequestAnswers.{payload_fits}
 use Rattle.nbd_session.proofs.answer.admit.Goals as goal
 
 pub take_data-requires : goal.take_data-requires

@@ -1,5 +1,5 @@
 use Rattle.std.proofs.Common.{inl, inr, take}
-use Rattle.nbd_session.proofs.Asked.{payload_write, serves_look, serves_read, serves_write}
+use Rattle.nbd_session.proofs.RequestAnswers.{payload_write, serves_look, serves_read, serves_write}
 use Rattle.nbd_session.proofs.answer.ask.Goals as goal
 
 pub returns-then-header-eq0-clause-serves : goal.returns-then-header-eq0-clause-serves

@@ -1,6 +1,6 @@
 use Rattle.std.proofs.Common.{take, arith, refl, rules}
 use Rattle.std.proofs.lemmas.Result.{err_from_is_err_and}
-use Rattle.nbd_session.proofs.Replies.{data_taken, error_taken, head_cut, nothing_taken}
+use Rattle.nbd_session.proofs.ReplyBytes.{data_taken, error_taken, head_cut, nothing_taken}
 use Rattle.nbd_session.proofs.reply.send.Goals as goal
 
 pub returns-in_err-write-in-Ok-clause-content : goal.returns-in_err-write-in-Ok-clause-content

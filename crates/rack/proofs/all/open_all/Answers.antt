@@ -1,8 +1,8 @@
 use Rattle.rack.proofs.Basics.{arith, ℕ, List, Option, length, sym, ap, ◌∙◌, subst, All}
 use Rattle.rack.proofs.Terms.{PassOf, Spindle, SpindleBase, IsUnused, KeepToViews, view_at, IsOpeningRack, HasBegun, HaveFaults, Said}
 use Rattle.rack_parts.proofs.LocksIssued.{on_err}
-use Rattle.rack_closing.proofs.RunLaws.{quiet_run}
-use Rattle.rack_closing.proofs.SoundVolumes.{opens_all}
+use Rattle.rack.proofs.RunLaws.{quiet_run}
+use Rattle.rack.proofs.SoundVolumes.{opens_all}
 use Rattle.rack.proofs.FailedParts.{gained_parts, part_failed}
 use Rattle.rack.proofs.ImagesSent.{others_same, others_then}
 use Rattle.rack.proofs.TakenBack.{left_back, nothing_done, run_back, views_back}

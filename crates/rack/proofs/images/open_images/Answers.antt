@@ -1,8 +1,8 @@
 use Rattle.rack.proofs.Basics.{◌≡◌, ◌<◌, length, sym, ◌∙◌, subst, arith, rules, length-map, length-set, slice_get_within, get_or_from_slice_get}
 use Rattle.rack.proofs.Terms.{IsHome, VolumeConf, shape_in, HasSentOut, AreAsked}
-use Rattle.rack_closing.proofs.Places.{some_at}
+use Rattle.rack.proofs.Places.{some_at}
 use Rattle.rack.proofs.Asking.{asked_more, asked_later, none_asked}
-use Rattle.rack_closing.proofs.NewFaults.{same_faulty}
+use Rattle.rack.proofs.NewFaults.{same_faulty}
 use Rattle.rack.proofs.ImagesSent.{others_same, others_then, back_others, sent_others, same_until, sent_on, none_sent, next_home, names_out, sent_same, all_back, all_whole, nothing_out, used_spindle}
 use Rattle.rack.proofs.images.open_images.Goals as goal
 

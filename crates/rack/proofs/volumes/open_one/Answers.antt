@@ -1,7 +1,7 @@
 use Rattle.rack.proofs.Basics.{◌≡◌, length, refl, sym, subst, arith, inl, inr, ⊎_elim, is_some, ap, Bool, true, Some, with_item}
 use Rattle.rack.proofs.Terms.{State, Shared, IsHandedBack, Refuses, HandsBackAll, Opening, OpenRefusal, DiskFault, NoMemory, shapes_of, IsUnopened, NamesVolumes, Refused}
 use Rattle.rack.specs.declared.volumes.Unopened.{Unopened}
-use Rattle.rack_closing.proofs.SameOut.{out_too, none_too, refuses_too}
+use Rattle.rack.proofs.SameOut.{out_too, none_too, refuses_too}
 use Rattle.rack.proofs.LockedStation.{opened, one_popped, not_none, popped, fault_kept, tried_before, opened_begun}
 use Rattle.rack.proofs.Without.{lists_without, nothing_taken, began_still}
 use Rattle.rack.proofs.Openable.{can_take, can_open, home_away}

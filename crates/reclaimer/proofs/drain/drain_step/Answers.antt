@@ -1,14 +1,14 @@
 -- Home is woken, and then the step is made.
-use Rattle.std.proofs.Common.{◌≤◌, refl, sym, subst, ◌∙◌}
+use Rattle.std.proofs.Common.{◌≡◌, ◌≤◌, refl, sym, ap, subst, ◌∙◌}
 use Rattle.manager.specs.Reclaim.{Always}
 use Rattle.manager.proofs.ReadThrough.{never_some}
 use Rattle.manager.specs.Seen.{look_of_manager}
-use Rattle.reclaimer.proofs.CountedDrain.{counts_since, listed_woken, drain_counts}
+use Rattle.manager.specs.declared.manager.Manager.{Manager}
+use Rattle.reclaimer.proofs.CountedDrain.{counts_since, listed_woken}
 use Rattle.reclaimer.proofs.Moments.{at_rest}
 use Rattle.reclaimer.proofs.TakenOff.{nothing_taken}
 use Rattle.reclaimer.proofs.Woken.{step_calm, step_fault, step_drained, step_look, step_bare, step_keeps, step_broke, step_stops}
 use Rattle.manager.specs.Stands.{nones_at}
-use Rattle.reclaimer.proofs.Pools.{no_fewer}
 use Rattle.reclaimer.proofs.drain.drain_step.Goals as goal
 
 pub returns-in-Some-clause-any_moment : goal.returns-in-Some-clause-any_moment
@@ -37,7 +37,7 @@ returns-clause-any_moment g c = step_stops g.D.Disk.tells g.D.Disk.state g.met.D
 
 pub returns-clause-passed : goal.returns-clause-passed
 returns-clause-passed g c lanes k =
-    subst (λ m. nones_at m.lanes.items lanes k ≤ nones_at c.drain_awake.new.m.lanes.items lanes k) (c.wake_home.ensures.unchanged) (no_fewer lanes g.D.Disk.state c.wake_home.new.self c.drain_awake.new.m c.drain_awake.result c.drain_awake.ensures.drains k)
+    subst (λ m. nones_at m.lanes.items lanes k ≤ nones_at c.drain_awake.new.m.lanes.items lanes k) (c.wake_home.ensures.unchanged) (c.drain_awake.ensures.passed lanes k)
 
 pub returns-in-Some-clause-counted : goal.returns-in-Some-clause-counted
 returns-in-Some-clause-counted g c = nothing_taken (look_of_manager c.args.m.now) (look_of_manager c.args.m.now) refl
@@ -46,7 +46,12 @@ pub returns-clause-counted : goal.returns-clause-counted
 returns-clause-counted g c =
     let w = c.wake_home in let d = c.drain_awake in
     counts_since d.result (look_of_manager c.args.m.now) (look_of_manager w.new.self) (look_of_manager d.new.m) (listed_woken c.args.m.now w.new.self w.ensures.unchanged)
-    (drain_counts g.D.Disk.state w.new.self d.new.m d.ensures.index d.result d.ensures.drains)
+    d.ensures.counted
 
 pub returns-clause-calm : goal.returns-clause-calm
 returns-clause-calm g c = step_calm g.D.Disk.state c.args.m.now c.wake_home.new.self c.drain_awake.new.m c.wake_home.ensures.unchanged c.drain_awake.result c.drain_awake.ensures.calm
+
+pub returns-clause-bare : goal.returns-clause-bare
+returns-clause-bare g c =
+    let b = c.drain_awake.ensures.bare in let same = ap (λ (m : Manager g.row.D.Denot). m.index.entries) c.wake_home.ensures.unchanged in
+    ((λ is. (sym c.down.ensures ∙ never_some c.down.result c.in_default.not-Some, sym same ∙ b.0 is)), (λ both. b.1 (same ∙ both.1)))

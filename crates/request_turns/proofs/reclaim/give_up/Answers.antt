@@ -17,12 +17,12 @@ steps-init g c = record {
 
 pub steps-preserved-in-Version : goal.steps-preserved-in-Version
 steps-preserved-in-Version g c = let e = c.in_ok-invalidate_one.ensures in let i = c.steps.invariant in
-    gives_more _ _ _ _ _ _ _ _ _ _ i (gave_up _ _ _ c.steps.m c.invalidate_one.new.m c.in_ok-invalidate_one.field-0 1 _ _ e.ready e.at e.look e.counted e.keeps c.count.ensures (sym (ap gone_count c.in-Version.is)))
+    gives_more _ _ _ _ _ _ _ _ _ _ i (gave_up _ _ _ c.steps.m c.invalidate_one.new.m c.in_ok-invalidate_one.field-0 1 _ _ e.ready e.at e.look e.counted e.keeps c.count.ensures (sym (ap gone_count c.in-Version.is)) e.gone)
     (subst (λ (x : Gone). LowersGone (Ok x) c.steps.m c.invalidate_one.new.m) c.in-Version.is e.lowers)
 
 pub steps-preserved : goal.steps-preserved
 steps-preserved g c = let e = c.in_ok-invalidate_one.ensures in let i = c.steps.invariant in
-    gives_more _ _ _ _ _ _ _ _ _ _ i (gave_up _ _ _ c.steps.m c.invalidate_one.new.m c.in_ok-invalidate_one.field-0 0 _ _ e.ready e.at e.look e.counted e.keeps (none_more c.steps.tally) (sym (ap gone_count c.in-Trimmed.is)))
+    gives_more _ _ _ _ _ _ _ _ _ _ i (gave_up _ _ _ c.steps.m c.invalidate_one.new.m c.in_ok-invalidate_one.field-0 0 _ _ e.ready e.at e.look e.counted e.keeps (none_more c.steps.tally) (sym (ap gone_count c.in-Trimmed.is)) e.gone)
     (subst (λ (x : Gone). LowersGone (Ok x) c.steps.m c.invalidate_one.new.m) c.in-Trimmed.is e.lowers)
 
 pub returns-in_err-invalidate_one-clause-reclaims : goal.returns-in_err-invalidate_one-clause-reclaims

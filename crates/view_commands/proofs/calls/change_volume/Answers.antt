@@ -3,7 +3,7 @@ use Rattle.std.proofs.lemmas.Result.{err_from_is_err_and}
 use Rattle.wol_bay.specs.Bay.{IsHome}
 use Rattle.wol_config.specs.declared.config.VolumeConf.{VolumeConf}
 use Rattle.inspection.proofs.Unhelped.{all_at}
-use Rattle.open_rack.proofs.Since.{none_out_still}
+use Rattle.rack.proofs.Since.{none_out_still}
 use Rattle.view_commands.specs.Runs as runs
 use Rattle.view_commands.proofs.Answered.{done_complete, done_content, done_left, done_others, done_sound, refused_complete, refused_content, refused_left}
 use Rattle.view_commands.proofs.calls.change_volume.Given as given

@@ -8,33 +8,33 @@ use Rattle.wol_run.proofs.SinkTold.{no_greater, sink_failed, sink_kept}
 use Rattle.wol_run.proofs.comparing.compare_given.Goals as goal
 
 pub tell_fault-requires : goal.tell_fault-requires
-tell_fault-requires g c = record { told = λ same. subst CanEnd same (comparison_fault _ _ _ _ _ _ _ _ _ c.in-Err-Fault.ensures.compares c.in-Err-Fault.fault (ap Err c.in-Err-Fault.field-0-is)) }
+tell_fault-requires g c = record { told = λ same. subst CanEnd same (comparison_fault _ _ _ _ _ _ _ _ _ _ c.in-Err-Fault.ensures.compares c.in-Err-Fault.fault (ap Err c.in-Err-Fault.field-0-is)) }
 
 pub returns-in-Ok-clause-content : goal.returns-in-Ok-clause-content
-returns-in-Ok-clause-content g c = is_comparison _ _ _ _ _ _ _ _ _ _ _ _ c.in-Ok.ensures.compares (no_greater _) (refl, refl)
+returns-in-Ok-clause-content g c = is_comparison _ _ _ _ _ _ _ _ _ _ _ _ _ c.in-Ok.ensures.compares (no_greater _) (refl, refl)
 
 pub returns-in-Err-Sink-clause-content : goal.returns-in-Err-Sink-clause-content
-returns-in-Err-Sink-clause-content g c = is_comparison _ _ _ _ _ _ _ _ _ _ _ _ (rw c.in-Err-Sink.field-0-is at c.in-Err-Sink.ensures.compares) (no_greater _) (refl, refl)
+returns-in-Err-Sink-clause-content g c = is_comparison _ _ _ _ _ _ _ _ _ _ _ _ _ (rw c.in-Err-Sink.field-0-is at c.in-Err-Sink.ensures.compares) (no_greater _) (refl, refl)
 
 pub returns-in-Err-Fault-clause-content : goal.returns-in-Err-Fault-clause-content
 returns-in-Err-Fault-clause-content g c =
-    is_comparison _ _ _ _ _ _ _ _ _ _ _ _ (rw c.in-Err-Fault.field-0-is at c.in-Err-Fault.ensures.compares) c.tell_fault.ensures.sink.later (rw c.deref.ensures.value at c.tell_fault.ensures.content)
+    is_comparison _ _ _ _ _ _ _ _ _ _ _ _ _ (rw c.in-Err-Fault.field-0-is at c.in-Err-Fault.ensures.compares) c.tell_fault.ensures.sink.later (rw c.deref.ensures.value at c.tell_fault.ensures.content)
 
 pub returns-in-Err-Fault-clause-source : goal.returns-in-Err-Fault-clause-source
 returns-in-Err-Fault-clause-source g c eight =
     let is = ap Err c.in-Err-Fault.field-0-is in
-    let can = comparison_fault _ _ _ _ _ _ _ _ _ c.in-Err-Fault.ensures.compares c.in-Err-Fault.fault is in
+    let can = comparison_fault _ _ _ _ _ _ _ _ _ _ c.in-Err-Fault.ensures.compares c.in-Err-Fault.fault is in
     let told = told_status (printed_names c.deref.result.now) c.in-Err-Fault.fault c.tell_fault.result 8 _ _ (λ e. omega (arith, e)) (λ e. omega (arith, e)) c.tell_fault.ensures.content eight in
     c.in-Err-Fault.ensures.source (rw (sym (is_source c.in-Err-Fault.fault can told)) is)
 
 pub returns-in-Ok-clause-source_kept : goal.returns-in-Ok-clause-source_kept
-returns-in-Ok-clause-source_kept g c is = comparison_source _ _ _ _ _ _ _ _ _ c.in-Ok.ensures.compares is
+returns-in-Ok-clause-source_kept g c is = comparison_source _ _ _ _ _ _ _ _ _ _ c.in-Ok.ensures.compares is
 
 pub returns-in-Err-Sink-clause-source_kept : goal.returns-in-Err-Sink-clause-source_kept
-returns-in-Err-Sink-clause-source_kept g c is = comparison_source _ _ _ _ _ _ _ _ _ c.in-Err-Sink.ensures.compares is
+returns-in-Err-Sink-clause-source_kept g c is = comparison_source _ _ _ _ _ _ _ _ _ _ c.in-Err-Sink.ensures.compares is
 
 pub returns-in-Err-Fault-clause-source_kept : goal.returns-in-Err-Fault-clause-source_kept
-returns-in-Err-Fault-clause-source_kept g c is = comparison_source _ _ _ _ _ _ _ _ _ c.in-Err-Fault.ensures.compares is
+returns-in-Err-Fault-clause-source_kept g c is = comparison_source _ _ _ _ _ _ _ _ _ _ c.in-Err-Fault.ensures.compares is
 
 pub returns-in-Ok-clause-complete : goal.returns-in-Ok-clause-complete
 returns-in-Ok-clause-complete g c may = inl refl
@@ -49,11 +49,11 @@ returns-in-Err-Fault-clause-complete g c may =
     told_memory (printed_names c.deref.result.now) c.in-Err-Fault.fault c.tell_fault.result _ _ memory (λ seven. may.sink_calm (rose_from _ _ _ c.in-Err-Fault.ensures.later (c.tell_fault.ensures.sink.cause seven))) c.tell_fault.ensures.content
 
 pub returns-in-Ok-clause-sink : goal.returns-in-Ok-clause-sink
-returns-in-Ok-clause-sink g c = sink_kept _ _ 0 (λ no. omega (arith, no)) (comparison_whole _ _ _ _ _ _ _ _ _ c.in-Ok.ensures.compares c.in-Ok.field-0 refl)
+returns-in-Ok-clause-sink g c = sink_kept _ _ 0 (λ no. omega (arith, no)) (comparison_whole _ _ _ _ _ _ _ _ _ _ c.in-Ok.ensures.compares c.in-Ok.field-0 refl)
 
 pub returns-in-Err-Sink-clause-sink : goal.returns-in-Err-Sink-clause-sink
-returns-in-Err-Sink-clause-sink g c = sink_failed _ _ c.in-Err-Sink.ensures.later (comparison_sink _ _ _ _ _ _ _ _ _ c.in-Err-Sink.ensures.compares (ap Err c.in-Err-Sink.field-0-is))
+returns-in-Err-Sink-clause-sink g c = sink_failed _ _ c.in-Err-Sink.ensures.later (comparison_sink _ _ _ _ _ _ _ _ _ _ c.in-Err-Sink.ensures.compares (ap Err c.in-Err-Sink.field-0-is))
 
 pub returns-in-Err-Fault-clause-sink : goal.returns-in-Err-Fault-clause-sink
 returns-in-Err-Fault-clause-sink g c =
-    rw (comparison_calm _ _ _ _ _ _ _ _ _ c.in-Err-Fault.ensures.compares c.in-Err-Fault.fault (ap Err c.in-Err-Fault.field-0-is)) at c.tell_fault.ensures.sink
+    rw (comparison_calm _ _ _ _ _ _ _ _ _ _ c.in-Err-Fault.ensures.compares c.in-Err-Fault.fault (ap Err c.in-Err-Fault.field-0-is)) at c.tell_fault.ensures.sink

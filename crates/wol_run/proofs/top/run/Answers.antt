@@ -1,6 +1,6 @@
 use Rattle.std.proofs.Common.{None, Err, inl, inr, refl, ap, subst, arith}
 use Rattle.command_words.specs.Commands.{IsCommand}
-use Rattle.wol_run.proofs.Asked.{in_range, range_of_gen, range_of_solo}
+use Rattle.wol_run.proofs.Asked.{in_range, range_of_gen, range_of_solo, range_of_what_if}
 use Rattle.wol_run.proofs.CommandsTold.{check_promise, clean_promise, comparison_promise, dump_promise, format_promise, gen_promise, memory_promise, nbd_promise, replay_promise, serve_promise, soak_promise, solo_done_promise, solo_fault_promise, view_add_promise, view_remove_promise}
 use Rattle.wol_run.proofs.Completing.{rose_from, rose_later}
 use Rattle.wol_run.proofs.Endings.{has_cause}
@@ -15,6 +15,9 @@ generate-requires g c = record { few = range_of_gen c.in-Ok.command c.in-Gen.ask
 
 pub run-requires-clause-volume : goal.run-requires-clause-volume
 run-requires-clause-volume g c = range_of_solo c.in-Ok.command c.in-Solo.volume c.in-Solo.is (in_range _ c.in-Ok.command c.in-Ok.ensures.ok)
+
+pub compare-requires : goal.compare-requires
+compare-requires g c = range_of_what_if c.in-Ok.command c.in-WhatIf.options c.in-WhatIf.is (in_range _ c.in-Ok.command c.in-Ok.ensures.ok)
 
 pub returns-in-Gen-clause-promise : goal.returns-in-Gen-clause-promise
 returns-in-Gen-clause-promise g c = gen_promise _ _ _ _ _ _ c.generate.ensures.sink.cause c.generate.ensures.sink.calm c.in-Gen.asked (subst (IsCommand _) c.in-Gen.is c.in-Ok.ensures.ok) c.generate.ensures.content refl refl
@@ -60,7 +63,7 @@ returns-in-Nbd-clause-promise g c =
 
 pub returns-in-Serve-clause-promise : goal.returns-in-Serve-clause-promise
 returns-in-Serve-clause-promise g c =
-    serve_promise _ _ _ _ _ _ c.serve-in-Serve.ensures.cause c.serve-in-Serve.ensures.calm c.serve-in-Serve.ensures.complete c.in-Serve.name c.in-Serve.patience (subst (IsCommand _) c.in-Serve.is c.in-Ok.ensures.ok) c.serve-in-Serve.ensures.content
+    serve_promise _ _ _ _ _ _ c.serve-in-Serve.ensures.cause c.serve-in-Serve.ensures.calm c.serve-in-Serve.ensures.complete c.in-Serve.name c.in-Serve._patience (subst (IsCommand _) c.in-Serve.is c.in-Ok.ensures.ok) c.serve-in-Serve.ensures.content
 
 -- the lines of one volume were run to their end
 pub returns-in-Ok-run-clause-promise : goal.returns-in-Ok-run-clause-promise

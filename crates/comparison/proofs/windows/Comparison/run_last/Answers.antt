@@ -20,8 +20,8 @@ run-requires-clause-may c =
 pub run-requires-clause-few : goal.run-requires-clause-few
 run-requires-clause-few c = let few = c.requires.some.taken.few in let lines = c.requires.lines in omega (arith, few, lines)
 
-pub returns : goal.returns
-returns c =
+pub returns-clause-behind : goal.returns-clause-behind
+returns-clause-behind c =
     let same = ap (λ (b : Batched). b.lines) c.current-last.ensures in
     let some : c.args.cutter.now.current.lines ≢ 0 = (λ is. omega (arith, same, is)) in
     ended_on c.run.result c.args.config.now c.args.cutter.now c.args.self.now c.run.new.self some (rw c.current-last.ensures at c.run.ensures.behind)

@@ -1,6 +1,6 @@
 use Rattle.std.proofs.Common.{refl, sym, ap, ◌∙◌}
 use Rattle.inspection.proofs.Opened.{can_look}
-use Rattle.open_rack.specs.NotOpened.{first_closed}
+use Rattle.rack.specs.NotOpened.{first_closed}
 use Rattle.nbd_serving.specs.Racks as racks
 use Rattle.nbd_serving.proofs.Placed.{has_station, never_some, rack_again}
 use Rattle.nbd_serving.proofs.serving.ServingWork.run.Goals as goal

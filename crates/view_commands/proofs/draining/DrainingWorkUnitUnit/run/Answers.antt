@@ -1,7 +1,7 @@
 use Rattle.std.proofs.Common.{Ok, refl, sym, ap, subst, ◌∙◌}
 use Rattle.inspection.proofs.Opened.{can_look}
 use Rattle.inspection.proofs.SameRacks.{again_same, rack_self}
-use Rattle.open_rack.specs.NotOpened.{first_closed}
+use Rattle.rack.specs.NotOpened.{first_closed}
 use Rattle.view_change.specs.declared.answers.Change.{Change}
 use Rattle.view_commands.specs.Drains as drains
 use Rattle.view_commands.specs.Drains.{TellsChange}

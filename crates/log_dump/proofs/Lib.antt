@@ -1,5 +1,0 @@
-pub mod Digesting
-pub mod Dumping
-pub mod HeldCount
-pub mod Naming
-pub mod Noting

@@ -1,4 +1,0 @@
-pub mod Faults
-pub mod Texts
-pub mod Segments
-pub mod Volumes

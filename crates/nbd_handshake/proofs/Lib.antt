@@ -1,3 +1,0 @@
-pub mod Sent
-pub mod Takings
-pub mod Turns

@@ -1,5 +1,0 @@
-pub mod Making
-pub mod Serving
-pub mod Alone
-pub mod Noting
-pub mod Law

@@ -1,3 +1,0 @@
-pub mod Again
-pub mod Sessions
-pub mod NotOpened

@@ -1,5 +1,0 @@
-use Rattle.rack_closing.proofs.SoundVolumes.{refuses_sound}
-use Rattle.rack_closing.proofs.laws.sound_images_laws.Goals as goal
-
-pub returns : goal.returns
-returns g c = record { sound = refuses_sound g.D.Disk.tells g.D.Disk.state }

@@ -1,0 +1,80 @@
+-- Lines that are appended one after another.
+use Rattle.std.proofs.Common.{◌≡◌, ◌<◌, ◌≤◌, ◌+◌, ◌/◌, ◌^◌, ℕ, zero, suc, Bool, true, false, cond, List, [], ◌∷◌, ◌++◌, map, length, get_or, Option, None, Some, refl, sym, ap, subst, ◌∙◌, append_assoc, append-nil, arith}
+use Rattle.std.specs.Prelude.{Result, Ok, Err, OnOk, slice_get, slice_index, codes, decimal}
+use Rattle.std.specs.List.{flat_map, range_with_len}
+use Rattle.std.specs.Option.{option_map_or}
+use Rattle.std.proofs.lemmas.Grind.{flat_map-append}
+use Rattle.report.specs.Words.{line_of}
+use Rattle.wol_config.specs.declared.config.Config.{Config}
+use Rattle.wol_config.specs.declared.config.VolumeConf.{VolumeConf}
+use Rattle.wol_model.specs.declared.journal.Powers.{Powers}
+use Rattle.wol_model.specs.Journal.{SpindleState, millijoules}
+use Rattle.whatif.specs.declared.disk.Disk.{Disk}
+use Rattle.whatif.specs.declared.policy.Details.{Details}
+use Rattle.whatif.specs.declared.policy.Policy.{Policy}
+use Rattle.whatif.specs.declared.policy.Used.{Used}
+use Rattle.whatif.specs.declared.waits.Told.{Told}
+use Rattle.whatif.specs.Disks.{AreDisks, IsDisk}
+use Rattle.whatif.specs.Lines.{both_text, name_at, name_of, policy_text, told_text, used_at, volume_text, volumes_text, waits_text}
+use Rattle.whatif.specs.Machine.{Asked}
+use Rattle.whatif.specs.Policies.{compared, machine_after, waits_by}
+use Rattle.whatif.specs.Waits.{AreTold, Waited, of_volume, over, waits_of}
+use Rattle.wol_model.specs.declared.trace.Kind.TheVariants.{Read, Write}
+use Rattle.whatif.proofs.New.{range_more}
+
+-- ---- the line of a volume
+
+first_told : (wake : ℕ) (ws : List ℕ) (over_ : List ℕ) (none : ℕ) → over_ ≡ map (λ k. over wake k ws) (range_with_len 0 10) → none ≡ slice_index over_ 0 → none ≡ over wake 0 ws
+first_told wake ws over_ none is zero_ = zero_ ∙ ap (λ (l : List ℕ). slice_index l 0) is
+
+pub volume_told : (p : Policy) (name shown title : List ℕ) (u : Used) (wake : ℕ) (ws : List Waited) (t : Told) (reads writes : ℕ) → AreTold wake ws t → shown ≡ name → title ≡ name_of p → reads ≡ slice_index t.reads.over 0 → writes ≡ slice_index t.writes.over 0
+    → line_of (title ∷ codes "volume" ∷ shown ∷ codes "wakes" ∷ decimal u.wakes ∷ codes "sleeps" ∷ decimal u.sleeps ∷ codes "awake" ∷ decimal u.awake ∷ codes "standby" ∷ decimal u.standby ∷ codes "energy" ∷ decimal (u.units / 10000000)
+    ∷ codes "reads" ∷ decimal t.reads.count ∷ codes "wait" ∷ decimal reads ∷ codes "writes" ∷ decimal t.writes.count ∷ codes "wait" ∷ decimal writes ∷ []) ≡ volume_text p name u wake ws
+unfolding volume_text
+volume_told p name shown title u wake ws t reads writes are same of r w =
+    let first = first_told wake (waits_of false ws) t.reads.over reads are.reads.over_ r in
+    let second = first_told wake (waits_of true ws) t.writes.over writes are.writes.over_ w in
+    λ i. line_of (of i ∷ codes "volume" ∷ same i ∷ codes "wakes" ∷ decimal u.wakes ∷ codes "sleeps" ∷ decimal u.sleeps ∷ codes "awake" ∷ decimal u.awake ∷ codes "standby" ∷ decimal u.standby ∷ codes "energy" ∷ decimal (u.units / 10000000)
+    ∷ codes "reads" ∷ decimal (are.reads.count i) ∷ codes "wait" ∷ decimal (first i) ∷ codes "writes" ∷ decimal (are.writes.count i) ∷ codes "wait" ∷ decimal (second i) ∷ [])
+
+-- ---- lines of volumes
+
+pub lines_more : (f : ℕ → List ℕ) (k : ℕ) (a o1 o2 : List ℕ) → o1 ≡ a ++ flat_map f (range_with_len 0 k) → o2 ≡ o1 ++ f k → o2 ≡ a ++ flat_map f (range_with_len 0 (k + 1))
+lines_more f k a o1 o2 e1 e2 =
+    e2 ∙ ap (λ (l : List ℕ). l ++ f k) e1 ∙ append_assoc a (flat_map f (range_with_len 0 k)) (f k)
+    ∙ ap (λ (l : List ℕ). a ++ l) (sym (ap (flat_map f) (range_more k) ∙ flat_map-append f (range_with_len 0 k) (k ∷ []) ∙ ap (λ (l : List ℕ). flat_map f (range_with_len 0 k) ++ l) (append-nil (f k))))
+
+pub record Found (ds : List Disk) (ss : List SpindleState) (k : ℕ) (d : Disk) : Type 0 where
+  pub state : SpindleState
+  pub is : IsDisk d state
+  pub at : slice_get ss k ≡ Some state
+
+pub disk_found : (ds : List Disk) (ss : List SpindleState) (k : ℕ) (d : Disk) → k < length ds → AreDisks ds ss → Found ds ss k (get_or ds k d)
+disk_found [] ss k d lt are = absurd (omega arith)
+disk_found (x ∷ ds) [] k d lt are = absurd are
+disk_found (x ∷ ds) (s ∷ ss) zero d lt are = record { state = s; is = are.0; at = refl }
+disk_found (x ∷ ds) (s ∷ ss) (suc k) d lt are = let rest = disk_found ds ss k d (omega arith) are.1 in record { state = rest.state; is = rest.is; at = rest.at }
+
+-- ---- all lines of a policy
+
+pub on_ok : {T E : Type 0} (r : Result T E) (P Q : Type 0) → (P → Q) → OnOk r P → OnOk r Q
+on_ok (Ok x) P Q f is = f is
+on_ok (Err e) P Q f is = tt
+
+pub both_told : (p : Policy) (wake : ℕ) (ws : List Waited) (a o1 o2 : List ℕ) → o1 ≡ a ++ waits_text p Read wake (waits_of false ws) → o2 ≡ o1 ++ waits_text p Write wake (waits_of true ws) → o2 ≡ a ++ both_text p wake ws
+unfolding both_text
+both_told p wake ws a o1 o2 e1 e2 = e2 ∙ ap (λ (l : List ℕ). l ++ waits_text p Write wake (waits_of true ws)) e1 ∙ append_assoc a _ _
+
+three : (a p q r o1 o2 o3 : List ℕ) → o1 ≡ a ++ p → o2 ≡ o1 ++ q → o3 ≡ o2 ++ r → o3 ≡ a ++ ((p ++ q) ++ r)
+three a p q r o1 o2 o3 e1 e2 e3 = e3 ∙ ap (λ (l : List ℕ). l ++ r) (e2 ∙ ap (λ (l : List ℕ). l ++ q) e1) ∙ simp append_assoc
+
+pub all_told : (details : Details) (p : Policy) (c : Config) (from : ℕ) (ws : List Asked) (to : ℕ) (a o1 o2 o3 : List ℕ) → o1 ≡ a ++ policy_text p (compared p c from ws to)
+    → o2 ≡ o1 ++ cond details.long (both_text p c.wake (waits_by p c from ws)) [] → o3 ≡ o2 ++ cond details.volumes (volumes_text p c from ws to) [] → o3 ≡ a ++ told_text details p c from ws to
+unfolding told_text
+all_told details p c from ws to a o1 o2 o3 e1 e2 e3 = three a _ _ _ o1 o2 o3 e1 e2 e3
+
+pub volumes_told : (p : Policy) (c : Config) (from : ℕ) (ws : List Asked) (to : ℕ) (vs : List VolumeConf) (powers : Powers) → vs ≡ c.volumes.items → powers ≡ c.powers
+    → flat_map (λ k. volume_text p (name_at vs k) (used_at powers to (machine_after p c from ws).spindles k) c.wake (of_volume k (waits_by p c from ws))) (range_with_len 0 (length vs)) ≡ volumes_text p c from ws to
+unfolding volumes_text
+volumes_told p c from ws to vs powers same draws =
+    λ i. flat_map (λ k. volume_text p (name_at (same i) k) (used_at (draws i) to (machine_after p c from ws).spindles k) c.wake (of_volume k (waits_by p c from ws))) (range_with_len 0 (length (same i)))
