@@ -173,4 +173,4 @@ pub empty_journal : (s : SpindleView) (b : SpindleBase) (entries : List Entry) (
 empty_journal s b entries n ended stands others mine =
     let by : uses_by n (uses_of entries) ≡ [] = own_uses n entries ∙ ap (λ (es : List Entry). map (λ (e : Entry). use_of e.1) es) mine in
     let (from, now) = no_account b.timeout n (uses_of entries) (others_access n entries others) by in
-    has_journal s b entries ended stands from now
+    has_journal s b entries ended stands from (omega (arith, now))
