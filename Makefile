@@ -84,6 +84,7 @@ hostile: build
 	tests/hostile/devices.sh build/wol
 	python3 tests/hostile/memory.py build/wol --tries 100
 	python3 tests/hostile/accounts.py build/wol --configs 60 --lines 100000
+	python3 tests/whatif.py build/wol --tries 200 --replays 40
 	python3 tests/hostile/drains.py build/wol --rounds 200
 	python3 tests/hostile/mutations.py build/wol --images 100000 --lines 1000000 --configs 20000
 
