@@ -1,5 +1,5 @@
 -- The lines of the policies, one after another.
-use Rattle.std.proofs.Common.{◌≡◌, ◌-◌, ℕ, Bool, true, false, cond, subst, List, ◌++◌, Result, Ok, Err, ap, ◌∙◌, append_assoc}
+use Rattle.std.proofs.Common.{◌≡◌, ◌-◌, ℕ, Bool, true, false, cond, refl, sym, subst, List, ◌++◌, Result, Ok, Err, ap, ◌∙◌, append_assoc}
 use Rattle.std.specs.Prelude.{IfSome, OnOk}
 use Rattle.wol_config.specs.declared.config.Config.{Config}
 use Rattle.wol_model.specs.Trace.{TraceLine, Window, ended, timed}

@@ -88,6 +88,13 @@ fn heading(alloc: Global, long: bool, tally: &Tally) -> Result<Vec<u8>, NoMemory
     Ok(text)
 }
 
+// Others take the place of these machines.
+fn replace(machines: &mut Machines, others: Machines)
+    ensures { machines.new ≡ others }
+{
+    *machines = others;
+}
+
 impl Comparison {
     /// No window was run.
     pub(crate) fn new(alloc: Global, config: &Config, more: bool) -> Result<Comparison, NoMemory>
@@ -113,11 +120,13 @@ impl Comparison {
         ensures more { OnOk result
             (is_some self.new.machines.views ≡ is_some self.old.machines.views) }
     {
-        if !self.started {
-            let more = self.machines.tells_more();
-            self.machines = Machines::new(alloc, config, more, moment)?;
-            self.started = true;
+        if self.started {
+            return Ok(());
         }
+        let more = self.machines.tells_more();
+        let machines = Machines::new(alloc, config, more, moment)?;
+        replace(&mut self.machines, machines);
+        self.started = true;
         Ok(())
     }
 

@@ -299,7 +299,7 @@ module _ {D : Type 0} (tells : Bool) (state : D → State) (read : Option Config
         | inl refusal ↦
             let same : trouble_of refusal.fault ≡ o = same_Some (trouble_of refusal.fault) o (sym refusal.trouble ∙ is_o) in
             let same_out = are.are_out (λ empty. none_in k t (rw empty at here)) in
-            let missing = λ j v conf none. are.missing (λ empty. none_in k t (rw empty at here)) j v conf (ap (λ (f : ℕ → Bool). f j) same_out ∙ ap (λ (x : Option (ImageRest D)). not (is_some x)) none) in
+            let missing : (j : ℕ) (v : VolumeConf) → slice_get config.volumes.items j ≡ Some v → image_here are.out j ≡ None → (e : VolumeFault) × RefusesVolume tells state config are.out before.bay after.bay j v e = λ j v conf none. are.missing (λ empty. none_in k t (rw empty at here)) j v conf (ap (λ (f : ℕ → Bool). f j) same_out ∙ ap (λ (x : Option (ImageRest D)). not (is_some x)) none) in
             subst (λ (x : Trouble). Cause (trouble_status x)) same
             (refused_cause config has k refusal.conf are.out refusal.fault refusal.is_conf missing (all_there config what told are same_out) refusal.refuses (λ j less. (let (u, there, none) = earlier j less in was_opened config what told are same_out j u there none)) refusal.rose)
         | inr (inl order) ↦ absurd (let no : None ≡ Some o = sym order.trouble ∙ is_o in cc)

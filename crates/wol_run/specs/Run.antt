@@ -14,6 +14,7 @@ use Rattle.command_words.specs.Commands.{IsCommand, NoCommand}
 use Rattle.command_words.specs.declared.command.Command.{Command}
 use Rattle.command_words.specs.declared.command.Command.TheVariants.{Check, Clean, Dump, Format, Gen, Nbd, Replay, Serve, Soak, Solo, ViewAdd, ViewRemove, WhatIf}
 use Rattle.command_words.specs.declared.command.Generated.{Generated}
+use Rattle.command_words.specs.declared.command.WhatIfOptions.{WhatIfOptions}
 use Rattle.command_words.specs.Table.{Named}
 use Rattle.command_words.specs.Values.{named_by, served_by}
 use Rattle.nbd_serving.specs.declared.serving.Beginning.{Beginning}

@@ -9,7 +9,7 @@ returns-in-Err-clause-content g c = record { read = None; has = tt; is = uncompa
 pub returns-clause-content : goal.returns-clause-content
 returns-clause-content g c =
     let same : c.compare_lines-status.result.1.source.now ≡ c.trace-1.given.0 = search rules in
-    record { read = Some c.in-Ok.config; has = c.in-Ok.ensures.ok; is = rw (c.new-lines.ensures, same, c.with_timeout.ensures.value, c.details_of.ensures) at c.compare_lines-status.ensures.content }
+    record { read = Some c.in-Ok.config; has = c.in-Ok.ensures.ok; is = rw (c.new-lines.ensures, same, c.with_timeout-config.ensures.value, c.details_of.ensures) at c.compare_lines-status.ensures.content }
 
 pub returns-clause-source : goal.returns-clause-source
 returns-clause-source g c eight =
