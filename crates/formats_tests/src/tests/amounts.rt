@@ -16,12 +16,12 @@ fn sums_a_journal_that_ends_in_standby() -> Result<(), Fail> {
         standby_mw: 1_000,
         wake_mj: 50_000,
     };
-    let amounts = calls::amounts(&sums, start, start + 4_000_000_000, &powers);
-    same(&amounts.wakes, &1)?;
-    same(&amounts.sleeps, &2)?;
-    same(&amounts.awake, &1_500_000_000)?;
-    same(&amounts.standby, &2_500_000_000)?;
-    same(&amounts.units, &(1_500_000 * 10_000_000))?;
+    let used = calls::amounts(&sums, start, start + 4_000_000_000, &powers);
+    same(&used.wakes, &1)?;
+    same(&used.sleeps, &2)?;
+    same(&used.awake, &1_500_000_000)?;
+    same(&used.standby, &2_500_000_000)?;
+    same(&used.units, &(1_500_000 * 10_000_000))?;
     Ok(())
 }
 
@@ -37,9 +37,9 @@ fn a_disk_that_never_turned_was_awake() -> Result<(), Fail> {
         sleeps: 0,
         standby: 0,
     };
-    let amounts = calls::amounts(&sums, 5, 12, &powers);
-    same(&(amounts.wakes, amounts.sleeps), &(0, 0))?;
-    same(&(amounts.awake, amounts.standby), &(7, 0))?;
-    same(&amounts.units, &7_000_000)?;
+    let used = calls::amounts(&sums, 5, 12, &powers);
+    same(&(used.wakes, used.sleeps), &(0, 0))?;
+    same(&(used.awake, used.standby), &(7, 0))?;
+    same(&used.units, &7_000_000)?;
     Ok(())
 }
