@@ -33,6 +33,7 @@ use crate::start::{Asked, asked_of, begin};
 use crate::streams::{ERRORS, OUTPUT};
 use crate::tally::Tally;
 use crate::watching::{Lent, Watching};
+use std::alloc::Global;
 use std::cell::Cell;
 use std::io::{self, IsTerminal};
 use std::process::ExitCode;
@@ -93,6 +94,15 @@ fn cause_of(
     }
 }
 
+// What counts the lines of a trace that is run for these volumes, where there is memory.
+fn tally_of(alloc: Global, runs_trace: bool, config: Option<Config>) -> Option<Tally> {
+    if !runs_trace {
+        return None;
+    }
+    let config = config?;
+    Tally::new(alloc, config).ok()
+}
+
 // Says what is to be said before a command runs, and gives the watch on its input.
 fn watch_for<'a>(
     rt: HostRuntime,
@@ -110,10 +120,7 @@ fn watch_for<'a>(
     }
     let room = limits::room(&rt, ERRORS, most_bytes);
     let is_wanted = asked.client.is_none() && progress::is_wanted(&rt, &rt.stderr(), room);
-    let tally = match config {
-        Some(config) if asked.runs_trace => Tally::new(rt.alloc(), config).ok(),
-        _ => None,
-    };
+    let tally = tally_of(rt.alloc(), asked.runs_trace, config);
     Watching::new(
         Progress::new(rt, is_wanted, is_told),
         tally,
