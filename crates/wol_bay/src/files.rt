@@ -22,6 +22,9 @@ use wol_disk::{Block, Disk, Failed, NoMemory};
 // How many syncs of an image may run at once.
 const SYNCS: u64 = 4;
 
+// The system's numbers for a process, and for a system, in which no more files can be open.
+const TOO_MANY_OPEN: [i32; 2] = [24, 23];
+
 // A lock that another process has is tried again so often in a second.
 const TRIES: u64 = 50;
 
@@ -97,7 +100,7 @@ impl<'a> FileBay<'a> {
         Ok(format!(in self.alloc; "{folder}/{name}.vol")?)
     }
 
-    // Locks the file, and waits for that as long as the bay still may.
+    // Locks a new image's file, and waits for that as long as the bay still may.
     fn lock(&mut self, file: &File) -> io::Result<()>
         ensures { self.new.faults ≡ self.old.faults }
     {
@@ -147,6 +150,7 @@ impl<'a> FileBay<'a> {
     // isn't looked at: no link to it is followed, and another name of the file is counted.
     fn has_another(&self, name: &str, path: &str, file: &Metadata) -> io::Result<bool> {
         let rt = (&self.rt, self.alloc);
+        // Links that lead in a circle, or whose target is gone by now, are an error here: `is_same` takes such for no file.
         fs::canonicalize(&rt, path)?;
         if file.nlink() != 1 {
             return Ok(true);
@@ -173,21 +177,17 @@ impl<'a> FileBay<'a> {
         }
     }
 
-    // Opens the file and locks it. `None` is std's answer that there is no such file.
+    // Opens the file and locks it, and waits for that as long as the bay still may. `None` is std's answer that there is no
+    // such file.
     fn open(&mut self, path: &str) -> io::Result<Option<Found>>
         ensures { self.new.faults ≡ self.old.faults }
     {
-        let opened = OpenOptions::new()
-            .read(true)
-            .write(true)
-            .open(&self.rt, path);
-        let file = match opened {
-            Ok(file) => file,
-            Err(e) if e.kind() == ErrorKind::NotFound => return Ok(None),
-            Err(e) => return Err(e),
-        };
-        self.lock(&file)?;
-        Ok(Some(Found::new(file)?))
+        let (opened, left) = open_within(&self.rt, path, self.tries);
+        self.tries = left;
+        match opened? {
+            Some(file) => Ok(Some(Found::new(file)?)),
+            None => Ok(None),
+        }
     }
 
     // Opens once more the file that is open from this path.
@@ -211,8 +211,8 @@ impl<'a> FileBay<'a> {
         for _ in 0..SYNCS {
             match self.open_again(path, &found) {
                 Ok(again) => others.push(again)?,
-                Err(e) if others.is_empty() => return Err(e),
-                Err(_) => break,
+                Err(e) if are_too_many_open(&e) && !others.is_empty() => break,
+                Err(e) => return Err(e),
             }
         }
         match ImageFile::new(self.rt, self.alloc, file, others) {
@@ -222,13 +222,13 @@ impl<'a> FileBay<'a> {
     }
 
     // The same of an image that is there, of which the system keeps no copies then. Those of a device it drops itself,
-    // when the last that had it open closes it.
+    // when the last that had it open closes it. What is opened again behind that is compared with the locked file, so the copies
+    // that were dropped are those of this file; and the files that are open for that moment aren't missing for syncs.
     fn image_of_disk(&self, path: &str, found: Found) -> io::Result<ImageFile> {
-        let image = self.image_of(path, found.file)?;
         if !found.is_device {
             drop_copies(&self.rt, path)?;
         }
-        Ok(image)
+        self.image_of(path, found.file)
     }
 
     fn failed(&mut self) -> BayFault
@@ -323,6 +323,47 @@ fn lock_within(clock: &HostRuntime, file: &File, tries: u64) -> (io::Result<()>,
         }
     }
     (Err(io::Error::from(ErrorKind::WouldBlock)), 0)
+}
+
+// Opens a file to be read and written. `None` is std's answer that there is no such file.
+fn open_both(rt: &HostRuntime, path: &str) -> io::Result<Option<File>> {
+    match OpenOptions::new().read(true).write(true).open(rt, path) {
+        Ok(file) => Ok(Some(file)),
+        Err(e) if e.kind() == ErrorKind::NotFound => Ok(None),
+        Err(e) => Err(e),
+    }
+}
+
+// Opens the file and locks it. A lock that another process has is tried again as often as is said; how often is left comes with
+// it. The file is opened anew for each try, and once more behind the other process's lock: the system drops what it keeps of
+// a device only when nobody has it open, and that other one may have lost some of it.
+fn open_within(rt: &HostRuntime, path: &str, tries: u64) -> (io::Result<Option<File>>, u64) {
+    let mut is_others = false;
+    for tried in 0..=tries {
+        let left = tries.saturating_sub(tried);
+        let file = match open_both(rt, path) {
+            Ok(Some(file)) => file,
+            Ok(None) => return (Ok(None), left),
+            Err(e) => return (Err(e), left),
+        };
+        match file.try_lock() {
+            Ok(()) if !is_others => return (Ok(Some(file)), left),
+            Ok(()) => is_others = false,
+            Err(TryLockError::WouldBlock) => is_others = true,
+            Err(TryLockError::Error(e)) => return (Err(e), left),
+        }
+        drop(file);
+        if left > 0 {
+            sleep(rt, Duration::from_millis(TRY_MILLIS));
+        }
+    }
+    (Err(io::Error::from(ErrorKind::WouldBlock)), 0)
+}
+
+// Whether a file couldn't be opened since too many are.
+fn are_too_many_open(e: &io::Error) -> bool {
+    e.raw_os_error()
+        .is_some_and(|number| TOO_MANY_OPEN.contains(&number))
 }
 
 // What is open at an image's name, and its length. Of a device the system tells none: it is where its end is.
