@@ -104,12 +104,12 @@ impl<'a> FileBay<'a> {
         FileBay { tries, ..self }
     }
 
-    /// The same bay, which also hands out images that may only be read.
-    pub fn for_reading(self) -> FileBay<'a>
+    /// The same bay, which also hands out images that may only be read, where that is wanted.
+    pub fn for_reading(self, is_for_reading: bool) -> FileBay<'a>
         ensures { file_bay_state result ≡ file_bay_state self.entry }
     {
         FileBay {
-            is_for_reading: true,
+            is_for_reading,
             ..self
         }
     }
