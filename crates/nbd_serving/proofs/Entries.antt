@@ -22,7 +22,7 @@ use Rattle.nbd_session.specs.Turns.{Turn, Looked, NotLooked, Read, NotRead, Wrot
 use Rattle.nbd_serving.specs.Pieces.{IsTurnAt, Pieces, pieces_of}
 use Rattle.nbd_serving.specs.Turns.{MakesTurn, write_refusal}
 use Rattle.nbd_serving.proofs.Alone.{AreOf, all_begins, own_all}
-use Rattle.nbd_serving.proofs.Law.{IsWorkerOf, step}
+use Rattle.nbd_serving.proofs.Law.{IsWorkerOf, step_alone}
 use Rattle.nbd_serving.specs.Entries.{AddsEntry, BreaksAt, LackedMemory}
 use Rattle.nbd_serving.proofs.Flights.{kept_breaks, read_breaks, wrote_breaks, not_read_breaks, not_written_breaks}
 
@@ -148,5 +148,5 @@ module _ {D : Type 0} (tells : Bool) (lock : LockId ManagerBase) (es : List Entr
 
   pub adds : (t : Turn) (p q : ManagerPass D) → IsWorkerOf lock es q → MakesTurn tells t p q → IsWorkerOf lock es p × AddsEntry (IsTrue tells) (base_in lock) t (noted p) (noted q)
   adds t p q fits makes =
-      let at = step tells lock es alone t p q fits makes in
+      let at = step_alone tells lock es alone t p q fits makes in
       (at.0, adds_at p q at.0 fits t (one_turn tells t p q makes) at.1)

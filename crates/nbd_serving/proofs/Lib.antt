@@ -6,7 +6,7 @@ pub mod Recovered
 pub mod Sessions
 pub mod Whole
 pub mod Making
-pub mod StationServing
+pub mod WorkerServing
 pub mod Alone
 pub mod Noting
 pub mod Law

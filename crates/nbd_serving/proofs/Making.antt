@@ -1,30 +1,29 @@
--- A station behind a turn of its worker.
-use Rattle.std.proofs.Common.{◌≡◌, ℕ, Bool, List, length, Option, None, Some, Result, Ok, Err, refl, sym, ap, subst, ◌∙◌}
+-- A worker behind a turn.
+use Rattle.std.proofs.Common.{◌≡◌, ℕ, Bool, List, length, Result, Err, refl, sym, ap, subst, ◌∙◌}
 use Rattle.turn_lock.specs.Histories.{Entry}
 use Rattle.turn_lock.specs.LockIds.{LockId}
-use Rattle.turn_lock.specs.Passes.{lock_id, pass_lock, pass_number}
+use Rattle.turn_lock.specs.Passes.{pass_lock, IsFree, IsSamePass}
 use Rattle.wol_disk.specs.Disk.{Block}
 use Rattle.wol_promise.specs.Ruled.{Noted}
 use Rattle.logger.specs.declared.shared.Shared.{Shared}
 use Rattle.manager.specs.Stands.{IsShared}
 use Rattle.manager.specs.declared.base.ManagerBase.{ManagerBase}
 use Rattle.manager.specs.declared.part.ReadRefusal.{ReadRefusal}
-use Rattle.manager.specs.declared.part.WriteRefusal.{WriteRefusal}
-use Rattle.manager.specs.declared.station.Station.{Station}
 use Rattle.request_turns.specs.Blocks.{HasReadBlocks, HasWrittenBlocks}
+use Rattle.request_turns.specs.Helped.{ManagerLock}
 use Rattle.request_turns.specs.Turns.{ManagerPass, HasTurned}
 use Rattle.request_turns.specs.declared.outcome.Outcome.{Outcome}
 use Rattle.request_turns.specs.declared.outcome.Outcome.TheVariants as outcome
 use Rattle.nbd_session.specs.Turns.{Turn, Looked, NotLooked, Read, NotRead, Wrote, NotWrote, write_turn}
 use Rattle.nbd_session.specs.declared.volume.Refusal.{Refusal}
-use Rattle.nbd_serving.specs.Stations.{CanServe, OnlyWorks}
 use Rattle.nbd_serving.specs.Turns.{AnswersWrite, IsOfWrite, MakesTurn, read_refusal}
+use Rattle.nbd_serving.specs.Workers.{CanServe}
 
--- it can be served still
-pub still : {D : Type 0} (tells : Bool) (s : Station D) (q : ManagerPass D) (before : List Entry) (n : Noted) (shared : Shared D) (home most : ℕ) → HasTurned tells s.worker q before n → CanServe s shared home most → CanServe (record s { worker = q }) shared home most
-still tells s q before n shared home most turned can =
-    let based : (pass_lock q).base ≡ (pass_lock s.worker).base = ap (λ (l : LockId ManagerBase). l.base) turned.same.0 in record {
-      pass = record { own = turned.same.0 ∙ can.own; free = turned.free; number_is = turned.same.1 ∙ can.number_is };
+-- it can serve still, whatever its turns were
+pub still : {D : Type 0} (lock : ManagerLock D) (p q : ManagerPass D) (shared : Shared D) (home most : ℕ) → IsSamePass p q → IsFree q → CanServe lock p shared home most → CanServe lock q shared home most
+still lock p q shared home most same free can =
+    let based : (pass_lock q).base ≡ (pass_lock p).base = ap (λ (l : LockId ManagerBase). l.base) same.0 in record {
+      pass = record { own = same.0 ∙ can.own; free = free; number_is = same.1 ∙ can.number_is };
       at = subst (IsShared shared) (sym based) can.at;
       home_ = ap (λ (b : ManagerBase). b.volume.began.home_blocks) based ∙ can.home_;
       most_ = ap (λ (b : ManagerBase). b.volume.began.most) based ∙ can.most_;
@@ -32,30 +31,25 @@ still tells s q before n shared home most turned can =
       few = can.few;
     }
 
--- .. also for what another says of it
-pub can_again : {D : Type 0} (s u : Station D) (shared other : Shared D) (home most h m : ℕ) → CanServe s shared home most → OnlyWorks s u → CanServe u other h m → CanServe u shared home most
-can_again s u shared other home most h m can only now =
-    let lock_is : pass_lock u.worker ≡ pass_lock s.worker = now.own ∙ ap (λ (x : Station _). lock_id x.lock) only ∙ sym can.own in
-    let based : (pass_lock u.worker).base ≡ (pass_lock s.worker).base = ap (λ (l : LockId ManagerBase). l.base) lock_is in record {
-      pass = now.pass;
-      at = subst (IsShared shared) (sym based) can.at;
-      home_ = ap (λ (b : ManagerBase). b.volume.began.home_blocks) based ∙ can.home_;
-      most_ = ap (λ (b : ManagerBase). b.volume.began.most) based ∙ can.most_;
-      some = can.some;
-      few = can.few;
-    }
+-- a turn of a session is one of the pass, behind these entries
+pub record IsTurnOf {D : Type 0} (tells : Bool) (p q : ManagerPass D) : Type 0 where
+  pub before : List Entry
+  pub note : Noted
+  pub turned : HasTurned tells p q before note
+
+pub turned_of : {D : Type 0} (tells : Bool) (p q : ManagerPass D) (t : Turn) → MakesTurn tells t p q → IsTurnOf tells p q
+turned_of tells p q Looked h = record { before = h.before; note = h.note; turned = h.turned }
+turned_of tells p q (NotLooked r) (part, h, is) = record { before = h.before; note = h.note; turned = h.turned }
+turned_of tells p q (Read at blocks) (sources, h) = record { before = h.before; note = h.note; turned = h.turned }
+turned_of tells p q (NotRead at count r) (why, open_, h, long, is) = record { before = h.before; note = h.note; turned = h.turned }
+turned_of tells p q (Wrote at blocks) (place, drained, h) = record { before = h.before; note = h.note; turned = h.turned }
+turned_of tells p q (NotWrote at blocks r) (why, h, is) = record { before = h.before; note = h.note; turned = h.turned }
 
 -- behind each turn of a session
-pub made_still : {D : Type 0} (tells : Bool) (s u : Station D) (t : Turn) (shared : Shared D) (home most : ℕ) → OnlyWorks s u → MakesTurn tells t s.worker u.worker → CanServe s shared home most → CanServe u shared home most
-made_still {D} tells s u t shared home most only made can = subst (λ (x : Station D). CanServe x shared home most) (sym only) (by t made)
-  where
-    by : (t : Turn) → MakesTurn tells t s.worker u.worker → CanServe (record s { worker = u.worker }) shared home most
-    by Looked h = still tells s u.worker h.before h.note shared home most h.turned can
-    by (NotLooked r) (part, h, is) = still tells s u.worker h.before h.note shared home most h.turned can
-    by (Read at blocks) (sources, h) = still tells s u.worker h.before h.note shared home most h.turned can
-    by (NotRead at count r) (why, open_, h, long, is) = still tells s u.worker h.before h.note shared home most h.turned can
-    by (Wrote at blocks) (place, drained, h) = still tells s u.worker h.before h.note shared home most h.turned can
-    by (NotWrote at blocks r) (why, h, is) = still tells s u.worker h.before h.note shared home most h.turned can
+pub made_still : {D : Type 0} (tells : Bool) (lock : ManagerLock D) (p q : ManagerPass D) (t : Turn) (shared : Shared D) (home most : ℕ) → MakesTurn tells t p q → CanServe lock p shared home most → CanServe lock q shared home most
+made_still tells lock p q t shared home most made can =
+    let one = turned_of tells p q t made in
+    still lock p q shared home most one.turned.same one.turned.free can
 
 -- ---- A read
 

@@ -15,6 +15,7 @@ use Rattle.manager.specs.declared.station.Station.{Station}
 use Rattle.manager.proofs.ReadThrough.{zip_self, zip_set}
 use Rattle.rack.specs.Racks.{IsStation, base_of_station}
 use Rattle.rack_parts.specs.declared.rack.Rack.{Rack}
+use Rattle.request_turns.specs.Turns.{ManagerPass}
 use Rattle.rack.specs.Again.{IsPassAgain, IsRackAgain, IsStationAgain}
 use Rattle.rack.specs.NotOpened.{first_closed}
 use Rattle.rack.proofs.FirstClosed.{none_closed}
@@ -24,8 +25,8 @@ use Rattle.inspection.specs.Racks.{numbers_of, CanLook, IsStationAt}
 use Rattle.nbd_session.specs.Sessions.{CountsFaults, IsSession}
 use Rattle.nbd_session.specs.declared.session.Ended.{Ended}
 use Rattle.nbd_session.specs.declared.session.NbdFault.{NbdFault}
-use Rattle.nbd_serving.specs.Stations.{CanServe, OnlyWorks}
 use Rattle.nbd_serving.specs.Turns.{MakesTurn}
+use Rattle.nbd_serving.specs.Workers.{CanServe}
 use Rattle.nbd_serving.specs.Racks.{ServesStation}
 use Rattle.nbd_serving.specs.Wires.{Wire}
 use Rattle.wol_config.specs.Configs.{most_of}
@@ -65,8 +66,8 @@ module _ {D : Type 0} (config : Config) (r : Rack D) (place volume : ℕ) (s b :
   home_is = stands.1.home_blocks
       ∙ ap (λ (w : VolumeConf). w.home) (same_Some stands.1.volume v (sym stands.1.there ∙ ap (slice_get config.volumes.items) (stands.0.id ∙ at.id) ∙ conf))
 
-  pub can_serve : (most : ℕ) → most ≡ most_of config → 1 ≤ most → most ≤ 128 → CanServe b r.shared v.home most
-  can_serve most is some few = subst (λ (u : Station D). CanServe u r.shared v.home most) (sym is_it) (record {
+  pub can_serve : (most : ℕ) → most ≡ most_of config → 1 ≤ most → most ≤ 128 → CanServe b.lock b.worker r.shared v.home most
+  can_serve most is some few = subst (λ (u : Station D). CanServe u.lock u.worker r.shared v.home most) (sym is_it) (record {
     pass = stands.0.worker_;
     at = subst (IsShared r.shared) (sym based) stands.1.at;
     home_ = ap (λ (m : ManagerBase). m.volume.began.home_blocks) based ∙ home_is;
@@ -75,18 +76,21 @@ module _ {D : Type 0} (config : Config) (r : Rack D) (place volume : ℕ) (s b :
     few = few;
   })
 
-  module _ (ts : Vec (Station D) Global) (t : Station D) (most : ℕ) (only : OnlyWorks b t) (ready : CanServe t r.shared v.home most) (set : ts.items ≡ slice_set r.stations.items place t) where
-    only_s : t ≡ record s { worker = t.worker }
-    only_s = subst (λ (u : Station D). t ≡ record u { worker = t.worker }) is_it only
+  module _ (ts : Vec (Station D) Global) (p : ManagerPass D) (most : ℕ) (ready : CanServe b.lock p r.shared v.home most) (set : ts.items ≡ slice_set r.stations.items place (record b { worker = p })) where
+    abbrev t : Station D
+    t = record s { worker = p }
 
-    own_s : pass_lock t.worker ≡ lock_id s.lock
-    own_s = ready.own ∙ ap (λ (u : Station D). lock_id u.lock) only_s
+    own_s : pass_lock p ≡ lock_id s.lock
+    own_s = ready.own ∙ ap (λ (u : Station D). lock_id u.lock) is_it
+
+    set_s : ts.items ≡ slice_set r.stations.items place t
+    set_s = set ∙ ap (λ (u : Station D). slice_set r.stations.items place (record u { worker = p })) is_it
 
     again_s : IsStationAgain s t
     again_s = record {
-      id = ap (λ (u : Station D). u.id) only_s;
-      lock = ap (λ (u : Station D). u.lock) only_s;
-      passes = λ old. subst IsStation (sym only_s) (record {
+      id = refl;
+      lock = refl;
+      passes = λ old. record {
         id = old.id;
         passes = old.passes;
         own_passes = record {
@@ -94,18 +98,18 @@ module _ {D : Type 0} (config : Config) (r : Rack D) (place volume : ℕ) (s b :
           helper_ = old.helper_;
           keeper_ = old.keeper_;
         };
-      });
+      };
     }
 
     pub served_again : IsRackAgain r (record r { stations = ts })
     served_again = record {
       only = refl;
       keepers = zip_self IsPassAgain (λ p. record { same = (refl, refl); free = λ f. f }) r.keepers.items;
-      stations = subst (AllZip IsStationAgain r.stations.items) (sym set) (zip_set IsStationAgain station_again r.stations.items place s t at.there again_s);
+      stations = subst (AllZip IsStationAgain r.stations.items) (sym set_s) (zip_set IsStationAgain station_again r.stations.items place s t at.there again_s);
     }
 
     pub served_station : (tells : Bool) (wire wire' : Wire) (answer : Result Ended NbdFault) → most ≡ most_of config
-        → IsSession (MakesTurn tells) v.home most b.worker t.worker wire.left wire'.left wire.taken wire'.taken answer → CountsFaults wire.source_faults wire'.source_faults wire.sink_faults wire'.sink_faults answer
+        → IsSession (MakesTurn tells) v.home most b.worker p wire.left wire'.left wire.taken wire'.taken answer → CountsFaults wire.source_faults wire'.source_faults wire.sink_faults wire'.sink_faults answer
         → ServesStation tells config r (record r { stations = ts }) volume wire wire' answer
     served_station tells wire wire' answer is_most session faults = record {
       conf = v;
@@ -113,10 +117,10 @@ module _ {D : Type 0} (config : Config) (r : Rack D) (place volume : ℕ) (s b :
       place = place;
       station = s;
       is_station = at;
-      pass = t.worker;
+      pass = p;
       same = (own_s ∙ sym stands.0.worker_.own, ready.number_is ∙ sym stands.0.worker_.number_is);
-      stations = set ∙ ap (slice_set r.stations.items place) only_s;
-      session = subst (λ (k : ℕ). IsSession (MakesTurn tells) v.home k s.worker t.worker wire.left wire'.left wire.taken wire'.taken answer) is_most
-          (subst (λ (u : Station D). IsSession (MakesTurn tells) v.home most u.worker t.worker wire.left wire'.left wire.taken wire'.taken answer) is_it session);
+      stations = set_s;
+      session = subst (λ (k : ℕ). IsSession (MakesTurn tells) v.home k s.worker p wire.left wire'.left wire.taken wire'.taken answer) is_most
+          (subst (λ (u : Station D). IsSession (MakesTurn tells) v.home most u.worker p wire.left wire'.left wire.taken wire'.taken answer) is_it session);
       faults = faults;
     }

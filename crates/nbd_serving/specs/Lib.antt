@@ -4,5 +4,6 @@ pub mod Volumes
 pub mod Entries
 pub mod Runs
 pub mod Turns
-pub mod Stations
+pub mod Workers
 pub mod Pieces
+pub mod Histories

@@ -6,7 +6,7 @@ ghost use Rattle.rack.specs.Again.{IsRackAgain};
 ghost use Rattle.std.specs.Prelude.{◌≡◌, ◌<◌, ◌≤◌, Contains, length};
 ghost use Rattle.wol_config.specs.Configs.{IsValid, most_of};
 
-use crate::serve_station;
+use crate::serve_worker;
 use crate::stop::{Stop, answer_of};
 use inspection::place_of;
 use nbd_session::{Ended, Export, NbdFault, Shaken, shake};
@@ -61,10 +61,12 @@ fn serve_open<R: Wait, D: Disk, S: Source, K: Sink>(
 {
     let home = config.volumes[volume as usize].home;
     let place = place_of(&rack.stations, volume);
-    serve_station(
+    let station = &mut rack.stations[place];
+    serve_worker(
         rt,
         alloc,
-        &mut rack.stations[place],
+        &station.lock,
+        &mut station.worker,
         &rack.shared,
         home,
         most_of(config),

@@ -1,3 +1,4 @@
+mod doors;
 mod handshakes;
 mod plain;
 mod sessions;

@@ -1,4 +1,6 @@
 // A volume in memory.
+ghost use Rattle.std.specs.Prelude.{◌≡◌, length, IfOk};
+
 use nbd_session::{Refusal, Volume};
 use std::alloc::Global;
 use std::test::Fail;
@@ -19,7 +21,9 @@ pub struct Plain {
 }
 
 impl Plain {
-    pub fn new(alloc: Global, blocks: usize) -> Result<Plain, Fail> {
+    pub fn new(alloc: Global, blocks: usize) -> Result<Plain, Fail>
+        ensures { IfOk result (λ volume. length volume.blocks.items ≡ blocks) }
+    {
         Ok(Plain {
             blocks: vec![in alloc; [0; 512]; blocks]?,
             refused: None,

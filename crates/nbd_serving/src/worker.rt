@@ -1,6 +1,5 @@
-// A station, as a session asks it.
+// A volume's worker, as a session asks it.
 ghost use Rattle.nbd_session.specs.Turns.{look_turn, read_turn, write_turn};
-ghost use Rattle.nbd_serving.specs.Stations.{OnlyWorks};
 ghost use Rattle.nbd_serving.specs.Turns.{AnswersWrite, IsOfWrite, MakesTurn, read_refusal, write_refusal};
 ghost use Rattle.request_turns.specs.Full.{FitsVolume};
 ghost use Rattle.std.specs.Prelude.{◌≡◌, ◌≤◌, length};
@@ -8,18 +7,21 @@ ghost use Rattle.turn_lock.specs.Passes.{pass_lock, IsFree, IsPassOf, IsPassAt};
 ghost use Rattle.wol_model.specs.History.{worker};
 
 use logger::Shared;
-use manager::{ReadRefusal, Station, WriteRefusal};
+use manager::{Manager, ReadRefusal, WriteRefusal};
 use nbd_session::{Refusal, Volume};
 use reclaimer::Fetch;
 use request_turns::{Outcome, Tally, look_turn, read_blocks, write_blocks};
 use std::sync::Wait;
+use turn_lock::{Pass, TurnLock};
 use wol_disk::{Block, Disk};
 
-/// A station whose worker serves a client.
+/// The worker of a volume as a volume that is served: each turn is one of its pass at the volume's lock, where the helper and
+/// the keeper may have turns of their own meanwhile. A write that no log has room for drains all records within its turn.
 #[derive(Drop)]
-pub(crate) struct StationVolume<'a, R, D: Disk> {
+pub struct WorkerVolume<'a, R, D: Disk> {
     pub rt: &'a R,
-    pub station: &'a mut Station<D>,
+    pub lock: &'a TurnLock<Manager<D>>,
+    pub worker: &'a mut Pass<Manager<D>>,
     pub shared: &'a Shared<D>,
     /// Room for drains.
     pub fetch: &'a mut Fetch,
@@ -66,13 +68,16 @@ fn write_answer(outcome: Outcome) -> Result<(), Refusal>
 }
 
 // Looks at a volume in one turn of its worker.
-fn look_at<R: Wait, D: Disk>(rt: &R, station: &mut Station<D>) -> Result<(), Refusal>
-    requires own { IsPassOf station.old.lock station.old.worker }
-    requires free { IsFree station.old.worker }
-    ensures only { OnlyWorks station.old station.new }
-    ensures turned { MakesTurn D.tells (look_turn result) station.old.worker station.new.worker }
+fn look_at<R: Wait, D: Disk>(
+    rt: &R,
+    lock: &TurnLock<Manager<D>>,
+    pass: &mut Pass<Manager<D>>,
+) -> Result<(), Refusal>
+    requires own { IsPassOf lock.now pass.old }
+    requires free { IsFree pass.old }
+    ensures turned { MakesTurn D.tells (look_turn result) pass.old pass.new }
 {
-    match look_turn(rt, &station.lock, &mut station.worker) {
+    match look_turn(rt, lock, pass) {
         None => Ok(()),
         Some(_) => Err(Refusal::Down),
     }
@@ -81,18 +86,18 @@ fn look_at<R: Wait, D: Disk>(rt: &R, station: &mut Station<D>) -> Result<(), Ref
 // Reads blocks of a volume in one turn of its worker.
 fn read_at<R: Wait, D: Disk>(
     rt: &R,
-    station: &mut Station<D>,
+    lock: &TurnLock<Manager<D>>,
+    pass: &mut Pass<Manager<D>>,
     shared: &Shared<D>,
     at: u64,
     out: &mut [Block],
 ) -> Result<(), Refusal>
-    requires pass { IsPassAt station.old.lock worker station.old.worker }
-    requires blocks { FitsVolume shared.now at (length out.old) (pass_lock station.old.worker).base }
-    ensures only { OnlyWorks station.old station.new }
+    requires pass { IsPassAt lock.now worker pass.old }
+    requires blocks { FitsVolume shared.now at (length out.old) (pass_lock pass.old).base }
     ensures turned { MakesTurn D.tells (read_turn at (length out.old) out.new result)
-        station.old.worker station.new.worker }
+        pass.old pass.new }
 {
-    let answer = read_blocks(rt, &station.lock, &mut station.worker, shared, at, out);
+    let answer = read_blocks(rt, lock, pass, shared, at, out);
     match answer {
         Ok(_) => Ok(()),
         Err(refusal) => Err(read_refusal(refusal)),
@@ -102,44 +107,35 @@ fn read_at<R: Wait, D: Disk>(
 // Writes blocks of a volume in one turn of its worker.
 fn write_at<R: Wait, D: Disk>(
     rt: &R,
-    station: &mut Station<D>,
+    lock: &TurnLock<Manager<D>>,
+    pass: &mut Pass<Manager<D>>,
     shared: &Shared<D>,
     at: u64,
     from: &[Block],
     fetch: &mut Fetch,
 ) -> Result<(), Refusal>
-    requires pass { IsPassAt station.old.lock worker station.old.worker }
-    requires blocks { FitsVolume shared.now at (length from.now) (pass_lock station.old.worker).base }
-    ensures only { OnlyWorks station.old station.new }
-    ensures turned { MakesTurn D.tells (write_turn at from.now result) station.old.worker
-        station.new.worker }
+    requires pass { IsPassAt lock.now worker pass.old }
+    requires blocks { FitsVolume shared.now at (length from.now) (pass_lock pass.old).base }
+    ensures turned { MakesTurn D.tells (write_turn at from.now result) pass.old
+        pass.new }
 {
-    let outcome = write_blocks(
-        rt,
-        &station.lock,
-        &mut station.worker,
-        shared,
-        at,
-        from,
-        fetch,
-        &mut Tally::new(),
-    );
+    let outcome = write_blocks(rt, lock, pass, shared, at, from, fetch, &mut Tally::new());
     write_answer(outcome)
 }
 
-impl<R: Wait, D: Disk> Volume for StationVolume<'_, R, D> {
-    ghost use Rattle.nbd_serving.specs.Stations.{CanServe, OnlyWorks};
+impl<R: Wait, D: Disk> Volume for WorkerVolume<'_, R, D> {
+    ghost use Rattle.nbd_serving.specs.Workers.{CanServe};
     ghost use Rattle.nbd_serving.specs.Turns.{MakesTurn};
     ghost use Rattle.std.specs.Prelude.{◌≡◌};
 
-    ghost Turned = { λ turn s t. MakesTurn D.tells turn s.station.now.worker t.station.now.worker
-        × OnlyWorks s.station.now t.station.now × (t.station.ghost_name ≡ s.station.ghost_name) };
+    ghost Turned = { λ turn v w. MakesTurn D.tells turn v.worker.now w.worker.now
+        × (w.worker.ghost_name ≡ v.worker.ghost_name) };
 
-    ghost Ready = { λ s. CanServe s.station.now s.shared.now s.home s.most };
+    ghost Ready = { λ v. CanServe v.lock.now v.worker.now v.shared.now v.home v.most };
 
-    ghost home = { λ s. s.home };
+    ghost home = { λ v. v.home };
 
-    ghost most = { λ s. s.most };
+    ghost most = { λ v. v.most };
 
     fn home(&self) -> u64 {
         self.home
@@ -150,14 +146,22 @@ impl<R: Wait, D: Disk> Volume for StationVolume<'_, R, D> {
     }
 
     fn look(&mut self) -> Result<(), Refusal> {
-        look_at(self.rt, self.station)
+        look_at(self.rt, self.lock, self.worker)
     }
 
     fn read(&mut self, at: u64, out: &mut [Block]) -> Result<(), Refusal> {
-        read_at(self.rt, self.station, self.shared, at, out)
+        read_at(self.rt, self.lock, self.worker, self.shared, at, out)
     }
 
     fn write(&mut self, at: u64, from: &[Block]) -> Result<(), Refusal> {
-        write_at(self.rt, self.station, self.shared, at, from, self.fetch)
+        write_at(
+            self.rt,
+            self.lock,
+            self.worker,
+            self.shared,
+            at,
+            from,
+            self.fetch,
+        )
     }
 }
