@@ -1,7 +1,8 @@
 #!/usr/bin/env bash
 # Images on block devices: loop devices that are longer than their images. Each command says there what it says over files, and leaves the same
 # bytes; a second process is refused from another folder too; a device that is shorter, or gone, is told by name. Format makes images of devices
-# that have one or are blank, and leaves every byte of others. What a device that runs full has lost isn't read by the process that waited for it.
+# that have one or are blank, and leaves every byte of others. What may only be read is read, where nothing has to be written; else it is told what
+# has to be. What a device that runs full has lost isn't read by the process that waited for it.
 # Then kills.py kills the program over such devices, and compares what each has with what it may have.
 #
 #   tests/hostile/devices.sh [PROGRAM [WORD..]]      the program, and words to put before each command's (default: build/wol)
@@ -21,7 +22,7 @@ devices=()
 leave() {
     local device
     for device in "${devices[@]}"; do losetup -d "$device" 2>/dev/null; done
-    ! mountpoint -q "$room/memory" || umount "$room/memory"
+    for mounted in memory closed; do ! mountpoint -q "$room/$mounted" || umount "$room/$mounted"; done
     rm -rf "$room"
 }
 trap leave EXIT
@@ -172,6 +173,53 @@ expect "check of a device that is too short" "usr0 length 51200" "$(said "$room/
 expect "format of it" "fault 4 usr0 disk bay" "$(said "$room/second" format | head -n 1)"
 ln -sfn /dev/none-such "$room/second/usr0.vol"
 expect "check of a device that is gone" "usr0 absent" "$(said "$room/second" check | head -n 1)"
+
+# Images that may only be read, with records in logs: by devices, in a file system, and without the right to write. Then one with a segment that
+# opening has to free: the head of an owned one, without a record.
+mkdir "$room/open" "$room/closed" "$room/look"
+cp samples/wol.toml "$room/open"
+said "$room/open" format >/dev/null
+said "$room/open" replay --reclaim off <samples/offload.csv >/dev/null
+cp samples/wol.toml "$room/look"
+looks() { # WHAT FOLDER WANTED
+    for command in check dump; do
+        expect "$command of $1" "$(cat "$room/open/$command")" "$(said "$2" $command)"
+    done
+}
+mount -t tmpfs -o size=64m tmpfs "$room/closed" && mountpoint -q "$room/closed" || skip "there is no file system of memory to be had"
+for what in "sound images" "images with a segment to be freed"; do
+    for command in check dump; do said "$room/open" $command >"$room/open/$command"; done
+    if [ "$what" != "sound images" ]; then
+        said "$room/open" format >/dev/null
+        for command in check dump; do said "$room/open" $command | sed 's/^web0 .*/web0 disk segment 0 of usr0/;s/^status 0/status 4/' >"$room/open/$command"; done
+        printf 'WOLSEGO1\1\0\0\0' | dd of="$room/open/usr0.vol" bs=512 seek=2050 conv=fsync,notrunc 2>/dev/null
+    fi
+    for name in "${volumes[@]}"; do
+        device=$(losetup -r -f --show "$room/open/$name.vol") || skip "there are no more loop devices to be had"
+        devices+=("$device")
+        ln -sfn "$device" "$room/look/$name.vol"
+    done
+    looks "$what by read-only devices" "$room/look"
+    mount -o remount,rw "$room/closed"
+    cp "$room"/open/*.vol "$room/open/wol.toml" "$room/closed"
+    mount -o remount,ro "$room/closed"
+    before=$(sha256sum "$room"/closed/*)
+    looks "$what in a read-only file system" "$room/closed"
+    expect "replay of $what in a read-only file system" $'fault 4 usr0 disk bay\nstatus 4' "$(said "$room/closed" replay </dev/null)"
+    if command -v setpriv >/dev/null; then
+        chmod 755 "$room" "$room/open"
+        chmod 444 "$room"/open/*
+        nobody=(setpriv --reuid 65534 --regid 65534 --clear-groups)
+        own=("${program[@]}")
+        program=("${nobody[@]}" "${own[@]}")
+        if [ "$(said "$room/open" help | tail -n 1)" != "status 126" ]; then looks "$what without the right to write" "$room/open"; fi
+        program=("${own[@]}")
+        chmod 644 "$room"/open/*
+    fi
+    expect "those images after $what" "$before" "$(sha256sum "$room"/closed/*)"
+done
+said "$room/open" check >"$room/open/check"
+expect "check of it with the right to write" "web0 ok" "$(sed -n 's/^\(web0 ok\).*/\1/p' "$room/open/check")"
 
 # A run whose write the device can't take ends with 4. What it lost is not what the process reads that waited for it.
 mkdir "$room/memory" "$room/full"
