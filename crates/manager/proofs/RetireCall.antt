@@ -22,7 +22,7 @@ use Rattle.logger.specs.declared.lane.HeldSegment.{HeldSegment}
 use Rattle.logger.specs.declared.lane.Lane.{Lane}
 use Rattle.manager.specs.Causes.{AreCalm, PartRose}
 use Rattle.manager.specs.Offers.{ChangesLane}
-use Rattle.manager.specs.Reclaim.{IsTrimmedLane, HasDroppedSegment, KeepsOn, BreaksOff, NoneLiveIn, StopsSince, Always, lies_elsewhere}
+use Rattle.manager.specs.Reclaim.{IsTrimmedLane, HasDroppedSegment, KeepsOn, BreaksOff, AllGoIn, StopsSince, Always, lies_elsewhere}
 use Rattle.manager.specs.Stands.{Keeps, IsReady, IsReadyLane, entries_at, nones_in, nones_at, takes_in}
 use Rattle.manager.specs.Stops.{Stops}
 use Rattle.manager.specs.declared.manager.Manager.{Manager}
@@ -45,9 +45,9 @@ use Rattle.manager.specs.declared.part.Part.TheVariants as part
 
 -- the record of the call, its entry and its lane
 module _ {D : Type 0} {state : D → State} {m : Manager D} {version : ℕ} {r : Rec} (call : IsFound state m version r) where
-  -- no record of the segment has a live block, by the record
-  pub none_live : NoneLiveIn call.its.entry.listed.lane call.its.entry.index m.index.entries → NoneLiveIn r.lane r.segment m.index.entries
-  none_live none = subst (λ (k : ℕ). NoneLiveIn k r.segment m.index.entries) (sym call.its.record_.lane) (subst (λ (s : ℕ). NoneLiveIn call.its.entry.listed.lane s m.index.entries) (sym call.its.record_.segment) none)
+  -- all that the records of the segment keep may go, by the record
+  pub all_go : AllGoIn call.its.entry.listed.lane call.its.entry.index m.index.entries → AllGoIn r.lane r.segment m.index.entries
+  all_go none = subst (λ (k : ℕ). AllGoIn k r.segment m.index.entries) (sym call.its.record_.lane) (subst (λ (s : ℕ). AllGoIn call.its.entry.listed.lane s m.index.entries) (sym call.its.record_.segment) none)
 
   module _ {old : Lane D} (lane : slice_get m.lanes.items r.lane ≡ Some old) where
     pub old_lane : IsReadyLane state m.id m.most old
@@ -58,6 +58,10 @@ module _ {D : Type 0} {state : D → State} {m : Manager D} {version : ℕ} {r :
     counted_there count keeps =
         let there = all_at (λ (h : HeldSegment D). valid_of h.segment ≡ entries_at r.lane h.index m.index.entries) (held_in old) keeps.place keeps.segment keeps.there ((call.ready.up call.up).counted r.lane old lane) in
         ap (λ (s : ℕ). entries_at r.lane s m.index.entries) (sym keeps.named) ∙ sym there ∙ sym keeps.counted
+
+    pub so_many : (count : ℕ) → KeepsSoMany old r.segment count → (d : Indexed) → entry_at m.index.entries version ≡ Some d → count ≡ entries_at d.listed.lane d.index m.index.entries
+    so_many count keeps d is = sym (counted_there count keeps) ∙ (λ j. entries_at (call.its.record_.lane j) (call.its.record_.segment j) m.index.entries)
+        ∙ ap (λ (c : Indexed). entries_at c.listed.lane c.index m.index.entries) (same_Some call.its.entry d (sym call.its.is ∙ is))
 
     -- its segment is held and whole
     pub retirable : IsRetirable old r.segment
@@ -120,9 +124,9 @@ module _ {D : Type 0} {state : D → State} {m : Manager D} {version : ℕ} {r :
               err = tt;
             })
 
-        module _ (none : NoneLiveIn r.lane r.segment m.index.entries) where
-          none_at : (o : HeldSegment D) → o.index ≡ r.segment → NoneLiveIn r.lane o.index m.index.entries
-          none_at o named = subst (λ (s : ℕ). NoneLiveIn r.lane s m.index.entries) (sym named) none
+        module _ (none : AllGoIn r.lane r.segment m.index.entries) where
+          none_at : (o : HeldSegment D) → o.index ≡ r.segment → AllGoIn r.lane o.index m.index.entries
+          none_at o named = subst (λ (s : ℕ). AllGoIn r.lane s m.index.entries) (sym named) none
 
           pub keeps_then : (tells : Bool) (index' : Contents) (ups : List Bool) → index'.entries ≡ filter (lies_elsewhere r.lane r.segment) m.index.entries → ups ≡ slice_set m.ups.items r.lane true → KeepsOn tells state m (record m { lanes = with_item m.lanes r.lane new; index = index'; ups = record { items = ups } }) Always
           keeps_then tells index' ups entries flags b notes any kp = by moved
@@ -184,9 +188,9 @@ module _ {D : Type 0} {state : D → State} {m : Manager D} {version : ℕ} {r :
             by (gone i o free there named held pool ok freed) = absurd (false≢true ok)
             by (held_still i o n there named held pool err stayed) = segment_rose state m.lanes.items _ r.lane i old new o n lane refl there held _ _ volume_is (sym named) stayed.cause
 
-        module _ (none : NoneLiveIn r.lane r.segment m.index.entries) where
-          none_still : (o : HeldSegment D) → o.index ≡ r.segment → NoneLiveIn r.lane o.index m.index.entries
-          none_still o named = subst (λ (s : ℕ). NoneLiveIn r.lane s m.index.entries) (sym named) none
+        module _ (none : AllGoIn r.lane r.segment m.index.entries) where
+          none_still : (o : HeldSegment D) → o.index ≡ r.segment → AllGoIn r.lane o.index m.index.entries
+          none_still o named = subst (λ (s : ℕ). AllGoIn r.lane s m.index.entries) (sym named) none
 
           pub stands_broke : (tells : Bool) (sound : (d : D) → IsDisk (state d)) → BreaksOff tells state m broken Always
           stands_broke tells sound b notes nt any note kp = record {

@@ -33,7 +33,7 @@ use Rattle.wol_promise.proofs.SoundSegments.{IsSoundBetween, sound_log, sound_id
 use Rattle.wol_promise.proofs.Stops.{still_stops}
 use Rattle.wol_promise.proofs.Wholes.{member_unfilter}
 use Rattle.manager.specs.Reading.{IsReadThrough}
-use Rattle.manager.specs.Reclaim.{NoneLiveIn, lies_elsewhere}
+use Rattle.manager.specs.Reclaim.{AllGoIn, lies_elsewhere}
 use Rattle.manager.specs.Seen.{Logs, parts_of, seen, all_held}
 use Rattle.manager.specs.Stands.{Keeps, IsReady, IsReadyLane}
 use Rattle.manager.specs.Stops.{ImageSince, HeldSince}
@@ -55,7 +55,7 @@ use Rattle.manager.specs.declared.part.Part.TheVariants as part
 
 module _ {D : Type 0} (tells : Bool) (state : D → State) (m : Manager D) (b : ManagerBase) (notes : List Noted) (logs : Logs)
     (u : Upholds (parts_of tells state) b.volume.began (seen m logs) notes (writes (entries_of notes)) None) (up : m.down ≡ None)
-    (k : ℕ) (o : HeldSegment D) (none : NoneLiveIn k o.index m.index.entries)
+    (k : ℕ) (o : HeldSegment D) (none : AllGoIn k o.index m.index.entries)
     (hf : List (Held (Spun D))) (records : List Record) (hb : List (Held (Spun D))) (held : all_held 0 m.lanes.items logs ≡ hf ++ held_as k o records ∷ hb) (here : IsTrue tells → m.down ≡ None → Holds state o.segment records)
     (owner_is : owner_of o.segment ≡ b.volume.began.owner) where
   -- what its image may be: a log of its records, or idle
@@ -134,7 +134,7 @@ module _ {D : Type 0} (tells : Bool) (state : D → State) (m : Manager D) (b : 
 
 module _ {D : Type 0} (tells : Bool) (state : D → State) (sound : (d : D) → IsDisk (state d)) (m : Manager D) (b : ManagerBase) (notes : List Noted) (kp : Keeps tells state m b notes) (up : m.down ≡ None)
     (k : ℕ) (old new : Lane D) (lane : slice_get m.lanes.items k ≡ Some old) (is_lane : IsLane state new) (untaken : taken_in new ≡ None) (i : ℕ) (o n : HeldSegment D) (there : slice_get (held_in old) i ≡ Some o)
-    (none : NoneLiveIn k o.index m.index.entries) (held : held_in new ≡ slice_set (held_in old) i n) (not_freed : NotFreed state o n) (nt : Noted) (broke : nt.entry.operation ≡ Broke []) (unruled : nt.after_drain ≡ false) where
+    (none : AllGoIn k o.index m.index.entries) (held : held_in new ≡ slice_set (held_in old) i n) (not_freed : NotFreed state o n) (nt : Noted) (broke : nt.entry.operation ≡ Broke []) (unruled : nt.after_drain ≡ false) where
   abbrev R : HeldSegment D → List Record → Type 0
   R h rs = IsTrue tells → m.down ≡ None → Holds state h.segment rs
 
@@ -190,7 +190,7 @@ module _ {D : Type 0} (tells : Bool) (state : D → State) (sound : (d : D) → 
 
 module _ {D : Type 0} (tells : Bool) (state : D → State) (sound : (d : D) → IsDisk (state d)) (told : IsTrue tells) (was m : Manager D) (read : IsReadThrough state was m) (ready : IsReady state m) (was_up : was.down ≡ None) (up : m.down ≡ None)
     (b : ManagerBase) (notes : List Noted) (kw : Keeps tells state was b notes)
-    (k : ℕ) (old new : Lane D) (lane : slice_get m.lanes.items k ≡ Some old) (i : ℕ) (o : HeldSegment D) (there : slice_get (held_in old) i ≡ Some o) (none : NoneLiveIn k o.index m.index.entries) where
+    (k : ℕ) (old new : Lane D) (lane : slice_get m.lanes.items k ≡ Some old) (i : ℕ) (o : HeldSegment D) (there : slice_get (held_in old) i ≡ Some o) (none : AllGoIn k o.index m.index.entries) where
   abbrev RThen : HeldSegment D → List Record → Type 0
   RThen h rs = IsTrue tells → m.down ≡ None → Holds state h.segment rs
 

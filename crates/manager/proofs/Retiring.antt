@@ -1,4 +1,4 @@
--- A segment is given up with all its records, none of which has a live block: what the manager upholds then, and what holds of it between its calls.
+-- A segment is given up with all its records, all of whose kept blocks may go: what the manager upholds then, and what holds of it between its calls.
 use Rattle.std.proofs.Common.{◌≡◌, ◌≢◌, ⊎_elim, ℕ, Bool, true, false, not, ◌&&◌, List, [], ◌∷◌, ◌++◌, map, None, refl, sym, ap, subst, ◌∙◌, eqb, Some, arith, ◌<◌, length}
 use Rattle.std.specs.Prelude.{Contains, filter, IsTrue, slice_get, slice_set, remove}
 use Rattle.std.specs.List.{AllByRecursion}
@@ -15,11 +15,11 @@ use Rattle.wol_promise.proofs.Lists.{all_map, all_member, member_front, member_m
 use Rattle.wol_promise.proofs.Retires.{member_without}
 use Rattle.wol_promise.proofs.Wholes.{all_filtered, retires_whole}
 use Rattle.logger.specs.declared.lane.HeldSegment.{HeldSegment}
-use Rattle.manager.specs.Reclaim.{NoneLiveIn, lies_elsewhere}
+use Rattle.manager.specs.Reclaim.{AllGoIn, lies_elsewhere}
 use Rattle.manager.specs.Seen.{Logs, parts_of, seen, all_held, down_of, all_taken}
 use Rattle.manager.specs.declared.base.ManagerBase.{ManagerBase}
 use Rattle.manager.specs.declared.manager.Manager.{Manager}
-use Rattle.volume_parts.proofs.Entries.{lies_there, is_false, both_hold, covered_where, counts_elsewhere}
+use Rattle.volume_parts.proofs.Entries.{lies_there, is_false, both_hold, counts_elsewhere}
 use Rattle.volume_parts.proofs.Lanes.{held_as, InLanes, in_lanes, untaken_set, ready_set}
 use Rattle.std.proofs.Math.ListN.{length-set}
 use Rattle.wol_model.specs.Extents.{IsValid}
@@ -49,7 +49,7 @@ apart_from (x ∷ front) t back v apart has same = ⊎_elim
 
 module _ {D : Type 0} (tells : Bool) (state : D → State) (m : Manager D) (b : ManagerBase) (notes : List Noted) (logs : Logs)
     (u : Upholds (parts_of tells state) b.volume.began (seen m logs) notes (writes (entries_of notes)) None) (up : m.down ≡ None)
-    (k : ℕ) (o : HeldSegment D) (none : NoneLiveIn k o.index m.index.entries)
+    (k : ℕ) (o : HeldSegment D) (none : AllGoIn k o.index m.index.entries)
     (hf : List (Held (Spun D))) (records : List Record) (hb : List (Held (Spun D))) (held : all_held 0 m.lanes.items logs ≡ hf ++ held_as k o records ∷ hb) where
   abbrev s : Held (Spun D)
   s = held_as k o records
@@ -81,11 +81,11 @@ module _ {D : Type 0} (tells : Bool) (state : D → State) (m : Manager D) (b : 
   -- it upholds the same without the segment
   pub upheld : Upholds (parts_of tells state) b.volume.began (record (seen m logs) { held = hf ++ hb; indexed = filter (lies_elsewhere k o.index) m.index.entries }) notes (writes (entries_of notes)) None
   upheld = retires_whole (parts_of tells state) b.volume.began (seen m logs) notes (writes (entries_of notes)) hf s hb u (ap down_of up) held (lies_elsewhere k o.index) elsewhere others_stay
-      (λ j q d its. ap not (lies_there k o.index d its.lane its.index)) (covered_where k o.index m.index.entries none)
+      (λ j q d its. ap not (lies_there k o.index d its.lane its.index)) none
 
 module _ {D : Type 0} (tells : Bool) (state : D → State) (m : Manager D) (b : ManagerBase) (notes : List Noted) (kp : Keeps tells state m b notes) (up : m.down ≡ None)
     (k : ℕ) (old new : Lane D) (lane : slice_get m.lanes.items k ≡ Some old) (untaken : taken_in new ≡ None)
-    (i : ℕ) (o : HeldSegment D) (there : slice_get (held_in old) i ≡ Some o) (none : NoneLiveIn k o.index m.index.entries) (held : held_in new ≡ remove (held_in old) i) where
+    (i : ℕ) (o : HeldSegment D) (there : slice_get (held_in old) i ≡ Some o) (none : AllGoIn k o.index m.index.entries) (held : held_in new ≡ remove (held_in old) i) where
   abbrev R : HeldSegment D → List Record → Type 0
   R h rs = IsTrue tells → m.down ≡ None → Holds state h.segment rs
 

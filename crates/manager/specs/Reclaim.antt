@@ -22,7 +22,7 @@ use Rattle.manager.specs.declared.manager.Manager.{Manager}
 use Rattle.manager.specs.declared.part.StepFault.{StepFault}
 use Rattle.manager.specs.declared.part.StepFault.TheVariants.{DiskFault, Down}
 pub use Rattle.volume_parts.specs.Offers.{IsUsed, IsTrimmedLane}
-pub use Rattle.volume_parts.specs.Changes.{put_block, with_put, with_kept, given_of, lies_elsewhere, NoneLiveIn, GoesIn, stays_behind}
+pub use Rattle.volume_parts.specs.Changes.{put_block, with_put, with_kept, given_of, lies_elsewhere, NoneLiveIn, AllGoIn, GoesIn, stays_behind}
 pub use Rattle.volume_parts.specs.Accesses.{IsPartlyPut, IsPut, IsLaid, IsSynced}
 
 -- ---- Answers

@@ -2,8 +2,8 @@
 // its records.
 ghost use Rattle.manager.specs.Causes.{NoneRose};
 ghost use Rattle.manager.specs.Reading.{IsReadThrough};
-ghost use Rattle.manager.specs.Reclaim.{OnTried, OnKept, OnFailed, TellsStep, KeepsOn, BreaksOff, StopsSince, Always, AreOf, HasFetched, HasStored, HasDropped, HasDroppedSegment, NoneLiveIn};
-ghost use Rattle.manager.specs.Stands.{Keeps, IsReady, IsHome};
+ghost use Rattle.manager.specs.Reclaim.{OnTried, OnKept, OnFailed, TellsStep, KeepsOn, BreaksOff, StopsSince, Always, AreOf, HasFetched, HasStored, HasDropped, HasDroppedSegment, AllGoIn};
+ghost use Rattle.manager.specs.Stands.{Keeps, IsReady, IsHome, entries_at};
 ghost use Rattle.manager.specs.Stops.{HoldsOn};
 ghost use Rattle.manager.specs.declared.base.ManagerBase.{ManagerBase};
 ghost use Rattle.redirect_map.specs.Index.{entry_at, HasVersion};
@@ -190,24 +190,40 @@ impl<D: Disk> Manager<D> {
         }
     }
 
-    /// Gives up the segment of this version's record with all its records, none of which has a live block. It is retired
-    /// by one write of its head, and given to its pool. `DiskFault` comes only where the segment's count of faults rose in
-    /// this call, and brings the manager down; `Down` exactly where it is down.
+    /// How many records keep a block in the segment of this version's record, itself among them.
+    pub fn records_beside(&self, version: u64) -> u32
+        requires ready { IsReady D.state self.now }
+        requires up { self.now.down ≡ None }
+        requires there { HasVersion self.now.index.entries version }
+        ensures { ForSome (entry_at self.now.index.entries version)
+            (λ e. result ≡ entries_at e.listed.lane e.index self.now.index.entries) }
+    {
+        let Some(record) = self.index.find(version) else {
+            unreachable!()
+        };
+        self.lanes[record.lane as usize].valid(record.segment)
+    }
+
+    /// Gives up the segment of this version's record with all its records, of which all that they keep may go. It is
+    /// retired by one write of its head, and given to its pool. Answers how many records are gone. `DiskFault` comes only
+    /// where the segment's count of faults rose in this call, and brings the manager down; `Down` exactly where it is down.
     pub fn drop_segment<R: Wait>(
         &mut self,
         rt: &R,
         shared: &Shared<D>,
         version: u64,
-    ) -> Result<(), StepFault>
+    ) -> Result<u32, StepFault>
         requires ready { IsReady D.state self.old }
         requires at { IsHome shared.now self.old }
         requires there { HasVersion self.old.index.entries version }
-        requires covered { ForSome (entry_at self.old.index.entries version)
-            (λ e. NoneLiveIn e.listed.lane e.index self.old.index.entries) }
+        requires go { ForSome (entry_at self.old.index.entries version)
+            (λ e. AllGoIn e.listed.lane e.index self.old.index.entries) }
         ensures ready { IsReady D.state self.new }
         ensures at { IsHome shared.now self.new }
         ensures fault { TellsStep D.state result self.old self.new }
         ensures calm { OnOk result (NoneRose D.state self.old self.new) }
+        ensures gone { IfOk result (λ gone. ForSome (entry_at self.old.index.entries version)
+            (λ e. gone ≡ entries_at e.listed.lane e.index self.old.index.entries)) }
         ensures dropped { OnTried result
             (ForSome (entry_at self.old.index.entries version)
             (λ e. HasDroppedSegment e.listed.lane e.index self.old self.new result)) }
@@ -239,7 +255,7 @@ impl<D: Disk> Manager<D> {
                     record.segment,
                     count,
                 );
-                Ok(())
+                Ok(count)
             }
             Err(Failed) => {
                 self.down = Some(retired);

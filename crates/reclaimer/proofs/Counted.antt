@@ -48,7 +48,7 @@ module _ (listed : List Listed) (place : ℕ) (x : Listed) (is : slice_get liste
   abbrev given : List Listed
   given = filter keeps_a_block (slice_set listed place (keeping listed x))
 
-  given_taken : Taken 0 (dues_in listed) (dues_in given)
+  pub given_taken : Taken 0 (dues_in listed) (dues_in given)
   given_taken =
       let a = around listed place x is in
       let now : given ≡ filter keeps_a_block (a.front ++ keeping (a.front ++ x ∷ a.back) x ∷ a.back) = ap (filter keeps_a_block) (a.set (keeping listed x) ∙ (λ i. a.front ++ keeping (a.is i) x ∷ a.back)) in

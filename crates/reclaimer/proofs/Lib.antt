@@ -25,3 +25,7 @@ pub mod LaidSoFar
 pub mod MarkedSoFar
 pub mod LaysOne
 pub mod PutFirst
+pub mod Wholes
+pub mod Fronts
+pub mod GivenFirst
+pub mod DrainGiven

@@ -1,6 +1,7 @@
 -- No step of a drain tells of fewer pools that were found empty.
-use Rattle.std.proofs.Common.{◌≡◌, ⊎_elim, ◌≤◌, ◌+◌, ℕ, List, [], ◌∷◌, ◌++◌, Result, sym, ap, subst, ◌∙◌, arith}
-use Rattle.std.proofs.lemmas.Bool.{cases_eq}
+use Rattle.std.proofs.Common.{◌≡◌, ⊎_elim, ◌≤◌, ◌+◌, ℕ, List, [], ◌∷◌, ◌++◌, Result, Ok, Err, refl, sym, ap, subst, ◌∙◌, arith}
+use Rattle.std.specs.Prelude.{IsOk}
+use Rattle.std.proofs.lemmas.Bool.{cases_eq, false≢true}
 use Rattle.wol_disk.specs.Disk.{State}
 use Rattle.turn_lock.specs.Histories.{Entry}
 use Rattle.turn_lock.specs.Passes.{pass_mine, pass_number}
@@ -10,7 +11,7 @@ use Rattle.logger.specs.Lanes.{pool_of}
 use Rattle.logger.specs.declared.lane.Lane.{Lane}
 use Rattle.manager.specs.Offers.{ChangesLane}
 use Rattle.wol_model.specs.Index.{Indexed}
-use Rattle.manager.specs.Reclaim.{HasDropped, HasFetched, IsTrimmedLane}
+use Rattle.manager.specs.Reclaim.{HasDropped, HasDroppedSegment, HasFetched, IsTrimmedLane}
 use Rattle.manager.specs.Stands.{nones_in, nones_at, entries_at}
 use Rattle.manager.specs.declared.base.LaneBase.{LaneBase}
 use Rattle.manager.specs.declared.manager.Manager.{Manager}
@@ -38,3 +39,10 @@ module _ {D : Type 0} (bs : List LaneBase) where
 
   pub dropped_no_fewer : {T : Type 0} (version : ℕ) (e : Indexed) (old new : Manager D) (res : Result T StepFault) → HasDropped version e old new res → (j : ℕ) → nones_at old.lanes.items bs j ≤ nones_at new.lanes.items bs j
   dropped_no_fewer version e old new res dropped j = changed_lane _ (λ o n t. trimmed_no_fewer e.index (entries_at e.listed.lane e.index new.index.entries) o n t) e.listed.lane old.lanes.items new.lanes.items dropped.lanes j
+
+  retired_no_fewer : {T : Type 0} (index : ℕ) (res : Result T StepFault) (o n : Lane D) → IsTrimmedLane index (IsOk res) o n → nones_in (pass_mine (pool_of o)) ≤ nones_in (pass_mine (pool_of n))
+  retired_no_fewer index (Ok x) o n t = let e = ap nones_in (t.gave refl).0 ∙ nones_gave (pass_mine (pool_of o)) (pass_number (pool_of o)) index in omega arith
+  retired_no_fewer index (Err fault) o n t = same_pool o n (t.kept (λ ok. absurd (false≢true ok))).0
+
+  pub whole_no_fewer : {T : Type 0} (lane index : ℕ) (old new : Manager D) (res : Result T StepFault) → HasDroppedSegment lane index old new res → (j : ℕ) → nones_at old.lanes.items bs j ≤ nones_at new.lanes.items bs j
+  whole_no_fewer lane index old new res dropped j = changed_lane _ (λ o n t. retired_no_fewer index res o n t) lane old.lanes.items new.lanes.items dropped.lanes j

@@ -15,7 +15,7 @@ use Rattle.manager.specs.Stands.{IsReady}
 use Rattle.manager.specs.declared.manager.Manager.{Manager}
 use Rattle.manager.specs.declared.part.StepFault.{StepFault}
 use Rattle.manager.specs.declared.part.StepFault.TheVariants.{DiskFault, Down}
-use Rattle.reclaimer.specs.Drains.{HasWoken, HasDrained, Drains, TellsMoved, TellsPut, nothing_left, gave_up, put_home}
+use Rattle.reclaimer.specs.Drains.{HasWoken, HasDrained, Drains, TellsGiven, TellsPut, nothing_left, gave_up, put_home}
 use Rattle.reclaimer.specs.Steps.{StopsWithin}
 use Rattle.reclaimer.specs.declared.answers.Drain.{Drain}
 use Rattle.reclaimer.specs.declared.answers.Drain.TheVariants.{Bare}
@@ -34,8 +34,9 @@ same_flags (t ∷ flags) n f is =
 bare_drained : (ups : List Bool) → map (λ k. slice_index_or ups k false || list_any {X = Listed} (λ d. false) []) (range_with_len 0 (length ups)) ≡ ups
 bare_drained ups = same_flags ups 0 (λ k. slice_index_or ups k false || false) (λ i. let e : 0 + i ≡ i = omega arith in or-false (slice_index_or ups (0 + i) false) ∙ ap (λ (k : ℕ). slice_index_or ups k false) e)
 
-moved_nothing : (blocks records : ℕ) (answer : Result Drain StepFault) → answer ≡ Ok Bare → TellsMoved blocks records answer → ⊥
-moved_nothing blocks records answer is told = subst (TellsMoved blocks records) is told
+given_nothing : (given : Result ℕ StepFault) (answer : Result Drain StepFault) → answer ≡ Ok Bare → TellsGiven given answer → ⊥
+given_nothing (Ok count) answer is told = subst (TellsGiven (Ok count)) is told
+given_nothing (Err fault) answer is told = subst (TellsGiven (Err fault)) is told
 
 put_nothing : (put : Result ℕ StepFault) (answer : Result Drain StepFault) → answer ≡ Ok Bare → TellsPut put answer → ⊥
 put_nothing (Ok count) answer is told = subst (TellsPut (Ok count)) is told
@@ -45,7 +46,7 @@ put_nothing (Err fault) answer is told = subst (TellsPut (Err fault)) is told
 bare_step : {D : Type 0} (state : D → State) (old new : Manager D) (answer : Result Drain StepFault) → Drains state old new answer → answer ≡ Ok Bare → (old.index.entries ≡ []) × (new ≡ old)
 bare_step state old new answer (nothing_left empty same is) bare = (empty, same)
 bare_step state old new answer (put_home put has told) bare = absurd (put_nothing put answer bare told)
-bare_step state old new answer (gave_up e due first dropped told) bare = absurd (moved_nothing _ _ answer bare told)
+bare_step state old new answer (gave_up e due first given gave told) bare = absurd (given_nothing given answer bare told)
 
 -- no count rose where none rose once home was woken
 pub step_calm : {D : Type 0} (state : D → State) (m w n : Manager D) → w ≡ record m { home_up = true; spindle = w.spindle } → (answer : Result Drain StepFault) → OnOk answer (NoneRose state w n) → OnOk answer (NoneRose state m n)

@@ -1,13 +1,12 @@
 -- What the steps of a drain do to a manager, by their answers.
-use Rattle.std.specs.Prelude.{⊤, ◌≡◌, ◌<◌, ℕ, true, List, [], find, Option, None, Some, is_none, Result, Ok, Err, if◌then◌else◌}
+use Rattle.std.specs.Prelude.{⊤, ◌≡◌, ◌<◌, ℕ, true, List, [], find, Option, None, Some, Result, Ok, Err}
 use Rattle.wol_disk.specs.Disk.{State}
 use Rattle.wol_model.specs.Index.{Indexed, listed_in, has_due, has_going, left}
-use Rattle.redirect_map.specs.Index.{entry_at}
 use Rattle.manager.specs.Accesses.{HasUsedOnce}
-use Rattle.manager.specs.Reclaim.{HasDropped}
 use Rattle.manager.specs.declared.manager.Manager.{Manager}
 use Rattle.manager.specs.declared.part.StepFault.{StepFault}
 use Rattle.reclaimer.specs.Groups.{HasPutGroup}
+use Rattle.reclaimer.specs.Wholes.{GivesFirst}
 use Rattle.reclaimer.specs.declared.answers.Drain.{Drain}
 use Rattle.reclaimer.specs.declared.answers.Drain.TheVariants.{Bare, Moved}
 
@@ -24,11 +23,13 @@ pub record HasWoken {D : Type 0} (old new : Manager D) : Type 0 where
   pub rest : new ≡ record old { home_up = true; spindle = new.spindle }
   pub used : HasUsedOnce old.spindle new.spindle
 
--- so many blocks went home and so many records are gone, where the step was done
-abbrev pub TellsMoved : (blocks records : ℕ) → Result Drain StepFault → Type 0
-TellsMoved blocks records (Ok Bare) = ⊥
-TellsMoved blocks records (Ok (Moved b r)) = (b ≡ blocks) × (r ≡ records)
-TellsMoved blocks records (Err fault) = ⊤
+-- the records that are gone are told on, and so is a refusal
+abbrev pub TellsGiven : Result ℕ StepFault → Result Drain StepFault → Type 0
+TellsGiven (Ok count) (Ok Bare) = ⊥
+TellsGiven (Ok count) (Ok (Moved b r)) = (b ≡ 0) × (r ≡ count)
+TellsGiven (Ok count) (Err fault) = ⊥
+TellsGiven (Err fault) (Ok moved) = ⊥
+TellsGiven (Err fault) (Err told) = told ≡ fault
 
 -- the blocks that went home are told on, and so is a refusal
 abbrev pub TellsPut : Result ℕ StepFault → Result Drain StepFault → Type 0
@@ -39,17 +40,16 @@ TellsPut (Err fault) (Ok moved) = ⊥
 TellsPut (Err fault) (Err told) = told ≡ fault
 
 -- With home awake, the due blocks of the first records that have one went home; or, where nothing is
--- due, the first record of which something may go gave that up. Nothing was done where no record is
--- left.
+-- due, the first record of which something may go gave that up, or went with its whole segment.
+-- Nothing was done where no record is left.
 pub data Drains {D : Type 0} (state : D → State) (old new : Manager D)
     (answer : Result Drain StepFault) : Type 0 where
   nothing_left : old.index.entries ≡ [] → new ≡ old → answer ≡ Ok Bare → Drains state old new answer
   put_home : (put : Result ℕ StepFault) → HasPutGroup state true put old new → TellsPut put answer
       → Drains state old new answer
   gave_up : (e : Indexed) → first_due old.index.entries ≡ None
-      → first_going old.index.entries ≡ Some e → HasDropped e.listed.version e old new answer
-      → TellsMoved 0 (if is_none (entry_at new.index.entries e.listed.version) then 1 else 0) answer
-      → Drains state old new answer
+      → first_going old.index.entries ≡ Some e → (given : Result ℕ StepFault)
+      → GivesFirst e old new given → TellsGiven given answer → Drains state old new answer
 
 -- home was woken before
 abbrev pub HasDrained : {D : Type 0} → (D → State) → (old new : Manager D) → Result Drain StepFault

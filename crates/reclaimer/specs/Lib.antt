@@ -4,3 +4,4 @@ pub mod Fetches
 pub mod Groups
 pub mod Records
 pub mod Steps
+pub mod Wholes

@@ -11,6 +11,7 @@ ghost use Rattle.redirect_map.specs.Index.{IsIndex};
 ghost use Rattle.std.specs.Prelude.{◌≡◌, ◌↔◌, ◌<◌, ◌≤◌, ℕ, List, [], true, None, Ok, IsTrue, length, OnOk};
 ghost use Rattle.wol_promise.specs.Policy.{drained};
 
+use crate::give_up::give_first;
 use crate::group::put_first;
 use crate::next::{due_next, going};
 use crate::{Drain, Fetch};
@@ -22,7 +23,7 @@ use wol_disk::{Block, Disk};
 /// A view has at most so many loggers, all of which a drain counts as awake.
 const ALL: [bool; 16] = [true; 16];
 
-// Gives up what may go of the first record of which something may go, where nothing is due.
+// Gives up what may go of the first record of which something may go, or its whole segment, where nothing is due.
 fn drop_first<R: Wait, D: Disk>(
     rt: &R,
     m: &mut Manager<D>,
@@ -55,11 +56,8 @@ fn drop_first<R: Wait, D: Disk>(
         // Each kept block of the record of least version may go or is due.
         unreachable!()
     };
-    match m.drop_rec(rt, shared, record.version) {
-        Ok(gone) => Ok(Drain::Moved {
-            blocks: 0,
-            records: u32::from(gone),
-        }),
+    match give_first(rt, m, shared, true, &record) {
+        Ok(records) => Ok(Drain::Moved { blocks: 0, records }),
         Err(fault) => Err(fault),
     }
 }
@@ -107,10 +105,10 @@ fn drain_awake<R: Wait, D: Disk>(
 }
 
 /// Wakes home, and then puts home the due blocks of the records of least version that have one, at most 128 of them, with one
-/// sync; or, where nothing is due, gives up what may go of the record of least version of which something may go. The loggers of
-/// these records are woken. `Bare` comes
-/// exactly where no record is left. `DiskFault` comes only where a part's count of faults rose in this call, and brings the
-/// manager down; `Down` exactly where it is down, which is tried first. The fetch is empty afterwards.
+/// sync; or, where nothing is due, gives up what may go of the record of least version of which something may go, or its whole
+/// segment by one write, where its records are the first ones and all that they keep may go. The loggers of these records are
+/// woken. `Bare` comes exactly where no record is left. `DiskFault` comes only where a part's count of faults rose in this call,
+/// and brings the manager down; `Down` exactly where it is down, which is tried first. The fetch is empty afterwards.
 pub fn drain_step<R: Wait, D: Disk>(
     rt: &R,
     m: &mut Manager<D>,

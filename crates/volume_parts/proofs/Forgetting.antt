@@ -2,7 +2,7 @@
 use Rattle.std.proofs.Common.{◌≡◌, ◌⊎◌, inl, inr, ⊎_elim, ◌<◌, ◌≤◌, ◌+◌, ◌^◌, ℕ, zero, suc, Bool, true, false, cond, not, ◌&&◌, ◌||◌, List, [], ◌∷◌, ◌++◌, length, Option, Some, None, refl, sym, ap, subst, ◌∙◌, arith, eqb, leb, ltb, bit_and}
 use Rattle.std.specs.Prelude.{Contains, IfSome, IsSome, filter, slice_index_or, slice_set}
 use Rattle.std.specs.Int.{bit_not, w128}
-use Rattle.std.specs.List.{AllByRecursion}
+use Rattle.std.specs.List.{AllByRecursion, list_any}
 use Rattle.std.specs.Option.{ForSome}
 use Rattle.std.proofs.Math.Nat.{pow-le-pow_right}
 use Rattle.std.proofs.lemmas.Bool.{false≢true, eq-eqb, ne_eqb, eqb-true, cases_eq, cases_lt, le-leb, leb-true, lt-ltb}
@@ -11,24 +11,19 @@ use Rattle.std.proofs.lemmas.Option.{none-some, same_Some}
 use Rattle.wol_model.specs.Extents.{has_newer, has_older}
 use Rattle.wol_model.specs.Index.{Indexed, block_numbers, cover_of, goes, has_going, is_homed, keeping, keeps_a_block, listed_covers, listed_in}
 use Rattle.wol_model.specs.Log.{has_bit}
+use Rattle.wol_model.proofs.Counts.{both, either}
 use Rattle.wol_promise.proofs.Covers.{any_found, any_member}
 use Rattle.wol_promise.proofs.GiveUps.{newer_in}
-use Rattle.wol_promise.proofs.Lists.{all_back, all_front, all_insert, all_map, all_member, member_behind}
-use Rattle.wol_promise.proofs.Wholes.{above_of, member_filter, member_unfilter}
+use Rattle.wol_promise.proofs.Lists.{all_back, all_front, all_insert, all_map, all_member, member_behind, member_front}
+use Rattle.wol_promise.proofs.Wholes.{member_filter, member_unfilter, one_newer}
 use Rattle.block_cells.specs.Masks.{IsMask}
 use Rattle.block_cells.specs.declared.record.Rec.{Rec}
 use Rattle.block_cells.proofs.Bits.{some_bit}
 use Rattle.redirect_map.specs.Index.{IsAnswer, IsEntry, IsIndex, changed, entry_at, given_up, has_version}
 use Rattle.garbage_list.proofs.Going.{keep_is, some_block}
-use Rattle.volume_parts.specs.Changes.{GoesIn, NoneLiveIn, lies_elsewhere, stays_behind, with_kept}
+use Rattle.volume_parts.specs.Changes.{AllGoIn, GoesIn, NoneLiveIn, lies_elsewhere, stays_behind, with_kept}
 use Rattle.volume_parts.specs.Entries.{entries_at}
 use Rattle.volume_parts.proofs.Entries.{count_mid, one_there, At, Found, among, entry_in, entry_of_version, some_of, given_is, given_list, keep_bits, keep_within, keeps_is, covered_where}
-
--- versions have a bound
-bounded : (es : List Indexed) → (n : ℕ) × AllByRecursion (λ (d : Indexed). d.listed.version < n) es
-bounded [] = (0, tt)
-bounded (e ∷ es) = let rest = bounded es in
-    (1 + e.listed.version + rest.0, (omega arith, all_map (λ (d : Indexed). d.listed.version < rest.0) (λ (d : Indexed). d.listed.version < 1 + e.listed.version + rest.0) (λ d lt. omega (arith, lt)) es rest.1))
 
 -- the entry of a version is among them
 found_among : (es : List Indexed) (version : ℕ) (e : Indexed) → entry_at es version ≡ Some e → Contains es e
@@ -40,7 +35,7 @@ found_among (x ∷ es) version e found = at (has_version version x) found (found
     at false is rest = member_behind x es e (rest is)
 
 -- an entry that lies in the segment lies in its lane
-lane_of : (lane index : ℕ) (d : Indexed) → lies_elsewhere lane index d ≡ false → d.listed.lane ≡ lane
+pub lane_of : (lane index : ℕ) (d : Indexed) → lies_elsewhere lane index d ≡ false → d.listed.lane ≡ lane
 lane_of lane index d leaves = eqb-true d.listed.lane lane (first (eqb d.listed.lane lane) (eqb d.index index) leaves)
   where
     first : (s t : Bool) → not (s && t) ≡ false → s ≡ true
@@ -204,13 +199,34 @@ flag_set [] k lt = absurd (omega (arith, lt))
 flag_set (u ∷ us) zero lt = refl
 flag_set (u ∷ us) (suc k) lt = flag_set us k (omega (arith, lt))
 
+-- ---- what entries go
+
+pub older_in : (es : List Indexed) (v b : ℕ) → has_older (listed_covers (listed_in es)) v b ≡ list_any (λ (d : Indexed). (cover_of d.listed).covers b && ltb d.listed.version v) es
+older_in [] v b = refl
+older_in (e ∷ es) v b = λ i. ((cover_of e.listed).covers b && ltb e.listed.version v) || older_in es v b i
+
+-- what is among those that pass passes
+member_passes : {X : Type 0} (p : X → Bool) (xs : List X) (x : X) → Contains (filter p xs) x → p x ≡ true
+member_passes {X} p [] x has = absurd (let lt = has.1 in omega arith)
+member_passes {X} p (y ∷ ys) x has = at (p y) refl (member_passes p ys x) has
+  where
+    at : (t : Bool) → p y ≡ t → (Contains (filter p ys) x → p x ≡ true) → Contains (cond t (y ∷ filter p ys) (filter p ys)) x → p x ≡ true
+    at true is rest has = ⊎_elim (λ (same : y ≡ x). ap p (sym same) ∙ is) (λ there. rest there) (member_front y (filter p ys) x has)
+    at false is rest has = rest has
+
+-- where no record in the segment has a live block, all that they keep may go
+pub none_live_go : (lane index : ℕ) (es : List Indexed) → NoneLiveIn lane index es → AllGoIn lane index es
+none_live_go lane index es none = each_member (GoesIn lane index es) es (λ d has leaves b keeps.
+    let newer = all_member (λ (e : Indexed). lies_elsewhere lane index e ≡ false → (cover_of e.listed).covers b ≡ true → has_newer (listed_covers (listed_in es)) e.listed.version b ≡ true) es d (covered_where lane index es none b) has leaves keeps in
+    (λ i. keeps i && (newer i || (is_homed d.listed b && not (has_older (listed_covers (listed_in es)) d.listed.version b)))))
+
 -- ---- underway
 
 -- the entries of the segment of lesser versions are gone
 abbrev pub left_from : (lane index from : ℕ) → Indexed → Bool
 left_from lane index from e = lies_elsewhere lane index e || leb from e.listed.version
 
-module _ (lane index : ℕ) (old : List Indexed) (none : NoneLiveIn lane index old) where
+module _ (lane index : ℕ) (old : List Indexed) (go : AllGoIn lane index old) where
   pub forgetting_none : old ≡ filter (left_from lane index 0) old
   forgetting_none = sym (filter_all (left_from lane index 0) old (each_member (λ (d : Indexed). left_from lane index 0 d ≡ true) old (λ d has. later (lies_elsewhere lane index d) (leb 0 d.listed.version) (le-leb 0 d.listed.version (omega arith)))))
 
@@ -221,18 +237,47 @@ module _ (lane index : ℕ) (old : List Indexed) (none : NoneLiveIn lane index o
     was_there : (d : Indexed) → Contains now d → Contains old d
     was_there d has = member_unfilter (left_from lane index from) old d (subst (λ (l : List Indexed). Contains l d) is has)
 
-    -- each block that an entry of the segment keeps, a newer entry keeps still
-    newer_still : (d : Indexed) → Contains old d → lies_elsewhere lane index d ≡ false → (b : ℕ) → (cover_of d.listed).covers b ≡ true → has_newer (listed_covers (listed_in now)) d.listed.version b ≡ true
-    newer_still d has leaves b keeps =
-        let bound = bounded old in let covered = covered_where lane index old none b in
-        let first = all_member (λ (e : Indexed). lies_elsewhere lane index e ≡ false → (cover_of e.listed).covers b ≡ true → has_newer (listed_covers (listed_in old)) e.listed.version b ≡ true) old d covered has leaves keeps in
-        let a = above_of (lies_elsewhere lane index) old b bound.0 bound.1 covered bound.0 d.listed.version (omega arith) first in
+    -- an entry of the segment that is left has no lesser version
+    at_least : (d : Indexed) → Contains now d → lies_elsewhere lane index d ≡ false → from ≤ d.listed.version
+    at_least d has leaves = leb-true from d.listed.version (second (lies_elsewhere lane index d) (leb from d.listed.version) leaves (member_passes (left_from lane index from) old d (subst (λ (l : List Indexed). Contains l d) is has)))
+      where
+        second : (s t : Bool) → s ≡ false → (s || t) ≡ true → t ≡ true
+        second false t leaves_ passes = passes
+        second true t leaves_ passes = absurd (false≢true (sym leaves_))
+
+    -- a newer entry of such a block is there still
+    newer_still : (d : Indexed) → Contains now d → lies_elsewhere lane index d ≡ false → (b : ℕ) → has_newer (listed_covers (listed_in old)) d.listed.version b ≡ true → has_newer (listed_covers (listed_in now)) d.listed.version b ≡ true
+    newer_still d has leaves b newer =
+        let a = one_newer old d.listed.version b newer in let least = at_least d has leaves in let more = a.newer in
         newer_in now d.listed.version b
-        ∙ any_member (λ (e : Indexed). (cover_of e.listed).covers b && ltb d.listed.version e.listed.version) now a.entry (here_still a.entry a.among (ap (λ (t : Bool). t || leb from a.entry.listed.version) a.passes))
+        ∙ any_member (λ (e : Indexed). (cover_of e.listed).covers b && ltb d.listed.version e.listed.version) now a.entry
+        (here_still a.entry a.among (later (lies_elsewhere lane index a.entry) (leb from a.entry.listed.version) (le-leb from a.entry.listed.version (omega (arith, least, more)))))
         (λ i. a.keeps i && lt-ltb d.listed.version a.entry.listed.version a.newer i)
 
+    -- and none that is older was added
+    older_before : (version b : ℕ) → has_older (listed_covers (listed_in now)) version b ≡ true → has_older (listed_covers (listed_in old)) version b ≡ true
+    older_before version b older =
+        let f = any_found (λ (e : Indexed). (cover_of e.listed).covers b && ltb e.listed.version version) now (sym (older_in now version b) ∙ older) in
+        older_in old version b ∙ any_member (λ (e : Indexed). (cover_of e.listed).covers b && ltb e.listed.version version) old f.item (was_there f.item f.among) f.passes
+
     goes_still : (d : Indexed) → Contains now d → GoesIn lane index now d
-    goes_still d has leaves b keeps = (λ i. keeps i && (newer_still d (was_there d has) leaves b keeps i || (is_homed d.listed b && not (has_older (listed_covers (listed_in now)) d.listed.version b))))
+    goes_still d has leaves b keeps =
+        let was = both ((cover_of d.listed).covers b) (has_newer (listed_covers (listed_in old)) d.listed.version b || (is_homed d.listed b && not (has_older (listed_covers (listed_in old)) d.listed.version b)))
+        (all_member (GoesIn lane index old) old d go (was_there d has) leaves b keeps) in
+        (λ i. keeps i && why (either (has_newer (listed_covers (listed_in old)) d.listed.version b) (is_homed d.listed b && not (has_older (listed_covers (listed_in old)) d.listed.version b)) was.1) i)
+      where
+        no_older : (s t : Bool) → (t ≡ true → s ≡ true) → not s ≡ true → not t ≡ true
+        no_older true s so none = absurd (false≢true none)
+        no_older false true so none = absurd (false≢true (so refl))
+        no_older false false so none = refl
+
+        why : (has_newer (listed_covers (listed_in old)) d.listed.version b ≡ true) ⊎ ((is_homed d.listed b && not (has_older (listed_covers (listed_in old)) d.listed.version b)) ≡ true)
+            → (has_newer (listed_covers (listed_in now)) d.listed.version b || (is_homed d.listed b && not (has_older (listed_covers (listed_in now)) d.listed.version b))) ≡ true
+        why (inl newer) = λ i. newer_still d has leaves b newer i || (is_homed d.listed b && not (has_older (listed_covers (listed_in now)) d.listed.version b))
+        why (inr home) =
+            let parts = both (is_homed d.listed b) (not (has_older (listed_covers (listed_in old)) d.listed.version b)) home in
+            later (has_newer (listed_covers (listed_in now)) d.listed.version b) (is_homed d.listed b && not (has_older (listed_covers (listed_in now)) d.listed.version b))
+            (λ i. parts.0 i && no_older (has_older (listed_covers (listed_in old)) d.listed.version b) (has_older (listed_covers (listed_in now)) d.listed.version b) (older_before d.listed.version b) parts.1 i)
 
     pub one_goes : (version : ℕ) → IfSome (entry_at now version) (GoesIn lane index now)
     one_goes version = by (entry_at now version) refl

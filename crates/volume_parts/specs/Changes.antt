@@ -40,6 +40,10 @@ abbrev pub GoesIn : (lane index : ℕ) → List Indexed → Indexed → Type 0
 GoesIn lane index es e = lies_elsewhere lane index e ≡ false → (b : ℕ)
     → (cover_of e.listed).covers b ≡ true → goes (listed_in es) e.listed b ≡ true
 
+-- all that each record in the segment keeps may go: so the segment may go whole
+abbrev pub AllGoIn : (lane index : ℕ) → List Indexed → Type 0
+AllGoIn lane index es = AllByRecursion (GoesIn lane index es) es
+
 -- the entry doesn't lie there, or has another version
 abbrev pub stays_behind : (lane index version : ℕ) → Indexed → Bool
 stays_behind lane index version e = lies_elsewhere lane index e || not (e.listed.version == version)

@@ -1,5 +1,5 @@
-// A segment's records leave the index together, since newer records keep all their blocks.
-ghost use Rattle.volume_parts.specs.Changes.{GoesIn, NoneLiveIn, lies_elsewhere, stays_behind};
+// A segment's records leave the index together, since all that they keep may go.
+ghost use Rattle.volume_parts.specs.Changes.{AllGoIn, GoesIn, lies_elsewhere, stays_behind};
 ghost use Rattle.volume_parts.specs.Entries.{entries_at};
 ghost use Rattle.redirect_map.specs.Index.{entry_at, IsIndex};
 ghost use Rattle.std.specs.List.{AllByRecursion};
@@ -54,13 +54,13 @@ fn next_going(index: &Index, from: u64, ups: &[bool]) -> Option<u64>
     index.first_going(from, ups)
 }
 
-/// Takes all records of a segment, of which there are so many, out of the index. None of them has a live block, so they are
-/// among those that are marked as ones that may have blocks that go.
+/// Takes all records of a segment, of which there are so many, out of the index. All that they keep may go, so they are among
+/// those that are marked as ones that may have blocks that go.
 pub fn forget(index: &mut Index, ups: &[bool], lane: u32, segment: u32, count: u32)
     requires count { entries_at lane segment index.old.entries ≡ count }
     requires awake { slice_index_or ups.now lane false ≡ true }
     requires below { AllByRecursion (λ e. e.listed.version < 2 ^ 63) index.old.entries }
-    requires covered { NoneLiveIn lane segment index.old.entries }
+    requires go { AllGoIn lane segment index.old.entries }
     ensures { index.new.entries ≡ filter (lies_elsewhere lane segment) index.old.entries }
 {
     let mut from = 0;

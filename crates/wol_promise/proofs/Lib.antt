@@ -14,6 +14,7 @@ pub mod Covers
 pub mod Trims
 pub mod GiveUps
 pub mod Retires
+pub mod TrimGroups
 pub mod Wholes
 pub mod SegmentBreaks
 pub mod ClaimBreaks

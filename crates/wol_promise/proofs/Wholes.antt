@@ -1,46 +1,29 @@
--- A segment is given up with all its records, whose kept blocks newer records of other segments keep: the manager upholds the same.
-use Rattle.std.proofs.Common.{◌≡◌, ⊎_elim, ◌<◌, ◌≤◌, ◌+◌, ℕ, zero, suc, Bool, true, false, cond, not, ◌&&◌, ◌||◌, List, [], ◌∷◌, ◌++◌, map, None, Some, refl, sym, subst, ◌∙◌, arith, ltb}
+-- A segment is given up with all its records, whose kept blocks may all go by one and the same list: the manager upholds the same.
+use Rattle.std.proofs.Common.{◌≡◌, ⊎_elim, ◌<◌, ◌≤◌, ◌+◌, ℕ, zero, suc, Bool, true, false, cond, not, ◌&&◌, List, [], ◌∷◌, ◌++◌, map, None, Some, refl, sym, subst, ◌∙◌, append_assoc, arith, ltb}
 use Rattle.std.specs.Prelude.{Contains, filter, slice_get}
-use Rattle.std.specs.List.{AllByRecursion, list_any}
-use Rattle.std.proofs.lemmas.Bool.{false≢true, lt-ltb, ltb-true}
+use Rattle.std.specs.List.{AllByRecursion}
+use Rattle.std.proofs.lemmas.Bool.{false≢true, ltb-true}
 use Rattle.std.proofs.lemmas.Grind.{flat_map-append}
 use Rattle.wol_disk.specs.Disk.{Block}
 use Rattle.wol_model.specs.Blocks.{Write}
-use Rattle.wol_model.specs.Extents.{Cover, Extent, GivesUp, IsValid, covers_of, AreDistinct, has_newer, has_older, marked}
+use Rattle.wol_model.specs.Extents.{Extent, GivesUp, IsValid, covers_of, AreDistinct, has_newer, marked, may_go}
 use Rattle.wol_model.specs.Holding.{Holds}
-use Rattle.wol_model.specs.Index.{Indexed, AreRising, IsListed, cover_of, listed_covers, listed_in}
+use Rattle.wol_model.specs.Index.{Indexed, AreRising, IsListed, cover_of, goes, listed_covers, listed_in}
 use Rattle.wol_model.specs.Log.{Record, IsLog, extent_of}
 use Rattle.wol_model.proofs.Counts.{both}
-use Rattle.wol_model.proofs.Steps.{empty_step, fewer_homed, giving_up_step}
+use Rattle.wol_model.proofs.Steps.{empty_step, fewer_homed}
 use Rattle.wol_promise.specs.Ruled.{Noted}
 use Rattle.wol_promise.specs.Manager.{Parts, Held, ManagerSeen, Base, IsBacked, IsEntryOf, IsFound, IsIndexOf, IsSorted, extents_held, is_homed_in}
 use Rattle.wol_promise.specs.Stands.{IsPlaced, IsCalm, Upholds}
-use Rattle.wol_promise.proofs.Covers.{any_found, any_member, newer_held}
+use Rattle.wol_promise.proofs.Covers.{any_found, goes_is_may_go}
 use Rattle.wol_promise.proofs.GiveUps.{From, homed_before, listed_still, newer_in}
 use Rattle.wol_promise.proofs.Lists.{all_front, all_back, all_joined, all_member, all_mid, member_front, member_behind}
 use Rattle.wol_promise.proofs.LogWrites.{around}
 use Rattle.wol_promise.proofs.Retires.{given_back, member_without}
 use Rattle.wol_promise.proofs.SoundSegments.{apart_without}
+use Rattle.wol_promise.proofs.TrimGroups.{LeftOf, as_they_were, one_more, group_holds}
 
--- ---- Records under others
-
--- each block that it keeps, a newer one of these keeps
-abbrev pub LiesUnder : List Extent → Extent → Type 0
-LiesUnder es e = (b : ℕ) → e.cover.covers b ≡ true → has_newer (covers_of es) e.cover.version b ≡ true
-
-later : (a b : Bool) → b ≡ true → (a || b) ≡ true
-later true b is = refl
-later false b is = is
-
--- what one of these covers passes, one of more passes
-wider : (p : Cover → Bool) (xs ms ys : List Extent) → list_any p (covers_of (xs ++ ys)) ≡ true → list_any p (covers_of (xs ++ (ms ++ ys))) ≡ true
-wider p [] [] ys is = is
-wider p [] (m ∷ ms) ys is = later (p m.cover) (list_any p (covers_of (ms ++ ys))) (wider p [] ms ys is)
-wider p (x ∷ xs) ms ys is = at (p x.cover) (wider p xs ms ys) is
-  where
-    at : (t : Bool) → (list_any p (covers_of (xs ++ ys)) ≡ true → list_any p (covers_of (xs ++ (ms ++ ys))) ≡ true) → (t || list_any p (covers_of (xs ++ ys))) ≡ true → (t || list_any p (covers_of (xs ++ (ms ++ ys)))) ≡ true
-    at true rest is = refl
-    at false rest is = rest is
+-- ---- Records that give up all that they keep
 
 -- the same extent, which keeps nothing
 abbrev emptied : Extent → Extent
@@ -53,17 +36,39 @@ gives_all e = record { version = refl; first = refl; blocks = refl; keeps = λ b
     none true = refl
     none false = refl
 
--- records that lie under others are forgotten one by one
-pub forgotten_under : (a : List Block) (ws : List Write) (next : ℕ) (home : List Block) (front : List Extent) (rs : List Record) (back : List Extent) (homed : ℕ → Bool) → AllByRecursion (λ r. LiesUnder (front ++ back) (extent_of r)) rs
+-- all that the extent keeps may go by these
+abbrev pub GoesAll : (homed : ℕ → Bool) → List Extent → Extent → Type 0
+GoesAll homed at_first e = (b : ℕ) → e.cover.covers b ≡ true → may_go (covers_of at_first) homed e.cover b ≡ true
+
+abbrev emptied_all : List Record → List Extent
+emptied_all rs = map (λ (r : Record). emptied (extent_of r)) rs
+
+-- each of them gives up all that it keeps
+left_emptied : (homed : ℕ → Bool) (at_first front : List Extent) (rs : List Record) (back : List Extent) → AllByRecursion (λ r. GoesAll homed at_first (extent_of r)) rs
+    → LeftOf homed at_first (front ++ (map extent_of rs ++ back)) → LeftOf homed at_first (front ++ (emptied_all rs ++ back))
+left_emptied homed at_first front [] back go left = left
+left_emptied homed at_first front (r ∷ rs) back go left =
+    let e = extent_of r in
+    subst (LeftOf homed at_first) (append_assoc front (emptied e ∷ []) (emptied_all rs ++ back))
+    (left_emptied homed at_first (front ++ emptied e ∷ []) rs back go.1
+    (subst (LeftOf homed at_first) (sym (append_assoc front (emptied e ∷ []) (map extent_of rs ++ back)))
+    (one_more front (map extent_of rs ++ back) e (emptied e) (λ b. e.cover.covers b) left go.0 (gives_all e))))
+
+-- records that keep nothing are forgotten one by one
+forgotten_emptied : (a : List Block) (ws : List Write) (next : ℕ) (home : List Block) (front : List Extent) (rs : List Record) (back : List Extent) (homed : ℕ → Bool)
+    → Holds a ws next home (front ++ (emptied_all rs ++ back)) homed → Holds a ws next home (front ++ back) homed
+forgotten_emptied a ws next home front [] back homed holds = holds
+forgotten_emptied a ws next home front (r ∷ rs) back homed holds =
+    forgotten_emptied a ws next home front rs back homed (empty_step a ws next home front (emptied_all rs ++ back) homed (emptied (extent_of r)) holds (λ b. refl))
+
+-- records are forgotten together where each may give up all that it keeps
+pub forgotten_whole : (a : List Block) (ws : List Write) (next : ℕ) (home : List Block) (front : List Extent) (rs : List Record) (back : List Extent) (homed : ℕ → Bool)
+    → AllByRecursion (λ r. GoesAll homed (front ++ (map extent_of rs ++ back)) (extent_of r)) rs
     → Holds a ws next home (front ++ (map extent_of rs ++ back)) homed → Holds a ws next home (front ++ back) homed
-forgotten_under a ws next home front [] back homed under holds = holds
-forgotten_under a ws next home front (r ∷ rs) back homed under holds =
-    forgotten_under a ws next home front rs back homed under.1
-    (empty_step a ws next home front (map extent_of rs ++ back) homed (emptied (extent_of r))
-    (giving_up_step a ws next home front (map extent_of rs ++ back) homed (λ b. (extent_of r).cover.covers b) (extent_of r) (emptied (extent_of r)) holds
-    (λ b keeps. let newer = wider (λ (c : Cover). c.covers b && ltb (extent_of r).cover.version c.version) front (extent_of r ∷ map extent_of rs) back (under.0 b keeps) in λ i. keeps i && (newer i || (homed b && not (has_older (covers_of (front ++ extent_of r ∷ (map extent_of rs ++ back))) (extent_of r).cover.version b))))
-    (gives_all (extent_of r)))
-    (λ b. refl))
+forgotten_whole a ws next home front rs back homed go holds =
+    let at_first = front ++ (map extent_of rs ++ back) in
+    forgotten_emptied a ws next home front rs back homed
+    (group_holds homed at_first a ws next home (front ++ (emptied_all rs ++ back)) (left_emptied homed at_first front rs back go as_they_were) holds)
 
 -- ---- Lists that are filtered
 
@@ -168,8 +173,8 @@ module _ {P : Type 0} (parts : Parts P) (base : Base) (m : ManagerSeen P) (notes
     (test : Indexed → Bool) (elsewhere : AllByRecursion (IsPlaced parts (front ++ back)) (filter test m.indexed))
     (stays : (v : Held P) (k : ℕ) (q : Record) (d : Indexed) → Contains (front ++ back) v → IsEntryOf v k q d → test d ≡ true)
     (leaves : (k : ℕ) (q : Record) (d : Indexed) → IsEntryOf t k q d → test d ≡ false)
-    -- each block that an entry of the segment keeps, a newer one keeps
-    (covered : (b : ℕ) → AreCovered test b m.indexed) where
+    -- all that an entry of the segment keeps may go
+    (go : AllByRecursion (λ d. test d ≡ false → (b : ℕ) → (cover_of d.listed).covers b ≡ true → goes (listed_in m.indexed) d.listed b ≡ true) m.indexed) where
   abbrev left : List Indexed
   left = filter test m.indexed
 
@@ -206,18 +211,14 @@ module _ {P : Type 0} (parts : Parts P) (base : Base) (m : ManagerSeen P) (notes
     only = all_among (λ (d : Indexed). (test d ≡ true) × IsBacked (front ++ t ∷ back) d) (IsBacked (front ++ back)) left (λ d has at. backed d at.0 at.1) (all_filtered (IsBacked (front ++ t ∷ back)) test m.indexed is.only);
   }
 
-  -- the records of the segment lie under those of others
-  under : IsIndexOf m.indexed (front ++ t ∷ back) → AllByRecursion (λ r. LiesUnder (extents_held front ++ extents_held back) (extent_of r)) t.records
-  under is = all_places (λ r. LiesUnder (extents_held front ++ extents_held back) (extent_of r)) t.records (λ k r at b keeps.
+  -- all that the records of the segment keep may go
+  records_go : IsIndexOf m.indexed (front ++ t ∷ back) → AllByRecursion (λ r. GoesAll (is_homed_in m.indexed) (extents_held front ++ (map extent_of t.records ++ extents_held back)) (extent_of r)) t.records
+  records_go is = all_places (λ r. GoesAll (is_homed_in m.indexed) (extents_held front ++ (map extent_of t.records ++ extents_held back)) (extent_of r)) t.records (λ k r at b keeps.
       let f = all_mid (Lists m.indexed) front t back is.each k r at (b, keeps) in
       let kept : (cover_of f.entry.listed).covers b ≡ true = (λ i. marked (f.is_its.first i) (f.is_its.keep i) b) ∙ keeps in
-      let newer = all_member (λ (d : Indexed). test d ≡ false → (cover_of d.listed).covers b ≡ true → has_newer (listed_covers (listed_in m.indexed)) d.listed.version b ≡ true) m.indexed f.entry (covered b) f.listed (leaves k r f.entry f.is_its) kept in
-      let a = above_of test m.indexed b m.next calm.below (covered b) m.next f.entry.listed.version (omega arith) newer in
-      let left_newer : has_newer (listed_covers (listed_in left)) f.entry.listed.version b ≡ true = newer_in left f.entry.listed.version b
-      ∙ any_member (λ (d : Indexed). (cover_of d.listed).covers b && ltb f.entry.listed.version d.listed.version) left a.entry (member_filter test m.indexed a.entry a.among a.passes) (λ i. a.keeps i && lt-ltb f.entry.listed.version a.entry.listed.version a.newer i) in
-      subst (λ (v : ℕ). has_newer (covers_of (extents_held front ++ extents_held back)) v b ≡ true) f.is_its.version
-      (subst (λ (l : List Extent). has_newer (covers_of l) f.entry.listed.version b ≡ true) (flat_map-append (λ (v : Held P). map extent_of v.records) front back)
-      (newer_held (front ++ back) left f.entry.listed.version b (index_left is) left_newer)))
+      let given = all_member (λ (d : Indexed). test d ≡ false → (c : ℕ) → (cover_of d.listed).covers c ≡ true → goes (listed_in m.indexed) d.listed c ≡ true) m.indexed f.entry go f.listed (leaves k r f.entry f.is_its) b kept in
+      subst (λ (l : List Extent). may_go (covers_of l) (is_homed_in m.indexed) (extent_of r).cover b ≡ true) (around front t back)
+      (goes_is_may_go (front ++ t ∷ back) m.indexed t k r f.entry b is f.is_its f.listed given))
 
   -- the segment is gone with its records, and its entries with them
   pub retires_whole : Upholds parts base (record m { held = front ++ back; indexed = left }) notes ws None
@@ -235,7 +236,7 @@ module _ {P : Type 0} (parts : Parts P) (base : Base) (m : ManagerSeen P) (notes
       index = index_left w.index;
       holds = λ home is. subst (λ (l : List Extent). Holds base.array ws m.next home l (is_homed_in left)) (sym (flat_map-append (λ (v : Held P). map extent_of v.records) front back))
           (fewer_homed base.array ws m.next home (extents_held front ++ extents_held back) (is_homed_in m.indexed) (is_homed_in left)
-          (forgotten_under base.array ws m.next home (extents_held front) t.records (extents_held back) (is_homed_in m.indexed) (under w.index)
+          (forgotten_whole base.array ws m.next home (extents_held front) t.records (extents_held back) (is_homed_in m.indexed) (records_go w.index)
           (subst (λ (l : List Extent). Holds base.array ws m.next home l (is_homed_in m.indexed)) (around front t back) (w.holds home is)))
           (homed_before m.indexed left from));
     };

@@ -1,4 +1,4 @@
-use Rattle.std.proofs.Common.{◌≡◌, [], Bool, true, false, List, Err, subst, sym}
+use Rattle.std.proofs.Common.{◌≡◌, ℕ, [], Bool, true, false, List, Err, subst, sym}
 use Rattle.std.specs.Prelude.{slice_index_or}
 use Rattle.std.specs.List.{AllByRecursion}
 use Rattle.std.specs.Option.{ForSome}
@@ -7,6 +7,7 @@ use Rattle.wol_model.specs.Index.{Indexed, listed_in}
 use Rattle.redirect_map.specs.Index.{Contents, HasVersion, entry_at}
 use Rattle.manager.specs.Reclaim.{Always, HasDroppedSegment, NoneLiveIn}
 use Rattle.reclaimer.proofs.Moments.{tried_within, within}
+use Rattle.reclaimer.proofs.Wholes.{none_live_go}
 use Rattle.log_cleaner.specs.Chunks.{NoneHomed}
 use Rattle.log_cleaner.specs.Marks.{AreMarked}
 use Rattle.log_cleaner.proofs.Marking.{left_marked}
@@ -42,9 +43,10 @@ goes_whole-requires-clause-marked g c = subst (λ (x : Contents). AreMarked c.ma
 pub drop_segment-requires-clause-there : goal.drop_segment-requires-clause-there
 drop_segment-requires-clause-there g c = subst (λ (x : Contents). HasVersion x.entries c.in-Some.version) c.index-in-loop-step-2.ensures (c.goes_whole.ensures.there c.if-goes_whole.true)
 
-pub drop_segment-requires-clause-covered : goal.drop_segment-requires-clause-covered
-drop_segment-requires-clause-covered g c =
-    subst (λ (x : Contents). ForSome (entry_at x.entries c.in-Some.version) (λ e. NoneLiveIn e.listed.lane e.index x.entries)) c.index-in-loop-step-2.ensures (c.goes_whole.ensures.covered c.if-goes_whole.true)
+pub drop_segment-requires-clause-go : goal.drop_segment-requires-clause-go
+drop_segment-requires-clause-go g c e is =
+    let none = subst (λ (x : Contents). ForSome (entry_at x.entries c.in-Some.version) (λ e. NoneLiveIn e.listed.lane e.index x.entries)) c.index-in-loop-step-2.ensures (c.goes_whole.ensures.covered c.if-goes_whole.true) in
+    none_live_go e.listed.lane e.index c.loop-step.m.index.entries (none e is)
 
 pub returns-in_err-drop_segment-clause-given : goal.returns-in_err-drop_segment-clause-given
 returns-in_err-drop_segment-clause-given g c =
@@ -53,9 +55,9 @@ returns-in_err-drop_segment-clause-given g c =
     let none = subst (λ (x : Contents). ForSome (entry_at x.entries c.in-Some.version) (λ e. NoneLiveIn e.listed.lane e.index x.entries)) c.index-in-loop-step-2.ensures (c.goes_whole.ensures.covered c.if-goes_whole.true) f.0 f.1 in
     let p = err_from_is_err_and c.from_residual.result c.from_residual.ensures.1 in
     rw (p.1, p.2) (gave_then g.D.Disk.tells g.D.Disk.state c.args.m.now m new c.requires.can i.copied i.tidy (Err c.in_err-drop_segment.field-0.0)
-    (segment_broken g.D.Disk.tells g.D.Disk.state m new i.can f.0.listed.lane f.0.index none (Unit {0}) c.in_err-drop_segment.field-0.0 e.fault e.broke
-    (tried_there m.index.entries c.in-Some.version f.0 f.1 (Unit {0}) c.in_err-drop_segment.field-0.0 (λ d. HasDroppedSegment {T = Unit {0}} d.listed.lane d.index m new (Err c.in_err-drop_segment.field-0.0)) e.dropped)
-    (λ told. tried_within g.D.Disk.tells g.D.Disk.state g.met.D.Disk.sound Always (Unit {0}) told m new c.in_err-drop_segment.field-0.0 e.fault e.any_moment)))
+    (segment_broken g.D.Disk.tells g.D.Disk.state m new i.can f.0.listed.lane f.0.index none ℕ c.in_err-drop_segment.field-0.0 e.fault e.broke
+    (tried_there m.index.entries c.in-Some.version f.0 f.1 ℕ c.in_err-drop_segment.field-0.0 (λ d. HasDroppedSegment {T = ℕ} d.listed.lane d.index m new (Err c.in_err-drop_segment.field-0.0)) e.dropped)
+    (λ told. tried_within g.D.Disk.tells g.D.Disk.state g.met.D.Disk.sound Always ℕ told m new c.in_err-drop_segment.field-0.0 e.fault e.any_moment)))
 
 pub loop-step-preserved : goal.loop-step-preserved
 loop-step-preserved g c =

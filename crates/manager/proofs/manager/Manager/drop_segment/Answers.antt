@@ -1,5 +1,5 @@
 -- A segment is given up with all its records.
-use Rattle.std.proofs.Common.{◌<◌, ◌^◌, Bool, List, true, false, length, refl, ap, ◌∙◌, arith}
+use Rattle.std.proofs.Common.{◌<◌, ◌^◌, ℕ, Bool, List, true, false, length, refl, ap, ◌∙◌, arith}
 use Rattle.std.proofs.lemmas.Option.{slice_get_within}
 use Rattle.wol_model.specs.Index.{Indexed}
 use Rattle.wol_promise.proofs.Lists.{all_map}
@@ -8,7 +8,7 @@ use Rattle.manager.proofs.Calm.{none_lane}
 use Rattle.volume_parts.proofs.Elements.{refill_set, all_at}
 use Rattle.volume_parts.proofs.Forgetting.{flag_set}
 use Rattle.manager.proofs.ReadyLanes.{at_lane}
-use Rattle.manager.proofs.RetireCall.{calm_then, cause_broke, counted_there, dropped_broke, dropped_then, keeps_then, none_live, old_lane, ready_broke, ready_then, retirable, stands_broke, stops_broke, stops_then}
+use Rattle.manager.proofs.RetireCall.{calm_then, cause_broke, counted_there, dropped_broke, dropped_then, keeps_then, all_go, old_lane, ready_broke, ready_then, retirable, so_many, stands_broke, stops_broke, stops_then}
 use Rattle.manager.proofs.DropCall.{IsFound, found_as, lane_in, HasTurned}
 use Rattle.manager.proofs.FetchRec.{lane_within}
 use Rattle.std.specs.Prelude.{slice_index_or}
@@ -59,13 +59,13 @@ forget-requires g c =
       count = counted_there call here c.valid-count.result c.valid-count.ensures;
       awake = ap (λ (us : List Bool). slice_index_or us r.lane false) (c.deref.ensures.0 ∙ flags) ∙ flag_set m.ups.items r.lane (omega (arith, lt, long));
       below = all_map (λ (e : Indexed). e.listed.version < m.next) (λ (e : Indexed). e.listed.version < 2 ^ 63) (λ e lt'. omega (arith, lt', n)) m.index.entries c.requires.ready.below;
-      covered = none_live call (c.requires.covered call.its.entry call.its.is);
+      go = all_go call (c.requires.go call.its.entry call.its.is);
     }
 
 pub returns-in-Ok : goal.returns-in-Ok
 returns-in-Ok g c =
     let m = c.args.self.now in let r = c.in-Some-find.record in let l = c.index_mut-lane.result.now in let l' = c.retire.new.self in
-    let p = goal.at.returns-in-Ok g c in let call = found g p.In-Some-find in let none = none_live call (c.requires.covered call.its.entry call.its.is) in
+    let p = goal.at.returns-in-Ok g c in let call = found g p.In-Some-find in let none = all_go call (c.requires.go call.its.entry call.its.is) in
     let here = lane_in call c.index_mut-lane.result.now c.index_mut-lane.ensures.value in let turn = turned g p.After-retire in
     let flags = refill_set m.ups.items c.deref_mut.result.now r.lane true c.deref_mut.ensures.value in let retired = c.in-Ok.ensures.retired in
     record {
@@ -73,6 +73,7 @@ returns-in-Ok g c =
       at = at_lane m r.lane l' c.requires.at c.retire.ensures.at;
       fault = (call.up, call.up);
       calm = none_lane g.D.Disk.state m _ c.requires.ready refl r.lane l l' here refl (calm_then call here turn c.in-Ok.field-0 retired);
+      gone = so_many call here c.valid-count.result c.valid-count.ensures;
       dropped = dropped_then call here turn c.in-Ok.field-0 retired _ c.forget.new.index _ c.forget.ensures flags;
       keeps = keeps_then call here turn c.in-Ok.field-0 retired none g.D.Disk.tells c.forget.new.index _ c.forget.ensures flags;
       broke = tt;
@@ -84,7 +85,7 @@ returns-in-Ok g c =
 pub returns-in-Err : goal.returns-in-Err
 returns-in-Err g c =
     let m = c.args.self.now in let r = c.in-Some-find.record in
-    let p = goal.at.returns-in-Err g c in let call = found g p.In-Some-find in let none = none_live call (c.requires.covered call.its.entry call.its.is) in
+    let p = goal.at.returns-in-Err g c in let call = found g p.In-Some-find in let none = all_go call (c.requires.go call.its.entry call.its.is) in
     let here = lane_in call c.index_mut-lane.result.now c.index_mut-lane.ensures.value in let turn = turned g p.After-retire in
     let flags = refill_set m.ups.items c.deref_mut.result.now r.lane true c.deref_mut.ensures.value in let retired = c.in-Err.ensures.retired in
     record {
@@ -92,7 +93,8 @@ returns-in-Err g c =
       at = at_lane m r.lane c.retire.new.self c.requires.at c.retire.ensures.at;
       fault = (call.up, refl, cause_broke call here turn c.in-Err.field-0 retired c.logger.result c.logger.ensures _ flags);
       calm = tt;
-      dropped = dropped_broke call here turn c.in-Err.field-0 retired c.logger.result c.logger.ensures _ flags (Unit {0}) _;
+      gone = tt;
+      dropped = dropped_broke call here turn c.in-Err.field-0 retired c.logger.result c.logger.ensures _ flags ℕ _;
       keeps = tt;
       broke = stands_broke call here turn c.in-Err.field-0 retired c.logger.result c.logger.ensures _ flags none g.D.Disk.tells g.met.D.Disk.sound;
       any_moment = λ told. stops_broke call here turn c.in-Err.field-0 retired c.logger.result c.logger.ensures _ flags none g.D.Disk.tells g.met.D.Disk.sound told;
