@@ -14,6 +14,7 @@ use Rattle.request_workers.specs.Shares.{CanShare, HasHelpedOn, HasShared}
 use Rattle.window_desks.specs.declared.desk.Desk.{Desk}
 use Rattle.window_desks.specs.declared.floor.Floor.{Floor}
 use Rattle.window_desks.specs.declared.request.Reclaim.{Reclaim}
+use Rattle.window_desks.specs.declared.work_room.WorkRoom.{WorkRoom}
 
 module _ {D : Type 0} (ls : List (ManagerLock D)) (shared : Shared D) (ds es : List (Desk D)) (ready : AreReady ls shared 0 (ds ++ es)) where
   -- the first desks are ready where they are
@@ -31,9 +32,9 @@ module _ {D : Type 0} (ls : List (ManagerLock D)) (shared : Shared D) (ds es : L
       (subst (λ (x : Desk D). IsReadyDesk (get_or ls (0 + (length ds + k)) l) shared x) (get_or-append-add ds es k d) (ready (length ds + k) l d (omega (arith, h, long))))
 
 -- a job of the last desks
-pub job_ready : {D : Type 0} (shared : Bor (Shared D)) (f : Floor D) (kept run : Vec (Desk D) Global) (start : ℕ) → f.desks.items ≡ kept.items ++ run.items → start ≡ vec_len kept → CanShare shared.now f
-    → IsReadyJob (record { locks = f.locks; shared = shared; start = start; desks = run })
-job_ready {D} shared f kept run start cut is can =
+pub job_ready : {D : Type 0} (shared : Bor (Shared D)) (f : Floor D) (kept run : Vec (Desk D) Global) (start : ℕ) (work : WorkRoom) → f.desks.items ≡ kept.items ++ run.items → start ≡ vec_len kept → CanShare shared.now f
+    → IsReadyJob (record { locks = f.locks; shared = shared; start = start; desks = run; work = work })
+job_ready {D} shared f kept run start work cut is can =
     let n : start ≡ length kept.items = is ∙ kept.ok.0 in
     let long = ap length cut ∙ length-append kept.items run.items in let all = can.within in record {
       within = omega (arith, n, long, all);
@@ -69,15 +70,15 @@ module _ {D : Type 0} (tells : Bool) (ds es ds' es' : List (Desk D)) (same : len
         (last (k - length ds) d (omega (arith, h, le, long))))
   ]
 
--- what is made of the desks afterwards
-pub helped_still : {D : Type 0} (tells : Bool) (mode : Reclaim) (f g : Floor D) (ds : Vec (Desk D) Global) → HasHelpedOn tells mode f g → HasHelpedOn tells mode f (record g { desks = ds })
-helped_still {D} tells mode f g ds on = record {
+-- what is made of the desks afterwards, in the caller's room
+pub helped_still : {D : Type 0} (tells : Bool) (mode : Reclaim) (f g : Floor D) (ds : Vec (Desk D) Global) (work : WorkRoom) → HasHelpedOn tells mode f g → HasHelpedOn tells mode f (record g { desks = ds; work = work })
+helped_still {D} tells mode f g ds work on = record {
   count = on.count;
   helped = on.helped;
   counted = on.counted;
   all_kept = on.all_kept;
   cause = on.cause;
-  only = ap (λ (h : Floor D). record h { desks = ds }) on.only;
+  only = ap (λ (h : Floor D). record h { desks = ds; work = work }) on.only;
 }
 
 -- both parts are served, and together again

@@ -45,7 +45,7 @@ pub record HasHelpedOn {D : Type 0} (tells : Bool) (mode : Reclaim) (f g : Floor
   pub counted : HaveCounted tells f.help.tally g.help.tally f.helpers.items g.helpers.items
   pub all_kept : AreAllKept g.help.fault f.helpers.items g.helpers.items
   pub cause : IsCause g.helpers.items g.help.fault
-  pub only : g ≡ record f { desks = g.desks; helpers = g.helpers; help = g.help }
+  pub only : g ≡ record f { desks = g.desks; helpers = g.helpers; help = g.help; work = g.work }
 
 -- each desk served its own requests, and the helper made its turns
 pub record HasShared {D : Type 0} (tells : Bool) (mode : Reclaim) (f g : Floor D) : Type 0 where

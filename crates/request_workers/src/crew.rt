@@ -6,17 +6,18 @@ ghost use Rattle.std.specs.Prelude.{◌≡◌, ◌≤◌, ◌<◌, ℕ, length, 
 use crate::job::Job;
 use errands::{Errands, Sender};
 use std::thread::yield_now;
-use window_desks::{Desk, Reclaim, Sharing, Workers};
+use window_desks::{Desk, Reclaim, Sharing, WorkRoom, Workers};
 use wol_disk::Disk;
 
 // How often the caller looks whether a worker came, where all windows are to be served by workers.
 const LOOKS: u32 = 1_000_000;
 
-/// What the caller has of one worker: the end that hands over, and room for the desks of a job.
+/// What the caller has of one worker: the end that hands over, room for the desks of a job, and what they are served in.
 #[derive(Drop)]
 pub struct Seat<'l, D: Disk> {
     pub(crate) sender: Sender<Job<'l, D>>,
     pub(crate) room: Vec<Desk<D>>,
+    pub(crate) work: WorkRoom,
 }
 
 /// Who serves the windows of a run.

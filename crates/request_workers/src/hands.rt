@@ -156,7 +156,8 @@ fn serve_kept<'l, D: Disk, G: Gate, R: Wait>(
     requires { CanShare shared.now floor.old }
     ensures { HasShared D.tells shares.reclaim floor.old floor.new }
 {
-    serve_run(rt, floor.locks, shared, 0, floor.desks.as_mut_slice(), gate);
+    let run = floor.desks.as_mut_slice();
+    serve_run(rt, floor.locks, shared, 0, run, &mut floor.work, gate);
     help_in(rt, floor, shared, shares.rounds, shares.reclaim);
 }
 
@@ -189,6 +190,7 @@ fn serve_shared<'e, 'l, D: Disk, G: Gate, R: Wait>(
     let Seat {
         mut sender,
         mut room,
+        work,
     } = seat;
     cut_run(&mut floor.desks, &mut room, shares.run);
     let job = Job {
@@ -196,6 +198,7 @@ fn serve_shared<'e, 'l, D: Disk, G: Gate, R: Wait>(
         shared,
         start: floor.desks.len(),
         desks: room,
+        work,
     };
     errands.give(&mut sender, job);
     serve_shared(rt, floor, shared, crew, shares);
@@ -204,11 +207,12 @@ fn serve_shared<'e, 'l, D: Disk, G: Gate, R: Wait>(
         shared: _,
         start: _,
         desks: mut room,
+        work,
     } = errands.get_back(rt, &mut sender);
     let Ok(()) = floor.desks.append(&mut room) else {
         unreachable!()
     };
-    crew.seats.push_reserved(Seat { sender, room });
+    crew.seats.push_reserved(Seat { sender, room, work });
 }
 
 /// Serves all desks, in mode `Beside` with a helper.

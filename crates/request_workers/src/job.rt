@@ -4,7 +4,7 @@ use logger::Shared;
 use manager::Manager;
 use std::sync::Wait;
 use turn_lock::TurnLock;
-use window_desks::{Desk, serve_run};
+use window_desks::{Desk, WorkRoom, serve_run};
 use wol_disk::Disk;
 use wol_io::Gate;
 
@@ -15,13 +15,14 @@ pub trait Task<G>: Errand {
         ensures { Self.served self.old self.new };
 }
 
-/// Desks of which the requests are to be served: those of the volumes from `start` on.
+/// Desks of which the requests are to be served, those of the volumes from `start` on, and what they are served in.
 #[derive(Drop)]
 pub struct Job<'l, D: Disk> {
     pub(crate) locks: &'l [TurnLock<Manager<D>>],
     pub(crate) shared: &'l Shared<D>,
     pub(crate) start: usize,
     pub(crate) desks: Vec<Desk<D>>,
+    pub(crate) work: WorkRoom,
 }
 
 impl<'l, D: Disk> Errand for Job<'l, D> {
@@ -37,6 +38,7 @@ impl<'l, D: Disk, G: Gate> Task<G> for Job<'l, D> {
         let locks = self.locks;
         let shared = self.shared;
         let start = self.start;
-        serve_run(rt, locks, shared, start, self.desks.as_mut_slice(), gate);
+        let run = self.desks.as_mut_slice();
+        serve_run(rt, locks, shared, start, run, &mut self.work, gate);
     }
 }

@@ -5,6 +5,7 @@ use crate::crew::Seat;
 use crate::job::Job;
 use errands::{Errands, Worker};
 use std::alloc::Global;
+use window_desks::WorkRoom;
 use wol_disk::{Disk, NoMemory};
 
 /// The places where workers are handed their jobs, with the two ends of each.
@@ -25,11 +26,12 @@ impl<'l, D: Disk> Pool<'l, D> {
             return Err(NoMemory);
         };
         let room = Vec::with_capacity(alloc, size)?;
+        let work = WorkRoom::new(alloc)?;
         self.errands.reserve(1)?;
         self.seats.reserve(1)?;
         self.workers.reserve(1)?;
         self.errands.push_reserved(errands);
-        self.seats.push_reserved(Seat { sender, room });
+        self.seats.push_reserved(Seat { sender, room, work });
         self.workers.push_reserved(worker);
         Ok(())
     }

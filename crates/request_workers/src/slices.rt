@@ -45,6 +45,7 @@ pub(crate) fn run_window<'e, 'l, D: Disk, G: Gate, R: Wait>(
     let rounds = rounds_for(hands, requests.len());
     let shares = shares_for(crew.workers, floor.desks.len(), rounds, reclaim);
     serve_all(rt, floor, shared, crew, hands, shares);
-    close_all(rt, floor.locks, shared, floor.desks.as_mut_slice(), reclaim);
+    let desks = floor.desks.as_mut_slice();
+    close_all(rt, floor.locks, shared, desks, &mut floor.work, reclaim);
     collect(floor.desks.as_mut_slice(), requests, out);
 }

@@ -9,4 +9,3 @@ pub mod Moving
 pub mod Stationed
 pub mod Counted
 mod Rounds
-mod Payloads

@@ -53,14 +53,6 @@ AreServed {D} tells ds es = (k : ℕ) (d : Desk D) → k < length ds
     → HasServed tells (slice_index_or ds k d).requests.items (slice_index_or ds k d)
     (slice_index_or es k d)
 
--- only the payloads of the desks may differ
-abbrev pub IsButPayload : {D : Type 0} → Desk D → Desk D → Type 0
-IsButPayload {D} d e = e ≡ record d { payload = e.payload }
-
-abbrev pub AreButPayloads : {D : Type 0} → List (Desk D) → List (Desk D) → Type 0
-AreButPayloads {D} ds es = (k : ℕ) (d : Desk D) → k < length ds
-    → IsButPayload (slice_index_or ds k d) (slice_index_or es k d)
-
 -- the workers' passes are of these locks, in order
 abbrev pub AreAt : {D : Type 0} → List (ManagerLock D) → List (Desk D) → Type 0
 AreAt {D} ls ds = (k : ℕ) (l : ManagerLock D) (d : Desk D) → k < length ds

@@ -48,6 +48,7 @@ passes_of {D} f = record {
   helpers = f.helpers;
   keepers = f.keepers;
   help = f.help;
+  work = f.work;
   room = f.room;
 }
 

@@ -6,6 +6,7 @@ ghost use Rattle.window_desks.specs.declared.desk.Desk.{Desk};
 
 use crate::desk::Desk;
 use crate::request::Reclaim;
+use crate::work_room::WorkRoom;
 use logger::Shared;
 use manager::Manager;
 use request_turns::reclaim_turn;
@@ -19,6 +20,7 @@ fn close_one<D: Disk, R: Wait>(
     lock: &TurnLock<Manager<D>>,
     shared: &Shared<D>,
     desk: &mut Desk<D>,
+    work: &mut WorkRoom,
 )
     requires { IsDeskAt lock.now shared.now desk.old }
     ensures { HasClosedDesk D.tells Reclaim.Between desk.old desk.new }
@@ -28,7 +30,7 @@ fn close_one<D: Disk, R: Wait>(
         lock,
         &mut desk.worker,
         shared,
-        &mut desk.fetch,
+        &mut work.fetch,
         &mut desk.tally,
     );
 }
@@ -39,6 +41,7 @@ fn close_each<D: Disk, R: Wait>(
     locks: &[TurnLock<Manager<D>>],
     shared: &Shared<D>,
     desks: &mut [Desk<D>],
+    work: &mut WorkRoom,
 )
     requires count { length desks.old ≡ length locks.now }
     requires passes { AreAt locks.now desks.old }
@@ -46,7 +49,7 @@ fn close_each<D: Disk, R: Wait>(
     ensures { AreClosed D.tells Reclaim.Between desks.old desks.new }
 {
     for k in 0..desks.len() {
-        close_one(rt, &locks[k], shared, &mut desks[k]);
+        close_one(rt, &locks[k], shared, &mut desks[k], work);
     }
 }
 
@@ -57,6 +60,7 @@ pub fn close_all<D: Disk, R: Wait>(
     locks: &[TurnLock<Manager<D>>],
     shared: &Shared<D>,
     desks: &mut [Desk<D>],
+    work: &mut WorkRoom,
     reclaim: Reclaim,
 )
     requires count { length desks.old ≡ length locks.now }
@@ -68,7 +72,7 @@ pub fn close_all<D: Disk, R: Wait>(
 {
     match reclaim {
         Reclaim::Off => {}
-        Reclaim::Between => close_each(rt, locks, shared, desks),
-        Reclaim::Beside => close_each(rt, locks, shared, desks),
+        Reclaim::Between => close_each(rt, locks, shared, desks, work),
+        Reclaim::Beside => close_each(rt, locks, shared, desks, work),
     }
 }

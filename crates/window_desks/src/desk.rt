@@ -1,12 +1,11 @@
 // What the worker of a volume has.
 use manager::{Manager, StepFault};
-use reclaimer::Fetch;
-use request_turns::{Outcome, Payload, Tally};
+use request_turns::{Outcome, Tally};
 use trace_windows::Request;
 use turn_lock::Pass;
 use wol_disk::Disk;
 
-/// A volume's worker: its pass, and room of its own for what it reads and writes.
+/// A volume's worker: its pass, and what it is asked in a window.
 #[derive(Drop)]
 pub struct Desk<D: Disk> {
     /// The number of the volume.
@@ -19,6 +18,4 @@ pub struct Desk<D: Disk> {
     // the requests of its volume in this window, in order
     pub(crate) requests: Vec<Request>,
     pub(crate) outcomes: Vec<Outcome>,
-    pub(crate) payload: Payload,
-    pub(crate) fetch: Fetch,
 }

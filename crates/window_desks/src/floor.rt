@@ -4,6 +4,7 @@ ghost use Rattle.window_desks.specs.Floors.{passes_of};
 
 use crate::desk::Desk;
 use crate::helper::HelperRoom;
+use crate::work_room::WorkRoom;
 use manager::{Manager, Station};
 use turn_lock::{Pass, TurnLock};
 use wol_disk::Disk;
@@ -15,6 +16,7 @@ pub struct Passes<D: Disk> {
     pub(crate) helpers: Vec<Pass<Manager<D>>>,
     pub(crate) keepers: Vec<Pass<Manager<D>>>,
     pub(crate) help: HelperRoom,
+    pub(crate) work: WorkRoom,
     pub(crate) room: Vec<Station<D>>,
 }
 
@@ -25,6 +27,8 @@ pub struct Floor<'l, D: Disk> {
     pub helpers: Vec<Pass<Manager<D>>>,
     pub keepers: Vec<Pass<Manager<D>>>,
     pub help: HelperRoom,
+    /// What the caller serves desks in.
+    pub work: WorkRoom,
     pub(crate) room: Vec<Station<D>>,
 }
 
@@ -39,6 +43,7 @@ impl<'l, D: Disk> Floor<'l, D> {
             helpers,
             keepers,
             help,
+            work,
             room,
         } = passes;
         Floor {
@@ -47,6 +52,7 @@ impl<'l, D: Disk> Floor<'l, D> {
             helpers,
             keepers,
             help,
+            work,
             room,
         }
     }
@@ -61,6 +67,7 @@ impl<'l, D: Disk> Floor<'l, D> {
             helpers,
             keepers,
             help,
+            work,
             room,
         } = self;
         Passes {
@@ -68,6 +75,7 @@ impl<'l, D: Disk> Floor<'l, D> {
             helpers,
             keepers,
             help,
+            work,
             room,
         }
     }

@@ -1,7 +1,7 @@
 //! What a window of requests does with the desks of volumes, in one thread: a worker serves a run of desks, the helper
 //! reclaims beside the workers, and the caller begins the window, hands out its requests, reclaims and gathers.
 //!
-//! A desk (`desk.rt`) is what the worker of a volume has, a floor (`floor.rt`) all desks with the locks of their volumes and
+//! A desk (`desk.rt`) is what the worker of a volume has, a work room (`work_room.rt`) what a thread serves desks in, a floor (`floor.rt`) all desks with the locks of their volumes and
 //! the passes of the helper and the keeper. `setting.rt` says how stations become locks and passes and back. In a window
 //! `begin.rt` tells spindles the moment and managers which disks are awake, `hand_out.rt` hands each desk the requests of its
 //! volume, `run.rt` serves a run of desks, `serve.rt` the requests of one desk in order, in batches that `batch.rt` cuts,
@@ -24,6 +24,7 @@ mod request;
 mod run;
 mod serve;
 mod setting;
+mod work_room;
 
 pub use begin::begin_window;
 pub use closing::close_all;
@@ -37,3 +38,4 @@ pub use request_turns::Outcome;
 pub use run::serve_run;
 pub use setting::{set_up, take_down};
 pub use trace_windows::Request;
+pub use work_room::WorkRoom;

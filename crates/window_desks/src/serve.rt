@@ -11,6 +11,7 @@ ghost use Rattle.window_desks.specs.Served.{HasServed, HasServedUpTo};
 
 use crate::batch::first_batch;
 use crate::desk::Desk;
+use crate::work_room::WorkRoom;
 use logger::Shared;
 use manager::Manager;
 use request_turns::{Outcome, read_turn, write_many_turn};
@@ -27,6 +28,7 @@ fn answer_first<D: Disk, R: Wait>(
     lock: &TurnLock<Manager<D>>,
     shared: &Shared<D>,
     desk: &mut Desk<D>,
+    work: &mut WorkRoom,
     at: usize,
     end: usize,
 ) -> (usize, Outcome)
@@ -48,7 +50,7 @@ fn answer_first<D: Disk, R: Wait>(
     let first = &requests[0];
     match first.kind {
         Kind::Read => {
-            let outcome = read_turn(rt, lock, &mut desk.worker, shared, first, &mut desk.payload);
+            let outcome = read_turn(rt, lock, &mut desk.worker, shared, first, &mut work.payload);
             (1, outcome)
         }
         Kind::Write => write_many_turn(
@@ -57,8 +59,8 @@ fn answer_first<D: Disk, R: Wait>(
             &mut desk.worker,
             shared,
             requests,
-            &mut desk.payload,
-            &mut desk.fetch,
+            &mut work.payload,
+            &mut work.fetch,
             &mut desk.tally,
         ),
     }
@@ -88,6 +90,7 @@ fn serve_turn<D: Disk, R: Wait>(
     lock: &TurnLock<Manager<D>>,
     shared: &Shared<D>,
     desk: &mut Desk<D>,
+    work: &mut WorkRoom,
     at: usize,
     end: usize,
 ) -> usize
@@ -98,7 +101,7 @@ fn serve_turn<D: Disk, R: Wait>(
     ensures later { at < result }
     ensures served { HasServedUpTo D.tells at result desk.old desk.new }
 {
-    let (count, outcome) = answer_first(rt, lock, shared, desk, at, end);
+    let (count, outcome) = answer_first(rt, lock, shared, desk, work, at, end);
     let next = at + count;
     tell(&mut desk.outcomes, outcome, count);
     if is_answered(&outcome) {
@@ -116,6 +119,7 @@ fn serve_batch<D: Disk, G: Gate, R: Wait>(
     lock: &TurnLock<Manager<D>>,
     shared: &Shared<D>,
     desk: &mut Desk<D>,
+    work: &mut WorkRoom,
     gate: &G,
     at: usize,
 ) -> usize
@@ -130,7 +134,7 @@ fn serve_batch<D: Disk, G: Gate, R: Wait>(
     }
     let mut next = at;
     'turns: while next < end {
-        next = serve_turn(rt, lock, shared, desk, next, end);
+        next = serve_turn(rt, lock, shared, desk, work, next, end);
     }
     next
 }
@@ -141,6 +145,7 @@ pub(crate) fn serve_desk<D: Disk, G: Gate, R: Wait>(
     lock: &TurnLock<Manager<D>>,
     shared: &Shared<D>,
     desk: &mut Desk<D>,
+    work: &mut WorkRoom,
     gate: &G,
 )
     requires ready { IsReadyDesk lock.now shared.now desk.old }
@@ -148,6 +153,6 @@ pub(crate) fn serve_desk<D: Disk, G: Gate, R: Wait>(
 {
     let mut next = 0;
     'batches: while next < desk.requests.len() {
-        next = serve_batch(rt, lock, shared, desk, gate, next);
+        next = serve_batch(rt, lock, shared, desk, work, gate, next);
     }
 }

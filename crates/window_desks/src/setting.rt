@@ -6,41 +6,15 @@ ghost use Rattle.window_desks.specs.Stations.{AreMoved, AreSetUp, AreStations};
 use crate::desk::Desk;
 use crate::floor::Passes;
 use crate::helper::HelperRoom;
+use crate::work_room::WorkRoom;
 use manager::{Manager, Station};
 use reclaimer::Fetch;
-use request_turns::{Payload, Tally};
+use request_turns::Tally;
 use std::alloc::Global;
 use turn_lock::TurnLock;
 use wol_disk::{Disk, NoMemory};
 
-// What a desk takes memory for.
-#[derive(Drop)]
-struct Tools {
-    payload: Payload,
-    fetch: Fetch,
-}
-
-// So many of them.
-fn make_tools(alloc: Global, count: usize) -> Result<Vec<Tools>, NoMemory>
-    ensures { IfOk result (λ tools. vec_len tools ≡ count) }
-{
-    let mut tools = Vec::with_capacity(alloc, count)?;
-    for _made in 0..count {
-        tools.push_reserved(Tools {
-            payload: Payload::new(alloc)?,
-            fetch: Fetch::new(alloc)?,
-        });
-    }
-    Ok(tools)
-}
-
-fn move_all<D: Disk>(
-    alloc: Global,
-    locks: &mut Vec<TurnLock<Manager<D>>>,
-    passes: &mut Passes<D>,
-    mut tools: Vec<Tools>,
-)
-    requires tools { vec_len tools ≡ vec_len passes.old.room }
+fn move_all<D: Disk>(alloc: Global, locks: &mut Vec<TurnLock<Manager<D>>>, passes: &mut Passes<D>)
     requires lock_room { vec_len passes.old.room ≤ vec_capacity locks.old }
     requires desk_room { vec_len passes.old.room ≤ vec_capacity passes.old.desks }
     requires helper_room { vec_len passes.old.room ≤ vec_capacity passes.old.helpers }
@@ -60,15 +34,12 @@ fn move_all<D: Disk>(
             helper,
             keeper,
         } = station;
-        let Tools { payload, fetch } = tools.pop().unwrap();
         locks.push_reserved(lock);
         passes.desks.push_reserved(Desk {
             id,
             worker,
             requests: Vec::new(alloc),
             outcomes: Vec::new(alloc),
-            payload,
-            fetch,
             tally: Tally::new(),
             fault: None,
         });
@@ -89,7 +60,7 @@ pub fn set_up<D: Disk>(
     ensures refused { IfErr result (λ r. r.0 ≡ stations) }
 {
     let count = stations.len();
-    let Ok(tools) = make_tools(alloc, count) else {
+    let Ok(work) = WorkRoom::new(alloc) else {
         return Err((stations, NoMemory));
     };
     let Ok(fetch) = Fetch::new(alloc) else {
@@ -117,9 +88,10 @@ pub fn set_up<D: Disk>(
             tally: Tally::new(),
             fault: None,
         },
+        work,
         room: stations,
     };
-    move_all(alloc, &mut locks, &mut passes, tools);
+    move_all(alloc, &mut locks, &mut passes);
     Ok((locks, passes))
 }
 
@@ -137,6 +109,7 @@ pub fn take_down<D: Disk>(
         mut helpers,
         mut keepers,
         help: _,
+        work: _,
         mut room,
     } = passes;
     while let Some(lock) = locks.pop() {
@@ -145,8 +118,6 @@ pub fn take_down<D: Disk>(
             worker,
             requests: _,
             outcomes: _,
-            payload: _,
-            fetch: _,
             tally: _,
             fault: _,
         } = desks.pop().unwrap();

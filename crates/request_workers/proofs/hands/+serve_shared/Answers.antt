@@ -29,7 +29,7 @@ give-requires-clause-idle g t c =
     (last_at c.args.crew.now c.pop.new.self c.in-Some.seat c.index-all-len.result c.len.result c.in-Some.ensures.items c.requires.crew c.len.ensures c.index-all-len.is).idle
 
 pub give-requires-clause-ready : goal.give-requires-clause-ready
-give-requires-clause-ready g t c = job_ready c.args.shared c.args.floor.now c.cut_run.new.desks c.cut_run.new.room c.len-3.result c.cut_run.ensures.cut c.len-3.ensures c.requires.can
+give-requires-clause-ready g t c = job_ready c.args.shared c.args.floor.now c.cut_run.new.desks c.cut_run.new.room c.len-3.result c.in-Some.seat.work c.cut_run.ensures.cut c.len-3.ensures c.requires.can
 
 pub serve_shared-requires-2 : goal.serve_shared-requires-2
 serve_shared-requires-2 g t c κs within =

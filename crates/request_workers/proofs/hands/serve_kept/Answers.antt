@@ -1,4 +1,4 @@
 use Rattle.request_workers.proofs.hands.serve_kept.Goals as goal
 
 pub serve_run-requires-clause-ready : goal.serve_run-requires-clause-ready
-serve_run-requires-clause-ready g c = rw c.as_mut_slice.ensures.value c.requires.ready
+serve_run-requires-clause-ready g c = rw c.as_mut_slice-run.ensures.value c.requires.ready

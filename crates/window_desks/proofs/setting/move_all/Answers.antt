@@ -1,11 +1,11 @@
-use Rattle.std.proofs.Common.{None, rules, refl, arith}
+use Rattle.std.proofs.Common.{None, rules, refl}
 use Rattle.window_desks.proofs.Moving.{moving_more}
 use Rattle.window_desks.proofs.setting.move_all.Goals as goal
 
 pub loop-station-preserved : goal.loop-station-preserved
 loop-station-preserved g c = record {
   moving = moving_more _ c.in-Some.station
-      (record { id = c.in-Some.station.id; worker = c.in-Some.station.worker; requests = c.new.result; outcomes = c.new-in-Some.result; payload = c.unwrap-payload.result.payload; fetch = c.unwrap-payload.result.fetch; tally = c.new-in-Some-2.result; fault = None })
+      (record { id = c.in-Some.station.id; worker = c.in-Some.station.worker; requests = c.new.result; outcomes = c.new-in-Some.result; tally = c.new-in-Some-2.result; fault = None })
       c.loop-station.locks c.loop-station.passes _ _ c.loop-station.invariant.moving (record {
         room = search rules;
         locks = c.push_reserved.ensures.items;
@@ -21,5 +21,4 @@ loop-station-preserved g c = record {
         keeper_room = c.push_reserved-in-Some-3.ensures.capacity;
         station_room = c.pop.ensures.capacity;
       });
-  tools = (let tool = rw c.unwrap-payload.ensures at c.pop-in-Some.ensures.cases in let station = c.in-Some.ensures.cases in let same = c.loop-station.invariant.tools in omega arith);
 }
