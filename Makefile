@@ -100,13 +100,14 @@ bench: build
 	bench/serve.sh
 	bench/opening.sh
 
-# The program, its man page, its completions, the tools of contrib and the documents, which keep their folders, so that their links hold.
+# The program, its man pages, its completions, the tools of contrib and the documents, which keep their folders, so that their links hold.
 # It builds nothing, so it can run as another user.
 install:
 	@test -x build/wol || { echo "make install: no build/wol: run 'make build' first" >&2; exit 1; }
 	install -D -m 755 build/wol "$(ROOT)/bin/wol"
 	install -m 755 -t "$(ROOT)/bin" contrib/wol-trace contrib/wol-report
 	install -D -m 644 docs/wol.1 "$(ROOT)/share/man/man1/wol.1"
+	install -D -m 644 docs/wol.toml.5 "$(ROOT)/share/man/man5/wol.toml.5"
 	install -D -m 644 completions/wol.bash "$(ROOT)/share/bash-completion/completions/wol"
 	install -D -m 644 completions/_wol "$(ROOT)/share/zsh/site-functions/_wol"
 	install -D -m 644 -t "$(DOCUMENTS)" README.md CHANGELOG.md CONTRIBUTING.md
@@ -120,7 +121,7 @@ install:
 	install -D -m 644 -t "$(DOCUMENTS)/contrib/systemd" contrib/systemd/*
 
 uninstall:
-	rm -f "$(ROOT)/bin/wol" "$(ROOT)/bin/wol-trace" "$(ROOT)/bin/wol-report" "$(ROOT)/share/man/man1/wol.1"
+	rm -f "$(ROOT)/bin/wol" "$(ROOT)/bin/wol-trace" "$(ROOT)/bin/wol-report" "$(ROOT)/share/man/man1/wol.1" "$(ROOT)/share/man/man5/wol.toml.5"
 	rm -f "$(ROOT)/share/bash-completion/completions/wol" "$(ROOT)/share/zsh/site-functions/_wol"
 	rm -rf "$(DOCUMENTS)"
 
