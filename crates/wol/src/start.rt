@@ -40,6 +40,7 @@ fn uses_trace(command: &Command<'_>) -> bool
         | Command::Serve(..) => true,
         Command::Gen(_)
         | Command::Format
+        | Command::FormatMissing(_)
         | Command::Check
         | Command::Dump
         | Command::Soak(..)
@@ -125,6 +126,7 @@ pub fn asked_of(alloc: Global, words: &[String]) -> Asked {
             ..PLAIN
         },
         Command::Format
+        | Command::FormatMissing(_)
         | Command::Check
         | Command::Dump
         | Command::Gen(_)
