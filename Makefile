@@ -82,6 +82,7 @@ hostile: build
 	python3 tests/hostile/forgets.py build/wol --losses 2000 --races 1000
 	python3 tests/hostile/full_disk.py build/wol --rounds 40
 	tests/hostile/devices.sh build/wol
+	python3 tests/hostile/remote.py build/wol
 	python3 tests/hostile/memory.py build/wol --tries 100
 	python3 tests/hostile/accounts.py build/wol --configs 60 --lines 100000
 	python3 tests/whatif.py build/wol --tries 200 --replays 40
