@@ -82,6 +82,7 @@ hostile: build
 	python3 tests/hostile/forgets.py build/wol --losses 2000 --races 1000
 	python3 tests/hostile/full_disk.py build/wol --rounds 40
 	tests/hostile/devices.sh build/wol
+	python3 tests/hostile/remote.py build/wol
 	python3 tests/hostile/memory.py build/wol --tries 100
 	python3 tests/hostile/accounts.py build/wol --configs 60 --lines 100000
 	python3 tests/whatif.py build/wol --tries 200 --replays 40
@@ -100,13 +101,14 @@ bench: build
 	bench/serve.sh
 	bench/opening.sh
 
-# The program, its man page, its completions, the tools of contrib and the documents, which keep their folders, so that their links hold.
+# The program, its man pages, its completions, the tools of contrib and the documents, which keep their folders, so that their links hold.
 # It builds nothing, so it can run as another user.
 install:
 	@test -x build/wol || { echo "make install: no build/wol: run 'make build' first" >&2; exit 1; }
 	install -D -m 755 build/wol "$(ROOT)/bin/wol"
 	install -m 755 -t "$(ROOT)/bin" contrib/wol-trace contrib/wol-report
 	install -D -m 644 docs/wol.1 "$(ROOT)/share/man/man1/wol.1"
+	install -D -m 644 docs/wol.toml.5 "$(ROOT)/share/man/man5/wol.toml.5"
 	install -D -m 644 completions/wol.bash "$(ROOT)/share/bash-completion/completions/wol"
 	install -D -m 644 completions/_wol "$(ROOT)/share/zsh/site-functions/_wol"
 	install -D -m 644 -t "$(DOCUMENTS)" README.md CHANGELOG.md CONTRIBUTING.md
@@ -120,7 +122,7 @@ install:
 	install -D -m 644 -t "$(DOCUMENTS)/contrib/systemd" contrib/systemd/*
 
 uninstall:
-	rm -f "$(ROOT)/bin/wol" "$(ROOT)/bin/wol-trace" "$(ROOT)/bin/wol-report" "$(ROOT)/share/man/man1/wol.1"
+	rm -f "$(ROOT)/bin/wol" "$(ROOT)/bin/wol-trace" "$(ROOT)/bin/wol-report" "$(ROOT)/share/man/man1/wol.1" "$(ROOT)/share/man/man5/wol.toml.5"
 	rm -f "$(ROOT)/share/bash-completion/completions/wol" "$(ROOT)/share/zsh/site-functions/_wol"
 	rm -rf "$(DOCUMENTS)"
 

@@ -22,7 +22,7 @@ _wol() {
         replay | soak) words="--workers --reclaim --each" ;;
         whatif) words="--long --volumes --timeout" ;;
         serve) words="--wait $(_wol_volumes)" ;;
-        nbd | view-add | view-remove) words=$(_wol_volumes) ;;
+        nbd | format | view-add | view-remove) words=$(_wol_volumes) ;;
         esac
         ;;
     esac

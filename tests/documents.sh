@@ -81,12 +81,17 @@ check_files() {
 }
 
 check_commands() {
-    local command file status
+    local command file key status
     for command in $(commands); do
         section README.md '## Commands' | grep -q "^| .wol $command\b" || echo "README.md has no row for wol $command"
         grep -q "^## wol $command\$" docs/USAGE.md || echo "docs/USAGE.md has no part for wol $command"
         for file in docs/wol.1 completions/wol.bash completions/_wol; do
             grep -q "\b$command\b" "$file" || echo "$file doesn't have $command"
+        done
+    done
+    for key in $(sed -n 's/^key_text .* = codes "\([a-z_]*\)"$/\1/p' crates/wol_config/specs/Keys.antt); do
+        for file in docs/wol.toml.5 docs/FORMATS.md; do
+            grep -q "\b$key\b" "$file" || echo "$file doesn't have the key $key"
         done
     done
     for status in $(statuses); do
@@ -108,7 +113,9 @@ check_versions() {
     local document kit version
     version=$(sed -n 's/^## \([0-9.]*\).*/\1/p' CHANGELOG.md | head -n 1)
     grep -q "Version $version\." README.md || echo "README.md isn't of version $version"
-    grep -q "\"wol $version\"" docs/wol.1 || echo "docs/wol.1 isn't of version $version"
+    for document in docs/wol.1 docs/wol.toml.5; do
+        grep -q "\"wol $version\"" "$document" || echo "$document isn't of version $version"
+    done
     command -v rt >/dev/null || return 0
     kit=$(rt version | cut -d ' ' -f 1)
     for document in README.md CONTRIBUTING.md docs/PROOF.md; do
@@ -143,7 +150,7 @@ check_clauses() {
 
 # the session of NBD clients in docs/USAGE.md, as it stands there, where they are installed: each line that is shown is among those printed
 check_session() {
-    local tool line shown row at=$folder/session front
+    local tool line shown row at=$folder/session front port
     for tool in socat nbdinfo nbdcopy qemu-io qemu-img mkfs.ext2 debugfs; do
         command -v "$tool" >/dev/null || { echo "tests/documents.sh: no $tool, so the session of NBD clients wasn't tried" >&2; return 0; }
     done
@@ -172,6 +179,19 @@ check_session() {
     shown=$(awk -v line="    \$ printf" 'index($0, line) == 1 { getline; print substr($0, 5); exit }' docs/USAGE.md)
     ln -s "$top/build/wol" "$at/wol"
     [ "$shown" = "$(cd "$at" && PATH=$at:$PATH && eval "$line" 2>/dev/null)" ] || echo "docs/USAGE.md shows another reply of: $line"
+    # over TCP, at another port
+    line=$(tr '\n' ' ' <docs/USAGE.md | grep -o 'socat *-T 600 TCP-LISTEN:[^`]*')
+    port=$((20000 + RANDOM % 10000))
+    (cd "$at" && PATH=$at:$PATH && eval "exec ${line/:10809/:$port}" 2>/dev/null) &
+    front=$!
+    shown=
+    for _ in {1..100}; do
+        shown=$(nbdinfo --size "nbd://127.0.0.1:$port" 2>/dev/null) && break
+        sleep 0.1
+    done
+    [ "$shown" = 1048576 ] || echo "docs/USAGE.md, as it was run, fails: $line"
+    kill "$front"
+    wait "$front" || true
 }
 
 # what `make install` puts down: the documents keep their folders, so that no link is dead, and `make uninstall` takes all of it away

@@ -63,8 +63,8 @@ usage_and_version() {
         wol $words
         expect "[$words]: status" 1 "$status"
         expect "[$words]: output" "fault 1 words" "$(cat "$room/out")"
-        expect "[$words]: lines of the usage" 16 "$(errors | wc -l)"
-        for command in format replay check dump whatif clean serve nbd gen soak solo view-add view-remove; do
+        expect "[$words]: lines of the usage" 17 "$(errors | wc -l)"
+        for command in "format  " "format NAME" replay check dump whatif clean serve nbd gen soak solo view-add view-remove; do
             expect "[$words]: the usage has $command" 1 "$(errors | grep -c "^  wol $command")"
         done
     done
@@ -80,7 +80,7 @@ expect_meant() { # LINE COMMAND..: the usage, and this line behind it
     wol "$@"
     expect "[$*]: status" 1 "$status"
     expect "[$*]: output" "fault 1 words" "$(cat "$room/out")"
-    expect "[$*]: lines of the usage" 16 "$(errors | grep -vc "^wol: ")"
+    expect "[$*]: lines of the usage" 17 "$(errors | grep -vc "^wol: ")"
     expect "[$*]: what was meant" "$line" "$(errors | tail -n 1)"
 }
 

@@ -91,8 +91,9 @@ examples() {
     wol format >/dev/null
     wol replay <trace.csv >/dev/null
     printf '\n[[volume]]\nname = "new0"\nhost = "new"\ndisk = 0\nhome_blocks = 64\nsegments = 2\nview = ["web0"]\n' >>wol.toml
-    eval "$(lines_of "$top/docs/USAGE.md" "mkdir second")" >printed
-    expect "USAGE: a volume is added" "usr0 ok web0 ok src0 ok new0 ok " "$(awk '/ ok / { printf "%s %s ", $1, $2 }' printed)"
+    eval "$(lines_of "$top/docs/USAGE.md" "wol format new0")" >printed
+    expect "USAGE: a volume is added" "format new0 blocks 194" "$(head -n 1 printed)"
+    expect "USAGE: all are in order" "usr0 ok web0 ok src0 ok new0 ok " "$(awk '/ ok / { printf "%s %s ", $1, $2 }' printed)"
     expect "USAGE: the others keep their records" 6 "$(wol dump | grep -c ^record)"
 }
 

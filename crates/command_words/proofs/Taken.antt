@@ -10,12 +10,12 @@ use Rattle.clap.specs.Walk.{Held, Walk, arg_by_id, arg_by_index, has_row, next_p
 use Rattle.clap.specs.Words.{App, Row, Rule, Text, fault_of, new_app, subcommand_of}
 use Rattle.solo.specs.Volume.{target_of}
 use Rattle.solo.specs.declared.volume.Volume.{Volume}
-use Rattle.command_words.specs.Application.{bare_app, the_app, with_name, with_names, with_options, with_served, with_trace, with_volume, with_what_if}
+use Rattle.command_words.specs.Application.{bare_app, the_app, with_maybe_name, with_name, with_names, with_options, with_served, with_trace, with_volume, with_what_if}
 use Rattle.command_words.specs.Commands.{Asks, HasValues, IsCommand, name_of}
 use Rattle.wol_model.specs.Trace.{Target}
 use Rattle.command_words.specs.Table.{Form, IsAlone, IsGen, IsSolo, bare, formed}
 use Rattle.command_words.specs.declared.command.Command.{Command}
-use Rattle.command_words.specs.declared.command.Command.TheVariants.{Solo, Replay, Gen, Soak, WhatIf, ViewAdd, ViewRemove, Nbd, Serve}
+use Rattle.command_words.specs.declared.command.Command.TheVariants.{Solo, Format, FormatMissing, Replay, Gen, Soak, WhatIf, ViewAdd, ViewRemove, Nbd, Serve}
 use Rattle.command_words.specs.declared.command.Generated.{Generated}
 use Rattle.command_words.proofs.Rows.{given_row}
 use Rattle.command_words.proofs.Steps.{Holds, Leads, MayPlace, by_form, filled, filled_holds, form_leads, leads_nowhere, leads_on, standing, standing_in, valued}
@@ -48,6 +48,8 @@ takes name s words rows after enters named leads holds ends = record {
 -- the subcommand of a command, as it is told
 abbrev pub told_of : Command → App
 told_of (Solo volume) = with_volume (new_app (codes "solo"))
+told_of Format = with_maybe_name (new_app (codes "format"))
+told_of (FormatMissing missing) = with_maybe_name (new_app (codes "format"))
 told_of (Replay options) = with_options (new_app (codes "replay"))
 told_of (Gen asked) = with_trace (new_app (codes "gen"))
 told_of (Soak asked options) = with_options (with_trace (new_app (codes "soak")))
@@ -75,6 +77,14 @@ asks_for words name rest rows command is taken asks = record {
   asks = asks;
 }
 
+-- `format` of all volumes
+pub format_is_command : (words : List Text) → IsAlone (codes "format") words → IsCommand words Format
+unfolding clap_on_literals
+format_is_command words is =
+    let s : Shape = built_sub (with_maybe_name (new_app (codes "format"))) in
+    asks_for words (codes "format") [] [] Format is (takes (codes "format") s [] [] (standing 1 nothing_held) (enters Format) refl (leads_nowhere s (standing 1 nothing_held)) (nothing_holds s) refl)
+    (record { named = refl; values = λ name given. cc given })
+
 -- a command without arguments
 pub alone : (words : List Text) (c : Command) → Enters (built the_app) (name_of c) (built_sub (new_app (name_of c))) → IsAlone (name_of c) words → HasValues [] c → IsCommand words c
 unfolding clap_on_literals
@@ -86,6 +96,10 @@ alone words c enters is values =
 
 abbrev pub placed_arg : Text → ℕ → Rule
 placed_arg name position = valued name None (Some position) true
+
+-- one that may be left out
+abbrev pub maybe_arg : Text → ℕ → Rule
+maybe_arg name position = valued name None (Some position) false
 
 -- arguments by their places lead the walk to this place, and are held as these rows
 pub record Placed (s : Shape) (form : Form) (position : ℕ) (words : List Text) (rows : List Row) : Type 0 where
@@ -104,6 +118,16 @@ one_placed s form name v position words rows before none by_id by_index may = re
   leads = leads_on s (standing 1 nothing_held) (standing_in form position before.held) (standing_in form (next_position (placed_arg name position) position) (filled s name v before.held)) words (v ∷ []) before.leads
       (by_form s name None (Some position) true rows before.held v before.holds none form position by_index may);
   holds = filled_holds s name None (Some position) true rows before.held v before.holds none by_id;
+}
+
+pub maybe_placed : (s : Shape) (form : Form) (name v : Text) (position : ℕ) (words : List Text) (rows : List Row) → Placed s form position words rows → has_row name rows ≡ false
+    → arg_by_id s.rules name ≡ Some (maybe_arg name position) → arg_by_index s.rules position ≡ Some (maybe_arg name position) → MayPlace form v
+    → Placed s form (next_position (maybe_arg name position) position) (words ++ v ∷ []) (rows ++ given_row name v ∷ [])
+maybe_placed s form name v position words rows before none by_id by_index may = record {
+  held = filled s name v before.held;
+  leads = leads_on s (standing 1 nothing_held) (standing_in form position before.held) (standing_in form (next_position (maybe_arg name position) position) (filled s name v before.held)) words (v ∷ []) before.leads
+      (by_form s name None (Some position) false rows before.held v before.holds none form position by_index may);
+  holds = filled_holds s name None (Some position) false rows before.held v before.holds none by_id;
 }
 
 pub takes_placed : (name : Text) (s : Shape) (form : Form) (words : List Text) (rows : List Row) (position : ℕ) → Enters (built the_app) name s → s.name ≡ name → Placed s form position words rows

@@ -3,15 +3,17 @@ use Rattle.std.proofs.Common.{◌≡◌, ◌∙◌, refl, ap, List, [], ◌∷�
 use Rattle.clap.proofs.OnLiterals.{clap_on_literals}
 use Rattle.clap.specs.Simple.{Shape, built}
 use Rattle.clap.specs.Words.{Row, Text, new_app}
-use Rattle.command_words.specs.Application.{the_app, with_name, with_names}
+use Rattle.command_words.specs.Application.{the_app, with_maybe_name, with_name, with_names}
 use Rattle.command_words.specs.Commands.{HasValues, IsCommand, name_of}
 use Rattle.command_words.specs.Table.{Form, IsOfName, IsOfNames, MayStand, Named, bare, behind_dashes, formed}
-use Rattle.command_words.specs.Values.{HasNames, HasServed}
+use Rattle.command_words.specs.Values.{HasNames, HasServed, missing_by}
 use Rattle.command_words.specs.declared.command.Command.{Command}
+use Rattle.command_words.specs.declared.command.Command.TheVariants.{FormatMissing}
+use Rattle.command_words.specs.declared.command.MissingName.{MissingName}
 use Rattle.command_words.proofs.Rows.{given_row}
 use Rattle.command_words.proofs.Steps.{MayPlace}
 use Rattle.command_words.proofs.Subcommands.{Enters}
-use Rattle.command_words.proofs.Taken.{Takes, asks_for, built_sub, none_placed, one_placed, takes_placed}
+use Rattle.command_words.proofs.Taken.{Takes, asks_for, built_sub, enters, maybe_placed, none_placed, one_placed, takes_placed}
 use Rattle.command_words.proofs.Words.{plain_name}
 
 abbrev pub name_rows : Text → List Row
@@ -29,6 +31,24 @@ may_place behind_dashes name may = tt
 pub formed_of : (form : Form) (names : List Text) → formed form names ≡ formed form [] ++ names
 formed_of bare names = refl
 formed_of behind_dashes names = refl
+
+-- ---- A name that may be left out
+
+abbrev of_maybe : Shape
+of_maybe = built_sub (with_maybe_name (new_app (codes "format")))
+
+takes_maybe : (missing : MissingName) (form : Form) (name : Text) → MayPlace form name → Takes (codes "format") (formed form [] ++ name ∷ []) (name_rows name)
+unfolding clap_on_literals
+takes_maybe missing form name may =
+    takes_placed (codes "format") of_maybe form (formed form [] ++ name ∷ []) (name_rows name) 2 (enters (FormatMissing missing)) refl
+    (maybe_placed of_maybe form (codes "NAME") name 1 (formed form []) [] (none_placed of_maybe form) refl refl refl may) refl
+
+pub missing_is_command : (words : List Text) (missing : MissingName) → IsOfName (codes "format") words (missing_by missing) → IsCommand words (FormatMissing missing)
+missing_is_command words missing is =
+    let name : Text = missing_by missing in
+    asks_for words (codes "format") (formed is.form [] ++ name ∷ []) (name_rows name) (FormatMissing missing) (is.spelled ∙ ap (λ (ws : List Text). codes "format" ∷ ws) (formed_of is.form (name ∷ [])))
+    (takes_maybe missing is.form name (may_place is.form name is.named))
+    (record { named = refl; values = refl })
 
 module _ (words : List Text) (c : Command) where
   -- ---- One name

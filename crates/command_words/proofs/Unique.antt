@@ -1,5 +1,5 @@
 -- Words ask for one command at most.
-use Rattle.std.proofs.Common.{◌≡◌, ◌∙◌, ◌<◌, ◌^◌, ℕ, Bool, true, false, refl, sym, ap, ap₂, subst, arith, List, [], ◌≤◌, Option, None, Some, codes, option_map, is_some, true≢false}
+use Rattle.std.proofs.Common.{◌≡◌, ◌∙◌, ◌<◌, ◌^◌, ◌⊎◌, inl, inr, ℕ, Bool, true, false, refl, sym, ap, ap₂, subst, arith, List, [], ◌≤◌, Option, None, Some, codes, option_map, is_some, true≢false}
 use Rattle.std.specs.Prelude.{cond, decimal, unwrap_or, IfSome, IsTrue, ◌↔◌, ⊤}
 use Rattle.std.specs.Str.{bytes_eq}
 use Rattle.std.proofs.lemmas.Fmt.{decimal_injective}
@@ -8,12 +8,13 @@ use Rattle.solo.specs.Volume.{target_of}
 use Rattle.solo.specs.declared.volume.Volume.{Volume}
 use Rattle.wol_model.specs.Trace.{Target}
 use Rattle.command_words.specs.Commands.{HasValues, name_of}
-use Rattle.command_words.specs.Laws.{AreSame, CommandsAreOne, nbd, same, serve, solo, view_add, view_remove}
+use Rattle.command_words.specs.Laws.{AreSame, CommandsAreOne, format_missing, nbd, same, serve, solo, view_add, view_remove}
 use Rattle.command_words.specs.Table.{Named, mode_text}
-use Rattle.command_words.specs.Values.{HasNames, HasOptions, HasText, HasTrace, HasVolume, HasWait, HasWhatIf, named_by, served_by}
+use Rattle.command_words.specs.Values.{HasNames, HasOptions, HasText, HasTrace, HasVolume, HasWait, HasWhatIf, missing_by, named_by, served_by}
 use Rattle.command_words.specs.declared.command.Command.{Command}
-use Rattle.command_words.specs.declared.command.Command.TheVariants.{Solo, Format, Replay, Check, Dump, Gen, Soak, WhatIf, ViewAdd, ViewRemove, Clean, Nbd, Serve}
+use Rattle.command_words.specs.declared.command.Command.TheVariants.{Solo, Format, FormatMissing, Replay, Check, Dump, Gen, Soak, WhatIf, ViewAdd, ViewRemove, Clean, Nbd, Serve}
 use Rattle.command_words.specs.declared.command.Generated.{Generated}
+use Rattle.command_words.specs.declared.command.MissingName.{MissingName}
 use Rattle.command_words.specs.declared.command.Mode.{Mode}
 use Rattle.command_words.specs.declared.command.Mode.TheVariants.{Off, Between, Beside}
 use Rattle.command_words.specs.declared.command.Options.{Options}
@@ -121,7 +122,7 @@ kind_of name =
 -- a command of this kind
 abbrev pub IsOf : Kind → Command → Type 0
 IsOf of_solo d = (volume : Volume) × (d ≡ Solo volume)
-IsOf of_format d = d ≡ Format
+IsOf of_format d = (d ≡ Format) ⊎ ((missing : MissingName) × (d ≡ FormatMissing missing))
 IsOf of_replay d = (options : Options) × (d ≡ Replay options)
 IsOf of_check d = d ≡ Check
 IsOf of_dump d = d ≡ Dump
@@ -137,7 +138,8 @@ IsOf of_none d = ⊤
 
 own_kind : (d : Command) → IsOf (kind_of (name_of d)) d
 own_kind (Solo volume) = (volume, refl)
-own_kind Format = refl
+own_kind Format = inl refl
+own_kind (FormatMissing missing) = inr (missing, refl)
 own_kind (Replay options) = (options, refl)
 own_kind Check = refl
 own_kind Dump = refl
@@ -163,7 +165,10 @@ module _ (rows : List Row) (d : Command) (k : HasValues rows d) where
 
   same_at : (c : Command) → HasValues rows c → IsOf (kind_of (name_of c)) d → AreSame c d
   same_at (Solo v) h (w, is) = alike _ _ is (solo (same_volume rows (target_of v) (target_of w) h (values_of _ is)))
-  same_at Format h is = alike _ _ is same
+  same_at Format h (inl is) = alike _ _ is same
+  same_at Format h (inr (w, is)) = absurd (h (missing_by w) (values_of _ is))
+  same_at (FormatMissing v) h (inl is) = absurd (values_of _ is (missing_by v) h)
+  same_at (FormatMissing v) h (inr (w, is)) = alike _ _ is (format_missing (one_text rows (codes "NAME") (missing_by v) (missing_by w) h (values_of _ is)))
   same_at (Replay o) h (p, is) = alike _ _ is (subst (AreSame _) (ap Replay (same_options rows o p h (values_of _ is))) same)
   same_at Check h is = alike _ _ is same
   same_at Dump h is = alike _ _ is same

@@ -44,6 +44,10 @@ with_names a = with_pair (codes "NAME") (codes "LOGGER") a
 abbrev pub with_name : App → App
 with_name a = with_rule a (positional_rule (codes "NAME"))
 
+-- the command with an argument that may name a volume of the configuration
+abbrev pub with_maybe_name : App → App
+with_maybe_name a = with_rule a (new_rule (codes "NAME"))
+
 -- the command with the argument that names a volume of the configuration, and the option of how long
 -- it waits
 abbrev pub with_served : App → App
@@ -81,7 +85,7 @@ the_app =
     (with_subcommand (with_subcommand (with_subcommand (with_subcommand (with_subcommand
     (with_subcommand (with_subcommand (with_subcommand bare_app
     (with_volume (new_app (codes "solo"))).top)
-    (new_app (codes "format")).top)
+    (with_maybe_name (new_app (codes "format"))).top)
     (with_options (new_app (codes "replay"))).top)
     (new_app (codes "check")).top)
     (new_app (codes "dump")).top)

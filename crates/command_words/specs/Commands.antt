@@ -4,14 +4,15 @@ use Rattle.std.specs.Prelude.{◌≡◌, ⊤, List, [], Some, codes}
 use Rattle.clap.specs.Words.{Row, Text, fault_of, subcommand_of}
 use Rattle.solo.specs.Volume.{target_of}
 use Rattle.command_words.specs.Application.{the_app}
-use Rattle.command_words.specs.Values.{HasNames, HasOptions, HasServed, HasTrace, HasVolume, HasWait, HasWhatIf, named_by, served_by}
+use Rattle.command_words.specs.Values.{HasNames, HasOptions, HasServed, HasTrace, HasVolume, HasWait, HasWhatIf, NoServed, missing_by, named_by, served_by}
 use Rattle.command_words.specs.declared.command.Command.{Command}
-use Rattle.command_words.specs.declared.command.Command.TheVariants.{Solo, Format, Replay, Check, Dump, Gen, Soak, WhatIf, ViewAdd, ViewRemove, Clean, Nbd, Serve}
+use Rattle.command_words.specs.declared.command.Command.TheVariants.{Solo, Format, FormatMissing, Replay, Check, Dump, Gen, Soak, WhatIf, ViewAdd, ViewRemove, Clean, Nbd, Serve}
 
 -- the name of a command
 abbrev pub name_of : Command → Text
 name_of (Solo volume) = codes "solo"
 name_of Format = codes "format"
+name_of (FormatMissing missing) = codes "format"
 name_of (Replay options) = codes "replay"
 name_of Check = codes "check"
 name_of Dump = codes "dump"
@@ -27,7 +28,8 @@ name_of (Serve name patience) = codes "serve"
 -- the values are those of the command
 abbrev pub HasValues : List Row → Command → Type 0
 HasValues rows (Solo volume) = HasVolume rows (target_of volume)
-HasValues rows Format = ⊤
+HasValues rows Format = NoServed rows
+HasValues rows (FormatMissing missing) = HasServed rows (missing_by missing)
 HasValues rows (Replay options) = HasOptions rows options
 HasValues rows Check = ⊤
 HasValues rows Dump = ⊤

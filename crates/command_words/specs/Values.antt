@@ -4,6 +4,7 @@ use Rattle.clap.specs.Words.{Row, Text, first_of}
 use Rattle.wol_model.specs.Trace.{Target}
 use Rattle.command_words.specs.Table.{IsHost, Named, mode_text}
 use Rattle.command_words.specs.declared.command.Generated.{Generated}
+use Rattle.command_words.specs.declared.command.MissingName.{MissingName}
 use Rattle.command_words.specs.declared.command.Mode.{Mode}
 use Rattle.command_words.specs.declared.command.Options.{Options}
 use Rattle.command_words.specs.declared.command.Patience.{Patience}
@@ -56,6 +57,10 @@ NoNames rows = (named : Named) → ¬ HasNames rows named
 -- the name, without where it lies in memory
 abbrev pub served_by : ServedName → Text
 served_by served = served.volume.now
+
+-- .. also of a volume whose image is to be made
+abbrev pub missing_by : MissingName → Text
+missing_by missing = missing.volume.now
 
 -- the value NAME is this name
 abbrev pub HasServed : List Row → Text → Type 0

@@ -1,6 +1,6 @@
 // The program's commands and their arguments, as `clap` is told of them.
 ghost use Rattle.clap.specs.Words.{app_of, rule_of};
-ghost use Rattle.command_words.specs.Application.{Gains, flag_rule, option_rule, positional_rule, the_app, with_name, with_options, with_pair, with_served, with_volume, with_what_if};
+ghost use Rattle.command_words.specs.Application.{Gains, flag_rule, option_rule, positional_rule, the_app, with_maybe_name, with_name, with_options, with_pair, with_served, with_volume, with_what_if};
 ghost use Rattle.std.specs.Prelude.{◌≡◌, false, IfOk};
 
 use clap::{Arg, ArgAction, Command};
@@ -17,7 +17,7 @@ pub(crate) fn application<'a>(alloc: Global) -> Result<Command<'a>, AllocError>
         .disable_version_flag(true)
         .subcommand_required(true)
         .subcommand(of_volume(alloc, Command::new(alloc, "solo"))?)?
-        .subcommand(Command::new(alloc, "format"))?
+        .subcommand(of_maybe_name(alloc, Command::new(alloc, "format"))?)?
         .subcommand(of_options(alloc, Command::new(alloc, "replay"))?)?
         .subcommand(Command::new(alloc, "check"))?
         .subcommand(Command::new(alloc, "dump"))?
@@ -60,6 +60,13 @@ fn of_name<'a>(alloc: Global, command: Command<'a>) -> Result<Command<'a>, Alloc
     ensures { IfOk result (Gains with_name command.entry) }
 {
     command.arg(positional(alloc, "NAME"))
+}
+
+// The command with an argument that may name a volume of the configuration.
+fn of_maybe_name<'a>(alloc: Global, command: Command<'a>) -> Result<Command<'a>, AllocError>
+    ensures { IfOk result (Gains with_maybe_name command.entry) }
+{
+    command.arg(Arg::new(alloc, "NAME"))
 }
 
 // The command with the argument that names a volume of the configuration, and the option of how long it waits.

@@ -1,11 +1,11 @@
 // The command that words ask for.
 ghost use Rattle.clap.specs.Words.{found_of, kind_of, rows_of};
 ghost use Rattle.command_words.specs.Commands.{Asks, AsksNothing, IsCommand, NoCommand};
-ghost use Rattle.std.specs.Prelude.{◌≡◌, IfOk, IfSome, IfNone, IsErrOf, map, string_bytes};
+ghost use Rattle.std.specs.Prelude.{◌≡◌, IfOk, IfSome, IfNone, IsErrOf, codes, map, string_bytes};
 
 use crate::application::application;
 use crate::values::{
-    names_of, options_of, patience_of, served_of, trace_of, volume_of, what_if_of,
+    missing_of, names_of, options_of, patience_of, served_of, trace_of, volume_of, what_if_of,
 };
 use clap::error::ErrorKind;
 use clap::{ArgMatches, Error};
@@ -45,7 +45,7 @@ pub struct Options {
 /// What is printed of each policy for a trace, and by which timeout.
 #[derive(Clone, Copy)]
 pub struct WhatIfOptions {
-    /// Whether requests that wait and blocks in logs are printed.
+    /// Whether requests that wait are printed.
     pub long: bool,
     /// Whether a line is printed for each volume.
     pub volumes: bool,
@@ -58,6 +58,12 @@ pub struct WhatIfOptions {
 pub struct ViewNames<'a> {
     pub volume: &'a str,
     pub logger: &'a str,
+}
+
+/// A volume whose image is to be made, since it has none.
+#[derive(Clone, Copy)]
+pub struct MissingName<'a> {
+    pub volume: &'a str,
 }
 
 /// A volume that is to be served.
@@ -80,6 +86,8 @@ pub enum Command<'a> {
     Solo(Volume<'a>),
     /// The images of the configuration are formatted.
     Format,
+    /// The image of one volume, which has none, is formatted.
+    FormatMissing(MissingName<'a>),
     /// A trace is run on the volumes of the configuration.
     Replay(Options),
     /// The volumes of the configuration are checked.
@@ -145,6 +153,16 @@ fn fault_of(error: &Error) -> WordsFault
     }
 }
 
+// `format`, of the volume that the values name, or of all.
+fn format_of<'a>(matches: &ArgMatches<'a>) -> Command<'a>
+    ensures { Asks (codes "format") (rows_of (found_of matches.now)) result }
+{
+    match missing_of(matches) {
+        Some(name) => Command::FormatMissing(name),
+        None => Command::Format,
+    }
+}
+
 // The command of this name with these values. `None` exactly where there is none.
 fn read<'a>(name: &str, matches: &ArgMatches<'a>) -> Option<Command<'a>>
     ensures some { IfSome result (Asks name.now (rows_of (found_of matches.now))) }
@@ -152,7 +170,7 @@ fn read<'a>(name: &str, matches: &ArgMatches<'a>) -> Option<Command<'a>>
 {
     match name {
         "solo" => Some(Command::Solo(volume_of(matches)?)),
-        "format" => Some(Command::Format),
+        "format" => Some(format_of(matches)),
         "replay" => Some(Command::Replay(options_of(matches)?)),
         "check" => Some(Command::Check),
         "dump" => Some(Command::Dump),

@@ -11,7 +11,7 @@ mod laws;
 mod values;
 
 pub use command::{
-    Command, Generated, Mode, Options, Patience, ServedName, ViewNames, WhatIfOptions, WordsFault,
-    command_of,
+    Command, Generated, MissingName, Mode, Options, Patience, ServedName, ViewNames, WhatIfOptions,
+    WordsFault, command_of,
 };
 pub use laws::words_laws;

@@ -1,11 +1,13 @@
 // The values of a command's arguments.
 ghost use Rattle.clap.specs.Words.{first_of, found_of, rows_of};
 ghost use Rattle.command_words.specs.Table.{IsHost, IsHostByte};
-ghost use Rattle.command_words.specs.Values.{HasMode, HasNames, HasOptions, HasServed, HasText, HasTimeout, HasTrace, HasVolume, HasWait, HasWhatIf, HasWorkers, NoNames, NoOptions, NoServed, NoTimeout, NoTrace, NoVolume, NoWait, NoWhatIf, named_by, served_by};
+ghost use Rattle.command_words.specs.Values.{HasMode, HasNames, HasOptions, HasServed, HasText, HasTimeout, HasTrace, HasVolume, HasWait, HasWhatIf, HasWorkers, NoNames, NoOptions, NoServed, NoTimeout, NoTrace, NoVolume, NoWait, NoWhatIf, missing_by, named_by, served_by};
 ghost use Rattle.solo.specs.Volume.{target_of};
 ghost use Rattle.std.specs.Prelude.{◌≡◌, ◌↔◌, ◌<◌, ◌≤◌, ◌^◌, ℕ, Some, IfSome, IfNone, IsTrue, codes, decimal, option_map, unwrap_or};
 
-use crate::command::{Generated, Mode, Options, Patience, ServedName, ViewNames, WhatIfOptions};
+use crate::command::{
+    Generated, MissingName, Mode, Options, Patience, ServedName, ViewNames, WhatIfOptions,
+};
 use clap::ArgMatches;
 use itoa::Buffer;
 use solo::Volume;
@@ -88,6 +90,16 @@ pub(crate) fn served_of<'a>(matches: &ArgMatches<'a>) -> Option<ServedName<'a>>
 {
     let volume = value_at(matches, "NAME")?;
     Some(ServedName { volume })
+}
+
+/// The name that the value is, of a volume whose image is to be made. `None` exactly where it is missing.
+pub(crate) fn missing_of<'a>(matches: &ArgMatches<'a>) -> Option<MissingName<'a>>
+    ensures some { IfSome result (λ missing. HasServed (rows_of (found_of matches.now))
+        (missing_by missing)) }
+    ensures none { IfNone result (NoServed (rows_of (found_of matches.now))) }
+{
+    let volume = value_at(matches, "NAME")?;
+    Some(MissingName { volume })
 }
 
 /// How long to wait: ten seconds, where the option isn't given. `None` exactly where the value is no number of seconds up to an hour.

@@ -26,7 +26,7 @@ one_owner volumes v w c one two =
     cc (one_segment_head one.block (Owned v) (Owned w) one.spelled (record { in_range = two.spelled.in_range; bytes = sym same ∙ two.spelled.bytes }))
 
 -- and no other's log
-owner_of_log : (volumes v w : ℕ) (c : List Block) (rs : List Record) → HasHead volumes c (Owned v) → IsLog c w rs → w ≡ v
+pub owner_of_log : (volumes v w : ℕ) (c : List Block) (rs : List Record) → HasHead volumes c (Owned v) → IsLog c w rs → w ≡ v
 owner_of_log volumes v w c rs head log =
     let first : head.block ≡ owned_block w = same_Some head.block (owned_block w) (sym head.first ∙ ap (λ (l : List Block). slice_get l 0) log.joined) in
     cc (one_segment_head head.block (Owned v) (Owned w) head.spelled (record { in_range = log.known; bytes = first }))

@@ -51,3 +51,4 @@ pub mod OpenedKept
 pub mod FirstClosed
 pub mod AllOut
 pub mod ViewsKept
+pub mod MissingImage

@@ -26,3 +26,5 @@ pub mod Troubles
 pub mod Again
 pub mod Sessions
 pub mod NotOpened
+pub mod Surveying
+pub mod Missing

@@ -11,7 +11,9 @@
 //! `with_open` (`opened.rt`) is the one way of a command to all volumes: it opens a rack, hands it to a work, and
 //! closes it. What closing leaves in the bay is promised whatever the work answered; what the work did, by what it
 //! says of itself (`Work`, in `work.rt`). `first_closed` (`not_opened.rt`) tells the first volume that isn't open, and
-//! `troubles.rt` has what is told of a volume that isn't in order, in the words of a report.
+//! `troubles.rt` has what is told of a volume that isn't in order, in the words of a report. `format_missing` (`missing.rt`) makes the
+//! image of one volume that has none, where a `survey` of all images (`survey.rt`) finds no segment of its log; `specs/Missing` says what
+//! it leaves, `specs/Surveying` what stands in its way.
 //!
 //! Of `specs/`: `BayRuns` says what a bay is left with whose volumes were all opened and closed, in words of images and
 //! entries alone, and `RackRuns` ties it to a rack. `Opens` says what opening promises, `Owners` and `PoolUses` what the images
@@ -34,8 +36,10 @@ mod closing;
 mod images;
 mod laws;
 mod lists;
+mod missing;
 mod not_opened;
 mod opened;
+mod survey;
 mod troubles;
 mod volumes;
 mod work;
@@ -43,6 +47,7 @@ mod work;
 pub use all::open_all;
 pub use closing::close_all;
 pub use laws::{bay_run_laws, reopening_laws, sound_images_laws};
+pub use missing::{MissingFault, format_missing};
 pub use not_opened::first_closed;
 pub use opened::{Closed, with_open};
 pub use rack_parts::{Rack, VolumeFault};

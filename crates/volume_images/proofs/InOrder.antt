@@ -80,7 +80,7 @@ module _ (config : Config) (valid : IsValid config) where
 
   -- ---- What is left of each image
 
-  whole_unfinished : (k : ℕ) (v : VolumeConf) → IsUnfinished k (shape_in config v) v.view (settled_image (formatted k (shape_in config v) v.view))
+  pub whole_unfinished : (k : ℕ) (v : VolumeConf) → IsUnfinished k (shape_in config v) v.view (settled_image (formatted k (shape_in config v) v.view))
   whole_unfinished k v = record { whole_blocks = refl; each = λ c i. inr (only_image (formatted k (shape_in config v) v.view) c i) }
 
   first_or_same : (n k : ℕ) (d : VolumeConf) (a b : Told) → n ≤ length vs → k < length vs → FormatsFirst config n a b → IsAsItWasOrUnfinished config k (get_or vs k d) a b

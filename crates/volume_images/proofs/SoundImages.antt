@@ -34,7 +34,7 @@ abbrev pub images_from : Config → (k : ℕ) → List VolumeConf → Images
 images_from config k [] = []
 images_from config k (v ∷ vs) = Some (whole_of config k v) ∷ images_from config (k + 1) vs
 
-one_left : (bs : List Block) (image : Option Image) (c : Option (List Block)) → image ≡ Some (settled_image bs) → MayLeave image c → c ≡ Some bs
+pub one_left : (bs : List Block) (image : Option Image) (c : Option (List Block)) → image ≡ Some (settled_image bs) → MayLeave image c → c ≡ Some bs
 one_left bs image None is left = let P : Option Image → Type 0 = λ o. MayLeave o None in absurd ((subst P is left) refl)
 one_left bs image (Some c) is left = let P : Option Image → Type 0 = λ o. MayLeave o (Some c) in ap Some (only_image bs c (subst P is left).1)
 
@@ -80,11 +80,11 @@ all_idle config k (v ∷ vs) le =
     idle_both (segments_of (shape_in config v) (Some (whole_of config k v))) (all_segments (map (shape_in config) vs) (images_from config (k + 1) vs))
     (segments_idle k (shape_in config v) v.view le) (all_idle config (k + 1) vs le)
 
-none_kept : (owner : ℕ) (segments : List (List Block)) → AllByRecursion IsIdle segments → extents_of owner segments ≡ []
+pub none_kept : (owner : ℕ) (segments : List (List Block)) → AllByRecursion IsIdle segments → extents_of owner segments ≡ []
 none_kept owner [] idle = refl
 none_kept owner (bs ∷ segments) idle = ap (λ (l : List Extent). l ++ extents_of owner segments) (idle_none owner bs idle.0) ∙ none_kept owner segments idle.1
 
-no_extents : (home : List Block) → with_extents home [] ≡ home
+pub no_extents : (home : List Block) → with_extents home [] ≡ home
 unfolding with_extents newest_block
 no_extents home = none_over 0 home
 
@@ -138,9 +138,9 @@ module _ (config : Config) (valid : IsValid config) where
   abbrev views : List (List ℕ)
   views = map (λ (w : VolumeConf). w.view) vs
 
-  whole_sound : (v : ℕ) (w : VolumeConf) → v < 2 ^ 32 → IsValidVolume (length vs) v w → IsSoundImage (shapes_of config) views v (shape_in config w) w.view (whole_of config v w)
+  pub whole_sound : (views : List (List ℕ)) (v : ℕ) (w : VolumeConf) → v < 2 ^ 32 → IsValidVolume (length vs) v w → IsSoundImage (shapes_of config) views v (shape_in config w) w.view (whole_of config v w)
   unfolding formatted
-  whole_sound v w known is = record {
+  whole_sound views v w known is = record {
     sized = whole_length v (shape_in config w) w.view few;
     label = (label_block v (shape_in config w), refl, record { id_in_range = known; in_range = shape_valid config valid v w is; bytes = refl });
     view = (view_block w.view, refl, record { in_range = is.view; bytes = refl }, names_others v w is);
@@ -157,7 +157,7 @@ module _ (config : Config) (valid : IsValid config) where
           w.volume.view,
           whole_at v w.volume w.at,
           slice_get-map (λ (x : VolumeConf). x.view) vs v ∙ ap (option_map (λ (x : VolumeConf). x.view)) w.at,
-          subst (λ (t : Shape). IsSoundImage (shapes_of config) views v t w.volume.view (whole_of config v w.volume)) w.shape (whole_sound v w.volume (omega (arith, lt, valid.count.1)) w.valid_volume),
+          subst (λ (t : Shape). IsSoundImage (shapes_of config) views v t w.volume.view (whole_of config v w.volume)) w.shape (whole_sound views v w.volume (omega (arith, lt, valid.count.1)) w.valid_volume),
         );
     distinct = λ v lt. let P : List Extent → Type 0 = λ l. AreDistinct (covers_of l) in subst P (sym (no_records v)) tt;
   }

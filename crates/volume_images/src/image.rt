@@ -119,8 +119,9 @@ fn format_parts<D: Disk>(
     Ok(())
 }
 
-/// Makes the image of a volume anew and formats it. It is back in the bay at each exit.
-fn format_image<B: Bay>(
+/// Makes the image of a volume anew and formats it: the view, a home of zeros, free segments, and last the label, whose id is that of the
+/// volume. It is back in the bay at each exit; where it isn't whole it has no label.
+pub fn format_image<B: Bay>(
     alloc: Global,
     bay: &mut B,
     volume: &VolumeConf,

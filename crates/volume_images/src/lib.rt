@@ -19,7 +19,7 @@ mod reading;
 
 pub use attach::{OutImage, OutParts};
 pub use fault::{PartName, RackFault};
-pub use image::{format, label_of};
+pub use image::{format, format_image, label_of};
 pub use laws::opening_laws;
 pub use opening::{ImageRefusal, open_image};
 pub use parts::ImageParts;

@@ -8,6 +8,7 @@ pub const VERSION: &str = "wol 0.2.0\n";
 pub const USAGE: &str = "\
 usage: wol COMMAND, in the folder that has wol.toml and the images (NAME.vol)
   wol format                          make all images anew; this erases every volume
+  wol format NAME                     make the missing image of NAME; this writes to no other
   wol replay [OPTION..] < TRACE       serve a block trace on the images
   wol check                           print each volume's state and the SHA-256 of its content
   wol dump                            print the records in logs
@@ -67,11 +68,11 @@ pub fn advice(status: u8, cause: Cause) -> Option<&'static str>
                 "wol: an image wasn't made. Look for a second wol, links, rights, space, ulimit -f; make a device blank (wipefs -a, blkdiscard).\n"
             }
             _ => {
-                "wol: a call on the folder or an image failed. Look for a second wol, links, rights, space, ulimit -f and -n; then start again.\n"
+                "wol: a call on the folder or an image failed. Look for a second wol, links, rights, space, ulimit -f, -n; then start again.\n"
             }
         },
         5 => {
-            "wol: an image is damaged or not the one in wol.toml. Put back the right images or the right wol.toml.\n"
+            "wol: an image is damaged or not the one in wol.toml. Put back the right one or wol.toml, or remove what a stop left unfinished.\n"
         }
         6 => {
             "wol: a volume logs on one that is missing or was refused. wol check tells which; mend that one first.\n"
@@ -96,11 +97,11 @@ pub fn advice(status: u8, cause: Cause) -> Option<&'static str>
         11 =>
             "wol: a volume has no version left for a record. wol format begins anew, and erases every volume.\n",
         12 =>
-            "wol: an image is missing. Put it back; for new volumes wol format makes all images, and erases every volume.\n",
+            "wol: an image is missing. Put it back; for a new volume wol format NAME makes its image, and touches no other.\n",
         14 =>
             "wol: the client sent no NBD requests or handshake, or went away within one. What was answered is there.\n",
         15 =>
-            "wol: no content and no view was changed. Look for the names in wol.toml, and the loggers in the volume's view.\n",
+            "wol: no content and no view was changed. Look for the names in wol.toml, the view, or the image that is there.\n",
         _ => return None,
     })
 }

@@ -40,6 +40,7 @@ fn uses_trace(command: &Command<'_>) -> bool
         | Command::Serve(..) => true,
         Command::Gen(_)
         | Command::Format
+        | Command::FormatMissing(_)
         | Command::Check
         | Command::Dump
         | Command::Soak(..)
@@ -134,7 +135,7 @@ pub fn asked_of(alloc: Global, words: &[String]) -> Asked {
             only_looks: true,
             ..PLAIN
         },
-        Command::Format => Asked {
+        Command::Format | Command::FormatMissing(_) => Asked {
             formats: true,
             ..PLAIN
         },

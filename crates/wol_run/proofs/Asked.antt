@@ -4,14 +4,15 @@ use Rattle.solo.specs.Volume.{IsVolume, target_of}
 use Rattle.solo.specs.declared.volume.Volume.{Volume}
 use Rattle.command_words.specs.Commands.{IsCommand}
 use Rattle.command_words.specs.declared.command.Command.{Command}
-use Rattle.command_words.specs.declared.command.Command.TheVariants.{Solo, Format, Replay, Check, Dump, Gen, Soak, WhatIf, ViewAdd, ViewRemove, Clean, Nbd, Serve}
+use Rattle.command_words.specs.declared.command.Command.TheVariants.{Solo, Format, FormatMissing, Replay, Check, Dump, Gen, Soak, WhatIf, ViewAdd, ViewRemove, Clean, Nbd, Serve}
 use Rattle.command_words.specs.declared.command.Generated.{Generated}
+use Rattle.command_words.specs.declared.command.MissingName.{MissingName}
 use Rattle.command_words.specs.declared.command.Options.{Options}
 use Rattle.command_words.specs.declared.command.Patience.{Patience}
 use Rattle.command_words.specs.declared.command.WhatIfOptions.{WhatIfOptions}
 use Rattle.command_words.specs.declared.command.ServedName.{ServedName}
 use Rattle.command_words.specs.declared.command.ViewNames.{ViewNames}
-use Rattle.command_words.specs.Values.{named_by, served_by}
+use Rattle.command_words.specs.Values.{missing_by, named_by, served_by}
 use Rattle.wol_run.specs.Commands.{IsCount, IsInRange, IsTimeout, runs_trace}
 use Rattle.command_words.specs.Laws.{AreSame}
 use Rattle.command_words.specs.Laws as law
@@ -22,6 +23,7 @@ pub record IsAlike (P : Command → Type 0) : Type 0 where
   pub solo : (own other : Volume) → target_of own ≡ target_of other → P (Solo own) → P (Solo other)
   pub add : (own other : ViewNames) → named_by own ≡ named_by other → P (ViewAdd own) → P (ViewAdd other)
   pub remove : (own other : ViewNames) → named_by own ≡ named_by other → P (ViewRemove own) → P (ViewRemove other)
+  pub missing : (own other : MissingName) → missing_by own ≡ missing_by other → P (FormatMissing own) → P (FormatMissing other)
   pub nbd : (own other : ServedName) → served_by own ≡ served_by other → P (Nbd own) → P (Nbd other)
   pub serve : (own other : ServedName) (patience : Patience) → served_by own ≡ served_by other → P (Serve own patience) → P (Serve other patience)
 
@@ -32,6 +34,7 @@ module _ (P : Command → Type 0) (alike : IsAlike P) where
   of_same read asked (law.solo alike_) p = alike.solo _ _ alike_ p
   of_same read asked (law.view_add alike_) p = alike.add _ _ alike_ p
   of_same read asked (law.view_remove alike_) p = alike.remove _ _ alike_ p
+  of_same read asked (law.format_missing alike_) p = alike.missing _ _ alike_ p
   of_same read asked (law.nbd alike_) p = alike.nbd _ _ alike_ p
   of_same read asked (law.serve alike_) p = alike.serve _ _ _ alike_ p
 
@@ -40,13 +43,14 @@ module _ (P : Command → Type 0) (alike : IsAlike P) where
 
 -- a command uses what one uses that names the same volumes
 pub uses_alike : IsAlike (λ c. runs_trace c ≡ false)
-uses_alike = record { solo = λ own other same no. no; add = λ own other same no. no; remove = λ own other same no. no; nbd = λ own other same no. no; serve = λ own other patience same no. no }
+uses_alike = record { solo = λ own other same no. no; add = λ own other same no. no; remove = λ own other same no. no; missing = λ own other same no. no; nbd = λ own other same no. no; serve = λ own other patience same no. no }
 
 -- ---- Numbers in range
 
 pub in_range : (words : List (List ℕ)) (command : Command) → IsCommand words command → IsInRange command
 in_range words (Solo volume) is = record { some = is.asks.values.some; small = is.asks.values.most }
 in_range words Format is = tt
+in_range words (FormatMissing missing) is = tt
 in_range words (Replay options) is = (is.asks.values.workers.some, is.asks.values.workers.most)
 in_range words Check is = tt
 in_range words Dump is = tt

@@ -1,13 +1,14 @@
 -- Why each command ended with its status.
 use Rattle.std.proofs.Common.{◌≡◌, ◌≢◌, ◌⊎◌, inl, inr, ℕ, zero, suc, ◌<◌, Bool, true, false, List, [], ◌∷◌, Option, None, Some, Result, Ok, Err, refl, sym, ap, subst, ◌∙◌, true≢false, arith}
 use Rattle.rack.specs.Closes.{is_kept_home, part_named}
-use Rattle.std.specs.Prelude.{IfSome, IsTrue, is_some, not, slice_get}
+use Rattle.std.specs.Prelude.{IfErr, IfSome, IsTrue, is_some, not, slice_get}
 use Rattle.std.specs.Io.KnownBytes.{IsAtEnd}
 use Rattle.std.proofs.lemmas.Option.{same_Some}
 use Rattle.wol_disk.specs.Disk.{Rose, State}
 use Rattle.wol_bay.specs.Bay.{Told}
 use Rattle.wol_model.specs.Trace.{TraceLine}
 use Rattle.wol_promise.proofs.Lists.{all_map}
+use Rattle.wol_config.specs.Documents.{names_of, number_named}
 use Rattle.wol_config.specs.declared.config.Config.{Config}
 use Rattle.wol_config.specs.declared.config.VolumeConf.{VolumeConf}
 use Rattle.report.specs.Faults.{fault_text, status_of}
@@ -30,7 +31,10 @@ use Rattle.comparison.specs.Compares.{EndsBehind}
 use Rattle.comparison.specs.Compares as behind
 use Rattle.replay.specs.Givens.{HasGivenAll, Refuses}
 use Rattle.replay.specs.NotOpened.{IsFirstClosed, LeavesAsOpened}
-use Rattle.rack.specs.Opens.{RefusesVolume, WereThere}
+use Rattle.rack.specs.Missing.{HasSegmentOf, RefusesMissing}
+use Rattle.rack.specs.declared.missing.MissingFault.{MissingFault}
+use Rattle.rack.specs.declared.missing.MissingFault.TheVariants.{Refused}
+use Rattle.rack.specs.Opens.{RefusesVolume, WasAccepted, WereThere}
 use Rattle.rack.specs.Owners.{WasOpened}
 use Rattle.rack.specs.Rests.{IsImageOut, image_here}
 use Rattle.rack_parts.specs.declared.rack.ImageRest.{ImageRest}
@@ -74,10 +78,13 @@ use Rattle.nbd_serving.specs.declared.stop.Stop.{Stop as NbdStop}
 use Rattle.command_words.specs.Commands.{IsCommand}
 use Rattle.command_words.specs.Table.{Named}
 use Rattle.command_words.specs.declared.command.Command.{Command}
-use Rattle.command_words.specs.declared.command.Command.TheVariants.{Clean, Format, Gen, WhatIf}
+use Rattle.command_words.specs.declared.command.Command.TheVariants.{Clean, Format, FormatMissing, Gen, WhatIf}
+use Rattle.command_words.specs.Values.{missing_by}
 use Rattle.command_words.specs.declared.command.Generated.{Generated}
+use Rattle.command_words.specs.declared.command.MissingName.{MissingName}
 use Rattle.command_words.specs.declared.command.WhatIfOptions.{WhatIfOptions}
-use Rattle.wol_run.specs.Causes.{AskFor, HasRefusal, IsCause, IsClosedFor, replayed_by}
+use Rattle.wol_run.specs.Adding.{IsNamed, IsUnknown, answer_status, missing_status}
+use Rattle.wol_run.specs.Causes.{AskFor, AsksMissing, HasRefusal, IsCause, IsClosedFor, MayNotMake, replayed_by}
 use Rattle.wol_run.specs.Causes as row
 use Rattle.wol_run.specs.Cleaning.{IsCleaning}
 use Rattle.wol_run.specs.Commands.{changes_view, runs_trace, uses_bay, uses_config}
@@ -87,11 +94,13 @@ use Rattle.wol_run.specs.Inspecting.{IsLook, LooksFor, status_of_first}
 use Rattle.wol_run.specs.Outside.{Outside}
 use Rattle.wol_run.specs.Comparing.{IsComparison, details_of, with_timeout}
 use Rattle.wol_run.specs.Replaying.{EndsReplay, GivenLines, HasLeft, IsReplay, trace_of}
-use Rattle.wol_run.specs.Run.{IsCleaningOf, IsComparisonOf, IsFormat, IsListingOf, IsLookFor, IsReplayOf, IsServingOf, IsViewChangeOf}
+use Rattle.wol_run.specs.Run.{IsCleaningOf, IsComparisonOf, IsFormat, IsListingOf, IsLookFor, IsMissingOf, IsReplayOf, IsServingOf, IsViewChangeOf}
 use Rattle.wol_run.specs.Serving.{HasBadBytes, served_as}
 use Rattle.wol_run.specs.Settings.{IsFaultLine, line_of_fault}
 use Rattle.wol_run.specs.Tops.{EndsWith, HasBadLine, HasMoreLines, TellsNoMemory}
 use Rattle.wol_run.specs.Viewing.{EndsChange, IsViewChange, RefusesChange, view_change_by}
+use Rattle.wol_run.proofs.Added.{MissingEnd, missing_end}
+use Rattle.wol_run.proofs.Added as end
 use Rattle.wol_run.proofs.Asked.{of_asked, uses_alike}
 use Rattle.wol_run.proofs.FormatEndings.{ends_format}
 use Rattle.wol_run.proofs.GenEndings.{ends_gen}
@@ -235,6 +244,71 @@ module _ {D : Type 0} (tells : Bool) (state : D → State) (read : Option Config
       | inr (inr (inr (inr (inl (eight, rose))))) ↦ at_status 8 status eight (row.source_failed (inl rose))
       | inr (inr (inr (inr (inr nine)))) ↦ at_status 9 status nine row.no_memory
     ]
+
+    -- ---- One missing image
+
+    module _ (missing : MissingName) (is : IsCommand words (FormatMissing missing)) where
+      to_config : AskFor words uses_config
+      to_config = record { command = FormatMissing missing; is = is; does = refl }
+
+      to_bay : AskFor words uses_bay
+      to_bay = record { command = FormatMissing missing; is = is; does = refl }
+
+      module _ (config : Config) (has : read ≡ Some config) where
+        asks_missing : {IsSo : Config → Option ℕ → Type 0} → IsSo config (number_named (names_of config.volumes.items) (missing_by missing)) → AsksMissing read words IsSo
+        asks_missing so = record { config = config; is_read = has; missing = missing; is = is; so = so }
+
+        unknown_cause : number_named (names_of config.volumes.items) (missing_by missing) ≡ None → Cause 15
+        unknown_cause none = row.not_made (asks_missing (subst (MayNotMake tells before after config) (sym none) tt))
+
+        module _ (run : IsNamed tells state (missing_by missing) config before.bay after.bay status before.sink.bytes after.sink.bytes) where
+          named_so : {IsSo : Config → Option ℕ → Type 0} → IsSo config (Some run.id) → AsksMissing read words IsSo
+          named_so {IsSo} so = asks_missing (subst (IsSo config) (sym run.named) so)
+
+          it_is : (v : VolumeConf) (o : Option Told) → IfSome o (λ t. WasAccepted config t run.id v) → IfSome o (λ t. ((run.id ≡ run.id) × WasAccepted config t run.id v) ⊎ ((run.id ≢ run.id) × (index : ℕ) × HasSegmentOf config t run.id run.id v index))
+          it_is v None has_ = tt
+          it_is v (Some t) has_ = inl (refl, has_)
+
+          it_has : (k : ℕ) (v : VolumeConf) (index : ℕ) → k ≢ run.id → (o : Option Told) → IfSome o (λ t. HasSegmentOf config t run.id k v index) → IfSome o (λ t. ((k ≡ run.id) × WasAccepted config t run.id v) ⊎ ((k ≢ run.id) × (i : ℕ) × HasSegmentOf config t run.id k v i))
+          it_has k v index other None has_ = tt
+          it_has k v index other (Some t) has_ = inr (other, index, has_)
+
+          -- an image that couldn't be read
+          unread_image : (k : ℕ) (g : VolumeFault) → RefusesMissing tells state config run.id before.bay after.bay (Refused k g) → (trouble_status (trouble_of g) ≡ 5) ⊎ (trouble_status (trouble_of g) ≡ 12) → Cause (trouble_status (trouble_of g))
+          unread_image k g why (inl five) = at_status 5 _ five (row.not_sound (named_so (k, why.1, g, why.2, why.0, why.3, five)))
+          unread_image k g why (inr twelve) = at_status 12 _ twelve (row.not_there (named_so (k, why.1, g, why.2, why.0, why.3, twelve)))
+
+          of_missing : (f : MissingFault) → RefusesMissing tells state config run.id before.bay after.bay f → (n : ℕ) → MissingEnd before.bay after.bay f n → Cause n
+          of_missing f why n (end.failed rose) = row.part_failed to_bay rose
+          of_missing f why n end.memory = row.no_memory
+          of_missing f why n (end.there same) =
+              let so = subst (RefusesMissing tells state config run.id before.bay after.bay) same why in
+              row.not_made (named_so (run.id, so.0, so.1, λ telling. it_is so.0 before.bay.told (so.2 telling)))
+          of_missing f why n (end.segment k index same) =
+              let so = subst (RefusesMissing tells state config run.id before.bay after.bay) same why in
+              row.not_made (named_so (k, so.1, so.2, λ telling. it_has k so.1 index so.0 before.bay.told (so.3 telling)))
+          of_missing f why n (end.image k g same other) = unread_image k g (subst (RefusesMissing tells state config run.id before.bay after.bay) same why) other
+
+          of_answer : (r : Result (Unit {0}) MissingFault) → IfErr r (RefusesMissing tells state config run.id before.bay after.bay) → status ≡ answer_status r → Cause status
+          of_answer (Ok done) why same = at_status 0 status same (done_without (FormatMissing missing) is refl)
+          of_answer (Err f) why same = at_status (missing_status f) status same (of_missing f why (missing_status f) (missing_end tells state config run.id before.bay after.bay f why))
+
+          named_cause : Cause status
+          named_cause = elim run.ends [
+            | inl ends ↦ ended_cause _ (answer_status run.result) before.sink.bytes ends (of_answer run.result run.refused)
+            | inr ends ↦ ended_cause _ 9 before.sink.bytes ends memory_cause
+          ]
+
+        told_unknown : IsUnknown (missing_by missing) config before.bay after.bay status before.sink.bytes after.sink.bytes → Cause status
+        told_unknown run = elim run.ends [
+          | inl ends ↦ ended_cause _ 15 before.sink.bytes ends (λ same. at_status 15 status same (unknown_cause run.unknown))
+          | inr ends ↦ ended_cause _ 9 before.sink.bytes ends memory_cause
+        ]
+
+      pub missing_cause : (o : Option Config) → read ≡ o → IsMissingOf tells state o before after status (missing_by missing) → Cause status
+      missing_cause (Some config) has (inl run) = told_unknown config has run
+      missing_cause (Some config) has (inr run) = named_cause config has run
+      missing_cause None has unread = ended_cause unread.text unread.wanted _ unread.ends (unread_cause to_config unread.text unread.wanted unread.untouched.line_)
 
     module _ (command : Command) (is : IsCommand words command) (config_ : uses_config command ≡ true) (bay_ : uses_bay command ≡ true) where
       for_config : AskFor words uses_config

@@ -13,15 +13,16 @@ use Rattle.report.specs.declared.fault.Fault.TheVariants as fault
 use Rattle.inspection.specs.declared.asked.Asked.TheVariants as asked
 use Rattle.command_words.specs.Commands.{IsCommand}
 use Rattle.command_words.specs.declared.command.Command.{Command}
-use Rattle.command_words.specs.declared.command.Command.TheVariants.{Check, Clean, Dump, Format, Gen, Nbd, Replay, Serve, Soak, Solo, ViewAdd, ViewRemove, WhatIf}
+use Rattle.command_words.specs.declared.command.Command.TheVariants.{Check, Clean, Dump, Format, FormatMissing, Gen, Nbd, Replay, Serve, Soak, Solo, ViewAdd, ViewRemove, WhatIf}
 use Rattle.command_words.specs.declared.command.Generated.{Generated}
+use Rattle.command_words.specs.declared.command.MissingName.{MissingName}
 use Rattle.command_words.specs.declared.command.Options.{Options}
 use Rattle.command_words.specs.declared.command.Patience.{Patience}
 use Rattle.command_words.specs.declared.command.ServedName.{ServedName}
 use Rattle.nbd_serving.specs.declared.serving.Beginning.TheVariants.{AtOnce, Handshake}
 use Rattle.command_words.specs.declared.command.ViewNames.{ViewNames}
 use Rattle.command_words.specs.declared.command.WhatIfOptions.{WhatIfOptions}
-use Rattle.command_words.specs.Values.{named_by, served_by}
+use Rattle.command_words.specs.Values.{missing_by, named_by, served_by}
 use Rattle.view_commands.specs.declared.order.Verb.TheVariants.{Add, Remove}
 use Rattle.wol_run.specs.Causes.{AskFor}
 use Rattle.wol_run.specs.Causes as row
@@ -29,14 +30,14 @@ use Rattle.wol_run.specs.Commands.{runs_trace, uses_bay, uses_config}
 use Rattle.wol_run.specs.Completing.{HasSoundImages, HaveVersions, HaveVersionsToClean, IsGoodTrace, IsUnhindered, seed_lines}
 use Rattle.wol_run.specs.Outside.{LeavesUnused, NothingFailed, Outside, Stream}
 use Rattle.wol_run.specs.Replaying.{lines_of, options_as, trace_of}
-use Rattle.wol_run.specs.Run.{Does, IsCleaningOf, IsComparisonOf, IsFormat, IsListingOf, IsLookFor, IsReplayOf, IsServingOf, IsViewChangeOf, Run}
+use Rattle.wol_run.specs.Run.{Does, IsCleaningOf, IsComparisonOf, IsFormat, IsListingOf, IsLookFor, IsMissingOf, IsReplayOf, IsServingOf, IsViewChangeOf, Run}
 use Rattle.wol_run.specs.Serving.{EndsAtClient}
 use Rattle.wol_run.specs.Settings.{IsConfigured, OfRead}
 use Rattle.wol_run.specs.Tops.{AreCalm, HasCause, IsDoneOrMemory, TellsFault, TellsNoMemory, TellsStatus}
 use Rattle.wol_run.proofs.Asked.{of_asked, uses_alike}
-use Rattle.wol_run.proofs.CausesTold.{clean_cause, comparison_cause, format_cause, gen_cause, look_cause, replay_cause, serving_cause, view_cause}
+use Rattle.wol_run.proofs.CausesTold.{clean_cause, comparison_cause, format_cause, gen_cause, look_cause, missing_cause, replay_cause, serving_cause, view_cause}
 use Rattle.wol_run.proofs.Compared.{uncompared}
-use Rattle.wol_run.proofs.Complete.{complete_format, complete_gen}
+use Rattle.wol_run.proofs.Complete.{complete_format, complete_gen, complete_missing}
 use Rattle.wol_run.proofs.Endings.{told_done, told_fault}
 use Rattle.wol_run.proofs.FormatEndings.{told_untouched}
 use Rattle.wol_run.proofs.GenEndings.{told_unread}
@@ -67,6 +68,14 @@ module _ {D : Type 0} (tells : Bool) (state : D → State) (words : List (List �
   format_promise is run trace = of_command tells state words before after status run.read run.has Format is run.is (format_cause tells state run.read words before after status seven is run.is) later
       (record { config = λ none. absurd (used refl (none Format is)); trace = λ none. trace; bay = λ none. absurd (used refl (none Format is)) })
       (λ order calm. inl (complete_format run.read _ _ _ _ _ status _ _ order (calm.config refl) (calm.bay refl) (λ is_7. calm.sink (seven is_7)) run.is))
+
+  pub missing_promise : (missing : MissingName) → IsCommand words (FormatMissing missing) → OfRead before.config.bytes (λ read. IsMissingOf tells state read before after status (missing_by missing)) → after.trace ≡ before.trace → Run tells state words before after status
+  missing_promise missing is run trace = of_command tells state words before after status run.read run.has (FormatMissing missing) is run.is (missing_cause tells state run.read words before after status seven missing is run.read refl run.is) later
+      (record { config = λ none. absurd (used refl (none (FormatMissing missing) is)); trace = λ none. trace; bay = λ none. absurd (used refl (none (FormatMissing missing) is)) })
+      (λ order calm. elim (complete_missing tells state (missing_by missing) _ _ _ _ _ status _ _ order (calm.config refl) (calm.bay refl) (λ is_7. calm.sink (seven is_7)) run.read run.is) [
+        | inl done ↦ inl done
+        | inr refused ↦ inr (inr (inr (refl, refused)))
+      ])
 
   -- the volumes were looked at, and where nothing stood in the way the look came to its end
   module _ (complete : Free → IsDoneOrMemory status) (trace : after.trace ≡ before.trace) where
@@ -141,9 +150,9 @@ module _ {D : Type 0} (tells : Bool) (state : D → State) (words : List (List �
 
   -- a volume was to be served
   module _ (complete : Free → ¬ Rose before.trace.faults after.trace.faults → EndsAtClient status) where
-    at_client : {A : Type 0} {b : Bool} → b ≡ true → EndsAtClient status → IsDoneOrMemory status ⊎ A ⊎ ((b ≡ true) × ((status ≡ 14) ⊎ (status ≡ 15)))
+    at_client : {A B : Type 0} {b : Bool} → b ≡ true → EndsAtClient status → IsDoneOrMemory status ⊎ A ⊎ ((b ≡ true) × ((status ≡ 14) ⊎ (status ≡ 15))) ⊎ B
     at_client serves (inl done) = inl done
-    at_client serves (inr other) = inr (inr (serves, other))
+    at_client serves (inr other) = inr (inr (inl (serves, other)))
 
     pub nbd_promise : (name : ServedName) → IsCommand words (Nbd name) → OfRead before.config.bytes (λ read. IsServingOf tells state read before after status (AtOnce, served_by name)) → Run tells state words before after status
     nbd_promise name is run = of_command tells state words before after status run.read run.has (Nbd name) is run.is
@@ -187,6 +196,7 @@ module _ {D : Type 0} (tells : Bool) (state : D → State) (words : List (List �
   does_none (Solo volume) = told_fault (target_of volume) before.trace.bytes before.trace.bytes before.bay.told before.bay.told before.bay.faults before.bay.faults before.trace.faults before.trace.faults status _ _ _ (Unit {0}) solo_fault.NoMemory (refl, refl) ends
       (not_made (Unit {0}) bay_fault.NoMemory (target_of volume) before.trace.bytes before.bay.told before.bay.told before.sink.bytes refl)
   does_none Format = told_untouched _ _ _ _ _ status _ _ fault.Memory tt refl (inr ends)
+  does_none (FormatMissing missing) = not_begun _ _ _ _ _ status _ _ fault.Memory tt refl (inr ends)
   does_none (Replay options) = unreplayed _ _ _ _ _ _ _ _ _ fault.Memory tt refl (inr ends)
   does_none Check = look_untouched _ _ asked.Check _ _ _ _ _ status _ _ fault.Memory tt refl (inr ends)
   does_none Dump = look_untouched _ _ asked.Dump _ _ _ _ _ status _ _ fault.Memory tt refl (inr ends)

@@ -19,7 +19,7 @@ use Rattle.wol_run.proofs.Unread.{ends_unread, line_of_memory, line_unread, memo
 
 -- ---- Endings
 
-status_four : (volume : ℕ) (p : PartName) → status_of (fault.Volume volume (trouble_of volume p)) ≡ 4
+pub status_four : (volume : ℕ) (p : PartName) → status_of (fault.Volume volume (trouble_of volume p)) ≡ 4
 status_four volume part.Bay = refl
 status_four volume part.Label = refl
 status_four volume part.Home = refl

@@ -25,3 +25,4 @@ mod Promised
 mod SoloTold
 mod SinkTold
 mod CommandsTold
+mod Added

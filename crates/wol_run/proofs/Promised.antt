@@ -12,7 +12,7 @@ use Rattle.replay.specs.Headlined.{KeepsHeadline}
 use Rattle.replay.specs.declared.session.Options.{Options as Serving}
 use Rattle.command_words.specs.Commands.{IsCommand, NoCommand}
 use Rattle.command_words.specs.declared.command.Command.{Command}
-use Rattle.command_words.specs.declared.command.Command.TheVariants.{Check, Clean, Dump, Format, Gen, Nbd, Replay, Serve, Soak, Solo, ViewAdd, ViewRemove, WhatIf}
+use Rattle.command_words.specs.declared.command.Command.TheVariants.{Check, Clean, Dump, Format, FormatMissing, Gen, Nbd, Replay, Serve, Soak, Solo, ViewAdd, ViewRemove, WhatIf}
 use Rattle.nbd_serving.specs.declared.serving.Beginning.{Beginning}
 use Rattle.nbd_serving.specs.declared.serving.Beginning.TheVariants.{AtOnce, Handshake}
 use Rattle.command_words.specs.Values.{served_by}
@@ -23,7 +23,7 @@ use Rattle.wol_run.specs.Causes as row
 use Rattle.wol_run.specs.Formatting.{IsNotBegun}
 use Rattle.wol_run.specs.Outside.{LeavesUnused, NothingFailed, Outside}
 use Rattle.wol_run.specs.Replaying.{GivenLines, lines_of, options_as, trace_of}
-use Rattle.wol_run.specs.Run.{ComesToItsEnd, Does, IsAccountOf, IsHeadlineOf, IsLookFor, IsReplayOf, IsServingOf, IsUnconfigured, IsViewChangeOf, ReadsInOrder, Run}
+use Rattle.wol_run.specs.Run.{ComesToItsEnd, Does, IsAccountOf, IsHeadlineOf, IsLookFor, IsMissingOf, IsReplayOf, IsServingOf, IsUnconfigured, IsViewChangeOf, ReadsInOrder, Run}
 use Rattle.wol_run.specs.Settings.{HasConfig, HasNoConfig, IsFaultLine, line_of_fault}
 use Rattle.report.specs.Faults.{status_of}
 use Rattle.wol_run.specs.Tops.{EndsWith, RunsSolo, TellsNoMemory}
@@ -66,6 +66,7 @@ module _ {D : Type 0} (tells : Bool) (state : D → State) (words : List (List �
     solo = solo_alike;
     add = λ own other same does. subst (λ n. IsViewChangeOf tells state read before after status (Add, n)) same does;
     remove = λ own other same does. subst (λ n. IsViewChangeOf tells state read before after status (Remove, n)) same does;
+    missing = λ own other same does. subst (λ n. IsMissingOf tells state read before after status n) same does;
     nbd = λ own other same does. subst (λ n. IsServingOf tells state read before after status (AtOnce, n)) same does;
     serve = λ own other patience same does. subst (λ n. IsServingOf tells state read before after status (Handshake, n)) same does;
   }
@@ -85,6 +86,7 @@ module _ {D : Type 0} (tells : Bool) (state : D → State) (words : List (List �
       → (command : Command) → Did command → IfSome (replayed_by command before.trace.bytes) P
   of_replayed P gives (Solo volume) did = tt
   of_replayed P gives Format did = tt
+  of_replayed P gives (FormatMissing missing) did = tt
   of_replayed P gives (Replay options) did = gives _ did
   of_replayed P gives Check did = tt
   of_replayed P gives Dump did = tt
@@ -129,6 +131,7 @@ module _ {D : Type 0} (tells : Bool) (state : D → State) (words : List (List �
     unconfigured_none : (command : Command) → uses_config command ≡ true → Does tells state None before after status command → TellsNoConfig status
     unconfigured_none (Solo volume) uses did = absurd (true≢false (sym uses))
     unconfigured_none Format uses did = untold did.text did.wanted did.allowed.line_ did.ends
+    unconfigured_none (FormatMissing missing) uses did = not_begun_unconfigured did
     unconfigured_none (Replay options) uses did = replay_unconfigured (options_as options, trace_of before.trace.bytes) did
     unconfigured_none Check uses did = look_unconfigured asked.Check did
     unconfigured_none Dump uses did = look_unconfigured asked.Dump did
@@ -156,6 +159,7 @@ module _ {D : Type 0} (tells : Bool) (state : D → State) (words : List (List �
     solo = λ own other same completes order calm. completes order (record { config = calm.config; trace = calm.trace; bay = calm.bay; sink = calm.sink });
     add = λ own other same completes order calm. completes order (record { config = calm.config; trace = calm.trace; bay = calm.bay; sink = calm.sink });
     remove = λ own other same completes order calm. completes order (record { config = calm.config; trace = calm.trace; bay = calm.bay; sink = calm.sink });
+    missing = λ own other same completes order calm. completes order (record { config = calm.config; trace = calm.trace; bay = calm.bay; sink = calm.sink });
     nbd = λ own other same completes order calm. completes order (record { config = calm.config; trace = calm.trace; bay = calm.bay; sink = calm.sink });
     serve = λ own other patience same completes order calm. completes order (record { config = calm.config; trace = calm.trace; bay = calm.bay; sink = calm.sink });
   }

@@ -1,6 +1,6 @@
 -- Why the program ended with its status: a row for each, in the order of their numbers. `read` is
 -- the configuration that was read, where one was.
-use Rattle.std.specs.Prelude.{◌≡◌, ◌≢◌, ◌≤◌, ◌<◌, ◌⊎◌, ◌+◌, ◌^◌, ◌++◌, ℕ, Bool, true, List, Option, None, Some, IfSome, IsTrue, length, slice_get}
+use Rattle.std.specs.Prelude.{◌≡◌, ◌≢◌, ◌≤◌, ◌<◌, ◌⊎◌, ◌+◌, ◌^◌, ◌++◌, ℕ, Bool, true, List, Option, None, Some, IfSome, IsTrue, ⊤, [], length, slice_get}
 use Rattle.std.specs.Io.KnownBytes.{IsAtEnd}
 use Rattle.wol_disk.specs.Disk.{Rose, State}
 use Rattle.wol_model.specs.Trace.{TraceLine, requests}
@@ -11,11 +11,13 @@ use Rattle.wol_config.specs.declared.config.VolumeConf.{VolumeConf}
 use Rattle.volume_images.specs.Left.{IsTold}
 use Rattle.volume_images.specs.Volumes.{images_read}
 use Rattle.rack.specs.Closes.{is_kept_home}
-use Rattle.rack.specs.Opens.{RefusesVolume, WereThere}
+use Rattle.rack.specs.Missing.{HasSegmentOf}
+use Rattle.rack.specs.Opens.{RefusesVolume, WasAccepted, WereThere}
 use Rattle.rack.specs.Owners.{IsBegun, WasOpened}
 use Rattle.rack.specs.Rests.{image_here}
 use Rattle.rack_parts.specs.declared.rack.ImageRest.{ImageRest}
 use Rattle.rack_parts.specs.declared.volume_fault.VolumeFault.{VolumeFault}
+use Rattle.rack_parts.specs.declared.volume_fault.VolumeFault.TheVariants.{Absent}
 use Rattle.report.specs.Troubles.{trouble_status}
 use Rattle.report.specs.declared.trouble.Trouble.{Trouble}
 use Rattle.rack.specs.Troubles.{trouble_of}
@@ -26,8 +28,10 @@ use Rattle.replay.specs.declared.session.Options.{Options as Serving}
 use Rattle.cleaning.specs.Runs.{LacksVersions}
 use Rattle.command_words.specs.Commands.{IsCommand, NoCommand}
 use Rattle.command_words.specs.Table.{Named}
+use Rattle.command_words.specs.Values.{missing_by}
 use Rattle.command_words.specs.declared.command.Command.{Command}
-use Rattle.command_words.specs.declared.command.Command.TheVariants.{Clean, Replay, Soak}
+use Rattle.command_words.specs.declared.command.MissingName.{MissingName}
+use Rattle.command_words.specs.declared.command.Command.TheVariants.{Clean, FormatMissing, Replay, Soak}
 use Rattle.nbd_serving.specs.declared.serving.Beginning.{Beginning}
 use Rattle.view_commands.specs.Views.{IsDamagedIn}
 use Rattle.view_commands.specs.declared.order.Order.{Order}
@@ -150,6 +154,34 @@ pub record HasBadClient (words : List (List ℕ)) (before after : Outside) : Typ
   pub serves : served_as command ≡ Some (begins, name)
   pub bad : HasBadBytes begins before.trace.bytes after.trace.bytes
 
+-- The image of one volume of the configuration was to be made: no volume has the name, or it is volume
+-- `id`, and this is so of it.
+pub record AsksMissing (read : Option Config) (words : List (List ℕ))
+    (IsSo : Config → (id : Option ℕ) → Type 0) : Type 0 where
+  pub config : Config
+  pub is_read : read ≡ Some config
+  pub missing : MissingName
+  pub is : IsCommand words (FormatMissing missing)
+  pub so : IsSo config (number_named (names_of config.volumes.items) (missing_by missing))
+
+-- an image that can't be made, since the volume has one or since another has a segment of its log; or
+-- since no volume has the name
+abbrev pub MayNotMake : (tells : Bool) → (before after : Outside) → Config → Option ℕ → Type 0
+MayNotMake tells before after config None = ⊤
+MayNotMake tells before after config (Some id) =
+    (k : ℕ) × (v : VolumeConf) × (slice_get config.volumes.items k ≡ Some v)
+    × (IsTrue tells → IfSome before.bay.told (λ t. ((k ≡ id) × WasAccepted config t id v)
+    ⊎ ((k ≢ id) × (index : ℕ) × HasSegmentOf config t id k v index)))
+
+-- an image that can't be made, since that of this volume was refused for a cause of this status
+abbrev pub MayNotRead : {D : Type 0} → (tells : Bool) → (D → State) → (before after : Outside)
+    → (status : ℕ) → Config → Option ℕ → Type 0
+MayNotRead tells state before after status config None = ⊥
+MayNotRead {D} tells state before after status config (Some id) =
+    (k : ℕ) × (v : VolumeConf) × (f : VolumeFault) × (slice_get config.volumes.items k ≡ Some v)
+    × (k ≡ id → f ≢ Absent) × RefusesVolume {D = D} tells state config [] before.bay after.bay k v f
+    × (trouble_status (trouble_of f) ≡ status)
+
 -- A block of the label and view of a volume is damaged, as its image reads.
 pub record HasDamagedView (tells : Bool) (read : Option Config) (before after : Outside) :
     Type 0 where
@@ -204,6 +236,12 @@ module _ {D : Type 0} (tells : Bool) (state : D → State) (read : Option Config
     view_refused : HasRefusal tells read words before after → IsCause 15
     -- 15 too: the volume that is to be served isn't configured
     unknown_volume : HasUnknownVolume read words → IsCause 15
+    -- 15 too: the image that is to be made is there, or a log of the volume, or no volume has the name
+    not_made : AsksMissing read words (MayNotMake tells before after) → IsCause 15
+    -- 5 too: before an image is made, another one, or its own that is there, is refused
+    not_sound : AsksMissing read words (MayNotRead tells state before after 5) → IsCause 5
+    -- 12 too: .. another one isn't there
+    not_there : AsksMissing read words (MayNotRead tells state before after 12) → IsCause 12
     -- 5 too: the label or the view of a volume whose view is to be changed is damaged
     damaged_view : AskFor words changes_view → HasDamagedView tells read before after → IsCause 5
     -- 5, 6 and 12 too: the image of a volume whose view is to be changed is another as it is handed

@@ -3,7 +3,7 @@ use Rattle.std.specs.Prelude.{◌≡◌, Bool, true, false, ⊤, ℕ, ◌≤◌,
 use Rattle.solo.specs.Volume.{IsVolume, target_of}
 use Rattle.command_words.specs.Commands.{IsCommand}
 use Rattle.command_words.specs.declared.command.Command.{Command}
-use Rattle.command_words.specs.declared.command.Command.TheVariants.{Solo, Nbd, Serve, Replay, Gen, Soak, ViewAdd, ViewRemove, WhatIf}
+use Rattle.command_words.specs.declared.command.Command.TheVariants.{Solo, FormatMissing, Nbd, Serve, Replay, Gen, Soak, ViewAdd, ViewRemove, WhatIf}
 
 -- whether a command uses the bay
 abbrev pub uses_bay : Command → Bool
@@ -40,6 +40,11 @@ abbrev pub changes_view : Command → Bool
 changes_view (ViewAdd names) = true
 changes_view (ViewRemove names) = true
 changes_view command = false
+
+-- whether it makes the image of one volume, which has none
+abbrev pub makes_missing : Command → Bool
+makes_missing (FormatMissing missing) = true
+makes_missing command = false
 
 -- the words ask for no command that passes the test
 abbrev pub NoneOf : (Command → Bool) → List (List ℕ) → Type 0

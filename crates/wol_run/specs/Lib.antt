@@ -4,6 +4,7 @@ pub mod Tops
 pub mod Settings
 pub mod Generating
 pub mod Formatting
+pub mod Adding
 pub mod Inspecting
 pub mod Replaying
 pub mod Comparing

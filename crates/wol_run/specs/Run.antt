@@ -12,18 +12,19 @@ use Rattle.replay.specs.Headlined.{KeepsHeadline}
 use Rattle.replay.specs.declared.session.Options.{Options as Serving}
 use Rattle.command_words.specs.Commands.{IsCommand, NoCommand}
 use Rattle.command_words.specs.declared.command.Command.{Command}
-use Rattle.command_words.specs.declared.command.Command.TheVariants.{Check, Clean, Dump, Format, Gen, Nbd, Replay, Serve, Soak, Solo, ViewAdd, ViewRemove, WhatIf}
+use Rattle.command_words.specs.declared.command.Command.TheVariants.{Check, Clean, Dump, Format, FormatMissing, Gen, Nbd, Replay, Serve, Soak, Solo, ViewAdd, ViewRemove, WhatIf}
 use Rattle.command_words.specs.declared.command.Generated.{Generated}
 use Rattle.command_words.specs.declared.command.WhatIfOptions.{WhatIfOptions}
 use Rattle.command_words.specs.Table.{Named}
-use Rattle.command_words.specs.Values.{named_by, served_by}
+use Rattle.command_words.specs.Values.{missing_by, named_by, served_by}
 use Rattle.nbd_serving.specs.declared.serving.Beginning.{Beginning}
 use Rattle.nbd_serving.specs.declared.serving.Beginning.TheVariants.{AtOnce, Handshake}
 use Rattle.view_commands.specs.declared.order.Verb.{Verb}
 use Rattle.view_commands.specs.declared.order.Verb.TheVariants.{Add, Remove}
+use Rattle.wol_run.specs.Adding.{RunsMissing}
 use Rattle.wol_run.specs.Causes.{IsCause, replayed_by}
 use Rattle.wol_run.specs.Cleaning.{RunsCleaning}
-use Rattle.wol_run.specs.Commands.{changes_view, serves_client, uses_config}
+use Rattle.wol_run.specs.Commands.{changes_view, makes_missing, serves_client, uses_config}
 use Rattle.wol_run.specs.Comparing.{RunsWhatIf}
 use Rattle.wol_run.specs.Completing.{HasSoundImages, HaveVersions, HaveVersionsToClean, IsGoodTrace, seed_lines}
 use Rattle.wol_run.specs.Formatting.{RunsFormat}
@@ -88,6 +89,12 @@ module _ {D : Type 0} (tells : Bool) (state : D → State) (read : Option Config
       before.bay after.bay before.sink.faults after.sink.faults status
       before.sink.bytes after.sink.bytes
 
+  -- the image of the volume of this name, which has none, was to be made
+  abbrev pub IsMissingOf : (name : List ℕ) → Type 0
+  IsMissingOf name =
+      RunsMissing tells state name read before.config.bytes before.config.faults
+      after.config.faults before.bay after.bay status before.sink.bytes after.sink.bytes
+
   -- the volume of this name was served to a client, at once or behind a handshake
   abbrev pub IsServingOf : Beginning × List ℕ → Type 0
   IsServingOf (begins, name) =
@@ -133,6 +140,9 @@ module _ {D : Type 0} (tells : Bool) (state : D → State) (read : Option Config
   Does (Solo volume) = IsSoloOf before after status volume
   -- format: each image is as it was, has no label or is whole; at status 0 all recover to zeros
   Does Format = IsFormat read before after status
+  -- format NAME: at status 0 the volume's image, of which there was none, is sound and recovers to
+  -- zeros; whatever the status, of another image a crash may leave only what it might have before
+  Does (FormatMissing missing) = IsMissingOf tells state read before after status (missing_by missing)
   -- replay, soak: how many requests were answered, what was printed, what the images recover to,
   -- and what the policy and the disks did
   Does (Replay options) =
@@ -175,6 +185,7 @@ abbrev pub ReadsInOrder : (tells : Bool) → Command → Outside → Type 0
 ReadsInOrder tells (Solo volume) before = IsRunnable before.trace.bytes
 ReadsInOrder tells (Gen what) before = IsConfigured before.config.bytes
 ReadsInOrder tells Format before = IsConfigured before.config.bytes
+ReadsInOrder tells (FormatMissing missing) before = IsConfigured before.config.bytes
 ReadsInOrder tells Check before =
     IsConfigured before.config.bytes × HasSoundImages tells before.config.bytes before.bay
 ReadsInOrder tells Dump before =
@@ -204,11 +215,14 @@ ReadsInOrder tells (Serve name patience) before =
     IsConfigured before.config.bytes × HasSoundImages tells before.config.bytes before.bay
 
 -- the command is done, or out of memory; or a view can't be changed as the words ask, or a client's
--- bytes or the volume's name are none
+-- bytes or the volume's name are none; or the image of a volume that is to be made is refused, or one
+-- that is read before
 abbrev pub ComesToItsEnd : Command → (status : ℕ) → Type 0
 ComesToItsEnd command status =
     IsDoneOrMemory status ⊎ ((changes_view command ≡ true) × (status ≡ 15))
     ⊎ ((serves_client command ≡ true) × ((status ≡ 14) ⊎ (status ≡ 15)))
+    ⊎ ((makes_missing command ≡ true)
+    × ((status ≡ 5) ⊎ (status ≡ 12) ⊎ (status ≡ 15)))
 
 -- ---- The whole
 

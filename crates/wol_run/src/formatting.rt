@@ -62,16 +62,16 @@ fn lines_of(alloc: Global, config: &Config) -> Result<Vec<u8>, NoMemory>
     Ok(lines)
 }
 
-// How many blocks the image of a volume has.
-fn image_size(config: &Config, volume: &VolumeConf) -> u64
+/// How many blocks the image of a volume has.
+pub(crate) fn image_size(config: &Config, volume: &VolumeConf) -> u64
     requires shape { IsShape (shape_in config.now volume.now) }
     ensures { result ≡ image_size (shape_in config.now volume.now) }
 {
     2 + volume.home + u64::from(volume.segments) * u64::from(config.segment_blocks)
 }
 
-// What is told of a format that wasn't done.
-fn fault_of(fault: RackFault) -> Fault
+/// What is told of a format that wasn't done.
+pub(crate) fn fault_of(fault: RackFault) -> Fault
     ensures { result ≡ fault_of fault }
 {
     match fault {

@@ -4,6 +4,7 @@ ghost use Rattle.std.specs.Prelude.{map, string_bytes};
 ghost use Rattle.wol_run.specs.Outside.{outside};
 ghost use Rattle.wol_run.specs.Run.{Run};
 
+use crate::adding::format_missing;
 use crate::cleanup::clean;
 use crate::comparing::compare;
 use crate::formatting::format;
@@ -28,8 +29,9 @@ use wol_io::{Gate, Sink, Source};
 /// The words are those after the program's name. `solo HOST DISK BLOCKS` makes the image `solo` in the bay and runs on it
 /// the lines of the trace that belong to that host and disk. `gen SEED LINES` prints the first LINES lines of the trace that
 /// SEED generates on the volumes of the configuration. `format` makes the image of each volume of the configuration anew,
-/// and prints a line for each. `check` opens the volumes of the configuration and prints a line for each: what its array is,
-/// or what is wrong with it. `dump` prints the records of each in the same way. `replay` runs the lines of the trace on the
+/// and prints a line for each; `format NAME` makes that of one volume, which has none. `check` opens the volumes of the
+/// configuration and prints a line for each: what its array is, or what is wrong with it. `dump` prints the records of each in
+/// the same way. `replay` runs the lines of the trace on the
 /// volumes of the configuration, window by window, by so many workers, and `soak SEED LINES` the lines that SEED generates; the
 /// requests of a volume are answered in order, and what they wrote is there after any stop. `whatif` prints what each of four
 /// policies would use for the trace, without an image. `view-add NAME LOGGER` lets a volume log for another, and
@@ -43,7 +45,8 @@ use wol_io::{Gate, Sink, Source};
 /// configured or whose image was refused. 7: the sink failed, and nothing more is written to it. 8: the source of the
 /// configuration or of the trace failed; the whole lines before were run. 9: there was no memory. 10: there are more than 2^32
 /// lines. 11: a volume has no version left for a write or a copy. 12: an image isn't there. 14: a client's bytes are no
-/// requests or no handshake. 15: a word names no volume, or a view can't be changed as the words ask. Where several volumes aren't
+/// requests or no handshake. 15: a word names no volume, a view can't be changed as the words ask, or an
+/// image that is to be made is there or has records in logs. Where several volumes aren't
 /// in order it is the status of the first; where one isn't open, no line of a trace is run, no view is changed and nothing is
 /// cleaned. The words of logs, windows and views are those of docs/GLOSSARY.md.
 pub fn run<R: Threads + Wait + Sync, C: Source, S: Source, K: Sink, B: Bay, G: Gate + Sync>(
@@ -79,6 +82,7 @@ where
     match command {
         Command::Gen(asked) => generate(alloc, asked, config, out),
         Command::Format => format(alloc, config, out, bay),
+        Command::FormatMissing(name) => format_missing(rt, alloc, name, config, out, bay),
         Command::Check => inspect(rt, alloc, Asked::Check, config, out, bay),
         Command::Dump => inspect(rt, alloc, Asked::Dump, config, out, bay),
         Command::Solo(volume) => match solo::run(alloc, &volume, trace, out, bay, gate) {

@@ -29,6 +29,11 @@ fn each_command_is_read(rt: HostRuntime) -> Result<(), Fail> {
     };
     assert!(rt; asked.seed == 5 && asked.lines == 2147483647);
     assert!(rt; options.workers == 64 && options.each && matches!(&options.reclaim, Mode::Beside));
+    let words = words_of(alloc, "format usr0")?;
+    let Ok(Command::FormatMissing(name)) = command_of(alloc, &words) else {
+        return Err(Fail::from("no name"));
+    };
+    assert!(rt; name.volume == "usr0");
     let words = words_of(alloc, "replay")?;
     let Ok(Command::Replay(options)) = command_of(alloc, &words) else {
         return Err(Fail::from("no options"));
@@ -76,7 +81,7 @@ fn other_words_are_refused(rt: HostRuntime) -> Result<(), Fail> {
         "spin",
         "help",
         "--help",
-        "format now",
+        "format now then",
         "replay --version",
         "replay --each --each",
         "replay --workers 65",

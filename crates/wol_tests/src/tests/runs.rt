@@ -283,7 +283,7 @@ const TWO_VOLUMES: &str = config_text!(4:
 );
 
 const FORMAT_FAULTS: [Faulty<'_>; 3] = [
-    (NONE, ("format a", b"", 1, NO_COMMAND)),
+    (NONE, ("format a b", b"", 1, NO_COMMAND)),
     (SINK_0, ("format", b"", 7, &[])),
     (CONFIG_0, ("format", b"", 8, &[b"fault 8 config\n"])),
 ];
@@ -321,6 +321,24 @@ fn formats_volumes(rt: HostRuntime) -> Result<(), Fail> {
     )?;
     bay.attach("a", &[2, 1, 4, 4])?;
     Ok(())
+}
+
+const ONE_VOLUME: &str = config_text!(4: "a" of "a" 1 2 "");
+
+// A volume that has no image, and then has one.
+const ADDED: [Row<'_>; 3] = [
+    ("format b", b"", 15, &[b"fault 15 unknown b\n"]),
+    ("format a", b"", 0, &[b"format a blocks 11\n"]),
+    ("format a", b"", 15, &[b"fault 15 there a\n"]),
+];
+
+const NONE_BESIDE: Row<'_> = ("format a", b"", 12, &[b"fault 12 b absent\n"]);
+
+#[test]
+fn formats_a_volume_that_has_no_image(rt: HostRuntime) -> Result<(), Fail> {
+    let mut bay = MemBay::new(rt.alloc());
+    try_all(&rt, rt.alloc(), &mut bay, ONE_VOLUME, &ADDED, &[])?;
+    try_apart(&rt, rt.alloc(), TWO_VOLUMES, &[NONE_BESIDE], &[])
 }
 
 const THREE_MADE: Row<'_> = (

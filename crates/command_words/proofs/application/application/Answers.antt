@@ -2,7 +2,7 @@ use Rattle.std.proofs.Common.{◌≡◌, ◌∙◌, true, ap, ap₂, codes}
 use Rattle.std.proofs.lemmas.Result.{IfOk-weaker}
 use Rattle.clap.specs.Words.{App, app_of, new_app, with_subcommand}
 use Rattle.clap.specs.Simple.{Shape, app_of_fields, on_top}
-use Rattle.command_words.specs.Application.{bare_app, with_name, with_names, with_options, with_served, with_trace, with_volume, with_what_if}
+use Rattle.command_words.specs.Application.{bare_app, with_maybe_name, with_name, with_names, with_options, with_served, with_trace, with_volume, with_what_if}
 use Rattle.command_words.proofs.application.application.Goals as goal
 
 pub returns : goal.returns
@@ -15,6 +15,7 @@ returns c =
     let bare : app_of c.subcommand_required.result ≡ bare_app =
     ap app_of_fields c.subcommand_required.ensures ∙ ap (on_top (λ (s : Shape). record s { subcommand_required = true })) unversioned in
     let solo : app_of c.in_ok-of_volume.field-0 ≡ with_volume (new_app (codes "solo")) = c.in_ok-of_volume.ensures.app ∙ ap with_volume c.new-2.ensures.app in
+    let format : app_of c.in_ok-of_maybe_name.field-0 ≡ with_maybe_name (new_app (codes "format")) = c.in_ok-of_maybe_name.ensures.app ∙ ap with_maybe_name c.new-3.ensures.app in
     let replay : app_of c.in_ok-of_options.field-0 ≡ with_options (new_app (codes "replay")) = c.in_ok-of_options.ensures.app ∙ ap with_options c.new-4.ensures.app in
     let gen : app_of c.in_ok-of_pair.field-0 ≡ with_trace (new_app (codes "gen")) = c.in_ok-of_pair.ensures.app ∙ ap with_trace c.new-7.ensures.app in
     let view_add : app_of c.in_ok-of_pair-2.field-0 ≡ with_names (new_app (codes "view-add")) = c.in_ok-of_pair-2.ensures.app ∙ ap with_names c.new-9.ensures.app in
@@ -25,7 +26,7 @@ returns c =
     let soak : app_of c.in_ok-of_options-2.field-0 ≡ with_options (with_trace (new_app (codes "soak"))) =
     c.in_ok-of_options-2.ensures.app ∙ ap with_options (c.in_ok-of_pair-4.ensures.app ∙ ap with_trace c.new-14.ensures.app) in
     let one = c.in_ok-subcommand.ensures.shape (c.in_ok-of_volume.ensures.globals ∙ c.new-2.ensures.local) ∙ ap₂ with_subcommand bare (ap (λ (a : App). a.top) solo) in
-    let two = c.in_ok-subcommand-2.ensures.shape c.new-3.ensures.local ∙ ap₂ with_subcommand one (ap (λ (a : App). a.top) c.new-3.ensures.app) in
+    let two = c.in_ok-subcommand-2.ensures.shape (c.in_ok-of_maybe_name.ensures.globals ∙ c.new-3.ensures.local) ∙ ap₂ with_subcommand one (ap (λ (a : App). a.top) format) in
     let three = c.in_ok-subcommand-3.ensures.shape (c.in_ok-of_options.ensures.globals ∙ c.new-4.ensures.local) ∙ ap₂ with_subcommand two (ap (λ (a : App). a.top) replay) in
     let four = c.in_ok-subcommand-4.ensures.shape c.new-5.ensures.local ∙ ap₂ with_subcommand three (ap (λ (a : App). a.top) c.new-5.ensures.app) in
     let five = c.in_ok-subcommand-5.ensures.shape c.new-6.ensures.local ∙ ap₂ with_subcommand four (ap (λ (a : App). a.top) c.new-6.ensures.app) in

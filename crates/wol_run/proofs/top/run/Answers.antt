@@ -1,7 +1,7 @@
 use Rattle.std.proofs.Common.{None, Err, inl, inr, refl, ap, subst, arith}
 use Rattle.command_words.specs.Commands.{IsCommand}
 use Rattle.wol_run.proofs.Asked.{in_range, range_of_gen, range_of_solo, range_of_what_if}
-use Rattle.wol_run.proofs.CommandsTold.{check_promise, clean_promise, comparison_promise, dump_promise, format_promise, gen_promise, memory_promise, nbd_promise, replay_promise, serve_promise, soak_promise, solo_done_promise, solo_fault_promise, view_add_promise, view_remove_promise}
+use Rattle.wol_run.proofs.CommandsTold.{check_promise, clean_promise, comparison_promise, dump_promise, format_promise, gen_promise, memory_promise, missing_promise, nbd_promise, replay_promise, serve_promise, soak_promise, solo_done_promise, solo_fault_promise, view_add_promise, view_remove_promise}
 use Rattle.wol_run.proofs.Completing.{rose_from, rose_later}
 use Rattle.wol_run.proofs.Endings.{has_cause}
 use Rattle.wol_run.proofs.Promised.{of_none}
@@ -24,6 +24,10 @@ returns-in-Gen-clause-promise g c = gen_promise _ _ _ _ _ _ c.generate.ensures.s
 
 pub returns-in-Format-clause-promise : goal.returns-in-Format-clause-promise
 returns-in-Format-clause-promise g c = format_promise _ _ _ _ _ _ c.format.ensures.sink.cause c.format.ensures.sink.calm (subst (IsCommand _) c.in-Format.is c.in-Ok.ensures.ok) c.format.ensures.content refl
+
+pub returns-in-FormatMissing-clause-promise : goal.returns-in-FormatMissing-clause-promise
+returns-in-FormatMissing-clause-promise g c =
+    missing_promise _ _ _ _ _ _ c.format_missing.ensures.sink.cause c.format_missing.ensures.sink.calm c.in-FormatMissing.name (subst (IsCommand _) c.in-FormatMissing.is c.in-Ok.ensures.ok) c.format_missing.ensures.content refl
 
 pub returns-in-Check-clause-promise : goal.returns-in-Check-clause-promise
 returns-in-Check-clause-promise g c = check_promise _ _ _ _ _ _ c.inspect.ensures.sink.cause c.inspect.ensures.sink.calm c.inspect.ensures.complete refl (subst (IsCommand _) c.in-Check.is c.in-Ok.ensures.ok) c.inspect.ensures.content
