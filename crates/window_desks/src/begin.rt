@@ -19,7 +19,7 @@ use turn_lock::{Pass, TurnLock};
 use wol_disk::{Disk, NoMemory};
 
 // Begins every spindle in order, and notes which disks are awake.
-fn begin_spindles<R: Wait>(
+pub(crate) fn begin_spindles<R: Wait>(
     rt: &R,
     spindles: &[TurnLock<Spindle>],
     keepers: &mut [Pass<Spindle>],
@@ -49,7 +49,7 @@ fn begin_spindles<R: Wait>(
 }
 
 // One turn of each volume's keeper.
-fn begin_volumes<R: Wait, D: Disk>(
+pub(crate) fn begin_volumes<R: Wait, D: Disk>(
     rt: &R,
     locks: &[TurnLock<Manager<D>>],
     keepers: &mut [Pass<Manager<D>>],

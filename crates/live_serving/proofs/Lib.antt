@@ -1,0 +1,3 @@
+pub mod Clients
+pub mod Law
+pub mod Still
