@@ -19,7 +19,7 @@ best() {
     local start end least=
     for _ in $(seq "${RUNS:-3}"); do
         start=$(date +%s%N)
-        "$@" >/dev/null
+        "$@" >/dev/null 2>&1
         end=$(date +%s%N)
         [ -n "$least" ] && [ "$least" -le $((end - start)) ] || least=$((end - start))
     done

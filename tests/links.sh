@@ -133,10 +133,47 @@ for mask in 0000 0022 0077; do
     expect "rights of an image made under $mask" "640 600" "$(stat -c %a usr0.vol web0.vol | tr '\n' ' ' | sed 's/ $//')"
 done
 
-# A file that has the name of what opening makes beside an image stays as it is.
-echo mine >usr0.vol-wal
-expect "check beside a file of one's own" 0 "$(said check | grep -o '.$')"
-expect "that file" mine "$(cat usr0.vol-wal)"
+# What opening makes beside an image goes again; a file of one's own that has its name stays as it is, also an empty one.
+for text in "" mine; do
+    printf '%s' "$text" >usr0.vol-wal
+    expect "check beside '$text' of one's own" 0 "$(said check | grep -o '.$')"
+    expect "that file" "$text" "$(cat usr0.vol-wal)"
+    rm usr0.vol-wal
+done
+: >usr0.vol-journal
+expect "check beside an empty journal" 0 "$(said check | grep -o '.$')"
+expect "what lies there then" "other.bak usr0.vol usr0.vol-journal web0.vol wol.toml " "$(entries)"
+
+# A link or a folder in its place, or a journal with something in it, keeps the image from being opened.
+echo mine >usr0.vol-journal
+expect "replay beside a journal" "fault 4 usr0 disk bay 4" "$(said replay)"
+expect "that journal" mine "$(cat usr0.vol-journal)"
+rm usr0.vol-journal
+ln -s other.bak usr0.vol-wal
+expect "replay beside a link" "fault 4 usr0 disk bay 4" "$(said replay)"
+expect "where it leads" "other.bak backup" "$(readlink usr0.vol-wal) $(cat other.bak)"
+rm usr0.vol-wal
+mkdir usr0.vol-wal
+expect "replay beside a folder" "fault 4 usr0 disk bay 4" "$(said replay)"
+rmdir usr0.vol-wal
+expect "replay with none of these" 0 "$(said replay | grep -o '.$')"
+
+# As many volumes as there can be fit the usual limit on open files. Where they don't the first that can't be opened is told.
+fresh
+{
+    sed '/volume/,$d' wol.toml
+    for number in $(seq 64); do
+        printf '[[volume]]\nname = "v%d"\nhost = "h"\ndisk = %d\nhome_blocks = 4\nsegments = 1\nview = []\n' "$number" "$number"
+    done
+} >wol.toml.64
+mv wol.toml.64 wol.toml
+expect "format of 64 volumes" 0 "$(said format | grep -o '.$')"
+for limit in 1024 350; do
+    expect "replay of 64 volumes with $limit open files" 0 "$(ulimit -n $limit && said replay | grep -o '.$')"
+done
+expect "replay of 64 volumes with 100 open files" 4 "$(ulimit -n 100 && said replay | grep -o '.$')"
+expect "what it names" "disk bay" "$(ulimit -n 100 && said replay | grep -o 'disk bay')"
+expect "replay of 64 volumes once more" 0 "$(said replay | grep -o '.$')"
 
 echo "links: $passed passed, $failed failed"
 [ "$failed" -eq 0 ]

@@ -1,6 +1,9 @@
 #!/usr/bin/env bash
 # Images on block devices: loop devices that are longer than their images. Each command says there what it says over files, and leaves the same
-# bytes; a second process is refused from another folder too; a device that is shorter, or gone, is told by name; format touches none.
+# bytes; a second process is refused from another folder too; a device that is shorter, or gone, is told by name. Format makes images of devices
+# that have one or are blank, and leaves every byte of others. What may only be read is read, where nothing has to be written; else it is told what
+# has to be. What a device that runs full has lost isn't read by the process that waited for it.
+# Then kills.py kills the program over such devices, and compares what each has with what it may have.
 #
 #   tests/hostile/devices.sh [PROGRAM [WORD..]]      the program, and words to put before each command's (default: build/wol)
 #
@@ -19,6 +22,7 @@ devices=()
 leave() {
     local device
     for device in "${devices[@]}"; do losetup -d "$device" 2>/dev/null; done
+    for mounted in memory closed; do ! mountpoint -q "$room/$mounted" || umount "$room/$mounted"; done
     rm -rf "$room"
 }
 trap leave EXIT
@@ -112,18 +116,148 @@ expect "check beside another process" "usr0 disk bay" "$(said "$room/second" che
 exec 3>&-
 wait
 
-# What can't be an image, and what format makes of a device.
-before=$(sha256sum "$room"/disks/*)
-expect "format of devices" $'fault 4 usr0 disk bay\nstatus 4' "$(said "$room/links" format)"
-sync
-expect "the devices after format" "$before" "$(sha256sum "$room"/disks/*)"
+# Format makes devices that have images new ones, and leaves what lies behind.
+for folder in files links; do said "$room/$folder" format >"$room/out.$folder"; done
+expect "what format says" "$(cat "$room/out.files")" "$(cat "$room/out.links")"
+same_bytes format
+
+# A device for usr0 alone, and what format makes of it: one of 2 MiB.
+sed '/^\[\[volume/,$d' samples/wol.toml >"$room/second/wol.toml"
+cat >>"$room/second/wol.toml" <<'C'
+[[volume]]
+name = "usr0"
+host = "usr"
+disk = 0
+home_blocks = 2500
+segments = 1
+view = []
+C
+truncate -s 2M "$room/disks/one"
+device=$(losetup -f --show "$room/disks/one") || skip "there are no more loop devices to be had"
+devices+=("$device")
+ln -sfn "$device" "$room/second/usr0.vol"
+if command -v mkfs.ext4 >/dev/null; then
+    mkfs.ext4 -q "$device"
+    sync
+    before=$(sha256sum <"$room/disks/one")
+    expect "format of a device with a file system" $'fault 4 usr0 disk bay\nstatus 4' "$(said "$room/second" format)"
+    sync
+    expect "that device" "$before" "$(sha256sum <"$room/disks/one")"
+fi
+for place in 0 512 1000000 1048575; do
+    dd if=/dev/zero of="$device" bs=1M count=2 conv=fsync 2>/dev/null
+    printf x | dd of="$device" bs=1 seek="$place" conv=fsync,notrunc 2>/dev/null
+    before=$(sha256sum <"$room/disks/one")
+    expect "format of a device with a byte at $place" $'fault 4 usr0 disk bay\nstatus 4' "$(said "$room/second" format)"
+    sync
+    expect "the device with a byte at $place" "$before" "$(sha256sum <"$room/disks/one")"
+done
+dd if=/dev/zero of="$device" bs=1M count=1 conv=fsync 2>/dev/null
+dd if=/dev/urandom of="$device" bs=1M seek=1 count=1 conv=fsync 2>/dev/null
+expect "format of a device that is blank in its first MiB" $'format usr0 blocks 2566\nstatus 0' "$(said "$room/second" format)"
+expect "check of it" "status 0" "$(said "$room/second" check | tail -n 1)"
+cp "$room/second/wol.toml" "$room/disks/wol.toml"
+said "$room/disks" format >/dev/null
+expect "that image" "$(sha256sum <"$room/disks/usr0.vol")" "$(head -c "$(stat -c %s "$room/disks/usr0.vol")" "$device" | sha256sum)"
+# What a stop leaves that came behind the first writes of a format has no label, and is formatted again.
+for front in WOLVOL01 "$(printf '%512s' '' | tr ' ' '\001')WOLVIEW1"; do
+    printf '%s' "$front" | tr '\001' '\000' | cat - /dev/zero | head -c 1024 | dd of="$device" conv=fsync,notrunc 2>/dev/null
+    expect "check of a format that was stopped" "usr0 damaged 0 of usr0" "$(said "$room/second" check | head -n 1)"
+    expect "format behind it" $'format usr0 blocks 2566\nstatus 0' "$(said "$room/second" format)"
+done
 truncate -s 51200 "$room/short"
 device=$(losetup -f --show "$room/short")
 devices+=("$device")
 ln -sfn "$device" "$room/second/usr0.vol"
 expect "check of a device that is too short" "usr0 length 51200" "$(said "$room/second" check | head -n 1)"
+expect "format of it" "fault 4 usr0 disk bay" "$(said "$room/second" format | head -n 1)"
 ln -sfn /dev/none-such "$room/second/usr0.vol"
 expect "check of a device that is gone" "usr0 absent" "$(said "$room/second" check | head -n 1)"
+
+# Images that may only be read, with records in logs: by devices, in a file system, and without the right to write. Then one with a segment that
+# opening has to free: the head of an owned one, without a record.
+mkdir "$room/open" "$room/closed" "$room/look"
+cp samples/wol.toml "$room/open"
+said "$room/open" format >/dev/null
+said "$room/open" replay --reclaim off <samples/offload.csv >/dev/null
+cp samples/wol.toml "$room/look"
+looks() { # WHAT FOLDER WANTED
+    for command in check dump; do
+        expect "$command of $1" "$(cat "$room/open/$command")" "$(said "$2" $command)"
+    done
+}
+mount -t tmpfs -o size=64m tmpfs "$room/closed" && mountpoint -q "$room/closed" || skip "there is no file system of memory to be had"
+for what in "sound images" "images with a segment to be freed"; do
+    for command in check dump; do said "$room/open" $command >"$room/open/$command"; done
+    if [ "$what" != "sound images" ]; then
+        said "$room/open" format >/dev/null
+        for command in check dump; do said "$room/open" $command | sed 's/^web0 .*/web0 disk segment 0 of usr0/;s/^status 0/status 4/' >"$room/open/$command"; done
+        printf 'WOLSEGO1\1\0\0\0' | dd of="$room/open/usr0.vol" bs=512 seek=2050 conv=fsync,notrunc 2>/dev/null
+    fi
+    for name in "${volumes[@]}"; do
+        device=$(losetup -r -f --show "$room/open/$name.vol") || skip "there are no more loop devices to be had"
+        devices+=("$device")
+        ln -sfn "$device" "$room/look/$name.vol"
+    done
+    looks "$what by read-only devices" "$room/look"
+    mount -o remount,rw "$room/closed"
+    cp "$room"/open/*.vol "$room/open/wol.toml" "$room/closed"
+    mount -o remount,ro "$room/closed"
+    before=$(sha256sum "$room"/closed/*)
+    looks "$what in a read-only file system" "$room/closed"
+    expect "replay of $what in a read-only file system" $'fault 4 usr0 disk bay\nstatus 4' "$(said "$room/closed" replay </dev/null)"
+    if command -v setpriv >/dev/null; then
+        chmod 755 "$room" "$room/open"
+        chmod 444 "$room"/open/*
+        nobody=(setpriv --reuid 65534 --regid 65534 --clear-groups)
+        own=("${program[@]}")
+        program=("${nobody[@]}" "${own[@]}")
+        if [ "$(said "$room/open" help | tail -n 1)" != "status 126" ]; then looks "$what without the right to write" "$room/open"; fi
+        program=("${own[@]}")
+        chmod 644 "$room"/open/*
+    fi
+    expect "those images after $what" "$before" "$(sha256sum "$room"/closed/*)"
+done
+said "$room/open" check >"$room/open/check"
+expect "check of it with the right to write" "web0 ok" "$(sed -n 's/^\(web0 ok\).*/\1/p' "$room/open/check")"
+
+# A run whose write the device can't take ends with 4. What it lost is not what the process reads that waited for it.
+mkdir "$room/memory" "$room/full"
+if mount -t tmpfs -o size=8m tmpfs "$room/memory" 2>/dev/null && mountpoint -q "$room/memory"; then
+    truncate -s 16M "$room/memory/disk"
+    device=$(losetup -f --show "$room/memory/disk") || skip "there are no more loop devices to be had"
+    devices+=("$device")
+    cp "$room/second/wol.toml" "$room/full"
+    ln -s "$device" "$room/full/usr0.vol"
+    expect "format of a blank device" "status 0" "$(said "$room/full" format | tail -n 1)"
+    (cd "$room/full" && exec timeout 60 "${program[@]}" replay --reclaim off <"$room/lines" >"$room/out.full" 2>/dev/null) &
+    first=$!
+    exec 3>"$room/lines"
+    printf '128166372000000000,usr,0,Read,0,512,1\n' >&3
+    for _ in $(seq 100); do
+        flock -n "$device" true 2>/dev/null || break
+        sleep 0.05
+    done
+    # flags, the export's name, a READ of block 2,000, and a DISC
+    printf '\0\0\0\3IHAVEOPT\0\0\0\1\0\0\0\4usr0\45\140\225\23\0\0\0\0\0\0\0\0\0\0\0\1\0\0\0\0\0\17\240\0\0\0\2\0' >"$room/client"
+    printf '\45\140\225\23\0\0\0\2\0\0\0\0\0\0\0\2\0\0\0\0\0\0\0\0\0\0\0\0' >>"$room/client"
+    (cd "$room/full" && exec timeout 60 "${program[@]}" serve --wait 30 usr0 <"$room/client" >"$room/served" 2>/dev/null 3>&-) &
+    second=$!
+    sleep 0.5
+    dd if=/dev/zero of="$room/memory/fill" bs=4k count=4096 2>/dev/null
+    printf '128166372000000001,usr,0,Write,1024000,512,1\n' >&3
+    exec 3>&-
+    wait "$first"
+    expect "a run that the device refuses" "4 fault 4 usr0 disk home" "$? $(tail -n 1 "$room/out.full")"
+    wait "$second"
+    expect "the session behind it" "0 556" "$? $(stat -c %s "$room/served")"
+    expect "what it reads of what was lost" 0 "$(tail -c 512 "$room/served" | tr -d '\0' | wc -c)"
+else
+    echo "devices: skipped: a device that runs full needs a file system of memory"
+fi
+
+for device in "${devices[@]}"; do losetup -d "$device" 2>/dev/null; done
+python3 tests/hostile/kills.py "${program[0]}" --kills "${KILLS:-100}" --devices --folder "$room" || failed=$((failed + 1))
 
 echo "devices: $passed passed, $failed failed"
 [ "$failed" -eq 0 ]

@@ -227,7 +227,7 @@ def opened_of(config: Config, files: tuple[bytes | None, ...]) -> tuple[Opened |
 def opened(folder: Path, config: Config) -> tuple[Opened | Refused, ...]:
     """Each volume, as opening them all finds it. What is found is read once for images that stay the same: change none of it."""
     paths = [folder / f"{it.name}.vol" for it in config.volumes]
-    return opened_of(config, tuple(it.read_bytes() if it.is_file() else None for it in paths))
+    return opened_of(config, tuple(it.read_bytes() if it.is_file() or it.is_block_device() else None for it in paths))
 
 
 def first_refused(config: Config, volumes: tuple[Opened | Refused, ...]) -> tuple[str, Refused] | None:

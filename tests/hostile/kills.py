@@ -1,15 +1,17 @@
 """Kills replays at random moments and looks at what they left.
 
-usage: kills.py WOL [--kills N] [--jobs J] [--seed S] [--folder F]
+usage: kills.py WOL [--kills N] [--jobs J] [--seed S] [--folder F] [--devices]
 
 Each round replays a random trace over small volumes with `--each`, kills the program with SIGKILL at a random moment, and then asks:
 are the lines that it printed those of the plain arrays, in order; is what each volume's images stand for (by a reader of its own, and
 by `wol check`) what the acknowledged writes left, with at most the writes in flight. Then it kills a command that keeps the volumes'
 content, and they must have it; the next round goes on with these images. N counts the kills of replays that found some of the writes
-done. It prints its counts, and ends with 1 and the folder of the first round that went wrong.
+done. With `--devices` each image is a loop device, one folder at a time; that needs root and losetup: elsewhere it is skipped, which is
+said. It prints its counts, and ends with 1 and the folder of the first round that went wrong.
 """
 
 import argparse
+import contextlib
 import os
 import random
 import shutil
@@ -113,6 +115,8 @@ def kill_format(wol: str, folder: Path, config: Config, rng: random.Random) -> b
         # an image that was emptied, and not yet made long
         if isinstance(it, Opened) or it.text not in (f"damaged 0 of {volume.name}", "length 0"):
             assert left[number] in (old[number], new[number]), f"{volume.name} is neither old nor new"
+    assert call(wol, folder, "format").returncode == 0, "what a stop left isn't formatted"
+    assert [(folder / it).read_bytes() for it in names] == new, "what is formatted then is other than over nothing"
     return stopped
 
 
@@ -136,7 +140,39 @@ def one_round(wol: str, folder: Path, config: Config, rng: random.Random, arrays
     return after
 
 
-def one_folder(wol: str, seed: int, root: str | None, number: int) -> tuple[Counter, str]:
+class Devices(contextlib.AbstractContextManager):
+    """Loop devices in the place of the images of a folder, as long as these are, each by a link."""
+
+    def __init__(self, folder: Path):
+        self.folder, self.made = folder, []
+
+    def attach(self) -> None:
+        (self.folder / "disks").mkdir()
+        for path in sorted(self.folder.glob("*.vol")):
+            disk = path.rename(self.folder / "disks" / path.name)
+            found = subprocess.run(["losetup", "-f", "--show", disk], check=True, capture_output=True, text=True)
+            self.made.append(found.stdout.strip())
+            path.symlink_to(self.made[-1])
+
+    def __exit__(self, *_) -> None:
+        for device in self.made:
+            subprocess.run(["losetup", "-d", device], check=True)
+
+
+def has_devices() -> bool:
+    """Whether there are loop devices to be had."""
+    if os.geteuid() or not shutil.which("losetup"):
+        return False
+    with tempfile.TemporaryDirectory() as folder, Devices(Path(folder)) as devices:
+        (Path(folder) / "probe.vol").write_bytes(bytes(4096))
+        try:
+            devices.attach()
+        except subprocess.CalledProcessError:
+            return False
+        return True
+
+
+def one_folder(wol: str, seed: int, root: str | None, on_devices: bool, number: int) -> tuple[Counter, str]:
     """Replays over one folder of images, each over what the one before left: what was counted, or what went wrong."""
     rng, counts = random.Random(f"{seed} {number}"), Counter()
     folder = Path(tempfile.mkdtemp(prefix="wol-kills-", dir=root))
@@ -145,10 +181,13 @@ def one_folder(wol: str, seed: int, root: str | None, number: int) -> tuple[Coun
     (folder / "wol.toml").write_text(text)
     try:
         assert call(wol, folder, "format").returncode == 0
-        arrays = recovered(folder, config)
-        for _ in range(8):
-            arrays = one_round(wol, folder, config, rng, arrays, counts)
-        counts["formats killed"] += kill_format(wol, folder, config, rng)
+        with Devices(folder) as devices:
+            if on_devices:
+                devices.attach()
+            arrays = recovered(folder, config)
+            for _ in range(8):
+                arrays = one_round(wol, folder, config, rng, arrays, counts)
+            counts["formats killed"] += kill_format(wol, folder, config, rng)
     except (AssertionError, subprocess.TimeoutExpired) as wrong:
         return Counter(), f"folder {number} of seed {seed} went wrong: {wrong}; it is {folder}"
     shutil.rmtree(folder)
@@ -177,10 +216,14 @@ def main() -> int:
     words.add_argument("--jobs", type=int, default=os.cpu_count())
     words.add_argument("--seed", type=int, default=1)
     words.add_argument("--folder", help="where images are made; a memory file system and a disk show different stops")
+    words.add_argument("--devices", action="store_true")
     asked_for = words.parse_args()
+    if asked_for.devices and not has_devices():
+        print("skipped: loop devices need root and losetup")
+        return 0
     wol = str(Path(asked_for.wol).resolve())
-    work = partial(one_folder, wol, asked_for.seed, asked_for.folder)
-    counts = until({"kills among writes": asked_for.kills}, asked_for.jobs, work)
+    work = partial(one_folder, wol, asked_for.seed, asked_for.folder, asked_for.devices)
+    counts = until({"kills among writes": asked_for.kills}, 1 if asked_for.devices else asked_for.jobs, work)
     if counts is None:
         return 1
     told = ", ".join(f"{count} {what}" for what, count in counts.items())

@@ -37,6 +37,8 @@ pub enum Cause {
     NoConfiguration,
     /// There is one that can't be read.
     Configuration,
+    /// Images were made.
+    Formatting,
 }
 
 /// What is said at a status, in whole lines; nothing where the command was done.
@@ -61,9 +63,14 @@ pub fn advice(status: u8, cause: Cause) -> Option<&'static str>
                 "wol: a line of the trace was refused; all lines before it were run. Mend it; only replay goes on from there.\n"
             }
         },
-        4 => {
-            "wol: a call on the folder or an image failed. Look for a second wol, links, rights, space, ulimit -f, -n; then start again.\n"
-        }
+        4 => match cause {
+            Cause::Formatting => {
+                "wol: an image wasn't made. Look for a second wol, links, rights, space, ulimit -f; make a device blank (wipefs -a, blkdiscard).\n"
+            }
+            _ => {
+                "wol: a call on the folder or an image failed. Look for a second wol, links, rights, space, ulimit -f and -n; then start again.\n"
+            }
+        },
         5 => {
             "wol: an image is damaged or not the one in wol.toml. Put back the right one or wol.toml, or remove what a stop left unfinished.\n"
         }

@@ -87,6 +87,7 @@ fn cause_of(
     match status {
         3 if watching.is_compressed() => Cause::Compressed,
         3 if watching.is_headed() => Cause::Heading,
+        4 if asked.formats => Cause::Formatting,
         8 if !asked.uses_config => Cause::Unknown,
         8 if settings::is_missing(rt) => Cause::NoConfiguration,
         8 if config.read(&mut [0]).is_err() => Cause::Configuration,
@@ -205,7 +206,8 @@ fn main(rt: HostRuntime) -> ExitCode {
     let mut trace = WatchedSource::new(StdSource::new(rt.reader()), Lent::new(&mut watching));
     let mut bay = FileBay::new(rt, alloc, ".")
         .within(most_bytes)
-        .waiting(asked.wait_seconds);
+        .waiting(asked.wait_seconds)
+        .for_reading(asked.only_looks);
     let status = run(
         &rt,
         alloc,

@@ -69,6 +69,10 @@ pub struct Asked {
     pub runs_trace: bool,
     /// Whether the input is a client's, to whom no text is sent, and whether that begins with a handshake.
     pub client: Option<bool>,
+    /// Whether nothing is asked for but to look at images, so that those may be read that may not be written.
+    pub only_looks: bool,
+    /// Whether images are made.
+    pub formats: bool,
     /// How long other processes' locks are waited for.
     pub wait_seconds: u64,
     /// Of a generated trace, how many lines it has.
@@ -82,6 +86,8 @@ const PLAIN: Asked = Asked {
     uses_config: true,
     runs_trace: false,
     client: None,
+    only_looks: false,
+    formats: false,
     wait_seconds: 0,
     generated: None,
     compared: None,
@@ -125,14 +131,15 @@ pub fn asked_of(alloc: Global, words: &[String]) -> Asked {
             wait_seconds: u64::from(patience.seconds),
             ..PLAIN
         },
-        Command::Format
-        | Command::FormatMissing(_)
-        | Command::Check
-        | Command::Dump
-        | Command::Gen(_)
-        | Command::ViewAdd(_)
-        | Command::ViewRemove(_)
-        | Command::Clean => PLAIN,
+        Command::Check | Command::Dump => Asked {
+            only_looks: true,
+            ..PLAIN
+        },
+        Command::Format | Command::FormatMissing(_) => Asked {
+            formats: true,
+            ..PLAIN
+        },
+        Command::Gen(_) | Command::ViewAdd(_) | Command::ViewRemove(_) | Command::Clean => PLAIN,
     }
 }
 

@@ -5,6 +5,7 @@ ghost use Rattle.wol_bay.specs.Parts.{AreBlank, AreCut, blocks_of, faulty_places
 ghost use Rattle.wol_disk.specs.Disk.{Rose};
 
 use crate::bays::Bay;
+use crate::devices::make_zero;
 use crate::fault::BayFault;
 use crate::image_file::ImageFile;
 use crate::kept_copies::drop_copies;
@@ -22,6 +23,9 @@ use wol_disk::{Block, Disk, Failed, NoMemory};
 // How many syncs of an image may run at once.
 const SYNCS: u64 = 4;
 
+// The system's numbers for a process, and for a system, in which no more files can be open.
+const TOO_MANY_OPEN: [i32; 2] = [24, 23];
+
 // A lock that another process has is tried again so often in a second.
 const TRIES: u64 = 50;
 
@@ -29,10 +33,15 @@ const TRY_MILLIS: u64 = 20;
 
 /// A folder of images, which tells nothing of them. The image NAME is the file `NAME.vol`. The file is locked while
 /// the image is out, so another bay that would hand out the same image fails. What goes out is what the disk has, also
-/// where a sync of an earlier run failed. The file may be a block device, which is as long as the image or longer; `create`
-/// refuses it. An image is made only where no other entry of the folder is the same file, as by a link, and its file is made
-/// for its owner alone. No call makes or writes a file beyond a bound on its bytes: such a call has failed, and the system,
-/// which might end the process for it, isn't asked.
+/// where a sync of an earlier run failed. An image is made only where no other entry of the folder is the same file, as by
+/// a link, and its file is made for its owner alone. No call makes or writes a file beyond a bound on its bytes: such a
+/// call has failed, and the system, which might end the process for it, isn't asked.
+///
+/// The file may be a block device, which is as long as the image or longer; what lies behind the image stays. `create`
+/// refuses a device that is no image yet and has something in its first MiB.
+///
+/// A bay that is for reading also hands out an image that may only be read: each write to it has failed. What goes out
+/// then is what the system keeps of it, since only who may write has that dropped.
 #[derive(Drop)]
 pub struct FileBay<'a> {
     rt: HostRuntime,
@@ -41,6 +50,8 @@ pub struct FileBay<'a> {
     most_bytes: u64,
     // how many more times a lock that another process has is tried again
     tries: u64,
+    // whether what may only be read goes out too
+    is_for_reading: bool,
     faults: u64,
 }
 
@@ -63,7 +74,7 @@ impl<'a> FileBay<'a> {
     ghost use Rattle.wol_bay.specs.Bay.{BayState};
     ghost use Rattle.wol_bay.specs.FileBay.{file_bay_state};
 
-    /// The bay of this folder, without a bound on files. It waits for no lock.
+    /// The bay of this folder, without a bound on files. It waits for no lock, and hands out what may be written alone.
     pub fn new(rt: HostRuntime, alloc: Global, folder: &'a str) -> FileBay<'a>
         ensures { file_bay_state result ≡ record { told = None; faults = 0 } }
     {
@@ -73,6 +84,7 @@ impl<'a> FileBay<'a> {
             folder,
             most_bytes: u64::MAX,
             tries: 0,
+            is_for_reading: false,
             faults: 0,
         }
     }
@@ -92,12 +104,22 @@ impl<'a> FileBay<'a> {
         FileBay { tries, ..self }
     }
 
+    /// The same bay, which also hands out images that may only be read, where that is wanted.
+    pub fn for_reading(self, is_for_reading: bool) -> FileBay<'a>
+        ensures { file_bay_state result ≡ file_bay_state self.entry }
+    {
+        FileBay {
+            is_for_reading,
+            ..self
+        }
+    }
+
     fn path_of(&self, name: &str) -> Result<String, NoMemory> {
         let folder = self.folder;
         Ok(format!(in self.alloc; "{folder}/{name}.vol")?)
     }
 
-    // Locks the file, and waits for that as long as the bay still may.
+    // Locks a new image's file, and waits for that as long as the bay still may.
     fn lock(&mut self, file: &File) -> io::Result<()>
         ensures { self.new.faults ≡ self.old.faults }
     {
@@ -131,14 +153,19 @@ impl<'a> FileBay<'a> {
         if bytes > self.most_bytes {
             return Err(io::Error::from(ErrorKind::FileTooLarge));
         }
-        let file = self.made(path)?;
+        let mut file = self.made(path)?;
         self.lock(&file)?;
-        if self.has_another(name, path, &file.metadata()?)? {
+        let found = file.metadata()?;
+        if self.has_another(name, path, &found)? {
             return Err(io::Error::from(ErrorKind::AlreadyExists));
         }
-        file.set_len(0)?;
-        file.set_len(bytes)?;
-        file.sync_all()?;
+        if found.file_type().is_block_device() {
+            make_zero(&self.rt, self.alloc, &mut file, bytes)?;
+        } else {
+            file.set_len(0)?;
+            file.set_len(bytes)?;
+            file.sync_all()?;
+        }
         File::open(&self.rt, self.folder)?.sync_all()?;
         self.image_of(path, file)
     }
@@ -147,6 +174,7 @@ impl<'a> FileBay<'a> {
     // isn't looked at: no link to it is followed, and another name of the file is counted.
     fn has_another(&self, name: &str, path: &str, file: &Metadata) -> io::Result<bool> {
         let rt = (&self.rt, self.alloc);
+        // Links that lead in a circle, or whose target is gone by now, are an error here: `is_same` takes such for no file.
         fs::canonicalize(&rt, path)?;
         if file.nlink() != 1 {
             return Ok(true);
@@ -173,29 +201,22 @@ impl<'a> FileBay<'a> {
         }
     }
 
-    // Opens the file and locks it. `None` is std's answer that there is no such file.
+    // Opens the file and locks it, and waits for that as long as the bay still may. `None` is std's answer that there is no
+    // such file.
     fn open(&mut self, path: &str) -> io::Result<Option<Found>>
         ensures { self.new.faults ≡ self.old.faults }
     {
-        let opened = OpenOptions::new()
-            .read(true)
-            .write(true)
-            .open(&self.rt, path);
-        let file = match opened {
-            Ok(file) => file,
-            Err(e) if e.kind() == ErrorKind::NotFound => return Ok(None),
-            Err(e) => return Err(e),
-        };
-        self.lock(&file)?;
-        Ok(Some(Found::new(file)?))
+        let (opened, left) = open_within(&self.rt, path, self.is_for_reading, self.tries);
+        self.tries = left;
+        match opened? {
+            Some((file, is_writable)) => Ok(Some(Found::new(file, is_writable)?)),
+            None => Ok(None),
+        }
     }
 
-    // Opens once more the file that is open from this path.
+    // Opens once more, for syncs, the file that is open from this path.
     fn open_again(&self, path: &str, file: &Metadata) -> io::Result<File> {
-        let again = OpenOptions::new()
-            .read(true)
-            .write(true)
-            .open(&self.rt, path)?;
+        let (again, _) = open_either(&self.rt, path, self.is_for_reading)?;
         let found = again.metadata()?;
         if found.dev() == file.dev() && found.ino() == file.ino() {
             Ok(again)
@@ -211,8 +232,8 @@ impl<'a> FileBay<'a> {
         for _ in 0..SYNCS {
             match self.open_again(path, &found) {
                 Ok(again) => others.push(again)?,
-                Err(e) if others.is_empty() => return Err(e),
-                Err(_) => break,
+                Err(e) if are_too_many_open(&e) && !others.is_empty() => break,
+                Err(e) => return Err(e),
             }
         }
         match ImageFile::new(self.rt, self.alloc, file, others) {
@@ -222,13 +243,13 @@ impl<'a> FileBay<'a> {
     }
 
     // The same of an image that is there, of which the system keeps no copies then. Those of a device it drops itself,
-    // when the last that had it open closes it.
+    // when the last that had it open closes it. What is opened again behind that is compared with the locked file, so the copies
+    // that were dropped are those of this file; and the files that are open for that moment aren't missing for syncs.
     fn image_of_disk(&self, path: &str, found: Found) -> io::Result<ImageFile> {
-        let image = self.image_of(path, found.file)?;
-        if !found.is_device {
+        if found.is_writable && !found.is_device {
             drop_copies(&self.rt, path)?;
         }
-        Ok(image)
+        self.image_of(path, found.file)
     }
 
     fn failed(&mut self) -> BayFault
@@ -325,16 +346,70 @@ fn lock_within(clock: &HostRuntime, file: &File, tries: u64) -> (io::Result<()>,
     (Err(io::Error::from(ErrorKind::WouldBlock)), 0)
 }
 
+// Opens a file to be read and written; where it may only be read, and that is enough, to be read. With it comes whether it
+// may be written.
+fn open_either(rt: &HostRuntime, path: &str, is_for_reading: bool) -> io::Result<(File, bool)> {
+    match OpenOptions::new().read(true).write(true).open(rt, path) {
+        Ok(file) => Ok((file, true)),
+        Err(e) if is_for_reading && may_not_be_written(&e) => Ok((File::open(rt, path)?, false)),
+        Err(e) => Err(e),
+    }
+}
+
+// Whether a file couldn't be opened since it may not be written.
+fn may_not_be_written(e: &io::Error) -> bool {
+    e.kind() == ErrorKind::PermissionDenied || e.kind() == ErrorKind::ReadOnlyFilesystem
+}
+
+// Opens the file and locks it; `None` is std's answer that there is no such file. A lock that another process has is tried again as
+// often as is said; how often is left comes with it. The file is opened anew for each try, and once more behind the other
+// process's lock: the system drops what it keeps of a device only when nobody has it open, and that other one may have lost some
+// of it.
+fn open_within(
+    rt: &HostRuntime,
+    path: &str,
+    is_for_reading: bool,
+    tries: u64,
+) -> (io::Result<Option<(File, bool)>>, u64) {
+    let mut is_others = false;
+    for tried in 0..=tries {
+        let left = tries.saturating_sub(tried);
+        let (file, is_writable) = match open_either(rt, path, is_for_reading) {
+            Ok(opened) => opened,
+            Err(e) if e.kind() == ErrorKind::NotFound => return (Ok(None), left),
+            Err(e) => return (Err(e), left),
+        };
+        match file.try_lock() {
+            Ok(()) if !is_others => return (Ok(Some((file, is_writable))), left),
+            Ok(()) => is_others = false,
+            Err(TryLockError::WouldBlock) => is_others = true,
+            Err(TryLockError::Error(e)) => return (Err(e), left),
+        }
+        drop(file);
+        if left > 0 {
+            sleep(rt, Duration::from_millis(TRY_MILLIS));
+        }
+    }
+    (Err(io::Error::from(ErrorKind::WouldBlock)), 0)
+}
+
+// Whether a file couldn't be opened since too many are.
+fn are_too_many_open(e: &io::Error) -> bool {
+    e.raw_os_error()
+        .is_some_and(|number| TOO_MANY_OPEN.contains(&number))
+}
+
 // What is open at an image's name, and its length. Of a device the system tells none: it is where its end is.
 #[derive(Drop)]
 struct Found {
     file: File,
     bytes: u64,
     is_device: bool,
+    is_writable: bool,
 }
 
 impl Found {
-    fn new(mut file: File) -> io::Result<Found> {
+    fn new(mut file: File, is_writable: bool) -> io::Result<Found> {
         let found = file.metadata()?;
         let is_device = found.file_type().is_block_device();
         let bytes = if is_device {
@@ -346,6 +421,7 @@ impl Found {
             file,
             bytes,
             is_device,
+            is_writable,
         })
     }
 

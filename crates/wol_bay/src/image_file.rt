@@ -6,8 +6,11 @@ use std::thread::sleep;
 use std::time::Duration;
 use wol_disk::{Failed, NoMemory};
 
-// How long a sync waits before it looks again for an opening that no other one uses.
-const PAUSE_MICROS: u64 = 100;
+// How long a sync waits before it looks again for an opening that no other one uses: at first, and at most. It waits twice
+// as long each time.
+const LEAST_PAUSE_MICROS: u64 = 50;
+
+const MOST_PAUSE_MICROS: u64 = 6400;
 
 // The file once more, opened for syncs alone, of which it has one at a time.
 #[derive(Drop)]
@@ -25,11 +28,12 @@ struct Syncer {
 #[derive(Drop)]
 pub struct ImageFile {
     clock: HostRuntime,
-    pub file: File,
     syncers: Vec<Syncer>,
     written: AtomicU64,
     synced: AtomicU64,
     has_failed: AtomicBool,
+    // the last to go, since its lock ends with it
+    pub file: File,
 }
 
 impl ImageFile {
@@ -49,11 +53,11 @@ impl ImageFile {
         }
         Ok(ImageFile {
             clock,
-            file,
             syncers,
             written: AtomicU64::new(1),
             synced: AtomicU64::new(0),
             has_failed: AtomicBool::new(false),
+            file,
         })
     }
 
@@ -64,6 +68,7 @@ impl ImageFile {
 
     /// Syncs the file, unless a sync that began behind this write has ended. Once a sync has failed all later ones fail.
     pub fn sync(&self, write: u64) -> Result<(), Failed> {
+        let mut pause = LEAST_PAUSE_MICROS;
         for _ in 0..u64::MAX {
             if self.has_failed.load(Ordering::SeqCst) {
                 return Err(Failed);
@@ -74,7 +79,8 @@ impl ImageFile {
             if let Some(syncer) = self.take_syncer() {
                 return self.sync_by(syncer);
             }
-            sleep(&self.clock, Duration::from_micros(PAUSE_MICROS));
+            sleep(&self.clock, Duration::from_micros(pause));
+            pause = pause.saturating_mul(2).min(MOST_PAUSE_MICROS);
         }
         Err(Failed)
     }

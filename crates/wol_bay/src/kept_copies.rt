@@ -8,10 +8,15 @@ use std::io::{self, ErrorKind};
 /// synced.
 ///
 /// The kit's crate for databases is what makes that call of the system. It wants a file of one name, and makes a log
-/// beside it, NAME-wal, which is removed again.
+/// beside it, NAME-wal, which is removed again, unless one was there before.
 pub fn drop_copies(rt: &HostRuntime, path: &str) -> io::Result<()> {
     let path = fs::canonicalize(rt, path)?;
     let log = format!(in rt.alloc(); "{}-wal", path.as_str())?;
+    let is_new = match fs::symlink_metadata(rt, log.as_str()) {
+        Ok(_) => false,
+        Err(e) if e.kind() == ErrorKind::NotFound => true,
+        Err(e) => return Err(e),
+    };
     let dropped = match sqlite_std_file::open(rt, path.as_str(), Unknown) {
         Ok(_) => Ok(()),
         Err(OpenError::Io(e)) => Err(e),
@@ -20,10 +25,16 @@ pub fn drop_copies(rt: &HostRuntime, path: &str) -> io::Result<()> {
             Err(io::Error::from(ErrorKind::Unsupported))
         }
     };
-    if let Ok(found) = fs::symlink_metadata(rt, log.as_str()) {
-        if found.is_file() && found.len() == 0 {
-            fs::remove_file(rt, log.as_str())?;
-        }
+    if is_new {
+        remove_empty(rt, log.as_str())?;
     }
     dropped
+}
+
+// Removes a file without content, if one is there.
+fn remove_empty(rt: &HostRuntime, path: &str) -> io::Result<()> {
+    match fs::symlink_metadata(rt, path) {
+        Ok(found) if found.is_file() && found.len() == 0 => fs::remove_file(rt, path),
+        _ => Ok(()),
+    }
 }

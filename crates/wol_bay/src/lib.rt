@@ -3,14 +3,15 @@
 //!
 //! `bays.rt` the trait, `specs/Bay.antt` what a bay tells (images by name, names that are out with their sizes,
 //! parts that came back with a fault) and what each call does to it, `specs/Parts.antt` lists of parts. `files.rt`
-//! `FileBay`, over `image_file.rt` (an image's open file, and what of it is synced) and `kept_copies.rt` (what the
-//! system keeps of it); `memory.rt` `MemBay`, over `held.rt` (what it keeps), `names.rt` (entries found by name), `plans.rt`
-//! (planned failures), `faulty.rt`, `lengths.rt` (how long an image is), `restart.rt` (what a crash leaves of its
-//! parts). `specs/Refusals.antt` has why an image doesn't go out, `specs/Stored.antt` the blocks of an image in
-//! memory. `proofs/OneImage.antt` is for callers of one image.
+//! `FileBay`, over `image_file.rt` (an image's open file, and what of it is synced), `kept_copies.rt` (what the
+//! system keeps of it) and `devices.rt` (devices that become images); `memory.rt` `MemBay`, over `held.rt` (what it
+//! keeps), `names.rt` (entries found by name), `plans.rt` (planned failures), `faulty.rt`, `lengths.rt` (how long an
+//! image is), `restart.rt` (what a crash leaves of its parts). `specs/Refusals.antt` has why an image doesn't go out,
+//! `specs/Stored.antt` the blocks of an image in memory. `proofs/OneImage.antt` is for callers of one image.
 #![tactic(auto)]
 
 mod bays;
+mod devices;
 mod fault;
 mod faulty;
 mod files;
