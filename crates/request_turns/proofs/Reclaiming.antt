@@ -1,5 +1,5 @@
 -- Steps of reclaim, one after another, with what they counted.
-use Rattle.std.proofs.Common.{◌≡◌, ◌<◌, ◌≤◌, ℕ, Bool, true, false, Result, Ok, Err, refl, sym, ap, subst, ◌∙◌, arith}
+use Rattle.std.proofs.Common.{◌≡◌, ◌<◌, ◌≤◌, ℕ, Bool, true, false, Some, Result, Ok, Err, refl, sym, ap, subst, ◌∙◌, arith}
 use Rattle.wol_disk.specs.Disk.{State}
 use Rattle.wol_model.specs.Index.{listed_in, left}
 use Rattle.wol_promise.specs.Policy.{Look, AreReclaims}
@@ -10,16 +10,14 @@ use Rattle.manager.specs.Stands.{IsReady, IsHome}
 use Rattle.manager.specs.declared.manager.Manager.{Manager}
 use Rattle.manager.specs.declared.part.StepFault.{StepFault}
 use Rattle.manager.specs.declared.part.StepFault.TheVariants as fault
-use Rattle.reclaimer.specs.Counts.{CountsGone}
-use Rattle.reclaimer.specs.Steps.{HasGivenUp, LooksGone}
-use Rattle.reclaimer.specs.declared.answers.Gone.{Gone}
+use Rattle.reclaimer.specs.Wholes.{CountsGroup, HasGivenGroup}
 use Rattle.request_turns.specs.Closed.{GoesOn, Reclaims}
-use Rattle.request_turns.specs.Counts.{CountsMore, HasTaken, gone_count}
+use Rattle.request_turns.specs.Counts.{CountsMore, HasTaken}
 use Rattle.request_turns.specs.declared.tally.Tally.{Tally}
 use Rattle.request_turns.proofs.Counting.{taken_none, taken_both}
 use Rattle.request_turns.specs.Used.{ReclaimUses}
-use Rattle.request_turns.proofs.StepNotes.{gone_goes, gone_taken}
-use Rattle.request_turns.proofs.Uses.{uses_none, uses_then, uses_gone}
+use Rattle.request_turns.proofs.StepNotes.{reclaims_joined}
+use Rattle.request_turns.proofs.Uses.{uses_none, uses_then, uses_group}
 
 module _ {D : Type 0} (tells : Bool) (state : D → State) (shared : Shared D) where
   -- what steps that were done come to
@@ -100,18 +98,18 @@ module _ {D : Type 0} (tells : Bool) (state : D → State) (shared : Shared D) w
     pub no_more : left (listed_in n.index.entries) ≤ left (listed_in m.index.entries)
     pub fewer : some ≡ true → left (listed_in n.index.entries) < left (listed_in m.index.entries)
 
-  -- a record gave something up, and so many records are gone
-  pub gave_up : (m n : Manager D) (g : Gone) (records : ℕ) (t u : Tally) → IsReady state n → IsHome shared n → LooksGone (Ok g) m n → CountsGone (Ok g) (look_of_manager m) (look_of_manager n) → KeepsOn tells state m n Always
-      → CountsMore 0 records t u → records ≡ gone_count g → HasGivenUp (Ok g) m n → Done t u m n
-  gave_up m n g records t u ready at look counted keeps more is gone = record {
+  -- something was given up, and so many records are gone
+  pub gave_group : (m n : Manager D) (records : ℕ) (t u : Tally) → IsReady state n → IsHome shared n → AreReclaims (look_of_manager m) (look_of_manager n) → CountsGroup (Ok (Some records)) (look_of_manager m) (look_of_manager n) → KeepsOn tells state m n Always
+      → CountsMore 0 records t u → HasGivenGroup (Ok (Some records)) m n → Done t u m n
+  gave_group m n records t u ready at look counted keeps more given = record {
     ready = ready;
     at = at;
     down = tt;
-    look = gone_goes m n g look;
-    taken = gone_taken (look_of_manager m) (look_of_manager n) g records counted t u more is;
+    look = λ l r. reclaims_joined l (look_of_manager m) (look_of_manager n) r look;
+    taken = record { blocks = 0; records = records; taken = counted; counts = more };
     keeps = keeps;
     broke = tt;
-    uses = uses_gone m n g gone look counted;
+    uses = uses_group m n records given look counted;
   }
 
   pub gives_more : (some : Bool) (t u v : Tally) (l m n : Manager D) → GivesUp some t u l m → Done u v m n → left (listed_in n.index.entries) < left (listed_in m.index.entries) → GivesUp true t v l n

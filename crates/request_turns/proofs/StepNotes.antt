@@ -15,12 +15,10 @@ use Rattle.manager.specs.declared.part.StepFault.{StepFault}
 use Rattle.manager.specs.declared.part.StepFault.TheVariants as fault
 use Rattle.manager.proofs.Frames.{stands_kept, none_passed}
 use Rattle.reclaimer.specs.Counts.{TakesOff, CountsGone, CountsMoved}
-use Rattle.reclaimer.specs.Steps.{LooksGone}
 use Rattle.reclaimer.specs.declared.answers.Drain.{Drain}
 use Rattle.reclaimer.specs.declared.answers.Drain.TheVariants as drain
 use Rattle.reclaimer.specs.declared.answers.Gone.{Gone}
 use Rattle.reclaimer.specs.declared.answers.Gone.TheVariants as gone
-use Rattle.request_turns.specs.Closed.{GoesOn}
 use Rattle.request_turns.specs.Counts.{CountsMore, HasTaken, gone_count}
 use Rattle.request_turns.specs.Entries.{note_of, step_operation, has_failed}
 use Rattle.request_turns.specs.declared.tally.Tally.{Tally}
@@ -56,12 +54,6 @@ pub reclaims_joined : (l k m : Look) → AreReclaims l k → AreReclaims k m →
 reclaims_joined l k m (policy.none x) rest = rest
 reclaims_joined l k m (policy.more x j y first others) rest = policy.more x j m first (reclaims_joined j y m others rest)
 
-module _ {D : Type 0} where
-  pub gone_goes : (old new : Manager D) (g : Gone) → LooksGone (Ok g) old new → GoesOn (look_of_manager old) (look_of_manager new)
-  gone_goes old new (gone.Version v) step l r = reclaims_then l (look_of_manager old) (look_of_manager new) r step
-  gone_goes old new (gone.Trimmed v) step l r = reclaims_then l (look_of_manager old) (look_of_manager new) r step
-  gone_goes old new gone.Nothing same l r = subst (AreReclaims l) (sym same) r
-
 module _ (A B : Type 0) where
   pub on_kept : (e : StepFault) (P Q : Type 0) → (P → Q) → OnKept {T = A} (Err e) P → OnKept {T = B} (Err e) Q
   on_kept (fault.DiskFault p) P Q f h = tt
@@ -84,9 +76,6 @@ pub gone_takes : (l m : Look) (g : Gone) → CountsGone (Ok g) l m → TakesOff 
 gone_takes l m (gone.Version v) taken = taken
 gone_takes l m (gone.Trimmed v) taken = taken
 gone_takes l m gone.Nothing taken = taken
-
-pub gone_taken : (l m : Look) (g : Gone) (r : ℕ) → CountsGone (Ok g) l m → (t u : Tally) → CountsMore 0 r t u → r ≡ gone_count g → HasTaken t u l m
-gone_taken l m g r taken t u more is = record { blocks = 0; records = gone_count g; taken = gone_takes l m g taken; counts = subst (λ (k : ℕ). CountsMore 0 k t u) is more }
 
 -- what a step of a drain moved is counted behind what was counted before
 module _ (a : Drain) (s t : Tally) (k l m : Look) (before : HasTaken s t k l) (moved : CountsMoved (Ok a) l m) where

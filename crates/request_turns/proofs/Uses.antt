@@ -25,14 +25,13 @@ use Rattle.manager.specs.Reading.{needs_of}
 use Rattle.manager.specs.Seen.{look_of_manager}
 use Rattle.manager.specs.declared.manager.Manager.{Manager}
 use Rattle.manager.proofs.Lanes.{get_set, get_other}
-use Rattle.reclaimer.specs.Counts.{TakesOff, CountsPut, CountsGone}
+use Rattle.reclaimer.specs.Counts.{TakesOff, CountsPut}
 use Rattle.reclaimer.specs.Fetches.{going_entry}
 use Rattle.reclaimer.specs.Groups.{group_of, lanes_of, HasPutGroup, LaysEach, LaysRecord}
 use Rattle.reclaimer.specs.Groups as laying
-use Rattle.reclaimer.specs.Steps.{HasGivenUp, LooksGone}
+use Rattle.reclaimer.specs.Wholes.{CountsGroup, GivesFirst, HasGivenGroup}
+use Rattle.reclaimer.specs.Wholes as gives
 use Rattle.reclaimer.specs.declared.group.Laid.{Laid}
-use Rattle.reclaimer.specs.declared.answers.Gone.{Gone}
-use Rattle.reclaimer.specs.declared.answers.Gone.TheVariants as gone
 use Rattle.reclaimer.proofs.TakenOff.{taken_adds_up, nothing_taken}
 use Rattle.request_turns.specs.Counts.{HasTaken}
 use Rattle.request_turns.specs.Used.{NeedsFor, NeedsOnlyWhere, ReclaimUses, is_up_at}
@@ -226,19 +225,21 @@ module _ {D : Type 0} where
         lanes = λ k o was. let now = laid.lanes k o was in (now.0, ap (λ (x : Manager D). slice_get x.lanes.items k) (g.rest ∙ (λ i. record (g.sync.rest i) { index = n.index })) ∙ now.1, now.2);
       }
 
-  -- a record gave something up, or there was none to give
-  pub uses_gone : (m n : Manager D) (g : Gone) → HasGivenUp (Ok g) m n → LooksGone (Ok g) m n → CountsGone (Ok g) (look_of_manager m) (look_of_manager n) → ReclaimUses m n
-  uses_gone m n (gone.Version version) h step counted = let d = some_is _ (going_entry m) h in let e = d.0 in let r = d.2.2 in let lanes = r.lanes in record {
-    home = for_none m.spindle n.spindle _ (ap (λ (k : Manager D). k.spindle) r.rest) counted.homed;
-    ups = ups_by_look m n (ups_kept (look_of_manager m) (look_of_manager n) step);
-    lanes = one_used m.lanes.items n.lanes.items e.listed.lane lanes.before lanes.after lanes.there lanes.set lanes.change.used (is_up_at m) (going_up m e d.1);
-  }
-  uses_gone m n (gone.Trimmed version) h step counted = let d = some_is _ (going_entry m) h in let e = d.0 in let r = d.2.2 in let lanes = r.lanes in record {
-    home = for_none m.spindle n.spindle _ (ap (λ (k : Manager D). k.spindle) r.rest) counted.homed;
-    ups = ups_by_look m n (ups_kept (look_of_manager m) (look_of_manager n) step);
-    lanes = one_used m.lanes.items n.lanes.items e.listed.lane lanes.before lanes.after lanes.there lanes.set lanes.change.used (is_up_at m) (going_up m e d.1);
-  }
-  uses_gone m n gone.Nothing h step counted = uses_same m n h
+  -- a record gave something up, or a segment went whole
+  pub uses_group : (m n : Manager D) (records : ℕ) → HasGivenGroup (Ok (Some records)) m n → AreReclaims (look_of_manager m) (look_of_manager n) → CountsGroup (Ok (Some records)) (look_of_manager m) (look_of_manager n) → ReclaimUses m n
+  uses_group m n records h reclaims counted = let d = some_is _ (going_entry m) h in by d.0 d.1 d.2
+    where
+      by : (e : Indexed) → going_entry m ≡ Some e → GivesFirst e m n (Ok records) → ReclaimUses m n
+      by e is (gives.one r many) = let lanes = r.lanes in record {
+        home = for_none m.spindle n.spindle _ (ap (λ (k : Manager D). k.spindle) r.rest) counted.homed;
+        ups = ups_by_look m n (ups_all (look_of_manager m) (look_of_manager n) reclaims);
+        lanes = one_used m.lanes.items n.lanes.items e.listed.lane lanes.before lanes.after lanes.there lanes.set lanes.change.used (is_up_at m) (going_up m e is);
+      }
+      by e is (gives.whole go r many) = let lanes = r.lanes in record {
+        home = for_none m.spindle n.spindle _ (ap (λ (k : Manager D). k.spindle) r.rest) counted.homed;
+        ups = ups_by_look m n (ups_all (look_of_manager m) (look_of_manager n) reclaims);
+        lanes = one_used m.lanes.items n.lanes.items e.listed.lane lanes.before lanes.after lanes.there lanes.set lanes.change.used (is_up_at m) (going_up m e is);
+      }
 
   -- a body that wakes home in a turn that puts nothing home is no reclaim: the clause refuses it
   pub not_for_nothing : (m n : Manager D) → look_of_manager n ≡ look_of_manager m → HasUsedOnce m.spindle n.spindle → ReclaimUses m n → ⊥

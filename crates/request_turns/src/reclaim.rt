@@ -15,7 +15,7 @@ use crate::noted::leave_step_in_place;
 use crate::tally::Tally;
 use logger::Shared;
 use manager::{Manager, StepFault};
-use reclaimer::{Fetch, Gone, invalidate_one, put_group};
+use reclaimer::{Fetch, give_up_group, put_group};
 use std::sync::Wait;
 use turn_lock::{Pass, TurnLock};
 use wol_disk::Disk;
@@ -44,7 +44,7 @@ fn put_due<R: Wait, D: Disk>(
     }
 }
 
-// Gives up what may go, record by record. Tells whether there was anything.
+// Gives up what may go, record by record, or by segments that go whole. Tells whether there was anything.
 fn give_up<R: Wait, D: Disk>(
     rt: &R,
     m: &mut Manager<D>,
@@ -61,11 +61,10 @@ fn give_up<R: Wait, D: Disk>(
 {
     let mut some = false;
     'steps: loop {
-        match invalidate_one(rt, m, shared)? {
-            Gone::Nothing => return Ok(some),
-            Gone::Version(_) => tally.count(0, 1),
-            Gone::Trimmed(_) => {}
-        }
+        let Some(records) = give_up_group(rt, m, shared)? else {
+            return Ok(some);
+        };
+        tally.count(0, records);
         some = true;
     }
 }
