@@ -353,7 +353,7 @@ wake_mj = %d""" % (options.timeout * 1000, options.wake * 1000))
         for j in order:
             if j != i and j not in view and len(view) < options.loggers:
                 view.append(j)
-        print("\n[[volume]]\nname = \"%s\"\nhost = \"%s\"\ndisk = %d\nhome_blocks = %d\nsegments = 64\nview = [%s]" % (
+        print("\n[[volume]]\nname = \"%s\"\nhost = \"%s\"\ndisk = %d\nhome_blocks = %d\nsegments = 85\nview = [%s]" % (
             names[i], v[0], v[1], v[4], ", ".join('"%s"' % names[j] for j in view)))
 
 

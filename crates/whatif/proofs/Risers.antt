@@ -1,14 +1,13 @@
 -- A request for whose uses a disk comes up waits as long as that takes.
-use Rattle.std.proofs.Common.{◌≡◌, ◌<◌, ◌≤◌, ◌+◌, ◌-◌, ◌⊎◌, inl, inr, ℕ, zero, suc, Bool, true, false, cond, List, [], ◌∷◌, ◌++◌, Option, None, Some, max, refl, sym, ap, ◌∙◌, arith}
+use Rattle.std.proofs.Common.{◌≡◌, ◌<◌, ◌≤◌, ◌-◌, inl, inr, ℕ, zero, suc, Bool, true, false, cond, List, [], ◌∷◌, ◌++◌, Some, max, refl, ap, ◌∙◌, arith}
 use Rattle.std.specs.Prelude.{slice_get}
-use Rattle.std.specs.Option.{option_map_or}
 use Rattle.std.proofs.lemmas.Bool.{cases_lt}
 use Rattle.std.proofs.lemmas.List.Sums.{sum_by-cons}
 use Rattle.wol_model.specs.declared.journal.Turned.TheVariants.{Up}
 use Rattle.wol_model.specs.Blocks.{changed_at}
 use Rattle.wol_model.specs.Journal.{SpindleState, wakes}
 use Rattle.whatif.specs.Laws.{RisersWait}
-use Rattle.whatif.specs.Machine.{accessed, all_accessed, all_wakes}
+use Rattle.whatif.specs.Machine.{accessed, all_wakes}
 use Rattle.whatif.specs.Waits.{lag, lag_among, lag_behind, last_up, wait_on}
 use Rattle.whatif.proofs.Longest.{among_short, wait_short}
 use Rattle.whatif.proofs.Spinning.{last_up_up}
@@ -16,7 +15,7 @@ use Rattle.whatif.proofs.Spinning.{last_up_up}
 -- ---- one disk
 
 -- a disk that is used comes up, or was awake
-one_rises : (timeout wake : ℕ) (s : SpindleState) → wakes s.journal < wakes (accessed timeout s).journal → lag wake (accessed timeout s) ≡ wake
+pub one_rises : (timeout wake : ℕ) (s : SpindleState) → wakes s.journal < wakes (accessed timeout s).journal → lag wake (accessed timeout s) ≡ wake
 one_rises timeout wake s rises = by s.awake refl
   where
     by : (up : Bool) → s.awake ≡ up → lag wake (accessed timeout s) ≡ wake
@@ -46,10 +45,10 @@ place_rises timeout wake (suc d) (s ∷ ss) rises =
 
 -- ---- disks that are used one after another
 
-most_first : (a b wake : ℕ) → a ≡ wake → b ≤ wake → max a b ≡ wake
+pub most_first : (a b wake : ℕ) → a ≡ wake → b ≤ wake → max a b ≡ wake
 most_first a b wake x y = omega arith
 
-most_then : (a b wake : ℕ) → a ≤ wake → b ≡ wake → max a b ≡ wake
+pub most_then : (a b wake : ℕ) → a ≤ wake → b ≡ wake → max a b ≡ wake
 most_then a b wake x y = omega arith
 
 pub risers_wait : RisersWait
