@@ -16,3 +16,7 @@ pub mod Waited
 pub mod Lined
 pub mod Longest
 pub mod Risers
+pub mod Staying
+pub mod Showing
+pub mod Windows
+pub mod Nobody

@@ -16,7 +16,7 @@ use Rattle.whatif.proofs.Spinning.{last_up_up}
 -- ---- one disk
 
 -- a disk that is used comes up, or was awake
-one_rises : (timeout wake : ℕ) (s : SpindleState) → wakes s.journal < wakes (accessed timeout s).journal → lag wake (accessed timeout s) ≡ wake
+pub one_rises : (timeout wake : ℕ) (s : SpindleState) → wakes s.journal < wakes (accessed timeout s).journal → lag wake (accessed timeout s) ≡ wake
 one_rises timeout wake s rises = by s.awake refl
   where
     by : (up : Bool) → s.awake ≡ up → lag wake (accessed timeout s) ≡ wake
@@ -46,10 +46,10 @@ place_rises timeout wake (suc d) (s ∷ ss) rises =
 
 -- ---- disks that are used one after another
 
-most_first : (a b wake : ℕ) → a ≡ wake → b ≤ wake → max a b ≡ wake
+pub most_first : (a b wake : ℕ) → a ≡ wake → b ≤ wake → max a b ≡ wake
 most_first a b wake x y = omega arith
 
-most_then : (a b wake : ℕ) → a ≤ wake → b ≡ wake → max a b ≡ wake
+pub most_then : (a b wake : ℕ) → a ≤ wake → b ≡ wake → max a b ≡ wake
 most_then a b wake x y = omega arith
 
 pub risers_wait : RisersWait

@@ -20,7 +20,7 @@ mod views;
 mod volume;
 mod waits;
 
-pub use laws::{policy_laws, waits_laws};
+pub use laws::{policy_laws, risers_laws, waits_laws, window_laws};
 pub use lines::policy_line;
 pub use machine::Machine;
 pub use policy::{Ask, Compared, Details, Policy};
