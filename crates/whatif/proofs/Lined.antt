@@ -15,7 +15,7 @@ use Rattle.whatif.specs.declared.policy.Policy.{Policy}
 use Rattle.whatif.specs.declared.policy.Used.{Used}
 use Rattle.whatif.specs.declared.waits.Told.{Told}
 use Rattle.whatif.specs.Disks.{AreDisks, IsDisk}
-use Rattle.whatif.specs.Lines.{both_text, name_at, name_of, policy_text, told_text, used_at, volume_text, volumes_text, waits_text}
+use Rattle.whatif.specs.Lines.{long_text, name_at, name_of, policy_text, told_text, used_at, volume_text, volumes_text, waits_text}
 use Rattle.whatif.specs.Machine.{Asked}
 use Rattle.whatif.specs.Policies.{compared, machine_after, waits_by}
 use Rattle.whatif.specs.Waits.{AreTold, Waited, of_volume, over, waits_of}
@@ -61,15 +61,15 @@ pub on_ok : {T E : Type 0} (r : Result T E) (P Q : Type 0) → (P → Q) → OnO
 on_ok (Ok x) P Q f is = f is
 on_ok (Err e) P Q f is = tt
 
-pub both_told : (p : Policy) (wake : ℕ) (ws : List Waited) (a o1 o2 : List ℕ) → o1 ≡ a ++ waits_text p Read wake (waits_of false ws) → o2 ≡ o1 ++ waits_text p Write wake (waits_of true ws) → o2 ≡ a ++ both_text p wake ws
-unfolding both_text
-both_told p wake ws a o1 o2 e1 e2 = e2 ∙ ap (λ (l : List ℕ). l ++ waits_text p Write wake (waits_of true ws)) e1 ∙ append_assoc a _ _
+pub long_told : (p : Policy) (wake : ℕ) (ws : List Waited) (a o1 o2 : List ℕ) → o1 ≡ a ++ waits_text p Read wake (waits_of false ws) → o2 ≡ o1 ++ waits_text p Write wake (waits_of true ws) → o2 ≡ a ++ long_text p wake ws
+unfolding long_text
+long_told p wake ws a o1 o2 e1 e2 = e2 ∙ ap (λ (l : List ℕ). l ++ waits_text p Write wake (waits_of true ws)) e1 ∙ append_assoc a _ _
 
 three : (a p q r o1 o2 o3 : List ℕ) → o1 ≡ a ++ p → o2 ≡ o1 ++ q → o3 ≡ o2 ++ r → o3 ≡ a ++ ((p ++ q) ++ r)
 three a p q r o1 o2 o3 e1 e2 e3 = e3 ∙ ap (λ (l : List ℕ). l ++ r) (e2 ∙ ap (λ (l : List ℕ). l ++ q) e1) ∙ simp append_assoc
 
 pub all_told : (details : Details) (p : Policy) (c : Config) (from : ℕ) (ws : List Asked) (to : ℕ) (a o1 o2 o3 : List ℕ) → o1 ≡ a ++ policy_text p (compared p c from ws to)
-    → o2 ≡ o1 ++ cond details.long (both_text p c.wake (waits_by p c from ws)) [] → o3 ≡ o2 ++ cond details.volumes (volumes_text p c from ws to) [] → o3 ≡ a ++ told_text details p c from ws to
+    → o2 ≡ o1 ++ cond details.long (long_text p c.wake (waits_by p c from ws)) [] → o3 ≡ o2 ++ cond details.volumes (volumes_text p c from ws to) [] → o3 ≡ a ++ told_text details p c from ws to
 unfolding told_text
 all_told details p c from ws to a o1 o2 o3 e1 e2 e3 = three a _ _ _ o1 o2 o3 e1 e2 e3
 

@@ -1,3 +1,4 @@
+pub mod Logs
 pub mod Machine
 pub mod Policies
 pub mod Waits

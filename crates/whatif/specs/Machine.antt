@@ -1,7 +1,7 @@
 -- The machine of one thread: a look for each volume and a spindle for each disk, and what requests,
 -- reclaim and windows make of them.
-use Rattle.std.specs.Prelude.{ℕ, zero, suc, Bool, true, false, ◌&&◌, List, [], ◌∷◌, ◌++◌, map, length, Option, None, Some, option_map, slice_get, slice_set, slice_index_or, position, replicate, if◌then◌else◌, sum_by}
-use Rattle.std.specs.List.{range_with_len, filter}
+use Rattle.std.specs.Prelude.{ℕ, zero, suc, Bool, true, false, ◌&&◌, List, [], ◌∷◌, ◌++◌, map, length, Option, None, Some, option_map, slice_get, slice_set, slice_index_or, position, replicate, if◌then◌else◌, sum_by, ◌==◌}
+use Rattle.std.specs.List.{range_with_len, filter, count_by}
 use Rattle.std.specs.Option.{option_map_or}
 use Rattle.wol_model.specs.declared.trace.Kind.{Kind}
 use Rattle.wol_model.specs.declared.trace.Kind.TheVariants.{Read, Write}
@@ -9,25 +9,29 @@ use Rattle.wol_model.specs.declared.journal.Powers.{Powers}
 use Rattle.wol_model.specs.Blocks as blocks
 use Rattle.wol_model.specs.Blocks.{changed_at}
 use Rattle.wol_model.specs.Extents.{newest}
-use Rattle.wol_model.specs.Index.{Listed, cover_of, is_due, has_due, has_going, keeps_a_block, homing, keeping, left}
+use Rattle.wol_model.specs.Index.{Listed, block_numbers, cover_of, goes, is_due, has_due, has_going, keeps_a_block, homing, keeping, left}
 use Rattle.wol_model.specs.Journal.{SpindleState, Started, Began, Needed, Done, new_spindle, used, wakes, sleeps, units}
 use Rattle.wol_model.specs.Placing.{Place, Home, Log, Full}
 use Rattle.wol_promise.specs.Policy.{Look, woken, place_of, placed, is_within_reach}
 use Rattle.whatif.specs.declared.policy.Ask.{Ask}
+use Rattle.whatif.specs.declared.store.Given.{Given}
+use Rattle.whatif.specs.Logs.{Move, Files, Gives, Store, all_moved, first_store}
 
 -- the disks that a volume may use: its own, and those of its loggers in the order of its view
 pub record Reach : Type 0 where
   pub own : ℕ
   pub loggers : List ℕ
 
--- what an action of a volume makes of its look, and the disks that it uses, in order
+-- what an action of a volume makes of its look, the disks that it uses, and what it does in logs, in
+-- order
 pub record Action : Type 0 where
   pub look : Look
   pub uses : List ℕ
+  pub moves : List Move
 
 -- nothing is done
 abbrev pub still : Look → Action
-still l = record { look = l; uses = [] }
+still l = record { look = l; uses = []; moves = [] }
 
 -- ---- Requests
 
@@ -44,6 +48,7 @@ abbrev pub reading : (first count : ℕ) → Reach → Look → Action
 reading first count r l = record {
   look = woken l first count;
   uses = map (source_of r l.listed) (range_with_len first count);
+  moves = [];
 }
 
 -- the disk of a place
@@ -52,6 +57,12 @@ disk_of r Home = r.own ∷ []
 disk_of r (Log lane) = logger_at r lane ∷ []
 disk_of r Full = []
 
+-- what a write of a new version does in the log of its place
+abbrev pub filed_at : (version count : ℕ) → Reach → Place → List Move
+filed_at version count r Home = []
+filed_at version count r (Log lane) = Files (logger_at r lane) version count ∷ []
+filed_at version count r Full = []
+
 -- blocks in a row that are written; what they are doesn't matter here
 abbrev pub write_of : (first count : ℕ) → blocks.Write
 write_of first count = record { first = first; blocks = replicate count []; version = None }
@@ -59,7 +70,11 @@ write_of first count = record { first = first; blocks = replicate count []; vers
 -- a write goes where the rule of placing says, with room in every log, and uses that disk
 abbrev pub writing : (first count : ℕ) → Reach → Look → Action
 writing first count r l = let p = place_of [] l (write_of first count) in
-    record { look = placed p l (write_of first count); uses = disk_of r p }
+    record {
+      look = placed p l (write_of first count);
+      uses = disk_of r p;
+      moves = filed_at l.next count r p;
+    }
 
 -- what is asked of a volume
 abbrev pub answering : Kind → (first count : ℕ) → Reach → Look → Action
@@ -77,7 +92,8 @@ step_at step l (Some k) = option_map (step l k) (slice_get l.listed k)
 abbrev pub followed : Look → Option Action → (Look → Action) → Action
 followed l None more = still l
 followed l (Some a) more =
-    let rest = more a.look in record { look = rest.look; uses = a.uses ++ rest.uses }
+    let rest = more a.look in
+    record { look = rest.look; uses = a.uses ++ rest.uses; moves = a.moves ++ rest.moves }
 
 abbrev pub repeated : (most : ℕ) → (Look → Option Action) → Look → Action
 repeated zero step l = still l
@@ -94,11 +110,21 @@ put_home r l k e = record {
   look = record l
       { listed = slice_set l.listed k (homing (is_due l.listed e) e) };
   uses = logger_at r e.lane ∷ r.own ∷ [];
+  moves = [];
 }
 
 -- the record of least version within reach of which a block may go
 abbrev pub next_to_go : Look → Option ℕ
 next_to_go l = position (λ e. is_within_reach l e && has_going l.listed e) l.listed
+
+-- what the record of a look gives up: it is gone where that is all that it keeps
+abbrev pub given_of : Reach → Look → Listed → Given
+given_of r l e = let blocks = count_by (goes l.listed e) (block_numbers e) in record {
+  disk = logger_at r e.lane;
+  version = e.version;
+  blocks = blocks;
+  gone = blocks == count_by (cover_of e).covers (block_numbers e);
+}
 
 -- it gives up the blocks that may go, and is gone where it keeps none; its logger is used
 abbrev pub give_up : Reach → Look → (k : ℕ) → Listed → Action
@@ -106,6 +132,7 @@ give_up r l k e = record {
   look = record l
       { listed = filter keeps_a_block (slice_set l.listed k (keeping l.listed e)) };
   uses = logger_at r e.lane ∷ [];
+  moves = Gives (given_of r l e) ∷ [];
 }
 
 abbrev pub put_step : Reach → Look → Option Action
@@ -120,14 +147,19 @@ abbrev pub reclaiming : Reach → Look → Action
 reclaiming r l =
     let puts = repeated (left l.listed) (put_step r) l in
     let gives = repeated (left puts.look.listed) (give_step r) puts.look in
-    record { look = gives.look; uses = puts.uses ++ gives.uses }
+    record {
+      look = gives.look;
+      uses = puts.uses ++ gives.uses;
+      moves = puts.moves ++ gives.moves;
+    }
 
 -- ---- The machine
 
--- a volume: the disks that it may use, and its look
+-- a volume: the disks that it may use, its look, and what it has in logs
 pub record Volume : Type 0 where
   pub reach : Reach
   pub look : Look
+  pub store : Store
 
 -- all volumes and all disks
 pub record Machine : Type 0 where
@@ -152,7 +184,8 @@ pub record Turn : Type 0 where
 abbrev pub turned_at : (timeout : ℕ) → Turn → Machine → Option Volume → Machine
 turned_at timeout t m None = m
 turned_at timeout t m (Some v) = let a = t.action v.reach v.look in record {
-  volumes = slice_set m.volumes t.volume (record { reach = v.reach; look = a.look });
+  volumes = slice_set m.volumes t.volume
+      (record { reach = v.reach; look = a.look; store = all_moved a.moves v.store });
   spindles = all_accessed timeout a.uses m.spindles;
 }
 
@@ -174,10 +207,11 @@ tidying v = record { volume = v; action = reclaiming }
 
 -- ---- Windows
 
--- what a machine is made of: the timeout, whether disks go down at all, and the disks that each
--- volume may use
+-- what a machine is made of: the timeout, the blocks of a segment, whether disks go down at all, and
+-- the disks that each volume may use
 pub record Setting : Type 0 where
   pub timeout : ℕ
+  pub whole : ℕ
   pub sleeps : Bool
   pub reaches : List Reach
 
@@ -191,6 +225,7 @@ seeing ss v = record {
   reach = v.reach;
   look = record v.look
       { home_up = is_up ss v.reach.own; ups = map (is_up ss) v.reach.loggers };
+  store = v.store;
 }
 
 -- the window's moment comes at each disk, if disks go down at all, and each volume sees which are
@@ -226,13 +261,13 @@ first_look r = record {
   down = None;
 }
 
-abbrev pub first_volume : Reach → Volume
-first_volume r = record { reach = r; look = first_look r }
+abbrev pub first_volume : (whole : ℕ) → Reach → Volume
+first_volume whole r = record { reach = r; look = first_look r; store = first_store whole }
 
 -- the machine when its account begins
 abbrev pub first_machine : Setting → (from : ℕ) → Machine
 first_machine s from = record {
-  volumes = map first_volume s.reaches;
+  volumes = map (first_volume s.whole) s.reaches;
   spindles = map (λ r. used s.timeout new_spindle 0 (Started from)) s.reaches;
 }
 

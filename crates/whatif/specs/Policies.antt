@@ -59,6 +59,7 @@ goes_down Views = true
 abbrev pub setting_of : Policy → Config → Setting
 setting_of p c = record {
   timeout = c.timeout;
+  whole = c.segment_blocks;
   sleeps = goes_down p;
   reaches = map (reach_of p c.volumes.items) (range_with_len 0 (length c.volumes.items));
 }

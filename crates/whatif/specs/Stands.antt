@@ -50,11 +50,12 @@ HaveWaited wake asks vs ds old new = (timeout : ℕ) (m : machine.Machine) (ws :
     → AreTallied wake (ws ++ waits_among timeout wake asks m) new
 
 -- all volumes, of which nothing is logged yet
-pub record AreNew (p : Policy) (confs : List VolumeConf) (vs : List Volume) : Type 0 where
+pub record AreNew (p : Policy) (whole : ℕ) (confs : List VolumeConf) (vs : List Volume) :
+    Type 0 where
   pub count : length vs ≡ length confs
   pub all : AllByRecursion (IsAmong (length confs) 0) vs
   pub made : map volume_in vs
-      ≡ map (λ n. first_volume (reach_of p confs n)) (range_with_len 0 (length vs))
+      ≡ map (λ n. first_volume whole (reach_of p confs n)) (range_with_len 0 (length vs))
 
 -- what is so of each machine
 pub record IsMachine (m : Machine) : Type 0 where

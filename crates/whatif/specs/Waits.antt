@@ -1,6 +1,6 @@
 -- Who waits for a disk to come up, and how long. Times are in units of 100 ns; `wake` is how long a disk takes to come up.
-use Rattle.std.specs.Prelude.{◌≡◌, ℕ, ◌+◌, ◌-◌, ◌*◌, ◌/◌, ◌^◌, ◌<◌, ◌≤◌, max, Bool, true, false, not, nat_le, nat_lt, List, [], ◌∷◌, ◌++◌, map, length, Option, None, Some, slice_get, slice_index, slice_index_or, ◌==◌, unwrap_or, position, sum, count_by}
-use Rattle.std.specs.List.{AllByRecursion, range_with_len, filter}
+use Rattle.std.specs.Prelude.{◌≡◌, ℕ, ◌+◌, ◌-◌, ◌*◌, ◌/◌, ◌^◌, ◌<◌, ◌≤◌, max, Bool, true, false, not, nat_le, nat_lt, List, [], ◌∷◌, ◌++◌, map, length, Option, None, Some, slice_get, slice_index, slice_index_or, ◌==◌, unwrap_or, position, sum, count_by, option_map, option_to_list, option_and_then}
+use Rattle.std.specs.List.{AllByRecursion, range_with_len, filter, flat_map, sum_by}
 use Rattle.std.specs.Option.{option_map_or}
 use Rattle.wol_model.specs.declared.journal.Turned.{Turned}
 use Rattle.wol_model.specs.declared.journal.Turned.TheVariants.{Down, Up}
@@ -12,6 +12,10 @@ use Rattle.whatif.specs.declared.policy.Ask.{Ask}
 use Rattle.whatif.specs.declared.waits.Tallies.{Tallies}
 use Rattle.whatif.specs.declared.waits.Told.{Told}
 use Rattle.whatif.specs.declared.waits.Waits.{Waits}
+use Rattle.whatif.specs.declared.logged.Held.{Held}
+use Rattle.whatif.specs.declared.logged.Logged.{Logged}
+use Rattle.whatif.specs.declared.logged.Most.{Most}
+use Rattle.whatif.specs.Logs.{filed_on}
 use Rattle.whatif.specs.Machine.{Volume, Machine, Setting, Asked, accessed, answering, asking, turned, begun, after_window}
 
 -- ---- One disk
@@ -44,23 +48,43 @@ wait_on timeout wake (d ∷ uses) ss =
     max (lag_among wake (changed_at d (accessed timeout) ss) d)
     (wait_on timeout wake uses (changed_at d (accessed timeout) ss))
 
--- a request that was answered, and its wait
+-- a request that was answered, its wait, and what logs hold behind it where it went to one
 pub record Waited : Type 0 where
   pub volume : ℕ
   pub kind : Kind
   pub wait : ℕ
+  pub held : Option Held
 
 -- the disks that a request uses
 abbrev pub uses_of : Ask → Machine → List ℕ
 uses_of a m = option_map_or
     (λ (v : Volume). (answering a.kind a.lbn a.count v.reach v.look).uses) (slice_get m.volumes a.volume) []
 
+-- the disk of the log to which a request goes
+abbrev pub log_of : Ask → Machine → Option ℕ
+log_of a m = option_and_then (λ (v : Volume).
+    filed_on (answering a.kind a.lbn a.count v.reach v.look).moves) (slice_get m.volumes a.volume)
+
+-- what logs hold: the blocks and the segments that all volumes have on a disk, and the blocks that
+-- they have on all disks
+abbrev pub held_on : List Volume → (disk : ℕ) → Held
+held_on vs disk = record {
+  disk = disk;
+  blocks = sum_by (λ (v : Volume). (v.store.shelf disk).kept) vs;
+  segments = sum_by (λ (v : Volume). length (v.store.shelf disk).segments) vs;
+  all = sum_by (λ (v : Volume). v.store.kept) vs;
+}
+
 -- requests have their turns, one after another
 abbrev pub waits_among : (timeout wake : ℕ) → List Ask → Machine → List Waited
 waits_among timeout wake [] m = []
 waits_among timeout wake (a ∷ asks) m =
-    record { volume = a.volume; kind = a.kind; wait = wait_on timeout wake (uses_of a m) m.spindles }
-    ∷ waits_among timeout wake asks (turned timeout (asking a) m)
+    let n = turned timeout (asking a) m in record {
+      volume = a.volume;
+      kind = a.kind;
+      wait = wait_on timeout wake (uses_of a m) m.spindles;
+      held = option_map (held_on n.volumes) (log_of a m);
+    } ∷ waits_among timeout wake asks n
 
 -- .. in windows, one after another
 abbrev pub waits_in : Setting → (wake : ℕ) → List Asked → Machine → List Waited
@@ -111,11 +135,40 @@ pub record AreTold (wake : ℕ) (ws : List Waited) (t : Told) : Type 0 where
 abbrev pub of_volume : (volume : ℕ) → List Waited → List Waited
 of_volume volume ws = filter (λ (w : Waited). w.volume == volume) ws
 
--- .. and this of these requests, and of those of each volume
+-- ---- What is told of logs
+
+-- what logs held behind each request that went to one
+abbrev pub helds : List Waited → List Held
+helds ws = flat_map (λ (w : Waited). option_to_list w.held) ws
+
+-- the greatest of these numbers, or none
+abbrev pub greatest : List ℕ → ℕ
+greatest [] = 0
+greatest (n ∷ ns) = max n (greatest ns)
+
+-- .. those of one disk
+abbrev pub of_disk : (disk : ℕ) → List Held → List Held
+of_disk disk hs = filter (λ (h : Held). h.disk == disk) hs
+
+-- the program tells the most blocks and segments of these
+pub record IsMost (hs : List Held) (m : Most) : Type 0 where
+  pub blocks : m.blocks ≡ greatest (map (λ (h : Held). h.blocks) hs)
+  pub segments : m.segments ≡ greatest (map (λ (h : Held). h.segments) hs)
+
+-- the most blocks of all disks together, and the most segments of one; and the most of each disk
+pub record AreLogged (hs : List Held) (l : Logged) : Type 0 where
+  pub count : l.count ≡ length hs
+  pub blocks : l.blocks ≡ greatest (map (λ (h : Held). h.all) hs)
+  pub segments : l.segments ≡ greatest (map (λ (h : Held). h.segments) hs)
+  pub each : (k : ℕ) (d : Most) → k < length l.each.items
+      → IsMost (of_disk k hs) (slice_index_or l.each.items k d)
+
+-- .. and this of these requests, and of those of each volume, and of logs
 pub record AreTallied (wake : ℕ) (ws : List Waited) (t : Tallies) : Type 0 where
   pub all : AreTold wake ws t.all
   pub each : (k : ℕ) (d : Told) → k < length t.each.items
       → AreTold wake (of_volume k ws) (slice_index_or t.each.items k d)
+  pub logged : AreLogged (helds ws) t.logged
 
 -- so many requests were told of at most
 pub record IsFew (asked : ℕ) (t : Waits) : Type 0 where
@@ -131,3 +184,5 @@ pub record AreFewIn (volumes asked : ℕ) (t : Tallies) : Type 0 where
   pub count : length t.each.items ≡ volumes
   pub all : AreFew asked t.all
   pub each : AllByRecursion (AreFew asked) t.each.items
+  pub logged : t.logged.count ≤ asked
+  pub disks : length t.logged.each.items ≡ volumes

@@ -1,13 +1,15 @@
 // What is printed of a policy.
-ghost use Rattle.std.specs.Prelude.{◌≡◌, ◌++◌, ℕ, List, OnOk, OnErr};
-ghost use Rattle.whatif.specs.Waits.{AreTold, IsTold, Waited};
-ghost use Rattle.whatif.specs.Lines.{kind_text, name_of, policy_text, volume_text, waits_text};
+ghost use Rattle.std.specs.Prelude.{◌≡◌, ◌++◌, ℕ, List, OnOk, OnErr, Some};
+ghost use Rattle.whatif.specs.Waits.{AreLogged, AreTold, IsMost, IsTold, Waited};
+ghost use Rattle.whatif.specs.declared.logged.Held.{Held};
+ghost use Rattle.whatif.specs.Lines.{kind_text, logged_text, name_of, policy_text, volume_text, volume_words, waits_text};
 
+use crate::logged::{Logged, Most};
 use crate::policy::{Compared, Policy, Used};
 use crate::waits::{Told, Waits};
 use report::Word::{Large, Number, Text};
 use report::append_line;
-use wol_config::Name;
+use wol_config::VolumeConf;
 use wol_disk::NoMemory;
 use wol_model::Kind;
 
@@ -86,45 +88,87 @@ pub(crate) fn waits_line(
     )
 }
 
-/// Appends the line of a volume: how often its own disk came up and went down, how long it was awake and in standby, what it
-/// used, and how many of its own reads and writes there were and how many waited. `NoMemory` appends nothing.
-#[tactic(auto, unfolding(crate::specs::Lines::volume_text))]
-pub(crate) fn volume_line(
+/// Appends the line of what a policy's logs held: how many writes went to them, the most blocks that all together kept at one
+/// moment, and the most segments that one disk held. `NoMemory` appends nothing.
+#[tactic(auto, unfolding(crate::specs::Lines::logged_text))]
+pub(crate) fn logged_line(
     policy: Policy,
-    name: &Name,
-    used: &Used,
-    told: &Told,
+    logged: &Logged,
     out: &mut Vec<u8>,
 ) -> Result<(), NoMemory>
-    ensures ok { (wake : ℕ) (ws : List Waited) → AreTold wake ws told.now
-        → OnOk result (out.new.items
-        ≡ out.old.items ++ volume_text policy name.now used.now wake ws) }
+    ensures ok { (hs : List Held) → AreLogged hs logged.now
+        → OnOk result (out.new.items ≡ out.old.items ++ logged_text policy hs) }
     ensures err { OnErr result (out.new.items ≡ out.old.items) }
 {
     append_line(
         &[
             Text(name_of(policy)),
-            Text(b"volume"),
-            Text(name.as_bytes()),
-            Text(b"wakes"),
-            Number(used.wakes),
-            Text(b"sleeps"),
-            Number(used.sleeps),
-            Text(b"awake"),
-            Number(used.awake),
-            Text(b"standby"),
-            Number(used.standby),
-            Text(b"energy"),
-            Large(used.units / 10_000_000),
-            Text(b"reads"),
-            Number(told.reads.count),
-            Text(b"wait"),
-            Number(told.reads.waiting()),
-            Text(b"writes"),
-            Number(told.writes.count),
-            Text(b"wait"),
-            Number(told.writes.waiting()),
+            Text(b"logged"),
+            Number(logged.count),
+            Text(b"blocks"),
+            Large(logged.blocks),
+            Text(b"segments"),
+            Large(logged.segments),
         ],
         out,
     )
+}
+
+// How many words a volume's line has: two more where it says how many segments there are.
+fn volume_words(policy: Policy) -> usize
+    ensures { result ≡ volume_words policy }
+{
+    match policy {
+        Policy::Always | Policy::SpinDown | Policy::Host | Policy::All => 25,
+        Policy::Views => 27,
+    }
+}
+
+/// Appends the line of a volume: how often its own disk came up and went down, how long it was awake and in standby, what it
+/// used, how many of its own reads and writes there were and how many waited, and how many blocks and segments of others it held
+/// at most; with the policy of the views also how many segments it has. `NoMemory` appends nothing.
+#[tactic(auto, unfolding(crate::specs::Lines::volume_text))]
+pub(crate) fn volume_line(
+    policy: Policy,
+    volume: &VolumeConf,
+    used: &Used,
+    told: &Told,
+    held: &Most,
+    out: &mut Vec<u8>,
+) -> Result<(), NoMemory>
+    ensures ok { (wake : ℕ) (ws : List Waited) (hs : List Held) → AreTold wake ws told.now
+        → IsMost hs held.now → OnOk result (out.new.items
+        ≡ out.old.items ++ volume_text policy (Some volume.now) used.now wake ws hs) }
+    ensures err { OnErr result (out.new.items ≡ out.old.items) }
+{
+    let words = [
+        Text(name_of(policy)),
+        Text(b"volume"),
+        Text(volume.name.as_bytes()),
+        Text(b"wakes"),
+        Number(used.wakes),
+        Text(b"sleeps"),
+        Number(used.sleeps),
+        Text(b"awake"),
+        Number(used.awake),
+        Text(b"standby"),
+        Number(used.standby),
+        Text(b"energy"),
+        Large(used.units / 10_000_000),
+        Text(b"reads"),
+        Number(told.reads.count),
+        Text(b"wait"),
+        Number(told.reads.waiting()),
+        Text(b"writes"),
+        Number(told.writes.count),
+        Text(b"wait"),
+        Number(told.writes.waiting()),
+        Text(b"blocks"),
+        Large(held.blocks),
+        Text(b"segments"),
+        Large(held.segments),
+        Text(b"of"),
+        Number(u64::from(volume.segments)),
+    ];
+    append_line(&words[..volume_words(policy)], out)
 }

@@ -1,19 +1,20 @@
 // The machine: all volumes and all disks by one policy.
 ghost use Rattle.std.specs.List.{AllByRecursion, range_with_len};
-ghost use Rattle.std.specs.Prelude.{◌≡◌, ◌<◌, ◌≤◌, ◌+◌, ◌^◌, ◌++◌, ◌∷◌, [], ℕ, true, false, List, length, map, OnOk, OnErr, IfOk, if◌then◌else◌};
+ghost use Rattle.std.specs.Prelude.{◌≡◌, ◌<◌, ◌≤◌, ◌+◌, ◌^◌, ◌++◌, ◌∷◌, [], ℕ, true, false, List, length, map, option_map, OnOk, OnErr, IfOk, if◌then◌else◌};
 ghost use Rattle.whatif.specs.Disks.{AreDisks, AreKeptTo, IsKept, moments_of};
 ghost use Rattle.whatif.specs.Lines.{volumes_text};
 ghost use Rattle.whatif.specs.Machine.{Asked, all_sleeps, all_units, all_wakes, asking, seeing, tidying};
 ghost use Rattle.whatif.specs.Policies.{HaveViews, compared, goes_down, machine_after, waits_by};
 ghost use Rattle.whatif.specs.Stands.{AreNew, AreReady, AreRules, HasRun, HaveTurned, HaveWaited, IsAmong, IsAsk, IsMachine, Stands};
 ghost use Rattle.whatif.specs.Volumes.{volume_in};
-ghost use Rattle.whatif.specs.Waits.{AreFewIn, AreTallied, AreTold};
+ghost use Rattle.whatif.specs.Waits.{AreFewIn, AreTallied, AreTold, held_on};
 ghost use Rattle.whatif.specs.declared.policy.Policy.{Policy};
 ghost use Rattle.wol_config.specs.Configs.{IsValid};
 ghost use Rattle.wol_config.specs.declared.config.Config.{Config};
 ghost use Rattle.wol_model.specs.Journal.{SpindleState, Began, ArePowers, used};
 
 use crate::disk::Disk;
+use crate::logged::{Held, Logged};
 use crate::policy::{Ask, Compared, Policy};
 use crate::telling::volume_lines;
 use crate::views::loggers_of;
@@ -57,15 +58,17 @@ fn volumes_of(
     alloc: Global,
     policy: Policy,
     volumes: &[VolumeConf],
+    whole: u32,
 ) -> Result<Vec<Volume>, NoMemory>
     requires few { length volumes.now ≤ 64 }
     requires views { HaveViews volumes.now }
-    ensures volumes { IfOk result (λ made. AreNew policy volumes.now made.items) }
+    ensures volumes { IfOk result (λ made. AreNew policy whole volumes.now made.items) }
 {
     let mut made = Vec::new(alloc);
     for number in 0..volumes.len() {
         let loggers = loggers_of(alloc, policy, volumes, number)?;
-        made.push(Volume::new(alloc, number as u32, loggers)?)?;
+        let volume = Volume::new(alloc, number as u32, loggers, volumes.len(), whole)?;
+        made.push(volume)?;
     }
     Ok(made)
 }
@@ -118,7 +121,42 @@ fn show_disks(volumes: &mut [Volume], disks: &[Disk], asked: u64)
     }
 }
 
-// Does what is asked of its volume, and tells its wait.
+// What logs hold: on this disk, and on all.
+fn held_on(volumes: &[Volume], disk: u32, asked: u64) -> Held
+    requires few { length volumes.now ≤ 64 }
+    requires volumes { AllByRecursion (IsAmong (length volumes.now) asked) volumes.now }
+    requires asked { asked < 2 ^ 63 }
+    ensures { result ≡ held_on (map volume_in volumes.now) disk }
+{
+    let mut held = Held {
+        disk,
+        blocks: 0,
+        segments: 0,
+        all: 0,
+    };
+    for place in 0..volumes.len() {
+        let store = &volumes[place].store;
+        held.blocks += store.kept_on(disk);
+        held.segments += u128::from(store.segments_on(disk));
+        held.all += store.kept;
+    }
+    held
+}
+
+// .. where a request went to a log.
+fn held_if(volumes: &[Volume], log: Option<u32>, asked: u64) -> Option<Held>
+    requires few { length volumes.now ≤ 64 }
+    requires volumes { AllByRecursion (IsAmong (length volumes.now) asked) volumes.now }
+    requires asked { asked < 2 ^ 63 }
+    ensures { result ≡ option_map (held_on (map volume_in volumes.now)) log }
+{
+    match log {
+        Some(disk) => Some(held_on(volumes, disk, asked)),
+        None => None,
+    }
+}
+
+// Does what is asked of its volume, and tells its wait and what logs hold.
 fn serve(
     volumes: &mut [Volume],
     disks: &mut [Disk],
@@ -131,6 +169,7 @@ fn serve(
     requires ready { AreReady volumes.old disks.old asked moment }
     requires tallies { AreFewIn (length volumes.old) asked tallies.old }
     requires ask { IsAsk (length volumes.old) ask.now }
+    requires count { length volumes.old ≤ 64 }
     requires few { asked + 1 < 2 ^ 63 }
     ensures ready { OnOk result (AreReady volumes.new disks.new (asked + 1) moment) }
     ensures tallies { OnOk result (AreFewIn (length volumes.old) (asked + 1) tallies.new) }
@@ -139,8 +178,9 @@ fn serve(
     ensures waits { OnOk result
         (HaveWaited wake (ask.now ∷ []) volumes.old disks.old tallies.old tallies.new) }
 {
-    let wait = volumes[ask.volume as usize].serve(disks, ask, wake)?;
-    tallies.add(ask, wait, wake, asked);
+    let served = volumes[ask.volume as usize].serve(disks, ask, wake)?;
+    let held = held_if(volumes, served.log, asked + 1);
+    tallies.add(ask, served.wait, &held, wake, asked);
     Ok(())
 }
 
@@ -157,6 +197,7 @@ fn serve_all(
     requires ready { AreReady volumes.old disks.old asked moment }
     requires tallies { AreFewIn (length volumes.old) asked tallies.old }
     requires asks { AllByRecursion (IsAsk (length volumes.old)) asks.now }
+    requires count { length volumes.old ≤ 64 }
     requires few { asked + length asks.now < 2 ^ 63 }
     ensures ready { OnOk result (AreReady volumes.new disks.new (asked + length asks.now) moment) }
     ensures tallies { OnOk result
@@ -209,6 +250,7 @@ fn run(
     requires tallies { AreFewIn (length volumes.old) asked tallies.old }
     requires timeout { 10000 ≤ rules.now.timeout }
     requires asks { AllByRecursion (IsAsk (length volumes.old)) asks.now }
+    requires count { length volumes.old ≤ 64 }
     requires few { asked + length asks.now < 2 ^ 63 }
     ensures ready { OnOk result (AreReady volumes.new disks.new (asked + length asks.now) at) }
     ensures tallies { OnOk result
@@ -272,7 +314,12 @@ impl Machine {
         ensures count { IfOk result (λ m. length m.volumes.items ≡ length config.now.volumes.items) }
         ensures run { IfOk result (HasRun policy config.now from []) }
     {
-        let volumes = volumes_of(alloc, policy, config.volumes.as_slice())?;
+        let volumes = volumes_of(
+            alloc,
+            policy,
+            config.volumes.as_slice(),
+            config.segment_blocks,
+        )?;
         let disks = vec![in alloc; Disk::new(from); volumes.len()]?;
         let tallies = Tallies::new(alloc, volumes.len())?;
         Ok(Machine {
@@ -331,6 +378,13 @@ impl Machine {
         self.live
     }
 
+    /// What is told of what logs held.
+    pub(crate) fn logged(&self) -> &Logged
+        ensures { result.now ≡ self.now.tallies.logged }
+    {
+        &self.tallies.logged
+    }
+
     /// What is told of the waits of all requests that were asked.
     pub fn told(&self) -> Told
         requires { IsMachine self.now }
@@ -368,6 +422,7 @@ impl Machine {
     {
         let disks = self.disks.as_slice();
         let told = self.tallies.each.as_slice();
-        volume_lines(policy, volumes, disks, told, &self.powers, to, out)
+        let held = self.tallies.logged.each.as_slice();
+        volume_lines(policy, volumes, disks, told, held, &self.powers, to, out)
     }
 }

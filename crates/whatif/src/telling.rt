@@ -2,16 +2,18 @@
 ghost use Rattle.std.specs.List.{AllByRecursion, flat_map, range_with_len};
 ghost use Rattle.std.specs.Prelude.{◌≡◌, ◌<◌, ◌≤◌, ◌++◌, [], ℕ, List, true, length, slice_index_or, OnOk, OnErr, if◌then◌else◌};
 ghost use Rattle.whatif.specs.Disks.{AreDisks, IsKept, moments_of};
-ghost use Rattle.whatif.specs.Lines.{both_text, name_at, told_text, used_at, volume_text, volumes_text};
+ghost use Rattle.whatif.specs.Lines.{conf_at, long_text, told_text, used_at, volume_text, volumes_text};
 ghost use Rattle.whatif.specs.Machine.{Asked};
 ghost use Rattle.whatif.specs.Policies.{waits_by};
 ghost use Rattle.whatif.specs.Stands.{HasRun, IsMachine};
-ghost use Rattle.whatif.specs.Waits.{AreTold, Waited, of_volume};
+ghost use Rattle.whatif.specs.Waits.{AreLogged, AreTold, IsMost, Waited, helds, of_disk, of_volume};
+ghost use Rattle.whatif.specs.declared.logged.Most.{Most};
 ghost use Rattle.whatif.specs.declared.waits.Told.{Told};
 ghost use Rattle.wol_model.specs.Journal.{ArePowers, SpindleState};
 
 use crate::disk::Disk;
-use crate::lines::{policy_line, volume_line, waits_line};
+use crate::lines::{logged_line, policy_line, volume_line, waits_line};
+use crate::logged::{Logged, Most};
 use crate::machine::Machine;
 use crate::policy::{Details, Policy};
 use crate::waits::Told;
@@ -25,52 +27,71 @@ pub(crate) fn volume_lines(
     volumes: &[VolumeConf],
     disks: &[Disk],
     told: &[Told],
+    held: &[Most],
     powers: &Powers,
     to: u64,
     out: &mut Vec<u8>,
 ) -> Result<(), NoMemory>
     requires disks { length disks.now ≡ length volumes.now }
     requires told { length told.now ≡ length volumes.now }
+    requires held { length held.now ≡ length volumes.now }
     requires kept { AllByRecursion IsKept disks.now }
     requires moments { AllByRecursion (λ t. t ≤ to) (moments_of disks.now) }
     requires powers { ArePowers powers.now }
     ensures { (wake : ℕ) (ss : List SpindleState) (ws : List Waited) → AreDisks disks.now ss
         → ((k : ℕ) (d : Told) → k < length told.now
         → AreTold wake (of_volume k ws) (slice_index_or told.now k d))
+        → ((k : ℕ) (d : Most) → k < length held.now
+        → IsMost (of_disk k (helds ws)) (slice_index_or held.now k d))
         → OnOk result (out.new.items ≡ out.old.items ++ flat_map
-        (λ k. volume_text policy (name_at volumes.now k) (used_at powers.now to ss k) wake
-        (of_volume k ws)) (range_with_len 0 (length volumes.now))) }
+        (λ k. volume_text policy (conf_at volumes.now k) (used_at powers.now to ss k) wake
+        (of_volume k ws) (of_disk k (helds ws))) (range_with_len 0 (length volumes.now))) }
 {
     for place in 0..volumes.len() {
         let used = disks[place].used_until(to, powers);
-        volume_line(policy, &volumes[place].name, &used, &told[place], out)?;
+        volume_line(
+            policy,
+            &volumes[place],
+            &used,
+            &told[place],
+            &held[place],
+            out,
+        )?;
     }
     Ok(())
 }
 
-// Appends the lines of reads and of writes.
-fn both_lines(policy: Policy, told: &Told, wake: u64, out: &mut Vec<u8>) -> Result<(), NoMemory>
-    ensures { (ws : List Waited) → AreTold wake ws told.now
-        → OnOk result (out.new.items ≡ out.old.items ++ both_text policy wake ws) }
-{
-    waits_line(policy, Kind::Read, &told.reads, wake, out)?;
-    waits_line(policy, Kind::Write, &told.writes, wake, out)
-}
-
-// .. where they are to be told.
-fn both_if(
-    told: bool,
+// Appends the lines of reads, of writes and of logs.
+fn long_lines(
     policy: Policy,
-    of: &Told,
+    told: &Told,
+    logged: &Logged,
     wake: u64,
     out: &mut Vec<u8>,
 ) -> Result<(), NoMemory>
-    ensures { (ws : List Waited) → AreTold wake ws of.now
+    ensures { (ws : List Waited) → AreTold wake ws told.now → AreLogged (helds ws) logged.now
+        → OnOk result (out.new.items ≡ out.old.items ++ long_text policy wake ws) }
+{
+    waits_line(policy, Kind::Read, &told.reads, wake, out)?;
+    waits_line(policy, Kind::Write, &told.writes, wake, out)?;
+    logged_line(policy, logged, out)
+}
+
+// .. where they are to be told.
+fn long_if(
+    told: bool,
+    policy: Policy,
+    of: &Told,
+    logged: &Logged,
+    wake: u64,
+    out: &mut Vec<u8>,
+) -> Result<(), NoMemory>
+    ensures { (ws : List Waited) → AreTold wake ws of.now → AreLogged (helds ws) logged.now
         → OnOk result (out.new.items
-        ≡ out.old.items ++ (if told then both_text policy wake ws else [])) }
+        ≡ out.old.items ++ (if told then long_text policy wake ws else [])) }
 {
     if told {
-        return both_lines(policy, of, wake, out);
+        return long_lines(policy, of, logged, wake, out);
     }
     Ok(())
 }
@@ -118,7 +139,8 @@ impl Machine {
             ≡ out.old.items ++ told_text details policy config.now from ws to) }
     {
         policy_line(policy, &self.used_until(to), out)?;
-        both_if(details.long, policy, &self.told(), config.wake, out)?;
+        let wake = config.wake;
+        long_if(details.long, policy, &self.told(), self.logged(), wake, out)?;
         self.volumes_if(details.volumes, policy, &config.volumes, to, out)
     }
 }

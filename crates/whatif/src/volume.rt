@@ -2,8 +2,9 @@
 ghost use Rattle.std.specs.List.{AllByRecursion};
 ghost use Rattle.std.specs.Prelude.{◌≡◌, ◌<◌, ◌≤◌, ◌+◌, ◌-◌, ◌^◌, ◌&&◌, ℕ, not, false, List, length, slice_set, slice_index_or, OnOk, IfOk, None};
 ghost use Rattle.whatif.specs.Disks.{AreDisks, IsKept, moments_of};
-ghost use Rattle.whatif.specs.Machine.{Reach, answering, first_look, reading, seeing, source_of, write_of, writing};
-ghost use Rattle.whatif.specs.Volumes.{HasDone, IsLate, IsVolume, IsWithin, look_in, reach_in, volume_in};
+ghost use Rattle.whatif.specs.Logs.{all_moved, filed_on, first_store};
+ghost use Rattle.whatif.specs.Machine.{Reach, answering, filed_at, first_look, logger_at, reading, seeing, source_of, write_of, writing};
+ghost use Rattle.whatif.specs.Volumes.{HasDone, IsLate, IsVolume, IsWithin, look_in, reach_in, store_in, volume_in};
 ghost use Rattle.wol_model.specs.Index.{listed_in};
 ghost use Rattle.wol_model.specs.Journal.{SpindleState};
 ghost use Rattle.wol_model.specs.Placing.{Log};
@@ -11,6 +12,7 @@ ghost use Rattle.wol_promise.specs.Policy.{placed, woken};
 
 use crate::disk::{Disk, access_at, lag_at};
 use crate::policy::Ask;
+use crate::store::Store;
 use offload_policy::{Room, Step, place};
 use redirect_map::{Index, Rec};
 use std::alloc::Global;
@@ -33,6 +35,8 @@ pub(crate) struct Volume {
     /// The version of the next write to a log.
     pub next: u64,
     pub index: Index,
+    /// What it has in logs.
+    pub store: Store,
     /// Whether nothing is left to reclaim while no further disk counts as awake and nothing further is logged.
     pub settled: bool,
 }
@@ -45,14 +49,29 @@ fn all_kept(count: u32) -> u128
     u128::MAX >> (128 - count)
 }
 
+/// How long a request waits, and the disk of the log to which it went, where it did.
+#[derive(Clone, Copy)]
+pub(crate) struct Served {
+    pub wait: u64,
+    pub log: Option<u32>,
+}
+
 impl Volume {
-    /// A volume of which nothing is logged, and which counts all disks as awake.
-    pub(crate) fn new(alloc: Global, own: u32, loggers: Vec<u32>) -> Result<Volume, NoMemory>
+    /// A volume among so many disks, of which nothing is logged, and which counts all disks as awake. A segment has `whole` blocks.
+    pub(crate) fn new(
+        alloc: Global,
+        own: u32,
+        loggers: Vec<u32>,
+        disks: usize,
+        whole: u32,
+    ) -> Result<Volume, NoMemory>
         requires few { length loggers.items ≤ 64 }
+        requires within { AllByRecursion (λ d. d < disks) loggers.items }
         ensures volume { IfOk result IsVolume }
         ensures reach { IfOk result
             (λ v. reach_in v ≡ record { own = own; loggers = loggers.items }) }
         ensures look { IfOk result (λ v. look_in v ≡ first_look (reach_in v)) }
+        ensures store { IfOk result (λ v. store_in v.store ≡ first_store whole) }
     {
         let count = loggers.len();
         Ok(Volume {
@@ -63,6 +82,7 @@ impl Volume {
             ups: vec![in alloc; true; count]?,
             next: 1,
             index: Index::new(alloc),
+            store: Store::new(alloc, disks, whole)?,
             settled: false,
         })
     }
@@ -117,6 +137,7 @@ impl Volume {
             ≡ source_of (reach_in self.old) (listed_in self.old.index.entries) lbn }
         ensures look { look_in self.new ≡ woken (look_in self.old) lbn 1 }
         ensures reach { reach_in self.new ≡ reach_in self.old }
+        ensures store { self.new.store ≡ self.old.store }
     {
         match self.index.newest(lbn) {
             Some(record) => {
@@ -152,8 +173,8 @@ impl Volume {
         wait
     }
 
-    // Adds a record to the log on the logger at this place of the view.
-    fn log(&mut self, lane: u32, lbn: u64, count: u32) -> Result<(), NoMemory>
+    // Adds a record to the log on the logger at this place of the view. Answers the logger's disk.
+    fn log(&mut self, lane: u32, lbn: u64, count: u32) -> Result<u32, NoMemory>
         requires volume { IsVolume self.old }
         requires lane { lane < length self.old.ups.items }
         requires next { self.old.next < 2 ^ 63 }
@@ -164,7 +185,13 @@ impl Volume {
         ensures look { OnOk result
             (look_in self.new ≡ placed (Log lane) (look_in self.old) (write_of lbn count)) }
         ensures reach { OnOk result (reach_in self.new ≡ reach_in self.old) }
+        ensures disk { IfOk result (λ d. d ≡ logger_at (reach_in self.old) lane) }
+        ensures store { OnOk result (store_in self.new.store
+            ≡ all_moved (filed_at self.old.next count (reach_in self.old) (Log lane))
+            (store_in self.old.store)) }
     {
+        let disk = self.loggers[lane as usize];
+        self.store.file(disk, self.next, count)?;
         self.index.reserve(1)?;
         self.index.add(Rec {
             version: self.next,
@@ -178,17 +205,18 @@ impl Volume {
         self.next += 1;
         self.ups[lane as usize] = true;
         self.settled = false;
-        Ok(())
+        Ok(disk)
     }
 
-    // Writes blocks where the rule of placing says. Answers how long it waits, where a disk takes `spin_up` to come up.
+    // Writes blocks where the rule of placing says. Answers how long it waits, where a disk takes `spin_up` to come up, and where it
+    // went.
     fn write(
         &mut self,
         disks: &mut [Disk],
         lbn: u64,
         count: u32,
         spin_up: u64,
-    ) -> Result<u64, NoMemory>
+    ) -> Result<Served, NoMemory>
         requires volume { IsVolume self.old }
         requires within { IsWithin (length disks.old) (reach_in self.old) }
         requires kept { AllByRecursion IsKept disks.old }
@@ -201,7 +229,10 @@ impl Volume {
         ensures moments { OnOk result (moments_of disks.new ≡ moments_of disks.old) }
         ensures done { OnOk result
             (HasDone (writing lbn count) self.old self.new disks.old disks.new) }
-        ensures late { IfOk result (IsLate spin_up (writing lbn count) self.old disks.old) }
+        ensures late { IfOk result
+            (λ s. IsLate spin_up (writing lbn count) self.old disks.old s.wait) }
+        ensures log { IfOk result (λ s. s.log
+            ≡ filed_on (writing lbn count (reach_in self.old) (look_in self.old)).moves) }
     {
         let covered = self.index.covered(lbn, count);
         match place(
@@ -213,25 +244,31 @@ impl Volume {
             Step::Home | Step::WakeHome => {
                 self.see_home(true);
                 access_at(disks, self.own);
-                Ok(lag_at(disks, self.own, spin_up))
+                Ok(Served {
+                    wait: lag_at(disks, self.own, spin_up),
+                    log: None,
+                })
             }
             Step::Log(lane) | Step::WakeLog(lane) | Step::Ask(lane) => {
-                self.log(lane, lbn, count)?;
-                let disk = self.loggers[lane as usize];
+                let disk = self.log(lane, lbn, count)?;
                 access_at(disks, disk);
-                Ok(lag_at(disks, disk, spin_up))
+                Ok(Served {
+                    wait: lag_at(disks, disk, spin_up),
+                    log: Some(disk),
+                })
             }
-            Step::Full => Ok(0),
+            Step::Full => Ok(Served { wait: 0, log: None }),
         }
     }
 
-    /// Does what is asked of the volume. Answers how long the request waits, where a disk takes `spin_up` to come up.
+    /// Does what is asked of the volume. Answers how long the request waits, where a disk takes `spin_up` to come up, and to which log
+    /// it went.
     pub(crate) fn serve(
         &mut self,
         disks: &mut [Disk],
         ask: &Ask,
         spin_up: u64,
-    ) -> Result<u64, NoMemory>
+    ) -> Result<Served, NoMemory>
         requires volume { IsVolume self.old }
         requires within { IsWithin (length disks.old) (reach_in self.old) }
         requires kept { AllByRecursion IsKept disks.old }
@@ -244,11 +281,16 @@ impl Volume {
         ensures moments { OnOk result (moments_of disks.new ≡ moments_of disks.old) }
         ensures done { OnOk result (HasDone (answering ask.now.kind ask.now.lbn ask.now.count)
             self.old self.new disks.old disks.new) }
-        ensures late { IfOk result (IsLate spin_up
-            (answering ask.now.kind ask.now.lbn ask.now.count) self.old disks.old) }
+        ensures late { IfOk result (λ s. IsLate spin_up
+            (answering ask.now.kind ask.now.lbn ask.now.count) self.old disks.old s.wait) }
+        ensures log { IfOk result (λ s. s.log ≡ filed_on (answering ask.now.kind ask.now.lbn
+            ask.now.count (reach_in self.old) (look_in self.old)).moves) }
     {
         match ask.kind {
-            Kind::Read => Ok(self.read(disks, ask.lbn, ask.count, spin_up)),
+            Kind::Read => Ok(Served {
+                wait: self.read(disks, ask.lbn, ask.count, spin_up),
+                log: None,
+            }),
             Kind::Write => self.write(disks, ask.lbn, ask.count, spin_up),
         }
     }

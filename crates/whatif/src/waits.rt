@@ -1,8 +1,10 @@
 // What is told of the waits of requests.
-ghost use Rattle.std.specs.Prelude.{◌≡◌, ◌≢◌, ◌<◌, ◌≤◌, ◌+◌, ◌*◌, ◌^◌, ◌++◌, ◌∷◌, [], ℕ, List, length, nat_le, position, slice_index, unwrap_or, IfOk};
-ghost use Rattle.whatif.specs.Waits.{AreFew, AreFewIn, AreTallied, AreTold, IsFew, IsTold, Waited, is_over, late_ms};
+ghost use Rattle.std.specs.Prelude.{◌≡◌, ◌≢◌, ◌<◌, ◌≤◌, ◌+◌, ◌*◌, ◌^◌, ◌++◌, ◌∷◌, [], ℕ, List, Option, length, nat_le, option_to_list, position, slice_index, unwrap_or, IfOk};
+ghost use Rattle.whatif.specs.declared.logged.Held.{Held};
+ghost use Rattle.whatif.specs.Waits.{AreFew, AreFewIn, AreLogged, AreTallied, AreTold, IsFew, IsTold, Waited, is_over, late_ms};
 ghost use Rattle.wol_model.specs.declared.trace.Kind.{Kind};
 
+use crate::logged::{Held, Logged};
 use crate::policy::Ask;
 use std::alloc::Global;
 use wol_disk::NoMemory;
@@ -27,11 +29,12 @@ pub struct Told {
     pub writes: Waits,
 }
 
-/// The waits of the requests of all volumes, and of each.
+/// The waits of the requests of all volumes, and of each, and what logs held.
 #[derive(Drop)]
 pub(crate) struct Tallies {
     pub all: Told,
     pub each: Vec<Told>,
+    pub logged: Logged,
 }
 
 // Whether a wait is longer than so many tenths of the time that a disk takes to come up.
@@ -133,14 +136,27 @@ impl Told {
         requires few { AreFew asked self.old }
         requires room { asked < 2 ^ 63 }
         ensures few { AreFew (asked + 1) self.new }
-        ensures told { (ws : List Waited) (volume : ℕ) → AreTold wake ws self.old
+        ensures told { (ws : List Waited) (volume : ℕ) (held : Option Held) → AreTold wake ws self.old
             → AreTold wake
-            (ws ++ record { volume = volume; kind = kind; wait = wait } ∷ []) self.new }
+            (ws ++ record { volume = volume; kind = kind; wait = wait; held = held } ∷ []) self.new }
     {
         match kind {
             Kind::Read => self.reads.add(wait, wake, asked),
             Kind::Write => self.writes.add(wait, wake, asked),
         }
+    }
+}
+
+// A request went to a log, if it did.
+fn log_if(logged: &mut Logged, held: &Option<Held>)
+    requires room { logged.old.count < 2 ^ 63 }
+    ensures told { (hs : List Held) → AreLogged hs logged.old
+        → AreLogged (hs ++ option_to_list held.now) logged.new }
+    ensures count { logged.new.count ≤ logged.old.count + 1 }
+    ensures disks { length logged.new.each.items ≡ length logged.old.each.items }
+{
+    if let Some(held) = held {
+        logged.add(held);
     }
 }
 
@@ -153,19 +169,25 @@ impl Tallies {
         Ok(Tallies {
             all: Told::new(),
             each: vec![in alloc; Told::new(); volumes]?,
+            logged: Logged::new(alloc, volumes)?,
         })
     }
 
-    /// A request more waited so long, where a disk takes `wake` to come up.
-    pub(crate) fn add(&mut self, ask: &Ask, wait: u64, wake: u64, asked: u64)
+    /// A request more waited so long, where a disk takes `wake` to come up, and logs hold so much where it went to one.
+    pub(crate) fn add(&mut self, ask: &Ask, wait: u64, held: &Option<Held>, wake: u64, asked: u64)
         requires few { AreFewIn (length self.old.each.items) asked self.old }
         requires room { asked < 2 ^ 63 }
         requires volume { ask.now.volume < length self.old.each.items }
         ensures few { AreFewIn (length self.old.each.items) (asked + 1) self.new }
         ensures told { (ws : List Waited) → AreTallied wake ws self.old → AreTallied wake
-            (ws ++ record { volume = ask.now.volume; kind = ask.now.kind; wait = wait } ∷ [])
-            self.new }
+            (ws ++ record {
+              volume = ask.now.volume;
+              kind = ask.now.kind;
+              wait = wait;
+              held = held.now;
+            } ∷ []) self.new }
     {
+        log_if(&mut self.logged, held);
         self.all.add(ask.kind, wait, wake, asked);
         self.each[ask.volume as usize].add(ask.kind, wait, wake, asked);
     }

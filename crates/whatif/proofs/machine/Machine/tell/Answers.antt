@@ -10,7 +10,7 @@ pub returns : goal.returns
 returns c = λ from ws run.
     let p = c.args.policy in let config = c.args.config.now in let out = c.args.out.now.items in
     on_ok c.volumes_if.result _ _
-    (λ e. all_told c.args.details p config from ws c.args.to out c.policy_line.new.out.items c.both_if.new.out.items c.volumes_if.new.out.items
+    (λ e. all_told c.args.details p config from ws c.args.to out c.policy_line.new.out.items c.long_if.new.out.items c.volumes_if.new.out.items
     (c.in_ok-policy_line.ensures.ok ∙ ap (λ (u : Compared). out ++ policy_text p u) (c.used_until.ensures p config from ws run))
-    (c.in_ok-both_if.ensures (waits_by p config from ws) (c.told.ensures p config from ws run)) e)
+    (c.in_ok-long_if.ensures (waits_by p config from ws) (c.told.ensures p config from ws run)) e)
     (c.volumes_if.ensures config from ws run c.deref.ensures.value)

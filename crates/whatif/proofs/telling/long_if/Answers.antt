@@ -1,8 +1,8 @@
 use Rattle.std.proofs.Common.{append-nil, sym}
-use Rattle.whatif.proofs.telling.both_if.Goals as goal
+use Rattle.whatif.proofs.telling.long_if.Goals as goal
 
 pub returns-then-told : goal.returns-then-told
-returns-then-told c = λ ws are. rw c.if-told.true (c.both_lines.ensures ws are)
+returns-then-told c = λ ws are. rw c.if-told.true (c.long_lines.ensures ws are)
 
 pub returns : goal.returns
 returns c = λ ws are. rw c.if-told.false (sym (append-nil c.args.out.now.items))
