@@ -210,10 +210,12 @@ class Record:
 
 
 class Logs:
-    """How many segments the log of each disk has given out, and how many it had to at most."""
+    """How many segments the log of each disk has given out, how many blocks it keeps, and how many it had to at most."""
 
     def __init__(self, disks: int):
         self.held, self.most = [0] * disks, [0] * disks
+        self.kept, self.most_kept, self.most_of_all = [0] * disks, [0] * disks, 0
+        self.writes = 0
 
     def give(self, disk: int) -> None:
         self.held[disk] += 1
@@ -221,6 +223,12 @@ class Logs:
 
     def take_back(self, disk: int) -> None:
         self.held[disk] -= 1
+
+    def keep(self, disk: int, blocks: int) -> None:
+        self.writes += 1
+        self.kept[disk] += blocks
+        self.most_kept[disk] = max(self.most_kept[disk], self.kept[disk])
+        self.most_of_all = max(self.most_of_all, sum(self.kept))
 
 
 class Manager:
@@ -264,6 +272,7 @@ class Manager:
         segment.room -= needed
         segment.records += 1
         record = Record(disk, segment, len(blocks))
+        self.logs.keep(disk, len(blocks))
         for block in blocks:
             self.keepers.setdefault(block, []).append(record)
         self.homed -= set(blocks)
@@ -301,6 +310,7 @@ class Manager:
     def lose(self, record: Record) -> None:
         """A record keeps one block less, and may leave its segment, and that its lane."""
         record.kept -= 1
+        self.logs.kept[record.disk] -= 1
         record.segment.records -= not record.kept
         if not record.segment.records:
             self.lanes[record.disk] = [it for it in self.lanes[record.disk] if it is not record.segment]
@@ -377,9 +387,12 @@ def wait_text(waits: Counter, config: Config) -> str:
 
 
 def volume_text(machine: Machine, place: int, account: Account) -> str:
-    volume, (reads, writes) = machine.config.volumes[place], machine.waits[place]
+    volume, (reads, writes), logs = machine.config.volumes[place], machine.waits[place], machine.logs
+    offered = f" of {volume.segments}" if machine.policy == "views" else ""
+    held = f"blocks {logs.most_kept[place]} segments {logs.most[place]}{offered}"
     told = f"volume {volume.name} wakes {account.wakes} sleeps {account.sleeps} awake {account.awake} standby {account.standby}"
-    return f"{told} energy {account.energy} reads {reads.total()} wait {waiting(reads)} writes {writes.total()} wait {waiting(writes)}"
+    asked = f"reads {reads.total()} wait {waiting(reads)} writes {writes.total()} wait {waiting(writes)}"
+    return f"{told} energy {account.energy} {asked} {held}"
 
 
 def policy_text(machine: Machine, end: int, long: bool, volumes: bool) -> str:
@@ -390,6 +403,8 @@ def policy_text(machine: Machine, end: int, long: bool, volumes: bool) -> str:
     if long:
         for kind, word in enumerate(("reads", "writes")):
             lines.append(f"{word} {wait_text(sum((it[kind] for it in machine.waits), Counter()), config)}")
+        logs = machine.logs
+        lines.append(f"logged {logs.writes} blocks {logs.most_of_all} segments {max(logs.most)}")
     if volumes:
         lines += [volume_text(machine, place, it) for place, it in enumerate(accounts)]
     return "".join(f"{machine.policy} {it}\n" for it in lines)

@@ -47,9 +47,11 @@ span 4000000000
 spindown wakes 6 sleeps 8 energy 5910000
 spindown reads 6 wait 4 p99 10000 p999 10000 sum 40000
 spindown writes 6 wait 2 p99 10000 p999 10000 sum 20000
+spindown logged 0 blocks 0 segments 0
 all wakes 4 sleeps 5 energy 5250000
 all reads 6 wait 3 p99 10000 p999 10000 sum 30000
 all writes 6 wait 0 p99 0 p999 0 sum 0
+all logged 2 blocks 3 segments 2
 """
 # Of samples/offload.csv.
 SAMPLE_LINES = """\
@@ -57,6 +59,7 @@ spindown reads 48 wait 3 p99 10000 p999 10000 sum 30000
 spindown writes 18 wait 16 p99 10000 p999 10000 sum 160000
 all reads 48 wait 1 p99 10000 p999 10000 sum 10000
 all writes 18 wait 0 p99 0 p999 0 sum 0
+all logged 17 blocks 92 segments 2
 """
 # A read 3.5 s behind the one that wakes the disk waits for the rest, and a write 10 s behind it doesn't wait.
 PARTLY = b"""\

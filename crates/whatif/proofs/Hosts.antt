@@ -45,7 +45,7 @@ module _ (vs : List VolumeConf) (apart : AreOnHostsOfTheirOwn vs) where
 
 pub host_is_spin_down : HostIsSpinDown
 unfolding machine_after
-host_is_spin_down c from ws to apart = ap told (λ i. record { timeout = c.timeout; sleeps = true; reaches = same_reaches c.volumes.items apart (range_with_len 0 (length c.volumes.items)) i })
+host_is_spin_down c from ws to apart = ap told (λ i. record { timeout = c.timeout; whole = c.segment_blocks; sleeps = true; reaches = same_reaches c.volumes.items apart (range_with_len 0 (length c.volumes.items)) i })
   where
     told : Setting → Compared
     told s = let ss = (after_windows s ws (first_machine s from)).spindles in record { wakes = all_wakes ss; sleeps = all_sleeps ss; units = all_units c.powers ss to }

@@ -20,3 +20,4 @@ pub mod Staying
 pub mod Showing
 pub mod Windows
 pub mod Nobody
+pub mod Shelves

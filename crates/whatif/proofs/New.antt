@@ -18,7 +18,8 @@ use Rattle.whatif.specs.Machine as machine
 use Rattle.whatif.specs.Machine.{Reach, first_look, first_machine, first_volume}
 use Rattle.whatif.specs.Policies.{HaveViews, loggers_of, machine_after, reach_of, setting_of}
 use Rattle.whatif.specs.Stands.{Stands}
-use Rattle.whatif.specs.Volumes.{look_in, reach_in, volume_in}
+use Rattle.whatif.specs.Volumes.{look_in, reach_in, store_in, volume_in}
+use Rattle.whatif.specs.Logs.{first_store}
 
 pub range_more : (k : ℕ) → range_with_len 0 (k + 1) ≡ range_with_len 0 k ++ k ∷ []
 range_more k =
@@ -34,9 +35,9 @@ filtered_no test k fails = ap (filter test) (range_more k) ∙ filter-append tes
 pub mapped_more : {X : Type 0} (f : ℕ → X) (k : ℕ) → map f (range_with_len 0 (k + 1)) ≡ map f (range_with_len 0 k) ++ f k ∷ []
 mapped_more f k = ap (map f) (range_more k) ∙ map-append f (range_with_len 0 k) (k ∷ [])
 
-pub volume_made : (p : Policy) (confs : List VolumeConf) (k : ℕ) (loggers : List ℕ) (v : Volume) → loggers ≡ loggers_of p confs k → reach_in v ≡ (let r : Reach = record { own = k; loggers = loggers } in r) → look_in v ≡ first_look (reach_in v)
-    → volume_in v ≡ first_volume (reach_of p confs k)
-volume_made p confs k loggers v are reach look = (λ i. record { reach = reach_in v; look = look i }) ∙ ap first_volume (reach ∙ (λ i. record { own = k; loggers = are i }))
+pub volume_made : (p : Policy) (whole : ℕ) (confs : List VolumeConf) (k : ℕ) (loggers : List ℕ) (v : Volume) → loggers ≡ loggers_of p confs k → reach_in v ≡ (let r : Reach = record { own = k; loggers = loggers } in r) → look_in v ≡ first_look (reach_in v) → store_in v.store ≡ first_store whole
+    → volume_in v ≡ first_volume whole (reach_of p confs k)
+volume_made p whole confs k loggers v are reach look store = (λ i. record { reach = reach_in v; look = look i; store = store i }) ∙ ap (first_volume whole) (reach ∙ (λ i. record { own = k; loggers = are i }))
 
 -- ---- views
 
@@ -84,11 +85,11 @@ range_length a zero = refl
 range_length a (suc n) = ap suc (range_length (a + 1) n)
 
 -- a machine before its first window
-pub stands_first : (p : Policy) (c : Config) (from : ℕ) (vs : List Volume) (ds : List Disk) (d : Disk) → length vs ≡ length c.volumes.items → map volume_in vs ≡ map (λ n. first_volume (reach_of p c.volumes.items n)) (range_with_len 0 (length vs))
+pub stands_first : (p : Policy) (c : Config) (from : ℕ) (vs : List Volume) (ds : List Disk) (d : Disk) → length vs ≡ length c.volumes.items → map volume_in vs ≡ map (λ n. first_volume c.segment_blocks (reach_of p c.volumes.items n)) (range_with_len 0 (length vs))
     → ds ≡ replicate (length vs) d → IsDisk d (used c.timeout new_spindle 0 (Started from)) → Stands vs ds (machine_after p c from [])
 unfolding machine_after
 stands_first p c from vs ds d count made disks is = record {
-  volumes = mapped_twice first_volume (reach_of p c.volumes.items) (range_with_len 0 (length c.volumes.items)) ∙ (λ i. map (λ n. first_volume (reach_of p c.volumes.items n)) (range_with_len 0 (sym count i))) ∙ sym made;
+  volumes = mapped_twice (first_volume c.segment_blocks) (reach_of p c.volumes.items) (range_with_len 0 (length c.volumes.items)) ∙ (λ i. map (λ n. first_volume c.segment_blocks (reach_of p c.volumes.items n)) (range_with_len 0 (sym count i))) ∙ sym made;
   disks = subst (λ (l : List Disk). AreDisks l (first_machine (setting_of p c) from).spindles) (sym disks) (new_disks (setting_of p c).reaches (length vs) d (used c.timeout new_spindle 0 (Started from)) long is);
 }
   where

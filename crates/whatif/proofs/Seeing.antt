@@ -19,7 +19,7 @@ use Rattle.whatif.specs.declared.disk.Disk.{Disk}
 use Rattle.whatif.specs.declared.volume.Volume.{Volume}
 use Rattle.whatif.specs.Disks.{AreDisks, IsDisk}
 use Rattle.whatif.specs.Machine.{Reach, is_up, logger_at, source_of}
-use Rattle.whatif.specs.Volumes.{IsLogged, IsSettled, IsVolume, look_in, reach_in}
+use Rattle.whatif.specs.Volumes.{IsLogged, IsSettled, IsVolume, look_in, reach_in, store_in}
 use Rattle.whatif.specs.Machine as machine
 use Rattle.whatif.specs.Machine.{seeing}
 use Rattle.whatif.specs.Volumes.{volume_in}
@@ -55,7 +55,7 @@ fewer_set (x ∷ xs) (suc lane) awake (suc k) ok is = fewer_set xs lane awake k 
 
 -- its own disk counts as awake, or not
 pub seen_home : (v : Volume) (awake settled : Bool) → settled ≡ (v.settled && (not awake || v.home_up)) → IsVolume v → IsVolume (record v { home_up = awake; settled = settled })
-seen_home v awake settled is volume = record { few = volume.few; flags = volume.flags; rooms_ = volume.rooms_; logged = volume.logged; settled = λ now. at awake (both v.settled (not awake || v.home_up) (sym is ∙ now)) }
+seen_home v awake settled is volume = record { store_ = volume.store_; few = volume.few; flags = volume.flags; rooms_ = volume.rooms_; logged = volume.logged; settled = λ now. at awake (both v.settled (not awake || v.home_up) (sym is ∙ now)) }
   where
     at : (t : Bool) → (v.settled ≡ true) × ((not t || v.home_up) ≡ true) → IsSettled (record (look_in v) { home_up = t })
     at false (was, ok) = record { due = refl; going = (volume.settled was).going }
@@ -65,6 +65,7 @@ seen_home v awake settled is volume = record { few = volume.few; flags = volume.
 pub seen_logger : (v : Volume) (ups : Vec Bool Global) (lane : ℕ) (awake settled : Bool) → ups.items ≡ slice_set v.ups.items lane awake → settled ≡ (v.settled && (not awake || slice_index_or v.ups.items lane false)) → IsVolume v
     → IsVolume (record v { ups = ups; settled = settled })
 seen_logger v ups lane awake settled set is volume = record {
+  store_ = volume.store_;
   few = volume.few;
   flags = same ∙ volume.flags;
   rooms_ = volume.rooms_;
@@ -183,6 +184,7 @@ seen_all old home v ss k first up then flags past long = λ i. record {
     listed = (ap (λ (w : Volume). listed_in w.index.entries) then ∙ ap (λ (w : Volume). listed_in w.index.entries) first) i;
     down = None;
   };
+  store = (ap (λ (w : Volume). store_in w.store) then ∙ ap (λ (w : Volume). store_in w.store) first) i;
 }
 
 pub seen_reach : (old home v : Volume) → home ≡ record old { home_up = home.home_up; settled = home.settled } → v ≡ record home { ups = v.ups; settled = v.settled } → reach_in v ≡ reach_in old

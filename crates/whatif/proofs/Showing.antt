@@ -15,6 +15,7 @@ use Rattle.wol_model.specs.Placing.{Place, Home, Log, Full}
 use Rattle.wol_promise.specs.Policy.{Look, has_newest_on, is_within_reach, place_of, placed, woken}
 use Rattle.wol_promise.proofs.Woken.{covered_is}
 use Rattle.whatif.specs.Laws.{ups_of}
+use Rattle.whatif.specs.Logs.{all_moved}
 use Rattle.whatif.specs.Machine as machine
 use Rattle.whatif.specs.Machine.{Action, Machine, Reach, Turn, all_accessed, answering, disk_of, followed, give_step, give_up, is_up, logger_at, next_due, next_to_go, put_home, put_step, reading, reclaiming, repeated, seeing, source_of, step_at, still, tidying, turned, turned_at, write_of, writing}
 use Rattle.whatif.proofs.Lists.{all_imply, all_set}
@@ -147,7 +148,7 @@ up_joined : (ss : List SpindleState) (us vs : List ℕ) → AreUp ss us → AreU
 up_joined ss [] vs first then = then
 up_joined ss (u ∷ us) vs first then = (first.0, up_joined ss us vs first.1 then)
 
-then_quiet : (ss : List SpindleState) (r : Reach) (a b : Action) → Quiet ss r a → Quiet ss r b → Quiet ss r (record { look = b.look; uses = a.uses ++ b.uses })
+then_quiet : (ss : List SpindleState) (r : Reach) (a b : Action) → Quiet ss r a → Quiet ss r b → Quiet ss r (record { look = b.look; uses = a.uses ++ b.uses; moves = a.moves ++ b.moves })
 then_quiet ss r a b first then = record { shown = then.shown; uses = up_joined ss a.uses b.uses first.uses then.uses }
 
 repeated_quiet : (ss : List SpindleState) (r : Reach) (step : Look → Option Action) → ((l : Look) (a : Action) → Shown ss r l → step l ≡ Some a → Quiet ss r a) → (n : ℕ) (l : Look) → Shown ss r l → Quiet ss r (repeated n step l)
@@ -237,7 +238,7 @@ asked_shown t x keeps m all = at (slice_get m.volumes x.volume) refl
     at None is = all
     at (Some v) is =
         let a = x.action v.reach v.look in
-        all_set (λ (w : machine.Volume). Shown (all_accessed t a.uses m.spindles) w.reach w.look) m.volumes x.volume (record { reach = v.reach; look = a.look })
+        all_set (λ (w : machine.Volume). Shown (all_accessed t a.uses m.spindles) w.reach w.look) m.volumes x.volume (record { reach = v.reach; look = a.look; store = all_moved a.moves v.store })
         (all_later t a.uses m.spindles m.volumes all) (keeps m.spindles v.reach v.look (shown_at m.spindles m.volumes x.volume v all is))
 
 -- a turn to reclaim: no disk comes up
@@ -249,7 +250,7 @@ tidied_shown t n m all = at (slice_get m.volumes n) refl
     at (Some v) is =
         let a = reclaiming v.reach v.look in
         let quiet = reclaiming_quiet m.spindles v.reach v.look (shown_at m.spindles m.volumes n v all is) in (
-          all_set (λ (w : machine.Volume). Shown (all_accessed t a.uses m.spindles) w.reach w.look) m.volumes n (record { reach = v.reach; look = a.look })
+          all_set (λ (w : machine.Volume). Shown (all_accessed t a.uses m.spindles) w.reach w.look) m.volumes n (record { reach = v.reach; look = a.look; store = all_moved a.moves v.store })
               (all_later t a.uses m.spindles m.volumes all) (shown_later t a.uses m.spindles v.reach a.look quiet.shown),
           λ k. none_rises t a.uses m.spindles k quiet.uses,
         )

@@ -1,12 +1,15 @@
 -- The first entry that passes a test, in an index whose versions rise, and what the steps of reclaim make of an index.
-use Rattle.std.proofs.Common.{◌≡◌, ◌<◌, ◌+◌, ◌-◌, ℕ, zero, suc, Bool, true, false, cond, not, ◌&&◌, List, [], ◌∷◌, length, Option, None, Some, refl, sym, ap, subst, ◌∙◌, arith, bit_or}
+use Rattle.std.proofs.Common.{◌≡◌, ◌<◌, ◌≤◌, ◌+◌, ◌-◌, ℕ, zero, suc, Bool, true, false, cond, not, ◌&&◌, List, [], ◌∷◌, length, Option, None, Some, refl, sym, ap, subst, ◌∙◌, arith, bit_or, eqb, get_or, leb, length, map}
 use Rattle.std.specs.Prelude.{find, position, IfSome, is_none, slice_get, slice_set, slice_index_or}
-use Rattle.std.specs.List.{AllByRecursion, filter}
+use Rattle.std.specs.List.{AllByRecursion, count_by, filter, range_with_len}
 use Rattle.std.specs.Option.{option_map}
-use Rattle.std.proofs.lemmas.Bool.{false≢true, and_parts}
+use Rattle.std.proofs.lemmas.Bool.{false≢true, and_parts, le-leb}
 use Rattle.std.proofs.lemmas.Option.{none-some, same_Some}
-use Rattle.wol_model.specs.Extents.{remarked}
-use Rattle.wol_model.specs.Index.{Listed, Indexed, listed_in, is_homed, is_due, goes, has_due, has_going, keeps_a_block, homing, keeping, block_numbers, left}
+use Rattle.wol_model.specs.Extents.{marked, remarked}
+use Rattle.wol_model.specs.Log.{has_bit, marks_of}
+use Rattle.wol_model.proofs.Counts.{counted, one}
+use Rattle.std.proofs.lemmas.List.FromFn.{get_or-map-range_with_len}
+use Rattle.wol_model.specs.Index.{Listed, Indexed, listed_in, cover_of, is_homed, is_due, goes, has_due, has_going, keeps_a_block, homing, keeping, block_numbers, left}
 use Rattle.wol_promise.specs.Policy.{Look}
 use Rattle.wol_promise.proofs.Covers.{any_found}
 use Rattle.wol_promise.proofs.Lowering.{given_lowers, put_lowers, filter_listed}
@@ -14,12 +17,15 @@ use Rattle.wol_promise.proofs.Lists.{all_member}
 use Rattle.block_cells.specs.Masks.{in_mask, IsMask}
 use Rattle.block_cells.specs.declared.record.Rec.{Rec}
 use Rattle.block_cells.proofs.Marks.{in_mask-bit}
-use Rattle.redirect_map.specs.Index.{Contents, entry_at, changed, given_up, has_version, with_homed, IsAnswer, IsEntry, IsIndex}
+use Rattle.redirect_map.specs.Index.{Contents, entry_at, changed, given_up, has_version, with_homed, IsAnswer, IsEntry, IsIndex, IsRecordOf}
 use Rattle.redirect_map.proofs.Changing.{remarked-or}
 use Rattle.garbage_list.specs.Least.{first_version, can_go, can_go_home}
 use Rattle.garbage_list.proofs.Nexts.{First, answered, found_there, first_of_all, least_of, version_in}
-use Rattle.whatif.specs.Machine.{Reach, Action, put_home, give_up, put_step, give_step, next_due, next_to_go, logger_at, step_at}
-use Rattle.whatif.specs.Volumes.{IsLogged, IsVolume, StaysOpen, give_answer, look_in, put_answer, reach_in}
+use Rattle.whatif.specs.Machine.{Reach, Action, put_home, give_up, put_step, give_step, given_of, next_due, next_to_go, logger_at, step_at}
+use Rattle.whatif.specs.Logs.{Gives, Move, all_moved}
+use Rattle.whatif.specs.declared.store.Given.{Given}
+use Rattle.whatif.specs.declared.store.Store.{Store}
+use Rattle.whatif.specs.Volumes.{IsLogged, IsStore, IsVolume, StaysOpen, give_answer, look_in, put_answer, reach_in, store_in}
 use Rattle.whatif.specs.declared.volume.Volume.{Volume}
 use Rattle.whatif.proofs.Lists.{all_filter, found_none, none_found, none_mapped, none_passes, none_unmapped, passes_none}
 
@@ -51,6 +57,24 @@ due_lowers listed place x is sized some =
     let f = any_found (is_due listed x) (block_numbers x) some in
     put_lowers listed place x (is_due listed x) f.item is sized (λ c p. p) f.passes
 
+-- ---- counts of blocks
+
+counted_same : (f g : ℕ → Bool) (a b n : ℕ) → ((i : ℕ) → i < n → f (a + i) ≡ g (b + i)) → count_by f (range_with_len a n) ≡ count_by g (range_with_len b n)
+counted_same f g a b zero same = refl
+counted_same f g a b (suc n) same =
+    let here : f a ≡ g b = (let e : a + 0 ≡ a = omega arith in let h : b + 0 ≡ b = omega arith in rw (e, h) at (same 0 (omega arith))) in
+    let rest = counted_same f g (a + 1) (b + 1) n (λ i lt. let e : a + 1 + i ≡ a + (i + 1) = omega arith in let h : b + 1 + i ≡ b + (i + 1) = omega arith in rw (e, h) (same (i + 1) (omega arith))) in
+    counted f a (range_with_len (a + 1) n) ∙ (λ i. one (here i) + rest i) ∙ sym (counted g b (range_with_len (b + 1) n))
+
+-- a bit of a record's mask tells of its block
+kept_bit : (count mask : ℕ) (keep : List Bool) (first i : ℕ) → marks_of count mask ≡ keep → i < count → has_bit mask (0 + i) ≡ marked first keep (first + i)
+kept_bit count mask keep first i is lt =
+    let none : first + i - first ≡ i = omega arith in
+    let zero_ : 0 + i ≡ i = omega arith in
+    let within : first ≤ first + i = omega arith in
+    sym (get_or-map-range_with_len (has_bit mask) 0 count i (0 + i) false lt refl) ∙ ap (λ (l : List Bool). get_or l i false) is
+    ∙ sym ((λ j. le-leb first (first + i) within j && get_or keep (none j) false))
+
 -- ---- the steps
 
 pub all_changed : (P : Indexed → Type 0) (version : ℕ) (f : Indexed → Indexed) → ((d : Indexed) → P d → P (f d)) → (es : List Indexed) → AllByRecursion P es → AllByRecursion P (changed version f es)
@@ -67,7 +91,7 @@ some_of P (Some y) x is same = let Q : _ → Type 0 = λ z. P z in subst Q (same
 
 module _ (r : Reach) (ups : List Bool) (next : ℕ) (es : List Indexed) (index : IsIndex es) (version : ℕ) (rec : Rec) (there : IsAnswer (entry_at es version) (Some rec)) where
   module _ (P : Listed → Bool) (first : first_version (λ (d : Indexed). P d.listed) es ≡ Some version) where
-    found : (e : Indexed) × (find (λ (d : Indexed). P d.listed) es ≡ Some e) × (e.listed.version ≡ version)
+    pub found : (e : Indexed) × (find (λ (d : Indexed). P d.listed) es ≡ Some e) × (e.listed.version ≡ version)
     found = version_in (find (λ (d : Indexed). P d.listed) es) version first
 
     its : First P es found.0
@@ -100,11 +124,11 @@ module _ (r : Reach) (ups : List Bool) (next : ℕ) (es : List Indexed) (index :
         (some_of (λ (d : Indexed). IsMask d.listed.first (is_due (listed_in es) d.listed) mask) (entry_at es version) e dues (entry P first)))
 
     pub put_done : put_step r (record { home_up = true; ups = ups; next = next; listed = listed_in es; down = None })
-        ≡ Some (record { look = record { home_up = true; ups = ups; next = next; listed = listed_in (changed version (with_homed (bit_or homed mask)) es); down = None }; uses = logger_at r rec.lane ∷ r.own ∷ [] })
+        ≡ Some (record { look = record { home_up = true; ups = ups; next = next; listed = listed_in (changed version (with_homed (bit_or homed mask)) es); down = None }; uses = logger_at r rec.lane ∷ r.own ∷ []; moves = [] })
     put_done =
         let l : Look = record { home_up = true; ups = ups; next = next; listed = listed_in es; down = None } in
         ap (step_at (put_home r) l) (least_of P es e (its P first)) ∙ ap (option_map (put_home r l (its P first).spot.place)) (its P first).spot.there
-        ∙ (λ i. Some (record { look = record { home_up = true; ups = ups; next = next; listed = (sym listed_then) i; down = None }; uses = logger_at r (sym (lane P first) i) ∷ r.own ∷ [] }))
+        ∙ (λ i. Some (record { look = record { home_up = true; ups = ups; next = next; listed = (sym listed_then) i; down = None }; uses = logger_at r (sym (lane P first) i) ∷ r.own ∷ []; moves = [] }))
 
     pub put_less : left (listed_in (changed version (with_homed (bit_or homed mask)) es)) < left (listed_in es)
     put_less =
@@ -124,17 +148,43 @@ module _ (r : Reach) (ups : List Bool) (next : ℕ) (es : List Indexed) (index :
         ∙ ap (slice_set (listed_in es) (its Q first).spot.place) (given_then (listed_in es) g given (some_of (λ (d : Indexed). IsMask d.listed.first (goes (listed_in es) d.listed) given) (entry_at es version) g bits (entry Q first))))
 
     pub give_done : give_step r (record { home_up = home_up; ups = ups; next = next; listed = listed_in es; down = None })
-        ≡ Some (record { look = record { home_up = home_up; ups = ups; next = next; listed = listed_in (filter (λ (d : Indexed). keeps_a_block d.listed) (changed version (given_up given) es)); down = None }; uses = logger_at r rec.lane ∷ [] })
+        ≡ Some (record { look = record { home_up = home_up; ups = ups; next = next; listed = listed_in (filter (λ (d : Indexed). keeps_a_block d.listed) (changed version (given_up given) es)); down = None }; uses = logger_at r rec.lane ∷ []; moves = Gives (given_of r (record { home_up = home_up; ups = ups; next = next; listed = listed_in es; down = None }) g.listed) ∷ [] })
     give_done =
         let l : Look = record { home_up = home_up; ups = ups; next = next; listed = listed_in es; down = None } in
         ap (step_at (give_up r) l) (least_of Q es g (its Q first)) ∙ ap (option_map (give_up r l (its Q first).spot.place)) (its Q first).spot.there
-        ∙ (λ i. Some (record { look = record { home_up = home_up; ups = ups; next = next; listed = (sym kept_then) i; down = None }; uses = logger_at r (sym (lane Q first) i) ∷ [] }))
+        ∙ (λ i. Some (record { look = record { home_up = home_up; ups = ups; next = next; listed = (sym kept_then) i; down = None }; uses = logger_at r (sym (lane Q first) i) ∷ []; moves = Gives (given_of r l g.listed) ∷ [] }))
+
+    its_record : IsRecordOf g rec
+    its_record = let a = answered (entry_at es version) rec there in subst (λ (d : Indexed). IsRecordOf d rec) (same_Some a.entry g (sym a.is ∙ entry Q first)) a.record_
+
+    blocks_are : count_by (has_bit given) (range_with_len 0 rec.count) ≡ count_by (goes (listed_in es) g.listed) (block_numbers g.listed)
+    blocks_are = ap (λ (n : ℕ). count_by (has_bit given) (range_with_len 0 n)) its_record.count
+        ∙ counted_same (has_bit given) (goes (listed_in es) g.listed) 0 g.listed.first (length g.listed.keep)
+        (λ i lt. let zero_ : 0 + i ≡ i = omega arith in ap (has_bit given) zero_ ∙ some_of (λ (d : Indexed). IsMask d.listed.first (goes (listed_in es) d.listed) given) (entry_at es version) g bits (entry Q first) i)
+
+    kept_are : count_by (has_bit rec.keep) (range_with_len 0 rec.count) ≡ count_by (cover_of g.listed).covers (block_numbers g.listed)
+    kept_are = ap (λ (n : ℕ). count_by (has_bit rec.keep) (range_with_len 0 n)) its_record.count
+        ∙ counted_same (has_bit rec.keep) (cover_of g.listed).covers 0 g.listed.first (length g.listed.keep)
+        (λ i lt. kept_bit rec.count rec.keep g.listed.keep g.listed.first i its_record.keep (let n = its_record.count in omega (arith, lt, n)))
+
+    -- what it gives up
+    pub given_is : (disk : ℕ) → logger_at r rec.lane ≡ disk → (let blocks = count_by (has_bit given) (range_with_len 0 rec.count) in let x : Given = record { disk = disk; version = rec.version; blocks = blocks; gone = eqb blocks (count_by (has_bit rec.keep) (range_with_len 0 rec.count)) } in x)
+        ≡ given_of r (record { home_up = home_up; ups = ups; next = next; listed = listed_in es; down = None }) g.listed
+    given_is disk is = λ i. record { disk = (sym is ∙ ap (logger_at r) (lane Q first)) i; version = its_record.version i; blocks = blocks_are i; gone = eqb (blocks_are i) (kept_are i) }
 
     pub give_less : left (listed_in (filter (λ (d : Indexed). keeps_a_block d.listed) (changed version (given_up given) es))) < left (listed_in es)
     give_less =
         let same = ap left kept_then in
         let less = given_lowers (listed_in es) (its Q first).spot.place g.listed (its Q first).spot.there (and_parts (slice_index_or ups g.listed.lane false) (has_going (listed_in es) g.listed) (its Q first).passes).1 in
         omega (arith, same, less)
+
+-- a record has no more than 128 blocks
+pub count_few : (es : List Indexed) (version : ℕ) (rec : Rec) → IsIndex es → IsAnswer (entry_at es version) (Some rec) → rec.count ≤ 128
+count_few es version rec index there =
+    let a = answered (entry_at es version) rec there in
+    let few = (all_member (λ (d : Indexed). IsEntry (listed_in es) d.listed) es a.entry index.each (found_there (has_version version) es a.entry a.is)).count in
+    let count = a.record_.count in
+    omega (arith, few, count)
 
 -- the records stay among their lanes and versions
 pub homed_logged : (lanes next version mask : ℕ) (es : List Indexed) → AllByRecursion (IsLogged lanes next) es → AllByRecursion (IsLogged lanes next) (changed version (with_homed mask) es)
@@ -174,25 +224,30 @@ pub put_answered : (v : Volume) (version : ℕ) (rec : Rec) (homed mask disk : �
     → put_step (reach_in v) (look_in v) ≡ put_answer (reach_in v) (look_in (record v { index = after })) (Some disk)
 put_answered v version rec homed mask disk after up volume index there first homes dues entries is =
     subst (λ (h : Bool). put_step (reach_in v) (record { home_up = h; ups = v.ups.items; next = v.next; listed = listed_in v.index.entries; down = None })
-    ≡ Some (record { look = record { home_up = h; ups = v.ups.items; next = v.next; listed = listed_in after.entries; down = None }; uses = disk ∷ v.own ∷ [] })) (sym up)
+    ≡ Some (record { look = record { home_up = h; ups = v.ups.items; next = v.next; listed = listed_in after.entries; down = None }; uses = disk ∷ v.own ∷ []; moves = [] })) (sym up)
     (put_done (reach_in v) v.ups.items v.next v.index.entries index version rec there first homed mask homes dues
-    ∙ (λ i. Some (record { look = record { home_up = true; ups = v.ups.items; next = v.next; listed = listed_in (sym entries i); down = None }; uses = logger_of v version rec disk volume there is i ∷ v.own ∷ [] })))
+    ∙ (λ i. Some (record { look = record { home_up = true; ups = v.ups.items; next = v.next; listed = listed_in (sym entries i); down = None }; uses = logger_of v version rec disk volume there is i ∷ v.own ∷ []; moves = [] })))
 
-pub give_answered : (v : Volume) (version : ℕ) (rec : Rec) (given disk : ℕ) (after : Contents) → IsVolume v → IsIndex v.index.entries → IsAnswer (entry_at v.index.entries version) (Some rec)
+pub give_answered : (v : Volume) (version : ℕ) (rec : Rec) (given disk : ℕ) (after : Contents) (x : Given) → IsVolume v → IsIndex v.index.entries → IsAnswer (entry_at v.index.entries version) (Some rec)
     → first_version (can_go v.ups.items v.index.entries) v.index.entries ≡ Some version → IfSome (entry_at v.index.entries version) (λ e. IsMask e.listed.first (goes (listed_in v.index.entries) e.listed) given)
     → after.entries ≡ filter (λ (d : Indexed). keeps_a_block d.listed) (changed version (given_up given) v.index.entries) → disk ≡ slice_index_or v.loggers.items rec.lane disk
-    → give_step (reach_in v) (look_in v) ≡ give_answer (look_in (record v { index = after })) (Some disk)
-give_answered v version rec given disk after volume index there first bits entries is =
+    → x ≡ (let blocks = count_by (has_bit given) (range_with_len 0 rec.count) in record { disk = disk; version = rec.version; blocks = blocks; gone = eqb blocks (count_by (has_bit rec.keep) (range_with_len 0 rec.count)) })
+    → give_step (reach_in v) (look_in v) ≡ give_answer (look_in (record v { index = after })) (Some x)
+give_answered v version rec given disk after x volume index there first bits entries is gives =
+    let log = logger_of v version rec disk volume there is in
+    let same = gives ∙ given_is (reach_in v) v.ups.items v.next v.index.entries index version rec there first v.home_up given bits disk log in
     give_done (reach_in v) v.ups.items v.next v.index.entries index version rec there first v.home_up given bits
-    ∙ (λ i. Some (record { look = record { home_up = v.home_up; ups = v.ups.items; next = v.next; listed = listed_in (sym entries i); down = None }; uses = logger_of v version rec disk volume there is i ∷ [] }))
+    ∙ (λ i. Some (record { look = record { home_up = v.home_up; ups = v.ups.items; next = v.next; listed = listed_in (sym entries i); down = None }; uses = (log ∙ sym (ap (λ (g : Given). g.disk) gives)) i ∷ []; moves = Gives (sym same i) ∷ [] }))
 
--- the volume with another index
-pub with_index : (v : Volume) (after : Contents) → IsVolume v → v.settled ≡ false → AllByRecursion (IsLogged (length v.ups.items) v.next) after.entries → StaysOpen v (record v { index = after })
-with_index v after volume unsettled logged = record {
-  volume = record { few = volume.few; flags = volume.flags; rooms_ = volume.rooms_; logged = logged; settled = λ is. absurd (false≢true (sym unsettled ∙ is)) };
+-- the volume with another index, and with what is in logs
+pub with_index : (v : Volume) (after : Contents) (store : Store) (moves : List Move) → IsVolume v → v.settled ≡ false → AllByRecursion (IsLogged (length v.ups.items) v.next) after.entries → IsStore v.next v.loggers.items store
+    → store_in store ≡ all_moved moves (store_in v.store) → StaysOpen moves v (record v { index = after; store = store })
+with_index v after store moves volume unsettled logged stored done = record {
+  volume = record { few = volume.few; flags = volume.flags; rooms_ = volume.rooms_; logged = logged; settled = λ is. absurd (false≢true (sym unsettled ∙ is)); store_ = stored };
   settled = unsettled;
   reach = refl;
   next = refl;
+  store = done;
 }
 
 -- ---- no step

@@ -30,7 +30,7 @@ stands_turn vs ds es k v w action is done t m stands =
     let turn : Turn = record { volume = k; action = action } in
     let found : slice_get m.volumes k ≡ Some (volume_in v) = ap (λ (l : List machine.Volume). slice_get l k) stands.volumes ∙ get_map volume_in vs k v is in
     subst (λ (o : Option machine.Volume). Stands (slice_set vs k w) es (turned_at t turn m o)) (sym found) (record {
-      volumes = (λ i. slice_set (stands.volumes i) k (record { reach = sym done.reach i; look = sym done.look i })) ∙ sym (map_set volume_in vs k w);
+      volumes = (λ i. slice_set (stands.volumes i) k (record { reach = sym done.reach i; look = sym done.look i; store = sym done.store i })) ∙ sym (map_set volume_in vs k w);
       disks = done.disks t m.spindles stands.disks;
     })
 

@@ -1,7 +1,9 @@
 -- The waits of requests that were served one after another, and window by window.
 use Rattle.std.proofs.Common.{◌≡◌, ◌+◌, ℕ, zero, suc, List, [], ◌∷◌, ◌++◌, map, take, Option, None, Some, refl, sym, ap, subst, ◌∙◌, append_assoc, append-nil, arith}
 use Rattle.std.specs.Prelude.{slice_get}
-use Rattle.std.specs.Option.{option_map_or}
+use Rattle.std.specs.Option.{option_map, option_and_then, option_map_or}
+use Rattle.whatif.specs.Logs.{filed_on}
+use Rattle.whatif.specs.declared.logged.Held.{Held}
 use Rattle.std.proofs.lemmas.Option.{none-some, same_Some}
 use Rattle.wol_config.specs.declared.config.Config.{Config}
 use Rattle.whatif.specs.declared.policy.Ask.{Ask}
@@ -14,7 +16,7 @@ use Rattle.whatif.specs.Machine.{Asked, Machine, Setting, after_turns, after_win
 use Rattle.whatif.specs.Policies.{machine_after, setting_of, waits_by}
 use Rattle.whatif.specs.Stands.{HaveTurned, HaveWaited}
 use Rattle.whatif.specs.Volumes.{IsLate, look_in, reach_in, volume_in}
-use Rattle.whatif.specs.Waits.{AreTallied, Waited, uses_of, wait_on, waits_among, waits_in}
+use Rattle.whatif.specs.Waits.{AreTallied, Waited, held_on, log_of, uses_of, wait_on, waits_among, waits_in}
 use Rattle.whatif.proofs.Lists.{get_map}
 
 -- ---- requests
@@ -23,18 +25,22 @@ pub none_waited : (wake : ℕ) (vs : List Volume) (ds : List Disk) (t : Tallies)
 none_waited wake vs ds t timeout m ws stands are = subst (λ (l : List Waited). AreTallied wake l t) (sym (append-nil ws)) are
 
 -- one request
-pub one_waited : (wake wait : ℕ) (vs : List Volume) (ds : List Disk) (a : Ask) (v : Volume) (old new : Tallies) → slice_get vs a.volume ≡ Some v → IsLate wake (answering a.kind a.lbn a.count) v ds wait
-    → ((ws : List Waited) → AreTallied wake ws old → AreTallied wake (ws ++ record { volume = a.volume; kind = a.kind; wait = wait } ∷ []) new) → HaveWaited wake (a ∷ []) vs ds old new
-one_waited wake wait vs ds a v old new at late told timeout m ws stands are =
+pub one_waited : (wake wait : ℕ) (vs us : List Volume) (ds es : List Disk) (a : Ask) (v : Volume) (log : Option ℕ) (held : Option Held) (old new : Tallies) → slice_get vs a.volume ≡ Some v → IsLate wake (answering a.kind a.lbn a.count) v ds wait
+    → log ≡ filed_on (answering a.kind a.lbn a.count (reach_in v) (look_in v)).moves → held ≡ option_map (held_on (map volume_in us)) log → HaveTurned (asking a ∷ []) vs ds us es
+    → ((ws : List Waited) → AreTallied wake ws old → AreTallied wake (ws ++ record { volume = a.volume; kind = a.kind; wait = wait; held = held } ∷ []) new) → HaveWaited wake (a ∷ []) vs ds old new
+one_waited wake wait vs us ds es a v log held old new at late logs holds turn told timeout m ws stands are =
     let found : slice_get m.volumes a.volume ≡ Some (volume_in v) = ap (λ (l : List machine.Volume). slice_get l a.volume) stands.volumes ∙ get_map volume_in vs a.volume v at in
     let uses : (answering a.kind a.lbn a.count (reach_in v) (look_in v)).uses ≡ uses_of a m =
     ap (λ (o : Option machine.Volume). option_map_or (λ (x : machine.Volume). (answering a.kind a.lbn a.count x.reach x.look).uses) o []) (sym found) in
     let is : wait ≡ wait_on timeout wake (uses_of a m) m.spindles = late timeout m.spindles stands.disks ∙ ap (λ (us : List ℕ). wait_on timeout wake us m.spindles) uses in
-    subst (λ (n : ℕ). AreTallied wake (ws ++ record { volume = a.volume; kind = a.kind; wait = n } ∷ []) new) is (told ws are)
+    let on : log ≡ log_of a m = logs ∙ ap (λ (o : Option machine.Volume). option_and_then (λ (x : machine.Volume). filed_on (answering a.kind a.lbn a.count x.reach x.look).moves) o) (sym found) in
+    let then : map volume_in us ≡ (turned timeout (asking a) m).volumes = sym (turn timeout m stands).volumes in
+    let has : held ≡ option_map (held_on (turned timeout (asking a) m).volumes) (log_of a m) = holds ∙ (λ i. option_map (held_on (then i)) (on i)) in
+    subst (λ (l : List Waited). AreTallied wake (ws ++ l) new) (λ i. record { volume = a.volume; kind = a.kind; wait = is i; held = has i } ∷ []) (told ws are)
 
 waits_joined : (timeout wake : ℕ) (xs ys : List Ask) (m : Machine) → waits_among timeout wake (xs ++ ys) m ≡ waits_among timeout wake xs m ++ waits_among timeout wake ys (after_turns timeout (map asking xs) m)
 waits_joined timeout wake [] ys m = refl
-waits_joined timeout wake (a ∷ xs) ys m = λ i. record { volume = a.volume; kind = a.kind; wait = wait_on timeout wake (uses_of a m) m.spindles } ∷ waits_joined timeout wake xs ys (turned timeout (asking a) m) i
+waits_joined timeout wake (a ∷ xs) ys m = λ i. record { volume = a.volume; kind = a.kind; wait = wait_on timeout wake (uses_of a m) m.spindles; held = option_map (held_on (turned timeout (asking a) m).volumes) (log_of a m) } ∷ waits_joined timeout wake xs ys (turned timeout (asking a) m) i
 
 -- requests that come after others
 pub waited_more : (wake : ℕ) (xs ys : List Ask) (vs ws : List Volume) (ds es : List Disk) (t u v : Tallies) → HaveTurned (map asking xs) vs ds ws es → HaveWaited wake xs vs ds t u → HaveWaited wake ys ws es u v → HaveWaited wake (xs ++ ys) vs ds t v

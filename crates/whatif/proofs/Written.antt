@@ -26,10 +26,11 @@ use Rattle.wol_promise.specs.Policy.{Look, place_of, placed, is_in, rooms_but}
 use Rattle.whatif.specs.declared.disk.Disk.{Disk}
 use Rattle.whatif.specs.declared.volume.Volume.{Volume}
 use Rattle.whatif.specs.Disks.{AreDisks}
-use Rattle.whatif.specs.Machine.{Reach, all_accessed, answering, disk_of, write_of, writing}
+use Rattle.whatif.specs.Machine.{Reach, all_accessed, answering, disk_of, filed_at, write_of, writing}
+use Rattle.whatif.specs.Logs.{all_moved}
 use Rattle.wol_model.specs.declared.trace.Kind.{Kind}
 use Rattle.wol_model.specs.declared.trace.Kind.TheVariants as kind
-use Rattle.whatif.specs.Volumes.{HasDone, IsLogged, IsVolume, look_in, reach_in}
+use Rattle.whatif.specs.Volumes.{HasDone, IsLogged, IsVolume, look_in, reach_in, store_in}
 use Rattle.wol_promise.proofs.Lists.{all_push}
 
 -- ---- Its marks
@@ -184,10 +185,12 @@ lane_of_step home_up covered ups rooms lane all_yes found =
 -- ---- What a request does
 
 pub wrote : (first count : ℕ) (p : Place) (v w : Volume) (ds es : List Disk) → place_of [] (look_in v) (write_of first count) ≡ p → reach_in w ≡ reach_in v → look_in w ≡ placed p (look_in v) (write_of first count)
+    → store_in w.store ≡ all_moved (filed_at v.next count (reach_in v) p) (store_in v.store)
     → ((t : ℕ) (ss : List SpindleState) → AreDisks ds ss → AreDisks es (all_accessed t (disk_of (reach_in v) p) ss)) → HasDone (writing first count) v w ds es
-wrote first count p v w ds es is reach look disks = record {
+wrote first count p v w ds es is reach look store disks = record {
   reach = reach;
   look = look ∙ sym (ap (λ (q : Place). placed q (look_in v) (write_of first count)) is);
+  store = store ∙ sym (ap (λ (q : Place). all_moved (filed_at v.next count (reach_in v) q) (store_in v.store)) is);
   disks = λ t ss are. subst (λ (q : Place). AreDisks es (all_accessed t (disk_of (reach_in v) q) ss)) (sym is) (disks t ss are);
 }
 

@@ -79,8 +79,9 @@ impl Logged {
         self.count += 1;
         self.blocks = self.blocks.max(held.all);
         self.segments = self.segments.max(held.segments);
-        if let Some(most) = self.each.get_mut(held.disk as usize) {
-            most.raise(held);
+        let disk = held.disk as usize;
+        if disk < self.each.len() {
+            self.each[disk].raise(held);
         }
     }
 }

@@ -10,6 +10,7 @@ ghost use Rattle.wol_model.specs.Log.{has_bit};
 use crate::disk::{Disk, access_at};
 use crate::store::Given;
 use crate::volume::Volume;
+use block_cells::has;
 use garbage_list::{due, may_go, next_due, next_to_go};
 use redirect_map::Rec;
 
@@ -20,7 +21,7 @@ fn bits(mask: u128, count: u32) -> u32
 {
     let mut set = 0;
     for bit in 0..count {
-        set += (mask >> bit & 1) as u32;
+        set += u32::from(has(mask, bit));
     }
     set
 }

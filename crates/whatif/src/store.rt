@@ -1,6 +1,6 @@
 // What a volume has in logs: how many blocks its records keep, and the segments in which they lie.
 ghost use Rattle.std.specs.List.{AllByRecursion, filter, list_any};
-ghost use Rattle.std.specs.Prelude.{◌≡◌, ◌==◌, ◌<◌, ◌≤◌, ◌+◌, ◌*◌, ◌^◌, ◌++◌, ◌∷◌, [], ℕ, List, length, map, nat_le, not, IfOk, OnOk};
+ghost use Rattle.std.specs.Prelude.{◌≡◌, ◌==◌, ◌<◌, ◌≤◌, ◌+◌, ◌*◌, ◌^◌, ◌++◌, ◌∷◌, [], ℕ, List, length, map, nat_le, not, position, IfOk, OnOk, if◌then◌else◌};
 ghost use Rattle.whatif.specs.Logs.{Files, Gives, cleared, filed, filing, first_store, giving, has_record, if_some, moved, new_segment, taking};
 ghost use Rattle.whatif.specs.Logs as logs;
 ghost use Rattle.whatif.specs.Volumes.{IsStore, segment_in, shelf_in, store_in};
@@ -85,55 +85,89 @@ impl Segment {
         Ok(())
     }
 
-    // A record leaves.
-    fn leave(&mut self, version: u64)
+    // A record leaves. Answers whether it was the last one.
+    fn leave(&mut self, version: u64) -> bool
+        ensures last { result ≡ (length self.new.records.items == 0) }
         ensures left { self.new.left ≡ self.old.left }
         ensures records { self.new.records.items
             ≡ filter (λ r. not (r == version)) self.old.records.items }
     {
         self.records.retain(|record| *record != version);
+        self.records.is_empty()
+    }
+}
+
+// The first segment that has as many blocks left.
+fn with_room(segments: &[Segment], size: u32) -> Option<usize>
+    ensures { result ≡ position (λ s. nat_le size s.left) segments.now }
+{
+    segments.iter().position(|segment| has_room(segment, size))
+}
+
+// The first segment that has this record.
+fn with_record(segments: &[Segment], version: u64) -> Option<usize>
+    ensures { result ≡ position (λ s. has_record version (segment_in s)) segments.now }
+{
+    segments
+        .iter()
+        .position(|segment| has_record(segment, version))
+}
+
+// The record goes into the first segment with as many blocks left, or a new one.
+fn file(
+    segments: &mut Vec<Segment>,
+    alloc: Global,
+    whole: u32,
+    size: u32,
+    version: u64,
+) -> Result<(), NoMemory>
+    ensures { OnOk result (map segment_in segments.new.items
+        ≡ filed whole size version (map segment_in segments.old.items)) }
+{
+    let Some(at) = with_room(segments.as_slice(), size) else {
+        let segment = Segment::new(alloc, whole, size, version)?;
+        segments.push(segment)?;
+        return Ok(());
+    };
+    segments[at].take(size, version)
+}
+
+// The record leaves its segment, and with its last record the segment is gone.
+fn clear(segments: &mut Vec<Segment>, version: u64)
+    ensures { map segment_in segments.new.items
+        ≡ cleared version (map segment_in segments.old.items) }
+{
+    let Some(at) = with_record(segments.as_slice(), version) else {
+        return;
+    };
+    if segments[at].leave(version) {
+        segments.remove(at);
+    }
+}
+
+// .. where it keeps no block.
+fn clear_if(segments: &mut Vec<Segment>, gone: bool, version: u64)
+    ensures { map segment_in segments.new.items
+        ≡ (if gone then cleared version (map segment_in segments.old.items)
+        else map segment_in segments.old.items) }
+{
+    if gone {
+        clear(segments, version);
     }
 }
 
 impl Shelf {
-    // The record goes into the first segment with as many blocks left, or a new one.
+    // A record of so many blocks comes.
     fn file(&mut self, alloc: Global, whole: u32, count: u32, version: u64) -> Result<(), NoMemory>
         requires room { count ≤ 128 }
         requires few { self.old.kept + count < 2 ^ 128 }
-        ensures { OnOk result (shelf_in self.new ≡ filing whole count version (shelf_in self.old)) }
+        ensures filed { OnOk result
+            (shelf_in self.new ≡ filing whole count version (shelf_in self.old)) }
+        ensures kept { OnOk result (self.new.kept ≡ self.old.kept + count) }
     {
-        let size = count + 1;
-        match self
-            .segments
-            .iter()
-            .position(|segment| has_room(segment, size))
-        {
-            Some(at) => self.segments[at].take(size, version)?,
-            None => self
-                .segments
-                .push(Segment::new(alloc, whole, size, version)?)?,
-        }
+        file(&mut self.segments, alloc, whole, count + 1, version)?;
         self.kept += u128::from(count);
         Ok(())
-    }
-
-    // The record leaves its segment, and with its last record the segment is gone.
-    fn clear(&mut self, version: u64)
-        ensures kept { self.new.kept ≡ self.old.kept }
-        ensures segments { map segment_in self.new.segments.items
-            ≡ cleared version (map segment_in self.old.segments.items) }
-    {
-        let found = self
-            .segments
-            .iter()
-            .position(|segment| has_record(segment, version));
-        let Some(at) = found else {
-            return;
-        };
-        self.segments[at].leave(version);
-        if self.segments[at].records.is_empty() {
-            self.segments.remove(at);
-        }
     }
 
     // A record gives up blocks.
@@ -142,9 +176,7 @@ impl Shelf {
         ensures kept { self.new.kept ≤ self.old.kept }
     {
         self.kept = self.kept.saturating_sub(u128::from(given.blocks));
-        if given.gone {
-            self.clear(given.version);
-        }
+        clear_if(&mut self.segments, given.gone, given.version);
     }
 }
 

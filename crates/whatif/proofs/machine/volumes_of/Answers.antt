@@ -15,7 +15,7 @@ use Rattle.whatif.proofs.machine.volumes_of.Goals as goal
 
 pub loop-number-preserved : goal.loop-number-preserved
 loop-number-preserved c =
-    let i = c.loop-number.invariant in let k = c.loop-number.number in let v = c.in_ok-new.field-0 in let n = c.in_ok-new.ensures in let made = c.loop-number.made.items in
+    let i = c.loop-number.invariant in let k = c.loop-number.number in let v = c.in_ok-volume.volume in let n = c.in_ok-volume.ensures in let made = c.loop-number.made.items in
     let confs = c.args.volumes.now in let loggers = c.in_ok-loggers.loggers.items in
     let items : c.push.new.self.items ≡ made ++ v ∷ [] = c.in_ok-push.ensures.items in
     let few : v.next ≤ 0 + 1 = (let next = ap (λ (l : Look). l.next) n.look in omega (arith, next)) in
@@ -27,6 +27,6 @@ loop-number-preserved c =
     } in record {
       count = (let count = i.count in let long = ap length items in omega (arith, count, long, length-append made (v ∷ [])));
       all = subst (AllByRecursion (IsAmong (length confs) 0)) (sym items) (all_push (IsAmong (length confs) 0) made v i.all among);
-      made = ap (map volume_in) items ∙ map-append volume_in made (v ∷ []) ∙ (λ j. i.made j ++ volume_made c.args.policy confs k loggers v c.in_ok-loggers.ensures.loggers n.reach n.look j ∷ [])
-          ∙ sym (mapped_more (λ (m : ℕ). first_volume (reach_of c.args.policy confs m)) k);
+      made = ap (map volume_in) items ∙ map-append volume_in made (v ∷ []) ∙ (λ j. i.made j ++ volume_made c.args.policy c.args.whole confs k loggers v c.in_ok-loggers.ensures.loggers n.reach n.look n.store j ∷ [])
+          ∙ sym (mapped_more (λ (m : ℕ). first_volume c.args.whole (reach_of c.args.policy confs m)) k);
     }

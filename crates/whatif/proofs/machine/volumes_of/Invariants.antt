@@ -10,5 +10,5 @@ abbrev pub invariant-loop-number : goal.invariant-loop-number
 invariant-loop-number l = record {
   count : length l.made.items ≡ l.number;
   all : AllByRecursion (IsAmong (length l.volumes) 0) l.made.items;
-  made : map volume_in l.made.items ≡ map (λ n. first_volume (reach_of l.policy l.volumes n)) (range_with_len 0 l.number);
+  made : map volume_in l.made.items ≡ map (λ n. first_volume l.whole (reach_of l.policy l.volumes n)) (range_with_len 0 l.number);
 }

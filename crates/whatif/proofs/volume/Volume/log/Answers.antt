@@ -32,6 +32,7 @@ returns-clause-volume c =
       logged = subst (λ (k : ℕ). AllByRecursion (IsLogged k (v.next + 1)) c.add.new.self.entries) (sym long)
           (subst (AllByRecursion (IsLogged (length v.ups.items) (v.next + 1))) (sym entries) (logged_more (length v.ups.items) v.next c.args.lbn c.args.count n v.index.entries c.requires.lane c.requires.volume.logged));
       settled = λ is. absurd (false≢true is);
+      store_ = c.in_ok-file.ensures.more v.next v.loggers.items c.requires.volume.store_;
     }
 
 pub returns-clause-look : goal.returns-clause-look

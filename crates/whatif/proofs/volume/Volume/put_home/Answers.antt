@@ -1,5 +1,5 @@
 -- The due blocks of one record go home.
-use Rattle.std.proofs.Common.{◌≡◌, ◌<◌, ◌+◌, ⊎_elim, Bool, ℕ, true, List, Option, None, Some, length, refl, subst, sym, ap, ◌∙◌, bit_or, arith, rules}
+use Rattle.std.proofs.Common.{[], ◌≡◌, ◌<◌, ◌+◌, ⊎_elim, Bool, ℕ, true, List, Option, None, Some, length, refl, subst, sym, ap, ◌∙◌, bit_or, arith, rules}
 use Rattle.std.specs.Prelude.{IfNone}
 use Rattle.std.specs.List.{AllByRecursion}
 use Rattle.wol_model.specs.Index.{Indexed, left, listed_in, is_due, is_homed, is_live}
@@ -35,7 +35,7 @@ set_homed-requires-clause-live c e is i set =
 pub returns-clause-stays : goal.returns-clause-stays
 returns-clause-stays c =
     let v = c.args.self.now in
-    with_index v c.set_homed.new.self c.requires.volume c.requires.settled (subst (λ (l : List Indexed). AllByRecursion (IsLogged (length v.ups.items) v.next) l) (sym c.set_homed.ensures.entries) (homed_logged _ v.next c.in_ok-version.version (bit_or c.homed.result c.due.result) v.index.entries c.requires.volume.logged))
+    with_index v c.set_homed.new.self v.store [] c.requires.volume c.requires.settled (subst (λ (l : List Indexed). AllByRecursion (IsLogged (length v.ups.items) v.next) l) (sym c.set_homed.ensures.entries) (homed_logged _ v.next c.in_ok-version.version (bit_or c.homed.result c.due.result) v.index.entries c.requires.volume.logged)) c.requires.volume.store_ refl
 
 pub returns-clause-step : goal.returns-clause-step
 returns-clause-step c =

@@ -17,6 +17,7 @@ pub loop-i-init : goal.loop-i-init
 loop-i-init c = record {
   volume = c.requires.volume;
   reach = refl;
+  store = refl;
   look = sym (woken_none (look_in c.args.self.now) c.args.lbn);
   within = c.requires.within;
   kept = c.requires.kept;
@@ -37,6 +38,7 @@ loop-i-preserved c =
     let source : c.wake_source-disk.result ≡ source_of (reach_in start) (listed_in start.index.entries) (c.args.lbn + i) = (rw c.from.ensures at e.source) ∙ (λ j. source_of (k.reach j) (listed j) (c.args.lbn + i)) in record {
       volume = e.volume;
       reach = e.reach ∙ k.reach;
+      store = e.store ∙ k.store;
       look = (rw c.from.ensures at e.look) ∙ ap (λ (l : Look). woken l (c.args.lbn + i) 1) k.look ∙ woken_more (look_in start) c.args.lbn i 1;
       within = same_within (length c.loop-i.disks) (length c.access_at.new.disks) (reach_in c.wake_source-disk.new.self) (same_length c.loop-i.disks c.access_at.new.disks c.access_at.ensures.moments) (subst (IsWithin (length c.loop-i.disks)) (sym e.reach) k.within);
       kept = c.access_at.ensures.kept;

@@ -13,6 +13,7 @@ abbrev pub invariant-loop-i : goal.invariant-loop-i
 invariant-loop-i l = record {
   volume : IsVolume l.self;
   reach : reach_in l.self ≡ reach_in l.initial.self;
+  store : l.self.store ≡ l.initial.self.store;
   look : look_in l.self ≡ woken (look_in l.initial.self) l.lbn l.i;
   within : IsWithin (length l.disks) (reach_in l.self);
   kept : AllByRecursion IsKept l.disks;

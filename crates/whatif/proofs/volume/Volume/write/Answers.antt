@@ -1,70 +1,50 @@
 -- A write goes home, or to the log on a logger.
-use Rattle.std.proofs.Common.{◌≡◌, ◌<◌, ◌≤◌, ◌+◌, ℕ, Bool, List, [], ◌∷◌, length, refl, sym, ap, subst, ◌∙◌, arith}
+use Rattle.std.proofs.Common.{◌≡◌, ◌<◌, ◌≤◌, ◌+◌, ℕ, Bool, List, [], ◌∷◌, length, Some, refl, sym, ap, subst, ◌∙◌, arith}
 use Rattle.std.specs.Prelude.{slice_index_or}
 use Rattle.std.specs.List.{AllByRecursion}
 use Rattle.wol_model.specs.Journal.{SpindleState}
-use Rattle.wol_model.specs.Placing.{Home, Log, Full}
+use Rattle.wol_model.specs.Placing.{Place, Home, Log, Full}
 use Rattle.wol_promise.specs.Policy.{Look}
 use Rattle.whatif.specs.declared.volume.Volume.{Volume}
 use Rattle.whatif.specs.Disks.{AreDisks}
 use Rattle.wol_model.specs.Blocks.{changed_at}
-use Rattle.whatif.specs.Machine.{Reach, accessed}
-use Rattle.whatif.specs.Volumes.{look_in, reach_in}
+use Rattle.whatif.specs.Machine.{Reach, accessed, filed_at}
+use Rattle.whatif.specs.Logs.{filed_on}
+use Rattle.whatif.specs.Volumes.{look_in, reach_in, store_in}
 use Rattle.whatif.proofs.Lists.{same_default}
 use Rattle.whatif.proofs.Steps.{logger_within}
 use Rattle.whatif.proofs.Written.{lane_under, to_home, to_log, to_none, wrote}
-use Rattle.whatif.proofs.Doing.{same_length}
+use Rattle.whatif.proofs.Doing.{place_within, same_length}
 use Rattle.whatif.proofs.Waiting.{late_nowhere, late_write}
 use Rattle.whatif.proofs.volume.Volume.write.Goals as goal
 
 pub log-requires-clause-lane : goal.log-requires-clause-lane
 log-requires-clause-lane c = lane_under c.args.self.now c.args.lbn c.args.count c.covered-covered.result c.as_slice.result.now c.as_slice-2.result.now c.place.result c.requires.volume c.as_slice.ensures.value c.as_slice-2.ensures.value c.covered-covered.ensures c.place.ensures.value c.place.ensures.model c.in-Log.lane c.in-Log.is
 
-pub index-disk-requires : goal.index-disk-requires
-index-disk-requires c =
-    let lt = lane_under c.args.self.now c.args.lbn c.args.count c.covered-covered.result c.as_slice.result.now c.as_slice-2.result.now c.place.result c.requires.volume c.as_slice.ensures.value c.as_slice-2.ensures.value c.covered-covered.ensures c.place.ensures.value c.place.ensures.model c.in-Log.lane c.in-Log.is in
-    let same = ap (λ (r : Reach). length r.loggers) c.in_ok-log-in-Log.ensures.reach in
-    let flags = c.requires.volume.flags in
-    omega (arith, lt, same, flags)
-
 pub access_at-requires-in-Log-clause-within : goal.access_at-requires-in-Log-clause-within
 access_at-requires-in-Log-clause-within c =
-    let lt = lane_under c.args.self.now c.args.lbn c.args.count c.covered-covered.result c.as_slice.result.now c.as_slice-2.result.now c.place.result c.requires.volume c.as_slice.ensures.value c.as_slice-2.ensures.value c.covered-covered.ensures c.place.ensures.value c.place.ensures.model c.in-Log.lane c.in-Log.is in
-    let reach = c.in_ok-log-in-Log.ensures.reach in
-    let same = ap (λ (r : Reach). length r.loggers) reach in
-    let flags = c.requires.volume.flags in
-    let loggers : AllByRecursion (λ d. d < length c.args.disks.now) c.log.new.self.loggers.items = subst (λ (r : Reach). AllByRecursion (λ d. d < length c.args.disks.now) r.loggers) (sym reach) c.requires.within.loggers in
-    logger_within c.log.new.self.loggers.items c.in-Log.lane c.index-disk.result.now (length c.args.disks.now) (omega (arith, lt, same, flags)) c.index-disk.ensures loggers
+    subst (λ (d : ℕ). d < length c.args.disks.now) (sym c.in_ok-disk-in-Log.ensures.disk) (place_within (length c.args.disks.now) (reach_in c.args.self.now) c.in-Log.lane c.requires.within)
 
 pub lag_at-requires-in-Log-clause-within : goal.lag_at-requires-in-Log-clause-within
 lag_at-requires-in-Log-clause-within c =
-    let lt = lane_under c.args.self.now c.args.lbn c.args.count c.covered-covered.result c.as_slice.result.now c.as_slice-2.result.now c.place.result c.requires.volume c.as_slice.ensures.value c.as_slice-2.ensures.value c.covered-covered.ensures c.place.ensures.value c.place.ensures.model c.in-Log.lane c.in-Log.is in
-    let reach = c.in_ok-log-in-Log.ensures.reach in
-    let same = ap (λ (r : Reach). length r.loggers) reach in
-    let flags = c.requires.volume.flags in
-    let loggers : AllByRecursion (λ d. d < length c.args.disks.now) c.log.new.self.loggers.items = subst (λ (r : Reach). AllByRecursion (λ d. d < length c.args.disks.now) r.loggers) (sym reach) c.requires.within.loggers in
-    let under : c.index-disk.result.now < length c.args.disks.now = logger_within c.log.new.self.loggers.items c.in-Log.lane c.index-disk.result.now (length c.args.disks.now) (omega (arith, lt, same, flags)) c.index-disk.ensures loggers in
-    subst (λ (n : ℕ). c.index-disk.result.now < n) (same_length c.args.disks.now c.access_at-in-Log.new.disks c.access_at-in-Log.ensures.moments) under
+    let under = place_within (length c.args.disks.now) (reach_in c.args.self.now) c.in-Log.lane c.requires.within in
+    subst (λ (n : ℕ). c.in_ok-disk-in-Log.disk < n) (same_length c.args.disks.now c.access_at-in-Log.new.disks c.access_at-in-Log.ensures.moments) (subst (λ (d : ℕ). d < length c.args.disks.now) (sym c.in_ok-disk-in-Log.ensures.disk) under)
 
 pub returns-in-Home-clause-done : goal.returns-in-Home-clause-done
 returns-in-Home-clause-done c =
     let v = c.args.self.now in let rest = c.see_home.ensures.rest in
     wrote c.args.lbn c.args.count Home v c.see_home.new.self c.args.disks.now c.access_at.new.disks (to_home c.args.self.now c.args.lbn c.args.count c.covered-covered.result c.as_slice.result.now c.as_slice-2.result.now c.place.result c.requires.volume c.as_slice.ensures.value c.as_slice-2.ensures.value c.covered-covered.ensures c.place.ensures.value c.place.ensures.model c.in-Home.is) (ap reach_in rest)
-    (ap look_in rest ∙ ap (λ (h : Bool). (let l : Look = record (look_in v) { home_up = h } in l)) c.see_home.ensures.flag)
+    (ap look_in rest ∙ ap (λ (h : Bool). (let l : Look = record (look_in v) { home_up = h } in l)) c.see_home.ensures.flag) (ap (λ (x : Volume). store_in x.store) rest)
     (λ t ss are. subst (λ (d : ℕ). AreDisks c.access_at.new.disks (changed_at d (accessed t) ss)) (ap (λ (x : Volume). x.own) rest) (c.access_at.ensures.stands t ss are))
 
 pub returns-in-Full-clause-done : goal.returns-in-Full-clause-done
-returns-in-Full-clause-done c = wrote c.args.lbn c.args.count Full c.args.self.now c.args.self.now c.args.disks.now c.args.disks.now (to_none c.args.self.now c.args.lbn c.args.count c.covered-covered.result c.as_slice.result.now c.as_slice-2.result.now c.place.result c.requires.volume c.as_slice.ensures.value c.as_slice-2.ensures.value c.covered-covered.ensures c.place.ensures.value c.place.ensures.model c.in-Full.is) refl refl (λ t ss are. are)
+returns-in-Full-clause-done c = wrote c.args.lbn c.args.count Full c.args.self.now c.args.self.now c.args.disks.now c.args.disks.now (to_none c.args.self.now c.args.lbn c.args.count c.covered-covered.result c.as_slice.result.now c.as_slice-2.result.now c.place.result c.requires.volume c.as_slice.ensures.value c.as_slice-2.ensures.value c.covered-covered.ensures c.place.ensures.value c.place.ensures.model c.in-Full.is) refl refl refl (λ t ss are. are)
 
-pub returns-in_ok-log-in-Log-clause-done : goal.returns-in_ok-log-in-Log-clause-done
-returns-in_ok-log-in-Log-clause-done c =
-    let v = c.args.self.now in let e = c.in_ok-log-in-Log.ensures in let lane = c.in-Log.lane in let disk = c.index-disk.result.now in
-    let lt = lane_under c.args.self.now c.args.lbn c.args.count c.covered-covered.result c.as_slice.result.now c.as_slice-2.result.now c.place.result c.requires.volume c.as_slice.ensures.value c.as_slice-2.ensures.value c.covered-covered.ensures c.place.ensures.value c.place.ensures.model lane c.in-Log.is in
-    let flags = c.requires.volume.flags in
-    let within : lane < length v.loggers.items = omega (arith, lt, flags) in
-    let same : disk ≡ slice_index_or v.loggers.items lane v.own = c.index-disk.ensures ∙ ap (λ (r : Reach). slice_index_or r.loggers lane disk) e.reach ∙ same_default v.loggers.items lane disk v.own within in
-    wrote c.args.lbn c.args.count (Log lane) v c.log.new.self c.args.disks.now c.access_at-in-Log.new.disks (to_log c.args.self.now c.args.lbn c.args.count c.covered-covered.result c.as_slice.result.now c.as_slice-2.result.now c.place.result c.requires.volume c.as_slice.ensures.value c.as_slice-2.ensures.value c.covered-covered.ensures c.place.ensures.value c.place.ensures.model lane c.in-Log.is) e.reach e.look
-    (λ t ss are. subst (λ (d : ℕ). AreDisks c.access_at-in-Log.new.disks (changed_at d (accessed t) ss)) same (c.access_at-in-Log.ensures.stands t ss are))
+pub returns-in_ok-disk-in-Log-clause-done : goal.returns-in_ok-disk-in-Log-clause-done
+returns-in_ok-disk-in-Log-clause-done c =
+    let v = c.args.self.now in let e = c.in_ok-disk-in-Log.ensures in let lane = c.in-Log.lane in
+    wrote c.args.lbn c.args.count (Log lane) v c.log.new.self c.args.disks.now c.access_at-in-Log.new.disks (to_log c.args.self.now c.args.lbn c.args.count c.covered-covered.result c.as_slice.result.now c.as_slice-2.result.now c.place.result c.requires.volume c.as_slice.ensures.value c.as_slice-2.ensures.value c.covered-covered.ensures c.place.ensures.value c.place.ensures.model lane c.in-Log.is) e.reach e.look e.store
+    (λ t ss are. subst (λ (d : ℕ). AreDisks c.access_at-in-Log.new.disks (changed_at d (accessed t) ss)) e.disk (c.access_at-in-Log.ensures.stands t ss are))
 
 pub returns-in-Home-clause-late : goal.returns-in-Home-clause-late
 returns-in-Home-clause-late c =
@@ -78,13 +58,25 @@ returns-in-Full-clause-late c =
     late_nowhere c.args.spin_up c.args.lbn c.args.count c.args.self.now c.args.disks.now
     (to_none c.args.self.now c.args.lbn c.args.count c.covered-covered.result c.as_slice.result.now c.as_slice-2.result.now c.place.result c.requires.volume c.as_slice.ensures.value c.as_slice-2.ensures.value c.covered-covered.ensures c.place.ensures.value c.place.ensures.model c.in-Full.is)
 
-pub returns-in_ok-log-in-Log-clause-late : goal.returns-in_ok-log-in-Log-clause-late
-returns-in_ok-log-in-Log-clause-late c =
-    let v = c.args.self.now in let e = c.in_ok-log-in-Log.ensures in let lane = c.in-Log.lane in let disk = c.index-disk.result.now in
-    let lt = lane_under c.args.self.now c.args.lbn c.args.count c.covered-covered.result c.as_slice.result.now c.as_slice-2.result.now c.place.result c.requires.volume c.as_slice.ensures.value c.as_slice-2.ensures.value c.covered-covered.ensures c.place.ensures.value c.place.ensures.model lane c.in-Log.is in
-    let flags = c.requires.volume.flags in
-    let within : lane < length v.loggers.items = omega (arith, lt, flags) in
-    let same : disk ≡ slice_index_or v.loggers.items lane v.own = c.index-disk.ensures ∙ ap (λ (r : Reach). slice_index_or r.loggers lane disk) e.reach ∙ same_default v.loggers.items lane disk v.own within in
-    late_write c.args.spin_up c.args.lbn c.args.count (Log lane) v c.args.disks.now c.access_at-in-Log.new.disks disk c.lag_at-in-Log.result
+pub returns-in_ok-disk-in-Log-clause-late : goal.returns-in_ok-disk-in-Log-clause-late
+returns-in_ok-disk-in-Log-clause-late c =
+    let v = c.args.self.now in let e = c.in_ok-disk-in-Log.ensures in let lane = c.in-Log.lane in
+    late_write c.args.spin_up c.args.lbn c.args.count (Log lane) v c.args.disks.now c.access_at-in-Log.new.disks c.in_ok-disk-in-Log.disk c.lag_at-in-Log.result
     (to_log c.args.self.now c.args.lbn c.args.count c.covered-covered.result c.as_slice.result.now c.as_slice-2.result.now c.place.result c.requires.volume c.as_slice.ensures.value c.as_slice-2.ensures.value c.covered-covered.ensures c.place.ensures.value c.place.ensures.model lane c.in-Log.is)
-    (λ i. sym same i ∷ []) (λ t ss are. c.access_at-in-Log.ensures.stands t ss are) (λ ss are. c.lag_at-in-Log.ensures.value ss are)
+    (λ i. sym e.disk i ∷ []) (λ t ss are. c.access_at-in-Log.ensures.stands t ss are) (λ ss are. c.lag_at-in-Log.ensures.value ss are)
+
+pub returns-in-Home-clause-log : goal.returns-in-Home-clause-log
+returns-in-Home-clause-log c =
+    sym (ap (λ (p : Place). filed_on (filed_at c.args.self.now.next c.args.count (reach_in c.args.self.now) p))
+    (to_home c.args.self.now c.args.lbn c.args.count c.covered-covered.result c.as_slice.result.now c.as_slice-2.result.now c.place.result c.requires.volume c.as_slice.ensures.value c.as_slice-2.ensures.value c.covered-covered.ensures c.place.ensures.value c.place.ensures.model c.in-Home.is))
+
+pub returns-in-Full-clause-log : goal.returns-in-Full-clause-log
+returns-in-Full-clause-log c =
+    sym (ap (λ (p : Place). filed_on (filed_at c.args.self.now.next c.args.count (reach_in c.args.self.now) p))
+    (to_none c.args.self.now c.args.lbn c.args.count c.covered-covered.result c.as_slice.result.now c.as_slice-2.result.now c.place.result c.requires.volume c.as_slice.ensures.value c.as_slice-2.ensures.value c.covered-covered.ensures c.place.ensures.value c.place.ensures.model c.in-Full.is))
+
+pub returns-in_ok-disk-in-Log-clause-log : goal.returns-in_ok-disk-in-Log-clause-log
+returns-in_ok-disk-in-Log-clause-log c =
+    ap Some c.in_ok-disk-in-Log.ensures.disk
+    ∙ sym (ap (λ (p : Place). filed_on (filed_at c.args.self.now.next c.args.count (reach_in c.args.self.now) p))
+    (to_log c.args.self.now c.args.lbn c.args.count c.covered-covered.result c.as_slice.result.now c.as_slice-2.result.now c.place.result c.requires.volume c.as_slice.ensures.value c.as_slice-2.ensures.value c.covered-covered.ensures c.place.ensures.value c.place.ensures.model c.in-Log.lane c.in-Log.is))
