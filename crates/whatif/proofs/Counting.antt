@@ -1,10 +1,10 @@
 -- What is told of waits, when one more is told.
-use Rattle.std.proofs.Common.{◌≡◌, ◌≢◌, ◌<◌, ◌≤◌, ◌+◌, ◌*◌, ◌^◌, ◌⊎◌, inl, inr, ℕ, zero, suc, Bool, true, false, cond, not, List, [], ◌∷◌, ◌++◌, map, length, get_or, set, replicate, leb, eqb, eq-eqb, max, Option, None, Some, refl, sym, ap, subst, ◌∙◌, append-nil, length-append, arith}
+use Rattle.std.proofs.Common.{◌≡◌, ◌≢◌, ◌<◌, ◌≤◌, ◌+◌, ◌*◌, ◌⊎◌, inl, inr, ℕ, zero, suc, Bool, true, false, cond, not, List, [], ◌∷◌, ◌++◌, map, length, get_or, set, replicate, leb, eqb, eq-eqb, max, Option, refl, sym, ap, subst, ◌∙◌, append-nil, length-append, arith}
 use Rattle.whatif.specs.declared.logged.Held.{Held}
 use Rattle.whatif.specs.declared.logged.Most.{Most}
 use Rattle.std.proofs.lemmas.Grind.{flat_map-append}
 use Rattle.std.specs.Prelude.{position, option_to_list, slice_index, unwrap_or, codes, decimal, ◌/◌}
-use Rattle.std.specs.List.{AllByRecursion, position_or_len, count_by, filter, range_with_len, sum, sum_by}
+use Rattle.std.specs.List.{AllByRecursion, position_or_len, count_by, filter, range_with_len, sum_by}
 use Rattle.std.proofs.lemmas.Bool.{cases_eq, le-ltb, ne_eqb}
 use Rattle.std.proofs.lemmas.List.{get_or-replicate, get_or-set_other, get_or-set_same, length-map, length-replicate, length-set, map-append}
 use Rattle.std.proofs.lemmas.List.Elements.{filter-append}

@@ -1,17 +1,16 @@
 -- Where no two volumes share a host, those of a host have nobody to log for them.
-use Rattle.std.proofs.Common.{◌≡◌, ◌≢◌, ◌<◌, ◌+◌, ℕ, Bool, true, false, not, ◌&&◌, List, [], ◌∷◌, map, length, Option, None, Some, refl, sym, ap, ◌∙◌, arith, eqb}
+use Rattle.std.proofs.Common.{◌≡◌, ◌≢◌, ℕ, Bool, true, false, not, ◌&&◌, List, [], ◌∷◌, map, length, Option, None, Some, refl, sym, ap, ◌∙◌, arith, eqb}
 use Rattle.std.specs.Prelude.{slice_get}
-use Rattle.std.specs.List.{range_with_len, filter}
+use Rattle.std.specs.List.{range_with_len}
 use Rattle.std.specs.Str.{bytes_eq}
-use Rattle.std.proofs.lemmas.Bool.{false_from_ne_true, eqb-true}
+use Rattle.std.proofs.lemmas.Bool.{false_from_ne_true}
 use Rattle.std.proofs.lemmas.List.Elements.{filter_agree}
 use Rattle.std.proofs.lemmas.Slice.Eq.{bytes_eq-Decides}
-use Rattle.wol_config.specs.declared.config.Config.{Config}
 use Rattle.wol_config.specs.declared.config.VolumeConf.{VolumeConf}
 use Rattle.whatif.specs.declared.policy.Policy.TheVariants.{SpinDown, Host}
 use Rattle.whatif.specs.declared.policy.Compared.{Compared}
-use Rattle.whatif.specs.Machine.{Asked, Setting, first_machine, after_windows, all_wakes, all_sleeps, all_units}
-use Rattle.whatif.specs.Policies.{compared, machine_after, reach_of, setting_of, share_host, loggers_of}
+use Rattle.whatif.specs.Machine.{Setting, first_machine, after_windows, all_wakes, all_sleeps, all_units}
+use Rattle.whatif.specs.Policies.{machine_after, reach_of, share_host}
 use Rattle.whatif.specs.Laws.{AreOnHostsOfTheirOwn, HostIsSpinDown}
 
 module _ (vs : List VolumeConf) (apart : AreOnHostsOfTheirOwn vs) where

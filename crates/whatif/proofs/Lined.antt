@@ -1,21 +1,22 @@
 -- Lines that are appended one after another.
-use Rattle.std.proofs.Common.{◌≡◌, ◌<◌, ◌≤◌, ◌+◌, ◌/◌, ◌^◌, ℕ, zero, suc, Bool, true, false, cond, List, [], ◌∷◌, ◌++◌, map, length, get_or, Option, None, Some, refl, sym, ap, subst, ◌∙◌, append_assoc, append-nil, arith}
+use Rattle.std.proofs.Common.{◌≡◌, ◌<◌, ◌+◌, ◌/◌, ℕ, zero, suc, true, false, cond, List, [], ◌∷◌, ◌++◌, map, length, get_or, take, Some, refl, sym, ap, ◌∙◌, append_assoc, append-nil, arith}
 use Rattle.std.specs.Prelude.{Result, Ok, Err, OnOk, slice_get, slice_index, codes, decimal}
 use Rattle.std.specs.List.{flat_map, range_with_len}
-use Rattle.std.specs.Option.{option_map_or}
 use Rattle.std.proofs.lemmas.Grind.{flat_map-append}
-use Rattle.report.specs.Words.{line_of}
+use Rattle.report.specs.Words.{line_of, word_of}
+use Rattle.report.specs.declared.words.Word.{Word}
+use Rattle.whatif.specs.declared.policy.Policy.TheVariants.{Always, SpinDown, Host, All, Views}
 use Rattle.wol_config.specs.declared.config.Config.{Config}
 use Rattle.wol_config.specs.declared.config.VolumeConf.{VolumeConf}
 use Rattle.wol_model.specs.declared.journal.Powers.{Powers}
-use Rattle.wol_model.specs.Journal.{SpindleState, millijoules}
+use Rattle.wol_model.specs.Journal.{SpindleState}
 use Rattle.whatif.specs.declared.disk.Disk.{Disk}
 use Rattle.whatif.specs.declared.policy.Details.{Details}
 use Rattle.whatif.specs.declared.policy.Policy.{Policy}
 use Rattle.whatif.specs.declared.policy.Used.{Used}
 use Rattle.whatif.specs.declared.waits.Told.{Told}
 use Rattle.whatif.specs.Disks.{AreDisks, IsDisk}
-use Rattle.whatif.specs.Lines.{conf_at, logged_text, long_text, name_of, offered, policy_text, told_text, used_at, volume_text, volumes_text, waits_text}
+use Rattle.whatif.specs.Lines.{conf_at, logged_text, long_text, name_of, offered, volume_words, policy_text, told_text, used_at, volume_text, volumes_text, waits_text}
 use Rattle.whatif.specs.Machine.{Asked}
 use Rattle.whatif.specs.Policies.{compared, machine_after, waits_by}
 use Rattle.whatif.specs.Waits.{AreLogged, AreTold, IsMost, Waited, helds, of_disk, of_volume, over, waits_of}
@@ -29,6 +30,15 @@ use Rattle.whatif.proofs.New.{range_more}
 
 first_told : (wake : ℕ) (ws : List ℕ) (over_ : List ℕ) (none : ℕ) → over_ ≡ map (λ k. over wake k ws) (range_with_len 0 10) → none ≡ slice_index over_ 0 → none ≡ over wake 0 ws
 first_told wake ws over_ none is zero_ = zero_ ∙ ap (λ (l : List ℕ). slice_index l 0) is
+
+-- the last two words are there only where it says how many segments there are
+pub cut_words : (p : Policy) (v : VolumeConf) (a0 a1 a2 a3 a4 a5 a6 a7 a8 a9 a10 a11 a12 a13 a14 a15 a16 a17 a18 a19 a20 a21 a22 a23 a24 o n : Word) → word_of o ≡ codes "of" → word_of n ≡ decimal v.segments
+    → map word_of (take (volume_words p) (a0 ∷ a1 ∷ a2 ∷ a3 ∷ a4 ∷ a5 ∷ a6 ∷ a7 ∷ a8 ∷ a9 ∷ a10 ∷ a11 ∷ a12 ∷ a13 ∷ a14 ∷ a15 ∷ a16 ∷ a17 ∷ a18 ∷ a19 ∷ a20 ∷ a21 ∷ a22 ∷ a23 ∷ a24 ∷ o ∷ n ∷ [])) ≡ word_of a0 ∷ word_of a1 ∷ word_of a2 ∷ word_of a3 ∷ word_of a4 ∷ word_of a5 ∷ word_of a6 ∷ word_of a7 ∷ word_of a8 ∷ word_of a9 ∷ word_of a10 ∷ word_of a11 ∷ word_of a12 ∷ word_of a13 ∷ word_of a14 ∷ word_of a15 ∷ word_of a16 ∷ word_of a17 ∷ word_of a18 ∷ word_of a19 ∷ word_of a20 ∷ word_of a21 ∷ word_of a22 ∷ word_of a23 ∷ word_of a24 ∷ offered p (Some v)
+cut_words Always v a0 a1 a2 a3 a4 a5 a6 a7 a8 a9 a10 a11 a12 a13 a14 a15 a16 a17 a18 a19 a20 a21 a22 a23 a24 o n of_ segments = refl
+cut_words SpinDown v a0 a1 a2 a3 a4 a5 a6 a7 a8 a9 a10 a11 a12 a13 a14 a15 a16 a17 a18 a19 a20 a21 a22 a23 a24 o n of_ segments = refl
+cut_words Host v a0 a1 a2 a3 a4 a5 a6 a7 a8 a9 a10 a11 a12 a13 a14 a15 a16 a17 a18 a19 a20 a21 a22 a23 a24 o n of_ segments = refl
+cut_words All v a0 a1 a2 a3 a4 a5 a6 a7 a8 a9 a10 a11 a12 a13 a14 a15 a16 a17 a18 a19 a20 a21 a22 a23 a24 o n of_ segments = refl
+cut_words Views v a0 a1 a2 a3 a4 a5 a6 a7 a8 a9 a10 a11 a12 a13 a14 a15 a16 a17 a18 a19 a20 a21 a22 a23 a24 o n of_ segments = λ i. word_of a0 ∷ word_of a1 ∷ word_of a2 ∷ word_of a3 ∷ word_of a4 ∷ word_of a5 ∷ word_of a6 ∷ word_of a7 ∷ word_of a8 ∷ word_of a9 ∷ word_of a10 ∷ word_of a11 ∷ word_of a12 ∷ word_of a13 ∷ word_of a14 ∷ word_of a15 ∷ word_of a16 ∷ word_of a17 ∷ word_of a18 ∷ word_of a19 ∷ word_of a20 ∷ word_of a21 ∷ word_of a22 ∷ word_of a23 ∷ word_of a24 ∷ of_ i ∷ segments i ∷ []
 
 pub volume_told : (p : Policy) (v : VolumeConf) (shown title : List ℕ) (u : Used) (wake : ℕ) (ws : List Waited) (hs : List Held) (t : Told) (m : Most) (reads writes : ℕ) → AreTold wake ws t → IsMost hs m → shown ≡ v.name → title ≡ name_of p → reads ≡ slice_index t.reads.over 0 → writes ≡ slice_index t.writes.over 0
     → line_of (title ∷ codes "volume" ∷ shown ∷ codes "wakes" ∷ decimal u.wakes ∷ codes "sleeps" ∷ decimal u.sleeps ∷ codes "awake" ∷ decimal u.awake ∷ codes "standby" ∷ decimal u.standby ∷ codes "energy" ∷ decimal (u.units / 10000000)

@@ -1,7 +1,7 @@
 -- What a machine is made of: loggers, volumes and disks.
 use Rattle.std.proofs.Common.{◌≡◌, ◌<◌, ◌≤◌, ◌+◌, ℕ, zero, suc, Bool, true, false, cond, List, [], ◌∷◌, ◌++◌, map, length, replicate, get_or, Some, refl, sym, ap, subst, ◌∙◌, append-nil, arith}
 use Rattle.std.specs.Prelude.{slice_get}
-use Rattle.std.specs.List.{AllByRecursion, AllZip, filter, range_with_len}
+use Rattle.std.specs.List.{AllByRecursion, filter, range_with_len}
 use Rattle.std.proofs.lemmas.Option.{none-some, same_Some}
 use Rattle.wol_config.specs.Configs.{IsValid, IsValidVolume}
 use Rattle.std.proofs.lemmas.List.{length-map, map-append}
@@ -14,7 +14,6 @@ use Rattle.whatif.specs.declared.policy.Policy.{Policy}
 use Rattle.whatif.specs.declared.disk.Disk.{Disk}
 use Rattle.whatif.specs.declared.volume.Volume.{Volume}
 use Rattle.whatif.specs.Disks.{AreDisks, IsDisk, IsKept, moments_of}
-use Rattle.whatif.specs.Machine as machine
 use Rattle.whatif.specs.Machine.{Reach, first_look, first_machine, first_volume}
 use Rattle.whatif.specs.Policies.{HaveViews, loggers_of, machine_after, reach_of, setting_of}
 use Rattle.whatif.specs.Stands.{Stands}

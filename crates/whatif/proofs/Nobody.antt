@@ -1,18 +1,16 @@
 -- No request waits at all, or one waits as long as a disk takes to come up.
-use Rattle.std.proofs.Common.{◌≡◌, ◌<◌, ◌≤◌, ◌+◌, ◌-◌, ◌⊎◌, inl, inr, ⊎_elim, ℕ, zero, suc, Bool, true, false, cond, ◌||◌, List, [], ◌∷◌, ◌++◌, map, length, Option, None, Some, max, refl, sym, ap, subst, ◌∙◌, arith, eqb}
+use Rattle.std.proofs.Common.{◌≡◌, ◌≤◌, ◌⊎◌, inl, inr, ⊎_elim, ℕ, zero, suc, Bool, true, false, cond, ◌||◌, List, [], ◌∷◌, ◌++◌, map, Option, None, Some, max, refl, ap, ◌∙◌, arith, eqb}
 use Rattle.std.specs.Prelude.{slice_get}
 use Rattle.std.specs.List.{AllByRecursion, list_any}
 use Rattle.std.specs.Option.{option_map_or}
 use Rattle.std.proofs.lemmas.Bool.{cases_lt, eq-eqb}
 use Rattle.std.proofs.lemmas.List.Folds.{list_any-append}
 use Rattle.std.proofs.lemmas.List.Sums.{sum_by-cons}
-use Rattle.wol_config.specs.declared.config.Config.{Config}
 use Rattle.wol_model.specs.declared.journal.Turned.{Turned}
 use Rattle.wol_model.specs.declared.journal.Turned.TheVariants.{Down, Up}
 use Rattle.wol_model.specs.Blocks.{changed_at}
 use Rattle.wol_model.specs.Journal.{SpindleState, Started, new_spindle, turns_up, used, wakes}
 use Rattle.whatif.specs.declared.policy.Ask.{Ask}
-use Rattle.whatif.specs.declared.policy.Policy.{Policy}
 use Rattle.whatif.specs.Laws.{LongestIsWake, ups_of}
 use Rattle.whatif.specs.Machine as machine
 use Rattle.whatif.specs.Machine.{Asked, Machine, Reach, Setting, accessed, after_turns, after_window, all_accessed, all_wakes, answering, asking, begun, first_machine, turned, turned_at}

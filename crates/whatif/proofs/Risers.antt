@@ -1,14 +1,13 @@
 -- A request for whose uses a disk comes up waits as long as that takes.
-use Rattle.std.proofs.Common.{◌≡◌, ◌<◌, ◌≤◌, ◌+◌, ◌-◌, ◌⊎◌, inl, inr, ℕ, zero, suc, Bool, true, false, cond, List, [], ◌∷◌, ◌++◌, Option, None, Some, max, refl, sym, ap, ◌∙◌, arith}
+use Rattle.std.proofs.Common.{◌≡◌, ◌<◌, ◌≤◌, ◌-◌, inl, inr, ℕ, zero, suc, Bool, true, false, cond, List, [], ◌∷◌, ◌++◌, Some, max, refl, ap, ◌∙◌, arith}
 use Rattle.std.specs.Prelude.{slice_get}
-use Rattle.std.specs.Option.{option_map_or}
 use Rattle.std.proofs.lemmas.Bool.{cases_lt}
 use Rattle.std.proofs.lemmas.List.Sums.{sum_by-cons}
 use Rattle.wol_model.specs.declared.journal.Turned.TheVariants.{Up}
 use Rattle.wol_model.specs.Blocks.{changed_at}
 use Rattle.wol_model.specs.Journal.{SpindleState, wakes}
 use Rattle.whatif.specs.Laws.{RisersWait}
-use Rattle.whatif.specs.Machine.{accessed, all_accessed, all_wakes}
+use Rattle.whatif.specs.Machine.{accessed, all_wakes}
 use Rattle.whatif.specs.Waits.{lag, lag_among, lag_behind, last_up, wait_on}
 use Rattle.whatif.proofs.Longest.{among_short, wait_short}
 use Rattle.whatif.proofs.Spinning.{last_up_up}

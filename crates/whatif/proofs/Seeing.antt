@@ -1,31 +1,30 @@
 -- A volume sees which disks are awake, and wakes the disk that has a block.
-use Rattle.std.proofs.Common.{◌≡◌, ◌<◌, ◌≤◌, ◌+◌, ⊎_elim, ℕ, zero, suc, Bool, true, false, cond, not, ◌&&◌, ◌||◌, List, [], ◌∷◌, ◌++◌, map, length, Option, None, Some, refl, sym, ap, subst, ◌∙◌, arith, ltb, eqb, take, drop}
+use Rattle.std.proofs.Common.{◌≡◌, ◌<◌, ◌≤◌, ℕ, zero, suc, Bool, true, false, cond, not, ◌&&◌, ◌||◌, List, [], ◌∷◌, ◌++◌, map, length, Option, None, Some, refl, sym, ap, subst, ◌∙◌, arith, ltb, take, drop}
 use Rattle.std.specs.Prelude.{position, slice_get, slice_set, slice_index_or, Vec}
-use Rattle.std.specs.List.{AllByRecursion, AllZip, range_with_len}
+use Rattle.std.specs.List.{AllByRecursion}
 use Rattle.std.specs.Option.{option_map_or}
 use Rattle.std.specs.Prelude.{option_map}
 use Rattle.std.specs.declared.alloc.Global.{Global}
 use Rattle.std.proofs.Math.ListN.{length-set}
-use Rattle.std.proofs.lemmas.Bool.{false≢true, false_from_ne_true}
+use Rattle.std.proofs.lemmas.Bool.{false≢true}
 use Rattle.std.proofs.lemmas.Option.{none-some, same_Some}
 use Rattle.wol_model.specs.Extents.{newest, newer_of}
 use Rattle.wol_model.specs.Index.{Listed, Indexed, listed_in, cover_of, has_due, has_going}
 use Rattle.wol_model.specs.Journal.{SpindleState}
-use Rattle.wol_model.proofs.Counts.{both, either}
+use Rattle.wol_model.proofs.Counts.{both}
 use Rattle.wol_promise.specs.Policy.{Look, woken}
 use Rattle.block_cells.specs.declared.record.Rec.{Rec}
-use Rattle.redirect_map.specs.Index.{cover_at, IsAnswer, IsRecordOf}
+use Rattle.redirect_map.specs.Index.{cover_at, IsAnswer}
 use Rattle.whatif.specs.declared.disk.Disk.{Disk}
 use Rattle.whatif.specs.declared.volume.Volume.{Volume}
-use Rattle.whatif.specs.Disks.{AreDisks, IsDisk}
-use Rattle.whatif.specs.Machine.{Reach, is_up, logger_at, source_of}
+use Rattle.whatif.specs.Disks.{AreDisks}
+use Rattle.whatif.specs.Machine.{is_up, logger_at, source_of}
 use Rattle.whatif.specs.Volumes.{IsLogged, IsSettled, IsVolume, look_in, reach_in, store_in}
-use Rattle.whatif.specs.Machine as machine
 use Rattle.whatif.specs.Machine.{seeing}
 use Rattle.whatif.specs.Volumes.{volume_in}
 use Rattle.whatif.proofs.Lists.{all_imply, flags_all, none_passes, passes_none}
-use Rattle.whatif.proofs.Steps.{index_same, lane_of}
-use Rattle.wol_promise.proofs.Woken.{woken_home, woken_log, covered_is}
+use Rattle.whatif.proofs.Steps.{index_same}
+use Rattle.wol_promise.proofs.Woken.{woken_home, woken_log}
 
 -- ---- flags
 

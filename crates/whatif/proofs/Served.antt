@@ -1,5 +1,5 @@
 -- A request was served, where there was memory for it.
-use Rattle.std.proofs.Common.{◌≡◌, ◌<◌, ◌≤◌, ◌+◌, ℕ, List, [], ◌∷◌, Ok, Err, Result, ap, subst, sym, arith}
+use Rattle.std.proofs.Common.{◌≡◌, ◌≤◌, ◌+◌, ℕ, List, [], ◌∷◌, Ok, Err, Result, ap, arith}
 use Rattle.std.specs.Prelude.{OnOk, slice_get, slice_set, Some}
 use Rattle.std.specs.List.{AllByRecursion}
 use Rattle.wol_disk.specs.declared.disk.NoMemory.{NoMemory}

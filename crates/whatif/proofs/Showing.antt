@@ -1,5 +1,5 @@
 -- In a window a volume counts no disk as awake that is in standby, so none comes up for what it reclaims.
-use Rattle.std.proofs.Common.{◌≡◌, ◌<◌, ◌+◌, ◌⊎◌, inl, inr, ⊎_elim, ℕ, zero, suc, Bool, true, false, cond, not, ◌&&◌, ◌||◌, List, [], ◌∷◌, ◌++◌, map, length, get_or, Option, None, Some, refl, sym, ap, subst, ◌∙◌, arith, eqb}
+use Rattle.std.proofs.Common.{◌≡◌, ◌+◌, ◌⊎◌, inl, inr, ⊎_elim, ℕ, zero, suc, Bool, true, false, cond, not, ◌&&◌, ◌||◌, List, [], ◌∷◌, ◌++◌, map, length, get_or, Option, None, Some, refl, sym, ap, subst, ◌∙◌, arith, eqb}
 use Rattle.std.specs.Prelude.{position, slice_get, slice_set, slice_index_or, is_some}
 use Rattle.std.specs.List.{AllByRecursion, list_any, range_with_len}
 use Rattle.std.specs.Option.{option_map, option_map_or}
@@ -18,7 +18,7 @@ use Rattle.whatif.specs.Laws.{ups_of}
 use Rattle.whatif.specs.Logs.{all_moved}
 use Rattle.whatif.specs.Machine as machine
 use Rattle.whatif.specs.Machine.{Action, Machine, Reach, Turn, all_accessed, answering, disk_of, followed, give_step, give_up, is_up, logger_at, next_due, next_to_go, put_home, put_step, reading, reclaiming, repeated, seeing, source_of, step_at, still, tidying, turned, turned_at, write_of, writing}
-use Rattle.whatif.proofs.Lists.{all_imply, all_set}
+use Rattle.whatif.proofs.Lists.{all_set}
 use Rattle.whatif.proofs.Staying.{AreUp, all_stay, all_used, is_down, none_rises}
 
 -- the disks that a volume counts as awake aren't in standby

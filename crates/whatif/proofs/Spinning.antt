@@ -1,10 +1,10 @@
 -- The sums of a disk are those of its journal, and stay so.
-use Rattle.std.proofs.Common.{◌≡◌, ◌<◌, ◌≤◌, ◌+◌, ◌-◌, ℕ, zero, suc, Bool, true, false, cond, List, [], ◌∷◌, ◌++◌, map, length, Option, None, Some, refl, sym, ap, subst, ◌∙◌, arith, max, eqb, get_or}
-use Rattle.std.specs.Prelude.{slice_get, slice_set, is_none, nat_le, not, ◌&&◌}
-use Rattle.std.specs.List.{AllByRecursion, AllZip, count_by, filter}
+use Rattle.std.proofs.Common.{◌≡◌, ◌<◌, ◌≤◌, ◌+◌, ◌-◌, ℕ, zero, suc, Bool, true, false, cond, List, [], ◌∷◌, ◌++◌, length, Option, Some, refl, sym, ap, subst, ◌∙◌, arith, max, eqb, get_or}
+use Rattle.std.specs.Prelude.{slice_get, slice_set, nat_le, not, ◌&&◌}
+use Rattle.std.specs.List.{filter}
 use Rattle.std.proofs.lemmas.Option.{none-some, same_Some}
 use Rattle.std.proofs.lemmas.Bool.{false≢true, le-leb, lt-leb}
-use Rattle.std.proofs.lemmas.List.Sums.{sum_by-append, sum_by-cons}
+use Rattle.std.proofs.lemmas.List.Sums.{sum_by-append}
 use Rattle.wol_model.specs.declared.journal.Turned.{Turned}
 use Rattle.wol_model.specs.declared.journal.Turned.TheVariants.{Down, Up}
 use Rattle.wol_model.specs.Journal.{SpindleState, Began, used, is_empty, standby, wakes, sleeps, next_up, turns_up}

@@ -1,15 +1,14 @@
 -- A disk that is awake stays so and comes up no more, until a later window begins.
-use Rattle.std.proofs.Common.{◌≡◌, ◌+◌, ℕ, zero, suc, Bool, true, false, cond, not, ◌||◌, List, [], ◌∷◌, ◌++◌, map, length, Option, None, Some, refl, sym, ap, subst, ◌∙◌, arith, eqb}
-use Rattle.std.specs.Prelude.{slice_get, slice_set}
+use Rattle.std.proofs.Common.{◌≡◌, ℕ, zero, suc, Bool, true, false, cond, not, ◌||◌, List, [], ◌∷◌, ◌++◌, Option, None, Some, refl, sym, ap, subst, ◌∙◌, eqb}
+use Rattle.std.specs.Prelude.{slice_get}
 use Rattle.std.specs.List.{AllByRecursion, list_any}
 use Rattle.std.specs.Option.{option_map_or}
 use Rattle.std.proofs.lemmas.Bool.{false≢true, eqb-true}
 use Rattle.wol_model.specs.declared.journal.Turned.TheVariants.{Up}
 use Rattle.wol_model.specs.Blocks.{changed_at}
 use Rattle.wol_model.specs.Journal.{SpindleState, wakes}
-use Rattle.wol_promise.specs.Policy.{Look}
 use Rattle.whatif.specs.Laws.{UsedStayUp, ups_of}
-use Rattle.whatif.specs.Machine.{Action, Machine, Turn, Volume, accessed, after_turns, all_accessed, turned, turned_at}
+use Rattle.whatif.specs.Machine.{Machine, Turn, Volume, accessed, after_turns, all_accessed, turned, turned_at}
 
 -- the disk at a place is in standby
 abbrev pub is_down : List SpindleState → (d : ℕ) → Bool

@@ -1,5 +1,5 @@
 -- The first entry that passes a test, in an index whose versions rise, and what the steps of reclaim make of an index.
-use Rattle.std.proofs.Common.{◌≡◌, ◌<◌, ◌≤◌, ◌+◌, ◌-◌, ℕ, zero, suc, Bool, true, false, cond, not, ◌&&◌, List, [], ◌∷◌, length, Option, None, Some, refl, sym, ap, subst, ◌∙◌, arith, bit_or, eqb, get_or, leb, length, map}
+use Rattle.std.proofs.Common.{◌≡◌, ◌<◌, ◌≤◌, ◌+◌, ◌-◌, ℕ, zero, suc, Bool, true, false, cond, not, ◌&&◌, List, [], ◌∷◌, length, Option, None, Some, refl, sym, ap, subst, ◌∙◌, arith, bit_or, eqb, get_or, length}
 use Rattle.std.specs.Prelude.{find, position, IfSome, is_none, slice_get, slice_set, slice_index_or}
 use Rattle.std.specs.List.{AllByRecursion, count_by, filter, range_with_len}
 use Rattle.std.specs.Option.{option_map}

@@ -1,7 +1,7 @@
 -- Turns and windows of a machine.
-use Rattle.std.proofs.Common.{◌≡◌, ◌<◌, ◌≤◌, ◌+◌, ℕ, zero, suc, Bool, true, false, cond, List, [], ◌∷◌, ◌++◌, map, length, Option, None, Some, refl, sym, ap, subst, ◌∙◌, arith, take, drop}
+use Rattle.std.proofs.Common.{◌≡◌, ◌≤◌, ◌+◌, ℕ, zero, suc, cond, List, [], ◌∷◌, ◌++◌, map, length, Option, Some, refl, sym, ap, subst, ◌∙◌, arith, take, drop}
 use Rattle.std.specs.Prelude.{slice_get, slice_set}
-use Rattle.std.specs.List.{AllByRecursion, AllZip, range_with_len}
+use Rattle.std.specs.List.{AllByRecursion, range_with_len}
 use Rattle.std.proofs.Math.ListN.{length-set}
 use Rattle.std.proofs.lemmas.Option.{none-some, same_Some}
 use Rattle.std.proofs.lemmas.List.{length-map, map-append}
@@ -15,9 +15,9 @@ use Rattle.whatif.specs.declared.disk.Disk.{Disk}
 use Rattle.whatif.specs.declared.volume.Volume.{Volume}
 use Rattle.whatif.specs.Machine as machine
 use Rattle.whatif.specs.Machine.{Reach, Action, Turn, Asked, Setting, Machine, after_turns, after_window, after_windows, asking, begun, seeing, tidying, turned, turned_at}
-use Rattle.whatif.specs.Policies.{machine_after, setting_of, goes_down}
+use Rattle.whatif.specs.Policies.{machine_after, setting_of}
 use Rattle.whatif.specs.Disks.{AreDisks, IsDisk, IsKept, moments_of}
-use Rattle.whatif.specs.Volumes.{HasDone, IsVolume, IsWithin, look_in, reach_in, volume_in}
+use Rattle.whatif.specs.Volumes.{HasDone, IsVolume, IsWithin, reach_in, volume_in}
 use Rattle.whatif.specs.Stands.{AreReady, HaveTurned, IsAmong, Stands}
 use Rattle.whatif.proofs.Lists.{all_at, all_imply, all_set, get_map, map_set}
 

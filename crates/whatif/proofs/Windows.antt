@@ -1,20 +1,18 @@
 -- Window by window: reclaim wakes no disk, and each disk that comes up lets a request wait.
-use Rattle.std.proofs.Common.{◌≡◌, ◌<◌, ◌≤◌, ◌+◌, ◌⊎◌, inl, inr, ⊎_elim, ℕ, zero, suc, Bool, true, false, cond, ◌||◌, List, [], ◌∷◌, ◌++◌, map, length, Option, None, Some, max, refl, sym, ap, subst, ◌∙◌, arith, eqb}
+use Rattle.std.proofs.Common.{◌≡◌, ◌<◌, ◌+◌, inl, inr, ℕ, zero, suc, Bool, true, false, cond, ◌||◌, List, [], ◌∷◌, ◌++◌, map, length, Option, None, Some, max, refl, ap, ◌∙◌, arith, eqb}
 use Rattle.std.specs.Prelude.{slice_get}
-use Rattle.std.specs.List.{AllByRecursion, list_any, range_with_len}
+use Rattle.std.specs.List.{list_any, range_with_len}
 use Rattle.std.specs.Option.{option_map_or}
 use Rattle.std.proofs.lemmas.Bool.{cases_lt, eq-eqb}
-use Rattle.wol_config.specs.declared.config.Config.{Config}
 use Rattle.wol_model.specs.Blocks.{changed_at}
 use Rattle.wol_model.specs.declared.journal.Turned.TheVariants.{Down}
 use Rattle.wol_model.specs.Journal.{SpindleState, Began, used, wakes}
 use Rattle.whatif.specs.declared.policy.Ask.{Ask}
-use Rattle.whatif.specs.declared.policy.Policy.{Policy}
-use Rattle.whatif.specs.Laws.{EachUpIsWaited, ReclaimWakesNone, behind_requests, ups_of}
+use Rattle.whatif.specs.Laws.{EachUpIsWaited, ReclaimWakesNone, ups_of}
 use Rattle.whatif.specs.Machine as machine
 use Rattle.whatif.specs.Machine.{Asked, Machine, Setting, Turn, accessed, after_turns, after_window, all_accessed, answering, asking, begun, tidying, turned, turned_at}
 use Rattle.whatif.specs.Policies.{machine_after, setting_of}
-use Rattle.whatif.specs.Waits.{Waited, lag, lag_among, uses_of, wait_on, waits_among}
+use Rattle.whatif.specs.Waits.{Waited, lag_among, uses_of, wait_on, waits_among}
 use Rattle.whatif.proofs.Longest.{among_short, wait_short}
 use Rattle.whatif.proofs.Risers.{most_first, most_then, one_rises}
 use Rattle.whatif.proofs.Showing.{AreShown, all_seen, answering_shown, asked_shown, tidied_shown}

@@ -1,7 +1,7 @@
 -- A record that was just written keeps all its blocks, and the rule of placing where each log has room.
 use Rattle.std.proofs.Common.{◌≡◌, ◌<◌, ◌≤◌, ◌+◌, ◌-◌, ◌*◌, ◌^◌, ◌⊎◌, inl, inr, ⊎_elim, ℕ, zero, suc, Bool, true, false, cond, not, ◌&&◌, List, [], ◌∷◌, ◌++◌, map, length, Option, None, Some, refl, sym, ap, subst, ◌∙◌, arith, eqb, leb, ltb, get_or, replicate}
 use Rattle.std.specs.Prelude.{slice_get, slice_set, position, IfSome}
-use Rattle.std.specs.List.{AllByRecursion, AllZip, list_any, range_with_len, zip}
+use Rattle.std.specs.List.{AllByRecursion, list_any, range_with_len, zip}
 use Rattle.std.proofs.lemmas.Bool.{leb-true, lt-ltb, le-ltb, cases_lt}
 use Rattle.std.proofs.lemmas.List.{get_or-replicate, get_or_past}
 use Rattle.std.proofs.lemmas.Nat.Bits.{bit_at_ones, bit_at-zero}
@@ -17,7 +17,7 @@ use Rattle.wol_model.specs.Journal.{SpindleState}
 use Rattle.block_cells.specs.Runs.{runs_after, runs_of}
 use Rattle.block_cells.specs.declared.record.Rec.{Rec}
 use Rattle.redirect_map.specs.Index.{entry_of, unhomed, cover_at}
-use Rattle.offload_policy.specs.Placing.{step_of, decided_by, is_open, place_of as place_of_step, AreRooms, IsRoom, log_or}
+use Rattle.offload_policy.specs.Placing.{step_of, decided_by, is_open, place_of as place_of_step, AreRooms, log_or}
 use Rattle.offload_policy.specs.declared.Room.{Room}
 use Rattle.offload_policy.specs.declared.Room.TheVariants.{Yes}
 use Rattle.offload_policy.specs.declared.Step.{Step}

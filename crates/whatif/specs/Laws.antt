@@ -1,5 +1,5 @@
 -- Laws of the policies.
-use Rattle.std.specs.Prelude.{◌≡◌, ◌≢◌, ◌⊎◌, ℕ, ◌<◌, ◌≤◌, true, List, [], ◌∷◌, ◌++◌, length, map, Some, slice_get, ◌==◌}
+use Rattle.std.specs.Prelude.{◌≡◌, ◌≢◌, ◌⊎◌, ℕ, ◌<◌, ◌≤◌, true, List, [], ◌∷◌, ◌++◌, map, Some, slice_get, ◌==◌}
 use Rattle.std.specs.List.{AllByRecursion, list_any}
 use Rattle.std.specs.Option.{option_map_or}
 use Rattle.wol_config.specs.declared.config.Config.{Config}
@@ -7,7 +7,7 @@ use Rattle.wol_config.specs.declared.config.VolumeConf.{VolumeConf}
 use Rattle.whatif.specs.declared.policy.Policy.{Policy}
 use Rattle.whatif.specs.declared.policy.Policy.TheVariants.{SpinDown, Host}
 use Rattle.wol_model.specs.Journal.{SpindleState, wakes}
-use Rattle.whatif.specs.Machine.{Asked, Machine, Turn, Volume, after_turns, after_window, all_accessed, all_wakes, asking, begun, turned}
+use Rattle.whatif.specs.Machine.{Asked, Machine, Turn, Volume, after_turns, all_accessed, all_wakes, asking, begun, turned}
 use Rattle.whatif.specs.Policies.{compared, machine_after, setting_of, waits_by}
 use Rattle.whatif.specs.Waits.{Waited, wait_on, waits_among}
 

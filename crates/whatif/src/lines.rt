@@ -1,5 +1,5 @@
 // What is printed of a policy.
-ghost use Rattle.std.specs.Prelude.{◌≡◌, ◌++◌, ℕ, List, OnOk, OnErr, Some};
+ghost use Rattle.std.specs.Prelude.{◌≡◌, ◌++◌, ℕ, List, OnOk, OnErr, Some, length, take};
 ghost use Rattle.whatif.specs.Waits.{AreLogged, AreTold, IsMost, IsTold, Waited};
 ghost use Rattle.whatif.specs.declared.logged.Held.{Held};
 ghost use Rattle.whatif.specs.Lines.{kind_text, logged_text, name_of, policy_text, volume_text, volume_words, waits_text};
@@ -8,7 +8,7 @@ use crate::logged::{Logged, Most};
 use crate::policy::{Compared, Policy, Used};
 use crate::waits::{Told, Waits};
 use report::Word::{Large, Number, Text};
-use report::append_line;
+use report::{Word, append_line};
 use wol_config::VolumeConf;
 use wol_disk::NoMemory;
 use wol_model::Kind;
@@ -124,6 +124,14 @@ fn volume_words(policy: Policy) -> usize
     }
 }
 
+// The words of a volume's line: of 27 the last two only where it says how many segments there are.
+fn shown<'a, 'b>(policy: Policy, words: &'a [Word<'b>]) -> &'a [Word<'b>]
+    requires { length words.now ≡ 27 }
+    ensures { result.now ≡ take (volume_words policy) words.now }
+{
+    &words[..volume_words(policy)]
+}
+
 /// Appends the line of a volume: how often its own disk came up and went down, how long it was awake and in standby, what it
 /// used, how many of its own reads and writes there were and how many waited, and how many blocks and segments of others it held
 /// at most; with the policy of the views also how many segments it has. `NoMemory` appends nothing.
@@ -170,5 +178,5 @@ pub(crate) fn volume_line(
         Text(b"of"),
         Number(u64::from(volume.segments)),
     ];
-    append_line(&words[..volume_words(policy)], out)
+    append_line(shown(policy, &words), out)
 }

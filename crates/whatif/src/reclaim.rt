@@ -1,6 +1,6 @@
 // What a volume puts home and gives up after a window.
 ghost use Rattle.std.specs.List.{AllByRecursion, count_by, range_with_len};
-ghost use Rattle.std.specs.Prelude.{[], ◌==◌, ◌≡◌, ◌<◌, ◌≤◌, ℕ, true, false, List, length, IfNone, IfSome, None, is_none};
+ghost use Rattle.std.specs.Prelude.{[], ◌==◌, ◌≡◌, ◌<◌, ◌≤◌, ℕ, true, false, List, length, IfNone, IfSome, None, is_none, if◌then◌else◌};
 ghost use Rattle.whatif.specs.Disks.{IsKept, moments_of};
 ghost use Rattle.whatif.specs.Machine.{Reach, give_step, put_step, next_due, next_to_go, reclaiming};
 ghost use Rattle.whatif.specs.Volumes.{HasDone, IsVolume, IsWithin, StaysOpen, give_answer, given_moves, look_in, put_answer, reach_in};
@@ -14,6 +14,13 @@ use block_cells::has;
 use garbage_list::{due, may_go, next_due, next_to_go};
 use redirect_map::Rec;
 
+// One for a bit that is set.
+fn one_if(set: bool) -> u32
+    ensures { result ≡ (if set then 1 else 0) }
+{
+    if set { 1 } else { 0 }
+}
+
 // How many of so many bits are set.
 fn bits(mask: u128, count: u32) -> u32
     requires { count ≤ 128 }
@@ -21,7 +28,7 @@ fn bits(mask: u128, count: u32) -> u32
 {
     let mut set = 0;
     for bit in 0..count {
-        set += u32::from(has(mask, bit));
+        set += one_if(has(mask, bit));
     }
     set
 }

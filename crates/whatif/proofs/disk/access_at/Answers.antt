@@ -1,5 +1,5 @@
 -- One of several disks is used.
-use Rattle.std.proofs.Common.{None, ◌≡◌, false, get_or}
+use Rattle.std.proofs.Common.{None, false, get_or}
 use Rattle.whatif.proofs.Spinning.{disk_changed, got, moments_kept}
 use Rattle.whatif.proofs.disk.access_at.Goals as goal
 

@@ -1,5 +1,5 @@
 -- One disk more had its moment.
-use Rattle.std.proofs.Common.{None, ◌≡◌, ◌<◌, ◌≤◌, ◌+◌, ◌++◌, ℕ, suc, false, List, length, map, max, get_or, take, drop, refl, sym, ap, subst, ◌∙◌, arith}
+use Rattle.std.proofs.Common.{None, ◌<◌, ◌≤◌, ◌++◌, ℕ, false, length, map, get_or, take, drop, refl, sym, subst, arith}
 use Rattle.std.specs.Prelude.{slice_set}
 use Rattle.std.specs.List.{AllByRecursion}
 use Rattle.wol_model.specs.Journal.{SpindleState, Began, used}

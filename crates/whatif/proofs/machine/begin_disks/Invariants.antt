@@ -1,4 +1,4 @@
-use Rattle.std.proofs.Common.{◌≡◌, ◌≤◌, ◌++◌, ℕ, List, map, take, drop}
+use Rattle.std.proofs.Common.{◌≤◌, ◌++◌, List, map, take, drop}
 use Rattle.std.specs.List.{AllByRecursion}
 use Rattle.wol_model.specs.Journal.{SpindleState, Began, used}
 use Rattle.whatif.specs.Disks.{AreDisks, IsKept, moments_of}

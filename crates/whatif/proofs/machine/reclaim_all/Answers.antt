@@ -1,5 +1,5 @@
 -- One volume more had its turn to reclaim.
-use Rattle.std.proofs.Common.{◌≡◌, ◌≤◌, ◌+◌, ℕ, List, [], ◌∷◌, length, map, sym, subst, arith}
+use Rattle.std.proofs.Common.{◌≡◌, ℕ, List, [], ◌∷◌, length, map, sym, subst, arith}
 use Rattle.std.specs.List.{range_with_len}
 use Rattle.whatif.specs.Machine.{Turn, tidying}
 use Rattle.whatif.specs.Stands.{HaveTurned}

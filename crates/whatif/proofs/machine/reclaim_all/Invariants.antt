@@ -1,4 +1,4 @@
-use Rattle.std.proofs.Common.{◌≡◌, ◌+◌, length, map}
+use Rattle.std.proofs.Common.{map}
 use Rattle.std.specs.List.{range_with_len}
 use Rattle.whatif.specs.Machine.{tidying}
 use Rattle.whatif.specs.Stands.{AreReady, HaveTurned}

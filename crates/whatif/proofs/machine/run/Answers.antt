@@ -1,6 +1,5 @@
 -- A window is run.
-use Rattle.std.proofs.Common.{◌≡◌, ◌≤◌, ◌+◌, ℕ, Bool, List, [], ◌∷◌, cond, length, map, refl, sym, ap, subst, ◌∙◌, arith}
-use Rattle.wol_config.specs.declared.config.Config.{Config}
+use Rattle.std.proofs.Common.{◌+◌, ℕ, Bool, List, cond, length, map, sym, subst}
 use Rattle.wol_model.specs.Journal.{SpindleState, Began, used}
 use Rattle.whatif.specs.Disks.{AreDisks}
 use Rattle.whatif.specs.Waits.{AreFewIn}

@@ -1,9 +1,8 @@
 -- A volume does what is asked of it.
-use Rattle.std.proofs.Common.{◌≡◌, ◌<◌, ◌≤◌, ◌+◌, ℕ, List, [], ◌∷◌, Ok, length, get_or, refl, sym, ap, subst, ◌∙◌, arith}
-use Rattle.std.specs.Prelude.{slice_get, slice_set, Some}
+use Rattle.std.proofs.Common.{◌+◌, ℕ, Ok, get_or, subst}
+use Rattle.std.specs.Prelude.{slice_set}
 use Rattle.std.specs.List.{AllByRecursion}
 use Rattle.whatif.specs.Stands.{IsAmong}
-use Rattle.whatif.specs.Machine.{answering}
 use Rattle.whatif.proofs.Lists.{got_or}
 use Rattle.whatif.proofs.Served.{served_ready, served_turn}
 use Rattle.whatif.proofs.Waited.{one_waited}

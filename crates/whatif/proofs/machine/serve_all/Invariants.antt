@@ -1,4 +1,4 @@
-use Rattle.std.proofs.Common.{◌≡◌, ◌+◌, length, map, take}
+use Rattle.std.proofs.Common.{◌+◌, length, map, take}
 use Rattle.whatif.specs.Machine.{asking}
 use Rattle.whatif.specs.Stands.{AreReady, HaveTurned, HaveWaited}
 use Rattle.whatif.specs.Waits.{AreFewIn}

@@ -1,7 +1,6 @@
 -- One volume more sees which disks are awake.
-use Rattle.std.proofs.Common.{◌≡◌, ◌<◌, ◌≤◌, ◌+◌, ◌++◌, ℕ, suc, List, length, map, get_or, take, drop, refl, sym, ap, subst, ◌∙◌, arith}
-use Rattle.std.specs.Prelude.{slice_get, slice_set, Some}
-use Rattle.whatif.specs.Machine as machine
+use Rattle.std.proofs.Common.{◌≡◌, ◌<◌, ◌≤◌, ◌+◌, ◌++◌, ℕ, length, map, get_or, take, drop, sym, ap, subst, ◌∙◌, arith}
+use Rattle.std.specs.Prelude.{slice_get, Some}
 use Rattle.whatif.specs.Machine.{seeing}
 use Rattle.whatif.specs.Stands.{IsAmong}
 use Rattle.whatif.specs.Volumes.{IsWithin, volume_in}

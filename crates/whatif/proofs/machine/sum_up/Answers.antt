@@ -1,8 +1,8 @@
 -- The sums of the disks that were gone through.
-use Rattle.std.proofs.Common.{◌≡◌, ◌<◌, ◌≤◌, ◌+◌, ◌*◌, ◌^◌, ℕ, suc, List, length, take, refl, sym, ap, ◌∙◌, arith}
+use Rattle.std.proofs.Common.{◌≡◌, ◌+◌, ℕ, List, take, sym, ap, ◌∙◌, arith}
 use Rattle.std.proofs.lemmas.List.{take_all}
 use Rattle.wol_model.specs.Journal.{SpindleState, sleeps, units, wakes}
-use Rattle.whatif.specs.Disks.{AreDisks, IsDisk}
+use Rattle.whatif.specs.Disks.{IsDisk}
 use Rattle.whatif.specs.Machine.{all_sleeps, all_units, all_wakes}
 use Rattle.whatif.proofs.Lists.{one_more, zip_length}
 use Rattle.whatif.proofs.Sums.{at_place, moment_at}

@@ -1,4 +1,4 @@
-use Rattle.std.proofs.Common.{◌≡◌, ◌<◌, ◌≤◌, ◌+◌, ◌*◌, ◌^◌, List, take}
+use Rattle.std.proofs.Common.{◌≡◌, ◌≤◌, ◌*◌, ◌^◌, List, take}
 use Rattle.wol_model.specs.Journal.{SpindleState}
 use Rattle.whatif.specs.Disks.{AreDisks}
 use Rattle.whatif.specs.Machine.{all_sleeps, all_units, all_wakes}

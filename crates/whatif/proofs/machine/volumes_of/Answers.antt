@@ -1,11 +1,9 @@
 -- One volume more is made.
-use Rattle.std.proofs.Common.{◌≡◌, ◌<◌, ◌≤◌, ◌+◌, ℕ, List, [], ◌∷◌, ◌++◌, length, map, refl, sym, ap, subst, ◌∙◌, length-append, arith}
-use Rattle.std.specs.List.{AllByRecursion, range_with_len}
+use Rattle.std.proofs.Common.{◌≡◌, ◌≤◌, ◌+◌, ℕ, [], ◌∷◌, ◌++◌, length, map, sym, ap, subst, ◌∙◌, length-append, arith}
+use Rattle.std.specs.List.{AllByRecursion}
 use Rattle.std.proofs.lemmas.List.{map-append}
 use Rattle.wol_promise.specs.Policy.{Look}
 use Rattle.wol_promise.proofs.Lists.{all_push}
-use Rattle.whatif.specs.declared.volume.Volume.{Volume}
-use Rattle.whatif.specs.Machine as machine
 use Rattle.whatif.specs.Machine.{Reach, first_volume}
 use Rattle.whatif.specs.Policies.{reach_of}
 use Rattle.whatif.specs.Stands.{IsAmong}

@@ -1,5 +1,5 @@
 -- A record leaves its segment.
-use Rattle.std.proofs.Common.{◌≡◌, Bool, Option, None, Some, map, sym, ap, ◌∙◌, ℕ, List}
+use Rattle.std.proofs.Common.{map, sym, ap, ◌∙◌}
 use Rattle.std.specs.Prelude.{position}
 use Rattle.whatif.specs.declared.store.Segment.{Segment}
 use Rattle.whatif.specs.Volumes.{segment_in}

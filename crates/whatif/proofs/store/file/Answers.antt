@@ -1,5 +1,5 @@
 -- A record comes into a segment.
-use Rattle.std.proofs.Common.{◌≡◌, ℕ, Bool, Option, None, Some, map, leb, sym, ap, ◌∙◌}
+use Rattle.std.proofs.Common.{map, leb, sym, ap, ◌∙◌}
 use Rattle.std.specs.Prelude.{position}
 use Rattle.whatif.specs.declared.store.Segment.{Segment}
 use Rattle.whatif.specs.Logs.{taking}

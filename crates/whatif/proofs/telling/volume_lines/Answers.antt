@@ -1,8 +1,7 @@
 -- One volume more has its line.
-use Rattle.std.proofs.Common.{◌≡◌, ◌<◌, ◌++◌, ℕ, List, [], length, get_or, Option, Some, sym, ap, subst, ◌∙◌, arith}
+use Rattle.std.proofs.Common.{◌≡◌, ◌<◌, ◌++◌, ℕ, length, Option, Some, sym, ap, subst, ◌∙◌, arith}
 use Rattle.std.specs.List.{flat_map, range_with_len}
 use Rattle.std.specs.Option.{option_map_or}
-use Rattle.wol_config.specs.declared.config.VolumeConf.{VolumeConf}
 use Rattle.wol_model.specs.Journal.{SpindleState}
 use Rattle.whatif.specs.Lines.{conf_at, nothing_used, used_at, used_of, volume_text}
 use Rattle.whatif.specs.Waits.{helds, of_disk, of_volume}

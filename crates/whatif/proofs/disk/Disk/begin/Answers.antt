@@ -1,5 +1,5 @@
 -- A disk goes down at the end of the timeout.
-use Rattle.std.proofs.Common.{◌≡◌, ◌≤◌, ◌+◌, ℕ, max, false, ap, arith}
+use Rattle.std.proofs.Common.{◌≤◌, ◌+◌, ℕ, max, false, ap, arith}
 use Rattle.whatif.proofs.Spinning.{goes_down}
 use Rattle.whatif.specs.declared.disk.Disk.{Disk}
 use Rattle.whatif.proofs.disk.Disk.begin.Goals as goal

@@ -1,5 +1,4 @@
 -- The most of one more.
-use Rattle.std.proofs.Common.{ℕ}
 use Rattle.whatif.specs.declared.logged.Held.{Held}
 use Rattle.whatif.proofs.Counting.{raised}
 use Rattle.whatif.proofs.logged.Most.raise.Goals as goal

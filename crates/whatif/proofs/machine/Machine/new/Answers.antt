@@ -1,10 +1,9 @@
 -- A machine before its first window.
-use Rattle.std.proofs.Common.{◌≡◌, ◌<◌, ◌≤◌, ◌+◌, ℕ, Bool, true, false, List, length, map, replicate, refl, sym, ap, subst, ◌∙◌, arith, rules}
-use Rattle.std.specs.List.{AllByRecursion, range_with_len}
-use Rattle.wol_config.specs.declared.config.VolumeConf.{VolumeConf}
+use Rattle.std.proofs.Common.{◌≡◌, ◌≤◌, ℕ, List, length, replicate, refl, sym, ap, subst, ◌∙◌, arith, rules}
+use Rattle.std.specs.List.{AllByRecursion}
 use Rattle.whatif.specs.declared.disk.Disk.{Disk}
 use Rattle.whatif.specs.Disks.{IsKept, moments_of}
-use Rattle.whatif.specs.Stands.{AreNew, IsAmong}
+use Rattle.whatif.specs.Stands.{IsAmong}
 use Rattle.whatif.specs.Waits.{AreFewIn, AreTallied, Waited}
 use Rattle.whatif.proofs.Waited.{no_waits}
 use Rattle.whatif.proofs.New.{new_kept, new_moments, stands_first}

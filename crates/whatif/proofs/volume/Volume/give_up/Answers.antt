@@ -1,9 +1,8 @@
 -- One record gives up the blocks that may go.
-use Rattle.std.proofs.Common.{[], ◌∷◌, ◌≡◌, ◌<◌, ◌+◌, Bool, ℕ, true, List, Option, None, Some, length, refl, subst, sym, ap, ◌∙◌, arith, rules}
+use Rattle.std.proofs.Common.{[], ◌∷◌, ◌≡◌, Bool, List, Option, None, Some, length, refl, subst, sym, ap, ◌∙◌, arith}
 use Rattle.std.specs.Prelude.{IfNone}
 use Rattle.std.specs.List.{AllByRecursion}
 use Rattle.wol_model.specs.Index.{Indexed, left, listed_in, goes}
-use Rattle.wol_model.specs.Log.{has_bit}
 use Rattle.block_cells.specs.Masks.{IsMask}
 use Rattle.redirect_map.specs.Index.{entry_at, IsAnswer}
 use Rattle.garbage_list.specs.Least.{first_version, can_go}

@@ -1,13 +1,12 @@
 -- A record is logged.
-use Rattle.std.proofs.Common.{◌≡◌, ◌<◌, ◌≤◌, ◌+◌, ◌-◌, ◌^◌, ℕ, zero, suc, Bool, true, false, List, length, None, refl, sym, ap, subst, ◌∙◌, arith}
+use Rattle.std.proofs.Common.{◌≡◌, ◌≤◌, ◌+◌, ℕ, true, length, None, sym, subst, ◌∙◌, arith}
 use Rattle.std.specs.Prelude.{slice_set}
 use Rattle.std.specs.List.{AllByRecursion}
 use Rattle.std.proofs.Math.ListN.{length-set}
 use Rattle.std.proofs.lemmas.Bool.{false≢true}
-use Rattle.wol_model.specs.Index.{Indexed, listed_in}
+use Rattle.wol_model.specs.Index.{listed_in}
 use Rattle.wol_model.specs.Log.{marks_of}
 use Rattle.block_cells.specs.Runs.{runs_of}
-use Rattle.wol_promise.specs.Policy.{Look}
 use Rattle.whatif.specs.Volumes.{IsLogged}
 use Rattle.whatif.proofs.Written.{entered, logged_look, logged_more, one_run, rec_at, some_kept}
 use Rattle.whatif.proofs.volume.Volume.log.Goals as goal

@@ -1,8 +1,7 @@
 -- A volume of which nothing is logged.
-use Rattle.std.proofs.Common.{[], ◌≡◌, ◌<◌, ◌≤◌, ◌*◌, ℕ, Bool, true, false, List, length, replicate, refl, sym, ap, subst, ◌∙◌, arith, rules}
+use Rattle.std.proofs.Common.{◌≡◌, ◌<◌, ◌≤◌, ◌*◌, ℕ, length, sym, subst, arith, rules}
 use Rattle.std.specs.List.{AllByRecursion}
 use Rattle.std.proofs.lemmas.Bool.{false≢true}
-use Rattle.wol_model.specs.Index.{Indexed}
 use Rattle.whatif.specs.declared.store.Shelf.{Shelf}
 use Rattle.whatif.specs.Volumes.{IsLogged}
 use Rattle.whatif.proofs.Lists.{all_imply}

@@ -1,8 +1,8 @@
 -- The due blocks of one record go home.
-use Rattle.std.proofs.Common.{[], ◌≡◌, ◌<◌, ◌+◌, ⊎_elim, Bool, ℕ, true, List, Option, None, Some, length, refl, subst, sym, ap, ◌∙◌, bit_or, arith, rules}
+use Rattle.std.proofs.Common.{[], ◌≡◌, ◌+◌, ⊎_elim, Bool, ℕ, true, List, Option, None, Some, length, refl, subst, sym, ap, ◌∙◌, bit_or, arith, rules}
 use Rattle.std.specs.Prelude.{IfNone}
 use Rattle.std.specs.List.{AllByRecursion}
-use Rattle.wol_model.specs.Index.{Indexed, left, listed_in, is_due, is_homed, is_live}
+use Rattle.wol_model.specs.Index.{Indexed, left, listed_in, is_due, is_live}
 use Rattle.wol_model.specs.Log.{has_bit}
 use Rattle.wol_model.proofs.Counts.{both, either}
 use Rattle.block_cells.specs.Masks.{IsMask}

@@ -1,11 +1,11 @@
 -- Blocks are read one by one.
-use Rattle.std.proofs.Common.{◌≡◌, ◌<◌, ◌+◌, ℕ, List, length, map, refl, sym, ap, subst, ◌∙◌, max}
+use Rattle.std.proofs.Common.{◌≡◌, ◌<◌, ◌+◌, ℕ, length, map, refl, sym, ap, subst, ◌∙◌, max}
 use Rattle.std.specs.List.{range_with_len}
-use Rattle.wol_model.specs.Index.{Listed, listed_in}
+use Rattle.wol_model.specs.Index.{listed_in}
 use Rattle.wol_promise.specs.Policy.{Look, woken}
 use Rattle.whatif.specs.Disks.{AreDisks}
 use Rattle.wol_model.specs.Blocks.{changed_at}
-use Rattle.whatif.specs.Machine.{Reach, accessed, all_accessed, source_of}
+use Rattle.whatif.specs.Machine.{accessed, all_accessed, source_of}
 use Rattle.whatif.specs.Waits.{lag_among, wait_on}
 use Rattle.whatif.proofs.Waiting.{late_more}
 use Rattle.whatif.specs.Volumes.{IsWithin, look_in, reach_in}

@@ -1,5 +1,5 @@
 -- The disk of one logger more was looked at.
-use Rattle.std.proofs.Common.{None, ◌≡◌, ◌<◌, ◌≤◌, ◌+◌, ◌++◌, ℕ, suc, false, List, length, map, get_or, take, drop, refl, sym, ap, subst, ◌∙◌, arith}
+use Rattle.std.proofs.Common.{None, ◌≡◌, ◌<◌, ◌++◌, ℕ, false, List, length, map, get_or, take, drop, sym, ap, subst, ◌∙◌, arith}
 use Rattle.std.specs.Prelude.{slice_get, slice_set, slice_index_or, Some}
 use Rattle.std.specs.List.{AllByRecursion}
 use Rattle.whatif.specs.declared.disk.Disk.{Disk}

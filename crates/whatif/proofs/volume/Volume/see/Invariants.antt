@@ -1,4 +1,4 @@
-use Rattle.std.proofs.Common.{◌≡◌, ◌++◌, List, length, map, take, drop}
+use Rattle.std.proofs.Common.{◌≡◌, ◌++◌, List, map, take, drop}
 use Rattle.wol_model.specs.Journal.{SpindleState}
 use Rattle.whatif.specs.Disks.{AreDisks}
 use Rattle.whatif.specs.Machine.{is_up}

@@ -1,5 +1,5 @@
 -- A flag is set.
-use Rattle.std.proofs.Common.{◌≡◌, ◌∙◌, false, not, ◌&&◌, ◌||◌, refl}
+use Rattle.std.proofs.Common.{◌∙◌, false, not, ◌&&◌, ◌||◌, refl}
 use Rattle.std.specs.Vec.{with_item}
 use Rattle.whatif.proofs.Lists.{same_default}
 use Rattle.whatif.proofs.Seeing.{seen_logger}

@@ -1,5 +1,5 @@
 -- The disk that has a block is woken: that of a logger, or the volume's own.
-use Rattle.std.proofs.Common.{◌≡◌, ◌<◌, Bool, length, true, refl, sym, ap, ◌∙◌, arith}
+use Rattle.std.proofs.Common.{Bool, length, ap, ◌∙◌, arith}
 use Rattle.std.specs.Prelude.{slice_index_or}
 use Rattle.wol_promise.specs.Policy.{Look}
 use Rattle.whatif.specs.declared.volume.Volume.{Volume}

@@ -1,18 +1,13 @@
 -- A write goes home, or to the log on a logger.
-use Rattle.std.proofs.Common.{◌≡◌, ◌<◌, ◌≤◌, ◌+◌, ℕ, Bool, List, [], ◌∷◌, length, Some, refl, sym, ap, subst, ◌∙◌, arith}
-use Rattle.std.specs.Prelude.{slice_index_or}
-use Rattle.std.specs.List.{AllByRecursion}
-use Rattle.wol_model.specs.Journal.{SpindleState}
+use Rattle.std.proofs.Common.{◌<◌, ℕ, Bool, [], ◌∷◌, length, Some, refl, sym, ap, subst, ◌∙◌}
 use Rattle.wol_model.specs.Placing.{Place, Home, Log, Full}
 use Rattle.wol_promise.specs.Policy.{Look}
 use Rattle.whatif.specs.declared.volume.Volume.{Volume}
 use Rattle.whatif.specs.Disks.{AreDisks}
 use Rattle.wol_model.specs.Blocks.{changed_at}
-use Rattle.whatif.specs.Machine.{Reach, accessed, filed_at}
+use Rattle.whatif.specs.Machine.{accessed, filed_at}
 use Rattle.whatif.specs.Logs.{filed_on}
 use Rattle.whatif.specs.Volumes.{look_in, reach_in, store_in}
-use Rattle.whatif.proofs.Lists.{same_default}
-use Rattle.whatif.proofs.Steps.{logger_within}
 use Rattle.whatif.proofs.Written.{lane_under, to_home, to_log, to_none, wrote}
 use Rattle.whatif.proofs.Doing.{place_within, same_length}
 use Rattle.whatif.proofs.Waiting.{late_nowhere, late_write}

@@ -1,5 +1,5 @@
 -- A request more.
-use Rattle.std.proofs.Common.{◌≡◌, List, set, get_or, refl, sym, subst}
+use Rattle.std.proofs.Common.{refl, sym, subst}
 use Rattle.std.specs.Vec.{with_item}
 use Rattle.whatif.specs.declared.waits.Told.{Told}
 use Rattle.whatif.specs.declared.waits.Tallies.{Tallies}

@@ -1,5 +1,5 @@
 -- No request yet.
-use Rattle.std.proofs.Common.{◌≡◌, replicate, rules}
+use Rattle.std.proofs.Common.{rules}
 use Rattle.whatif.proofs.Counting.{none_few, none_tallied}
 use Rattle.whatif.proofs.waits.Tallies.new.Goals as goal
 

@@ -1,7 +1,6 @@
 -- A wait more is told.
-use Rattle.std.proofs.Common.{◌≡◌, ◌<◌, ◌≤◌, ◌+◌, ◌⊎◌, inl, inr, ℕ, cond, get_or, sym, ap, ◌∙◌, arith}
+use Rattle.std.proofs.Common.{◌≡◌, inl, inr, get_or, ◌∙◌, arith}
 use Rattle.std.proofs.lemmas.Bool.{cases_eq, cases_lt}
-use Rattle.whatif.specs.Waits.{is_over}
 use Rattle.whatif.proofs.Counting.{never_over, told_more}
 use Rattle.whatif.proofs.waits.Waits.add.Goals as goal
 

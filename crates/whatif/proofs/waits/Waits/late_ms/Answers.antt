@@ -1,5 +1,4 @@
 use Rattle.std.proofs.Common.{ℕ, ◌+◌, ◌*◌, ◌/◌, ap, ◌∙◌}
-use Rattle.whatif.specs.Waits.{late}
 use Rattle.whatif.proofs.Counting.{late_told}
 use Rattle.whatif.proofs.waits.Waits.late_ms.Goals as goal
 
