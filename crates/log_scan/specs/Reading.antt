@@ -1,7 +1,7 @@
 -- A segment that is read up to a place.
-use Rattle.std.specs.Prelude.{⊤, ◌≡◌, ◌<◌, ◌≤◌, ◌+◌, ◌^◌, ℕ, List, [], ◌∷◌, ◌++◌, length, drop}
+use Rattle.std.specs.Prelude.{⊤, ◌≡◌, ◌<◌, ◌≤◌, ◌+◌, ◌^◌, ℕ, List, [], ◌∷◌, ◌++◌, length, drop, slice_index_or, Option, Some}
 use Rattle.std.specs.List.{AllByRecursion, flat_map}
-use Rattle.wol_disk.specs.Disk.{Block}
+use Rattle.wol_disk.specs.Disk.{Block, Values, only}
 use Rattle.wol_model.specs.Heads.{RecordHead, IsRecordHead, head_block, owned_block, gate_block}
 use Rattle.wol_model.specs.Log.{Record, IsNamed, written, end_of}
 use Rattle.log_layout.specs.Values.{record_head}
@@ -12,6 +12,11 @@ pub record StandsAt (bs : List Block) (at : ℕ) (b : Block) : Type 0 where
   pub rest : List Block
   pub here : drop at bs ≡ b ∷ rest
   pub size : at + 1 + length rest ≡ length bs
+
+-- the first so many blocks of the room are those from this place on
+abbrev pub AreAhead : Option (List (Values Block)) → (from count : ℕ) → (room : List Block) → Type 0
+AreAhead values from count room = (bs : List Block) → values ≡ Some (only bs)
+    → (k : ℕ) → k < count → StandsAt bs (from + k) (slice_index_or room k [])
 
 -- a gate stands there
 pub record IsGateAt (bs : List Block) (at : ℕ) : Type 0 where

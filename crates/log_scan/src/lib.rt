@@ -1,12 +1,13 @@
 //! Reading a segment back: who owns it and where the heads of its records stand, or the first block that is damaged.
 //!
-//! `log_scan` reads them back: `calls.rt` the scan, `reading.rt` its loop over heads, `adopted.rt` a part as the
-//! segment that it is.
+//! `log_scan` reads them back: `calls.rt` the scan, `reading.rt` its loop over heads, `ahead.rt` reads of many blocks
+//! at a time, `adopted.rt` a part as the segment that it is.
 #![tactic(auto)]
 
 use log_layout::RecHead;
 
 mod adopted;
+mod ahead;
 pub mod calls;
 mod reading;
 

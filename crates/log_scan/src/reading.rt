@@ -1,6 +1,6 @@
 // The blocks of a segment, read from its head on.
 ghost use Rattle.log_layout.specs.Values.{record_head};
-ghost use Rattle.log_scan.specs.Reading.{StandsAt, IsGateAt, IsHeadAt, IsReading};
+ghost use Rattle.log_scan.specs.Reading.{AreAhead, StandsAt, IsGateAt, IsHeadAt, IsReading};
 ghost use Rattle.log_scan.specs.Scan.{AreFound, IsInside, IsFaultAt, ReadsOnly};
 ghost use Rattle.log_scan.specs.declared.Found.{Found as FoundAt};
 ghost use Rattle.log_scan.specs.declared.ScanFault.TheVariants as fault;
@@ -11,6 +11,7 @@ ghost use Rattle.wol_disk.specs.Disk.{Block, only, Passes};
 ghost use Rattle.wol_model.specs.Heads.{IsRecordHead};
 ghost use Rattle.wol_model.specs.Log.{Record, IsLog, end_of};
 
+use crate::ahead::{Ahead, MOST, block_at};
 use crate::{Found, ScanFault};
 use log_layout::{RecHead, is_gate, read_rec};
 use spin_model::{Awake, Spun};
@@ -39,11 +40,21 @@ fn next_head<D: Disk>(
     blocks: u32,
     owner: u32,
     at: u32,
+    ahead: &mut Ahead,
+    room: &mut [Block],
 ) -> Result<Option<RecHead>, ScanFault>
     requires volume { token_volume token.now ≡ volume_of part.old }
     requires size { (state_of D.state part.old).size ≡ blocks }
     requires small { blocks ≤ 65536 }
     requires inside { at < blocks }
+    requires few { ahead.old.count ≤ 32 }
+    requires room { length room.old ≡ 32 }
+    requires ahead { AreAhead (state_of D.state part.old).values ahead.old.from ahead.old.count
+        room.old }
+    ensures few { ahead.new.count ≤ 32 }
+    ensures room { length room.new ≡ 32 }
+    ensures ahead { AreAhead (state_of D.state part.old).values ahead.new.from ahead.new.count
+        room.new }
     ensures found { (bs : List Block) → (state_of D.state part.old).values ≡ Some (only bs)
         → IfOk result
         (λ o. MatchOption o (IsGateAt bs at) (λ h. IsHeadAt bs owner at (record_head h))) }
@@ -54,7 +65,7 @@ fn next_head<D: Disk>(
         → IsErrOf result (fault.Damaged block) → (block ≡ at) × IsFaultAt bs owner at }
     ensures kept { ReadsOnly D.state part.old part.new result }
 {
-    let block = match read_block(part, token, at) {
+    let block = match block_at(part, token, blocks, at, ahead, room) {
         Ok(block) => block,
         Err(_) => return Err(ScanFault::Failed),
     };
@@ -98,15 +109,22 @@ pub fn read_records<D: Disk>(
     ensures kept { ReadsOnly D.state part.old part.new result }
 {
     let mut records = Vec::new(alloc);
+    let mut room = [[0; 512]; MOST];
+    let mut ahead = Ahead {
+        from: 0,
+        count: 0,
+        far: false,
+    };
     let mut at = 1;
     while at < blocks {
-        let next = match next_head(part, token, blocks, owner, at) {
+        let next = match next_head(part, token, blocks, owner, at, &mut ahead, &mut room) {
             Ok(next) => next,
             Err(fault) => return Err(fault),
         };
         match next {
             None => return Ok((records, at)),
             Some(head) => {
+                ahead.far = head.count >= MOST as u32;
                 match records.push(Found { pos: at, head }) {
                     Ok(()) => at = at + 1 + head.count,
                     Err(_) => return Err(ScanFault::NoMemory),

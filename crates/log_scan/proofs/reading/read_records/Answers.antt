@@ -12,6 +12,7 @@ use Rattle.log_scan.specs.declared.ScanFault.TheVariants.{Damaged}
 use Rattle.log_scan.specs.Scan.{IsFaultAt, IsInside}
 use Rattle.log_scan.specs.Reading.{IsGateAt, IsHeadAt, IsReading}
 use Rattle.log_scan.proofs.Blocks.{still_more}
+use Rattle.log_scan.proofs.ReadAhead.{still_ahead}
 use Rattle.log_scan.proofs.Placed.{are_found, all_push}
 use Rattle.log_scan.proofs.Walk.{one_more, end_ends, gate_ends}
 use Rattle.log_scan.proofs.reading.read_records.Goals as goal
@@ -51,6 +52,9 @@ loop-at-preserved g c =
       calm = c.in-Ok.ensures.kept.calm ∙ i.calm;
       values = c.next_head.ensures.kept.values ∙ i.values;
       moments = still_more i.moments i.values c.next_head.ensures.kept.any_moment;
+      few_ahead = c.next_head.ensures.few;
+      room = c.next_head.ensures.room;
+      ahead = still_ahead _ _ _ c.next_head.ensures.kept.values c.next_head.ensures.ahead;
       reading = λ bs is start.
           let P : Option RecHead → Type 0 = λ o. MatchOption o (IsGateAt bs at) (λ h. IsHeadAt bs c.args.owner at (record_head h)) in
           let there : IsHeadAt bs c.args.owner at (record_head c.in-Some.head) = subst P c.in-Some.is (c.in-Ok.ensures.found bs (i.values ∙ is)) in
