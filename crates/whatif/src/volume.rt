@@ -95,6 +95,9 @@ impl Volume {
         ensures rest { self.new
             ≡ record self.old { home_up = self.new.home_up; settled = self.new.settled } }
     {
+        if self.home_up == awake {
+            return;
+        }
         self.settled &= !awake | self.home_up;
         self.home_up = awake;
     }
@@ -108,6 +111,10 @@ impl Volume {
         ensures rest { self.new
             ≡ record self.old { ups = self.new.ups; settled = self.new.settled } }
     {
+        // (most flags stay as they are from window to window, and a store costs more than a look)
+        if self.ups[lane] == awake {
+            return;
+        }
         self.settled &= !awake | self.ups[lane];
         self.ups[lane] = awake;
     }

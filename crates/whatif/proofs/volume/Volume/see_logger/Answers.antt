@@ -9,4 +9,4 @@ pub returns-clause-volume : goal.returns-clause-volume
 returns-clause-volume c =
     let v = c.args.self.now in
     seen_logger v (with_item v.ups c.args.lane c.args.awake) c.args.lane c.args.awake _ refl
-    (λ i. v.settled && (not c.args.awake || (c.index.ensures ∙ same_default v.ups.items c.args.lane c.index.result.now false c.requires.within) i)) c.requires.volume
+    (λ i. v.settled && (not c.args.awake || (c.index-2.ensures ∙ same_default v.ups.items c.args.lane c.index-2.result.now false c.requires.within) i)) c.requires.volume
