@@ -4,7 +4,7 @@
     wol whatif < trace.csv > whatif.txt
     plot.py --config wol.toml --whatif whatif.txt < trace.csv > picture.svg
 
-Bars show the energy of `whatif`'s four lines. Strips, one for each disk, show when it was awake, for spin-down alone and with
+Bars show the energy of `whatif`'s four lines, and with its `--long` how many requests wait. Strips, one for each disk, show when it was awake, for spin-down alone and with
 off-loading everywhere. The strips are computed here, from the trace alone, by the rules of windows, of the timeout, of placing
 and of reclaim; what comes out of wakes, sleeps and energy is compared with whatif's lines. Standard error tells whether they
 are the same, and the status is 1 where they aren't. Only Python's standard library is used.
@@ -267,8 +267,9 @@ def cells(awake, start, end, columns):
     return shares
 
 
-def bars(out, energies, published, left, top, width):
-    """The four bars, each with its saving; brackets show what was published of other traces, where that is asked for."""
+def bars(out, energies, waits, published, left, top, width):
+    """The four bars, each with its saving and how many requests wait, where that is known; brackets show what was published of other
+    traces, where that is asked for."""
     full = energies["always"] or 1
     step, height = 46, 24
     for i, (policy, energy) in enumerate(energies.items()):
@@ -283,6 +284,9 @@ def bars(out, energies, published, left, top, width):
         if policy != "always":
             label += "  (saves %.1f %%)" % (100 - 100 * energy / full)
         out.append(text(left + long - 10, y + 17, label, 13, "#ffffff", "end", ' font-weight="bold"'))
+        asked, waiting = waits.get(policy, (0, 0))
+        if asked and long < width - 180:
+            out.append(text(left + width - 10, y + 17, "%.2f %% of requests wait" % (100 * waiting / asked), 12, "#2b2f36", "end"))
         if published and policy in PUBLISHED:
             low, high = PUBLISHED[policy]
             a, b = left + width * (1 - high / 100), left + width * (1 - low / 100)
@@ -350,15 +354,19 @@ def energy_in(units):
 
 
 def lines_of(path):
-    """whatif's lines: wakes, sleeps and energy of each policy."""
-    told = {}
+    """whatif's lines: wakes, sleeps and energy of each policy, and with --long how many requests there are and how many wait."""
+    told, waits = {}, {}
     with open(path) as file:
         for line in file:
-            policy, _, wakes, _, sleeps, _, energy = line.split()
-            told[policy] = (int(wakes), int(sleeps), int(energy))
+            policy, what, *words = line.split()
+            if policy in POLICIES and what == "wakes":
+                told[policy] = (int(words[0]), int(words[2]), int(words[4]))
+            elif policy in POLICIES and what in ("reads", "writes"):
+                asked, waiting = waits.get(policy, (0, 0))
+                waits[policy] = (asked + int(words[0]), waiting + int(words[2]))
     if set(told) != set(POLICIES):
         sys.exit("plot.py: %s hasn't whatif's four lines" % path)
-    return told
+    return told, waits
 
 
 def are_told(machines, cutter, config, told):
@@ -411,11 +419,11 @@ def names(out, config, top):
         y += 15
 
 
-def draw(options, config, told, machines, cutter):
+def draw(options, config, told, waits, machines, cutter):
     """The picture, as lines of SVG."""
     out = []
     head(out, options, config, cutter)
-    y = bars(out, {p: told[p][2] for p in POLICIES}, options.published, 300, 86, 900) + 34
+    y = bars(out, {p: told[p][2] for p in POLICIES}, waits, options.published, 300, 86, 900) + 34
     key(out, y)
     top = y + 62
     names(out, config, top)
@@ -436,12 +444,12 @@ def main():
     options = words.parse_args()
     with open(options.config, "rb") as file:
         config = tomllib.load(file)
-    told = lines_of(options.whatif)
+    told, waits = lines_of(options.whatif)
     machines, cutter = run(sys.stdin, config)
     if not machines:
         sys.exit("plot.py: the trace has no lines")
     same = are_told(machines, cutter, config, told)
-    print("\n".join(draw(options, config, told, machines, cutter)))
+    print("\n".join(draw(options, config, told, waits, machines, cutter)))
     return 0 if same else 1
 
 

@@ -5,8 +5,8 @@
 //! No image is read or written: a `Machine` keeps, for each volume, an index of the blocks that are logged, and for each disk
 //! its sums. `policy.rt` has the policies and what is asked and told, `views.rt` who logs for whom, `disk.rt` one disk,
 //! `volume.rt` one volume, `store.rt` what it has in logs, `reclaim.rt` what it puts home and gives up, `machine.rt` the machine,
-//! `waits.rt` what it tells of waits and `logged.rt` of logs, `lines.rt` the lines that are printed and `telling.rt` all lines of a policy. `specs/Machine` is the machine of one
-//! thread, as the definition that the contracts cite.
+//! `waits.rt` what it tells of waits and `logged.rt` of logs, `lines.rt` the lines that are printed and `telling.rt` all lines
+//! of a policy. `specs/Machine` is the machine of one thread, as the definition that the contracts cite.
 #![tactic(auto)]
 
 mod disk;
