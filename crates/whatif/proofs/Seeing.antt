@@ -1,5 +1,5 @@
 -- A volume sees which disks are awake, and wakes the disk that has a block.
-use Rattle.std.proofs.Common.{◌≡◌, ◌<◌, ◌≤◌, ℕ, zero, suc, Bool, true, false, cond, not, ◌&&◌, ◌||◌, List, [], ◌∷◌, ◌++◌, map, length, Option, None, Some, refl, sym, ap, subst, ◌∙◌, arith, ltb, take, drop}
+use Rattle.std.proofs.Common.{◌≡◌, ◌<◌, ◌≤◌, ℕ, zero, suc, Bool, true, false, cond, not, ◌&&◌, ◌||◌, List, [], ◌∷◌, ◌++◌, map, length, Option, None, Some, refl, sym, ap, subst, ◌∙◌, arith, ltb, take, drop, ◌+◌}
 use Rattle.std.specs.Prelude.{position, slice_get, slice_set, slice_index_or, Vec}
 use Rattle.std.specs.List.{AllByRecursion}
 use Rattle.std.specs.Option.{option_map_or}
@@ -141,13 +141,17 @@ newest_all P (x ∷ es) b e all is = at ((cover_at x).covers b) (newest cover_at
         pick true here = subst P (same_Some d e here) (rest d refl)
         pick false here = subst P (same_Some x e here) all.0
 
--- the look once the disk that has the block is awake
-pub source_look : (v : Volume) (b : ℕ) (rec : Rec) (ups : List Bool) → IsVolume v → IsAnswer (newest cover_at v.index.entries b) (Some rec) → ups ≡ slice_set v.ups.items rec.lane true
-    → (let l : Look = record { home_up = v.home_up; ups = ups; next = v.next; listed = listed_in v.index.entries; down = None } in l) ≡ woken (look_in v) b 1
-source_look v b rec ups volume is set =
-    let s = source_log v.index.entries b rec is in
+-- the newest record of each block of a range is this one, or there is none
+abbrev pub Answers : Volume → (first n : ℕ) → Option Rec → Type 0
+Answers v first n o = (b : ℕ) → first ≤ b → b < first + n → IsAnswer (newest cover_at v.index.entries b) o
+
+-- the look once the disk that has the blocks is awake
+pub source_look : (v : Volume) (first n : ℕ) (rec : Rec) (ups : List Bool) → IsVolume v → 1 ≤ n → Answers v first n (Some rec) → ups ≡ slice_set v.ups.items rec.lane true
+    → (let l : Look = record { home_up = v.home_up; ups = ups; next = v.next; listed = listed_in v.index.entries; down = None } in l) ≡ woken (look_in v) first n
+source_look v first n rec ups volume some is set =
     (λ i. record { home_up = v.home_up; ups = set i; next = v.next; listed = listed_in v.index.entries; down = None })
-    ∙ sym (woken_log (look_in v) b 1 rec.lane (omega arith) (lane_under v b rec volume is) (λ c from to. let same : c ≡ b = omega arith in (s.entry.listed, ap (newest cover_of (listed_in v.index.entries)) same ∙ s.is, sym s.lane)))
+    ∙ sym (woken_log (look_in v) first n rec.lane some (lane_under v first rec volume (is first (omega arith) (omega (arith, some))))
+    (λ c from to. let s = source_log v.index.entries c rec (is c from to) in (s.entry.listed, s.is, sym s.lane)))
   where
     lane_under : (w : Volume) (c : ℕ) (r : Rec) → IsVolume w → IsAnswer (newest cover_at w.index.entries c) (Some r) → r.lane < length w.ups.items
     lane_under w c r so answer =
@@ -168,8 +172,8 @@ source_is_log v b rec disk so answer is =
 pub source_is_home : (v : Volume) (b : ℕ) → IsAnswer (newest cover_at v.index.entries b) None → v.own ≡ source_of (reach_in v) (listed_in v.index.entries) b
 source_is_home v b answer = sym (ap (λ (o : Option Listed). option_map_or (λ (e : Listed). logger_at (reach_in v) e.lane) o v.own) (source_home v.index.entries b answer))
 
-pub home_look : (v : Volume) (b : ℕ) → IsAnswer (newest cover_at v.index.entries b) None → (let l : Look = record (look_in v) { home_up = true } in l) ≡ woken (look_in v) b 1
-home_look v b answer = sym (woken_home (look_in v) b 1 (omega arith) (λ c from to. let same : c ≡ b = omega arith in ap (newest cover_of (listed_in v.index.entries)) same ∙ source_home v.index.entries b answer))
+pub home_look : (v : Volume) (first n : ℕ) → 1 ≤ n → Answers v first n None → (let l : Look = record (look_in v) { home_up = true } in l) ≡ woken (look_in v) first n
+home_look v first n some answer = sym (woken_home (look_in v) first n some (λ c from to. source_home v.index.entries c (answer c from to)))
 
 -- all disks were looked at
 pub seen_all : (old home v : Volume) (ss : List SpindleState) (k : ℕ) → home ≡ record old { home_up = home.home_up; settled = home.settled } → home.home_up ≡ is_up ss old.own → v ≡ record home { ups = v.ups; settled = v.settled }

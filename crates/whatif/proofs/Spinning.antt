@@ -169,3 +169,11 @@ pub got : (ds : List Disk) (k : ℕ) (d : Disk) → k < length ds → slice_get 
 got [] k d lt = absurd (omega arith)
 got (x ∷ ds) zero d lt = refl
 got (x ∷ ds) (suc k) d lt = got ds k d (omega arith)
+
+-- a disk that was just used is used once more
+pub used_again : (t : ℕ) (ds : List Disk) (ss : List SpindleState) (k : ℕ) (e : Disk) → e.awake ≡ true → e.since ≡ e.moment → k < length ds → AreDisks (slice_set ds k e) ss → AreDisks (slice_set ds k e) (changed_at k (accessed t) ss)
+used_again t [] ss k e awake now lt zip = absurd (omega arith)
+used_again t (x ∷ ds) [] zero e awake now lt zip = absurd zip
+used_again t (x ∷ ds) [] (suc k) e awake now lt zip = absurd zip
+used_again t (x ∷ ds) (s ∷ ss) zero e awake now lt zip = (is_used e e t s (ap (λ (n : ℕ). record e { since = n }) now) awake zip.0, zip.1)
+used_again t (x ∷ ds) (s ∷ ss) (suc k) e awake now lt zip = (zip.0, used_again t ds ss k e awake now (omega arith) zip.1)

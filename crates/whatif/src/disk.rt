@@ -1,6 +1,6 @@
 // One disk: when it was last used, whether it is in standby, and what it used so far.
 ghost use Rattle.std.specs.List.{AllByRecursion};
-ghost use Rattle.std.specs.Prelude.{◌≡◌, ◌<◌, ◌≤◌, ◌+◌, ◌-◌, ◌*◌, ◌^◌, ℕ, List, length, map, max};
+ghost use Rattle.std.specs.Prelude.{◌≡◌, ◌<◌, ◌≤◌, ◌+◌, ◌-◌, ◌*◌, ◌^◌, ℕ, true, List, length, map, max};
 ghost use Rattle.whatif.specs.Disks.{AreDisks, IsDisk, IsKept, moments_of, standby_of};
 ghost use Rattle.wol_model.specs.Blocks.{changed_at};
 ghost use Rattle.whatif.specs.Machine.{accessed};
@@ -82,6 +82,8 @@ impl Disk {
         ensures moment { self.new.moment ≡ self.old.moment }
         ensures stands { (timeout : ℕ) (s : SpindleState) → IsDisk self.old s
             → IsDisk self.new (accessed timeout s) }
+        ensures awake { self.new.awake ≡ true }
+        ensures now { self.new.since ≡ self.new.moment }
     {
         if self.awake {
             self.since = self.moment;
@@ -161,6 +163,9 @@ pub(crate) fn access_at(disks: &mut [Disk], disk: u32)
     ensures kept { AllByRecursion IsKept disks.new }
     ensures moments { moments_of disks.new ≡ moments_of disks.old }
     ensures stands { (timeout : ℕ) (ss : List SpindleState) → AreDisks disks.old ss
+        → AreDisks disks.new (changed_at disk (accessed timeout) ss) }
+    // a further use at this moment changes nothing
+    ensures again { (timeout : ℕ) (ss : List SpindleState) → AreDisks disks.new ss
         → AreDisks disks.new (changed_at disk (accessed timeout) ss) }
 {
     disks[disk as usize].access();

@@ -136,25 +136,30 @@ impl Volume {
         }
     }
 
-    // The disk that has the block counts as awake. Answers which it is.
-    fn wake_source(&mut self, lbn: u64) -> u32
+    // The disk that has the block counts as awake. Answers which it is, and how many blocks from there on it has, of so many.
+    fn wake_source(&mut self, lbn: u64, most: u32) -> (u32, u32)
         requires volume { IsVolume self.old }
+        requires some { 1 ≤ most }
+        requires blocks { lbn + most ≤ 2 ^ 32 }
         ensures volume { IsVolume self.new }
-        ensures source { result
-            ≡ source_of (reach_in self.old) (listed_in self.old.index.entries) lbn }
-        ensures look { look_in self.new ≡ woken (look_in self.old) lbn 1 }
+        ensures some { 1 ≤ result.1 }
+        ensures most { result.1 ≤ most }
+        ensures source { (b : ℕ) → lbn ≤ b → b < lbn + result.1 → result.0
+            ≡ source_of (reach_in self.old) (listed_in self.old.index.entries) b }
+        ensures look { look_in self.new ≡ woken (look_in self.old) lbn result.1 }
         ensures reach { reach_in self.new ≡ reach_in self.old }
         ensures store { self.new.store ≡ self.old.store }
     {
-        match self.index.newest(lbn) {
+        let (source, run) = self.index.newest_run(lbn, most as usize);
+        match source {
             Some(record) => {
                 let lane = record.lane as usize;
                 self.see_logger(lane, true);
-                self.loggers[lane]
+                (self.loggers[lane], run as u32)
             }
             None => {
                 self.see_home(true);
-                self.own
+                (self.own, run as u32)
             }
         }
     }
@@ -172,10 +177,13 @@ impl Volume {
         ensures late { IsLate spin_up (reading lbn count) self.old disks.old result }
     {
         let mut wait: u64 = 0;
-        for i in 0..count {
-            let disk = self.wake_source(lbn + u64::from(i));
+        let mut done = 0;
+        // (a disk that has several blocks in a row is used once for all of them: a second use at one moment changes nothing)
+        'runs: while done < count {
+            let (disk, run) = self.wake_source(lbn + u64::from(done), count - done);
             access_at(disks, disk);
             wait = wait.max(lag_at(disks, disk, spin_up));
+            done += run;
         }
         wait
     }
