@@ -207,7 +207,8 @@ fn main(rt: HostRuntime) -> ExitCode {
     let mut bay = FileBay::new(rt, alloc, ".")
         .within(most_bytes)
         .waiting(asked.wait_seconds)
-        .for_reading(asked.only_looks);
+        .for_reading(asked.only_looks)
+        .making_new(asked.makes_new);
     let status = run(
         &rt,
         alloc,

@@ -73,6 +73,8 @@ pub struct Asked {
     pub only_looks: bool,
     /// Whether images are made.
     pub formats: bool,
+    /// Whether an image is made only where nothing has its name.
+    pub makes_new: bool,
     /// How long other processes' locks are waited for.
     pub wait_seconds: u64,
     /// Of a generated trace, how many lines it has.
@@ -88,6 +90,7 @@ const PLAIN: Asked = Asked {
     client: None,
     only_looks: false,
     formats: false,
+    makes_new: false,
     wait_seconds: 0,
     generated: None,
     compared: None,
@@ -135,8 +138,13 @@ pub fn asked_of(alloc: Global, words: &[String]) -> Asked {
             only_looks: true,
             ..PLAIN
         },
-        Command::Format | Command::FormatMissing(_) => Asked {
+        Command::Format => Asked {
             formats: true,
+            ..PLAIN
+        },
+        Command::FormatMissing(_) => Asked {
+            formats: true,
+            makes_new: true,
             ..PLAIN
         },
         Command::Gen(_) | Command::ViewAdd(_) | Command::ViewRemove(_) | Command::Clean => PLAIN,

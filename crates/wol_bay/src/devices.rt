@@ -37,16 +37,29 @@ pub fn make_zero(rt: &HostRuntime, alloc: Global, device: &mut File, bytes: u64)
         write_first(device, LABEL)?;
     }
     let mut told = Told::new(rt);
-    for number in 0..bytes.div_ceil(PIECE) {
-        let from = number.saturating_mul(PIECE).max(BLOCK);
-        let end = number.saturating_add(1).saturating_mul(PIECE).min(bytes);
-        zero_piece(device, room_for(&mut piece, end.saturating_sub(from)), from)?;
-        told.tell(rt, end, bytes);
-    }
+    let done = zero_pieces(rt, device, &mut piece, bytes, &mut told);
     told.end(rt);
+    done?;
     device.sync_all()?;
     if was_image {
         write_first(device, b"")?;
+    }
+    Ok(())
+}
+
+// Makes all but the first block zeros, and tells how far that is.
+fn zero_pieces(
+    rt: &HostRuntime,
+    device: &File,
+    piece: &mut [u8],
+    bytes: u64,
+    told: &mut Told,
+) -> io::Result<()> {
+    for number in 0..bytes.div_ceil(PIECE) {
+        let from = number.saturating_mul(PIECE).max(BLOCK);
+        let end = number.saturating_add(1).saturating_mul(PIECE).min(bytes);
+        zero_piece(device, room_for(piece, end.saturating_sub(from)), from)?;
+        told.tell(rt, end, bytes);
     }
     Ok(())
 }

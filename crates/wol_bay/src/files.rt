@@ -31,6 +31,9 @@ const TRIES: u64 = 50;
 
 const TRY_MILLIS: u64 = 20;
 
+// A device's lock is tried so often at least: others take it for a moment, as to see what is on the device that was just written.
+const DEVICE_TRIES: u64 = 100;
+
 /// A folder of images, which tells nothing of them. The image NAME is the file `NAME.vol`. The file is locked while
 /// the image is out, so another bay that would hand out the same image fails. What goes out is what the disk has, also
 /// where a sync of an earlier run failed. An image is made only where no other entry of the folder is the same file, as by
@@ -38,7 +41,7 @@ const TRY_MILLIS: u64 = 20;
 /// call has failed, and the system, which might end the process for it, isn't asked.
 ///
 /// The file may be a block device, which is as long as the image or longer; what lies behind the image stays. `create`
-/// refuses a device that is no image yet and has something in its first MiB.
+/// refuses a device that is no image yet and has something in its first MiB. Locks are of the node: a device has one.
 ///
 /// A bay that is for reading also hands out an image that may only be read: each write to it has failed. What goes out
 /// then is what the system keeps of it, since only who may write has that dropped.
@@ -52,6 +55,8 @@ pub struct FileBay<'a> {
     tries: u64,
     // whether what may only be read goes out too
     is_for_reading: bool,
+    // whether an image is made only where nothing has its name
+    only_new: bool,
     faults: u64,
 }
 
@@ -85,6 +90,7 @@ impl<'a> FileBay<'a> {
             most_bytes: u64::MAX,
             tries: 0,
             is_for_reading: false,
+            only_new: false,
             faults: 0,
         }
     }
@@ -114,6 +120,14 @@ impl<'a> FileBay<'a> {
         }
     }
 
+    /// The same bay, which makes an image only where nothing has its name, where that is wanted: what another process has made
+    /// meanwhile stays.
+    pub fn making_new(self, only_new: bool) -> FileBay<'a>
+        ensures { file_bay_state result ≡ file_bay_state self.entry }
+    {
+        FileBay { only_new, ..self }
+    }
+
     fn path_of(&self, name: &str) -> Result<String, NoMemory> {
         let folder = self.folder;
         Ok(format!(in self.alloc; "{folder}/{name}.vol")?)
@@ -137,7 +151,7 @@ impl<'a> FileBay<'a> {
             .mode(0o600)
             .open(&self.rt, path);
         match new {
-            Err(e) if e.kind() == ErrorKind::AlreadyExists => OpenOptions::new()
+            Err(e) if e.kind() == ErrorKind::AlreadyExists && !self.only_new => OpenOptions::new()
                 .read(true)
                 .write(true)
                 .open(&self.rt, path),
@@ -196,7 +210,12 @@ impl<'a> FileBay<'a> {
     // Whether this file is at the end of the path. A link that leads nowhere leads to no file.
     fn is_same(&self, path: Path<'_>, file: &Metadata) -> bool {
         match fs::metadata(&self.rt, path) {
-            Ok(found) => found.dev() == file.dev() && found.ino() == file.ino(),
+            Ok(found) => {
+                is_one_file(&found, file)
+                    || found.file_type().is_block_device()
+                        && file.file_type().is_block_device()
+                        && found.rdev() == file.rdev()
+            }
             Err(_) => false,
         }
     }
@@ -206,8 +225,14 @@ impl<'a> FileBay<'a> {
     fn open(&mut self, path: &str) -> io::Result<Option<Found>>
         ensures { self.new.faults ≡ self.old.faults }
     {
-        let (opened, left) = open_within(&self.rt, path, self.is_for_reading, self.tries);
-        self.tries = left;
+        let is_device = is_device(&self.rt, path);
+        let tries = if is_device {
+            self.tries.max(DEVICE_TRIES)
+        } else {
+            self.tries
+        };
+        let (opened, left) = open_within(&self.rt, path, is_device, self.is_for_reading, tries);
+        self.tries = self.tries.min(left);
         match opened? {
             Some((file, is_writable)) => Ok(Some(Found::new(file, is_writable)?)),
             None => Ok(None),
@@ -218,7 +243,7 @@ impl<'a> FileBay<'a> {
     fn open_again(&self, path: &str, file: &Metadata) -> io::Result<File> {
         let (again, _) = open_either(&self.rt, path, self.is_for_reading)?;
         let found = again.metadata()?;
-        if found.dev() == file.dev() && found.ino() == file.ino() {
+        if is_one_file(&found, file) {
             Ok(again)
         } else {
             Err(io::Error::from(ErrorKind::NotFound))
@@ -247,7 +272,11 @@ impl<'a> FileBay<'a> {
     // that were dropped are those of this file; and the files that are open for that moment aren't missing for syncs.
     fn image_of_disk(&self, path: &str, found: Found) -> io::Result<ImageFile> {
         if found.is_writable && !found.is_device {
-            drop_copies(&self.rt, path)?;
+            match drop_copies(&self.rt, path) {
+                // nothing can be made beside it, so it is read as what may only be read
+                Err(e) if self.is_for_reading && may_not_be_written(&e) => (),
+                dropped => dropped?,
+            }
         }
         self.image_of(path, found.file)
     }
@@ -361,17 +390,28 @@ fn may_not_be_written(e: &io::Error) -> bool {
     e.kind() == ErrorKind::PermissionDenied || e.kind() == ErrorKind::ReadOnlyFilesystem
 }
 
+// Whether two files are one.
+fn is_one_file(a: &Metadata, b: &Metadata) -> bool {
+    a.dev() == b.dev() && a.ino() == b.ino()
+}
+
+// Whether a device is at the end of the path.
+fn is_device(rt: &HostRuntime, path: &str) -> bool {
+    fs::metadata(rt, path).is_ok_and(|found| found.file_type().is_block_device())
+}
+
 // Opens the file and locks it; `None` is std's answer that there is no such file. A lock that another process has is tried again as
-// often as is said; how often is left comes with it. The file is opened anew for each try, and once more behind the other
-// process's lock: the system drops what it keeps of a device only when nobody has it open, and that other one may have lost some
-// of it.
+// often as is said; how often is left comes with it. The file is opened anew for each try, a device once more behind its lock, and
+// any file behind another process's lock: the system drops what it keeps of a device only when nobody has it open, and that other
+// one may have lost some of it.
 fn open_within(
     rt: &HostRuntime,
     path: &str,
+    is_device: bool,
     is_for_reading: bool,
     tries: u64,
 ) -> (io::Result<Option<(File, bool)>>, u64) {
-    let mut is_others = false;
+    let mut is_others = is_device;
     for tried in 0..=tries {
         let left = tries.saturating_sub(tried);
         let (file, is_writable) = match open_either(rt, path, is_for_reading) {
@@ -386,7 +426,7 @@ fn open_within(
             Err(TryLockError::Error(e)) => return (Err(e), left),
         }
         drop(file);
-        if left > 0 {
+        if is_others && left > 0 {
             sleep(rt, Duration::from_millis(TRY_MILLIS));
         }
     }
