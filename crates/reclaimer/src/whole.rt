@@ -17,6 +17,12 @@ use wol_disk::Disk;
 /// A view has at most so many loggers, all of which a drain counts as awake.
 const ALL: [bool; 16] = [true; 16];
 
+/// The position of a segment's first record.
+const FIRST: u32 = 1;
+
+/// So many records out of reach are passed over at most.
+const PASSED: u64 = 64;
+
 // Whether all that this record keeps may go.
 fn goes_all(index: &Index, record: &Rec) -> bool
     requires index { IsIndex index.now.entries }
@@ -44,10 +50,14 @@ fn comes_first(index: &Index, lanes: &[bool], first: &Rec, count: u32) -> bool
     ensures first { result ≡ true
         → ComeFirst lanes.now first.now.lane first.now.segment index.now.entries }
 {
+    let most = u64::from(count) + PASSED;
     let mut left = count;
     for place in 0..index.len() {
         if left == 0 {
             return true;
+        }
+        if place >= most {
+            return false;
         }
         let record = index.at(place);
         if lie_together(&record, first) {
@@ -63,7 +73,8 @@ fn comes_first(index: &Index, lanes: &[bool], first: &Rec, count: u32) -> bool
 }
 
 /// Whether the segment of this record may go whole in its place: its records are the first ones within reach, and all that they
-/// keep may go.
+/// keep may go. It is looked at once, at its first record, and no further than to few records behind the first ones: else each
+/// record that goes by itself would cost a walk over many.
 pub(crate) fn goes_whole<D: Disk>(m: &Manager<D>, any: bool, first: &Rec) -> bool
     requires ready { IsReady D.state m.now }
     requires up { m.now.down ≡ None }
@@ -72,6 +83,9 @@ pub(crate) fn goes_whole<D: Disk>(m: &Manager<D>, any: bool, first: &Rec) -> boo
     ensures first { result ≡ true → ComeFirst (lanes_of any m.now) first.now.lane
         first.now.segment m.now.index.entries }
 {
+    if first.pos != FIRST {
+        return false;
+    }
     let count = m.records_beside(first.version);
     if any {
         comes_first(m.index(), &ALL, first, count)

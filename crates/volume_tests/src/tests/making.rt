@@ -24,14 +24,16 @@ use std::sync::Wait;
 use turn_lock::{Pass, TurnLock};
 use wol_disk::MemDisk;
 
-/// What is left of a rig: the sums of both disks, the segments of volume 1 that are held, and how many of its segments are
-/// free.
+/// What is left of a rig: the sums of both disks, how often home was synced, the segments of volume 1 that are held, how many
+/// of its segments are free, and how often one of these was synced.
 #[derive(Drop)]
 pub struct Remains {
     pub home: Sums,
+    pub home_syncs: u64,
     pub logger: Sums,
     pub held: Vec<(u32, Spun<CountingDisk>)>,
     pub free: u32,
+    pub free_syncs: u64,
 }
 
 /// The sums of a disk that came up and went down so often, and was in standby for so long.
@@ -136,9 +138,9 @@ pub fn apart<R: Abort>(rt: &R, alloc: Global, rig: Rig) -> Remains
         keeper,
     } = rig;
     let ManagerParts {
-        home: _,
         spindle,
         lanes,
+        home,
     } = manager.release();
     let LaneParts {
         logger: _,
@@ -150,11 +152,22 @@ pub fn apart<R: Abort>(rt: &R, alloc: Global, rig: Rig) -> Remains
     let (own_pool_lock, pool_lock) = both(pools);
     let (home_lock, logger_lock) = both(spindles);
     unlocked(rt, alloc, own_pool_lock, own_pool);
+    let mut pool = unlocked(rt, alloc, pool_lock, pool_pass);
     Remains {
         home: kept_sums(rt, alloc, home_lock, keeper, spindle),
+        home_syncs: home.into_inner().syncs(),
         logger: sums_of(rt, alloc, logger_lock, logger_pass),
         held,
-        free: unlocked(rt, alloc, pool_lock, pool_pass).len(),
+        free: pool.len(),
+        free_syncs: syncs_in(&mut pool),
+    }
+}
+
+// How often a free segment was synced, where there is one.
+fn syncs_in(pool: &mut Pool<FreeSegment<CountingDisk>>) -> u64 {
+    match pool.take() {
+        Some((_, segment)) => segment.into_part().into_inner().syncs(),
+        None => 0,
     }
 }
 

@@ -4,6 +4,7 @@ ghost use Rattle.volume_tests.specs.Rigs.{IsRig};
 use super::making::{apart, resting_rig, sums};
 use crate::rig::Rig;
 use garbage_list::may_go;
+use log_segment::Item;
 use manager::{Place, Sources};
 use reclaimer::{Drain, Fetched, Gone};
 use redirect_map::Index;
@@ -178,5 +179,47 @@ fn a_drain_wakes_home_and_leaves_no_record(rt: HostRuntime) -> Result<(), Fail> 
     assert!(rt; last == Ok(Drain::Bare));
     assert!(rt; remains.free == 1);
     assert!(rt; remains.home == sums(1, 1, 100_000_000));
+    Ok(())
+}
+
+// Three records lie in one segment, and nothing lies over them. It was synced once when it was found free, twice for its claim,
+// twice for the records, and once when it was given up.
+#[test]
+fn a_drain_gives_a_segment_up_with_all_its_records(rt: HostRuntime) -> Result<(), Fail> {
+    let mut rig = resting_rig(&rt, rt.alloc());
+    let items = [
+        Item { lbn: 0, count: 1 },
+        Item { lbn: 2, count: 1 },
+        Item { lbn: 5, count: 1 },
+    ];
+    let wrote = rig.write_run(&rt, &items, &[[7; 512], [8; 512], [9; 512]]);
+    let steps = [
+        rig.drain_step(&rt),
+        rig.drain_step(&rt),
+        rig.drain_step(&rt),
+    ];
+    let mut out = [[0; 512]; 3];
+    let read = rig.read(&rt, 0, &mut out);
+    let remains = apart(&rt, rt.alloc(), rig);
+    assert!(rt; wrote == Ok((3, Place::Log { logger: 1 })));
+    assert!(rt;
+        steps
+            == [
+                Ok(Drain::Moved {
+                    blocks: 3,
+                    records: 0
+                }),
+                Ok(Drain::Moved {
+                    blocks: 0,
+                    records: 3
+                }),
+                Ok(Drain::Bare)
+            ]
+    );
+    assert!(rt; read == Ok(Sources { home: 3, logged: 0 }));
+    assert!(rt; out == [[7; 512], [0; 512], [8; 512]]);
+    assert!(rt; remains.free == 1);
+    assert!(rt; remains.free_syncs == 6);
+    assert!(rt; remains.home_syncs == 1);
     Ok(())
 }
