@@ -1,3 +1,4 @@
 pub mod Ticks
 pub mod Moments
 pub mod Posts
+pub mod Together
