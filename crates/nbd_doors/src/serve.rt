@@ -65,7 +65,7 @@ fn serve_next<R: Wait, V: Volume, G: Door>(
 
 /// Serves the clients of a volume one after another, by this name, until its door gives no more. Each is served whatever
 /// became of those before it: one whose bytes are no requests, whose source or sink fails, or for whom there is no memory,
-/// ends alone, and is let go before the next is waited for.
+/// ends alone. How a client's session ended isn't told.
 pub fn serve_door<R: Wait, V: Volume, G: Door>(
     rt: &R,
     alloc: Global,
