@@ -72,7 +72,7 @@ pub fn advice(status: u8, cause: Cause) -> Option<&'static str>
             }
         },
         5 => {
-            "wol: an image is damaged or not the one in wol.toml. Put back the right one or wol.toml, or remove what a stop left unfinished.\n"
+            "wol: an image is damaged or not the one in wol.toml. Put back the right images or the right wol.toml.\n"
         }
         6 => {
             "wol: a volume logs on one that is missing or was refused. wol check tells which; mend that one first.\n"
