@@ -81,6 +81,14 @@ same "a volume that is there" "fault 15 there usr0
 status 15" "$(run format usr0)"
 same "nothing was written" "$sums" "$(sha256sum ./*.vol)"
 mv usr0.vol away
+same "another's view names it" "fault 15 in view of web0
+status 15" "$(run format usr0)"
+same "nothing was written to those that may log there" "$(grep -v usr0 <<<"$sums")" "$(sha256sum ./*.vol)"
+mv away usr0.vol
+run view-remove web0 usr0 >/dev/null
+run view-remove src0 usr0 >/dev/null
+sums=$(sha256sum ./*.vol)
+mv usr0.vol away
 same "its records are on another" "fault 15 records segment 1 of web0
 status 15" "$(run format usr0)"
 same "no image was made" "" "$(find . -name usr0.vol)"

@@ -27,7 +27,7 @@ use Rattle.volume_images.proofs.SoundImages.{no_extents, none_kept, one_left, wh
 use Rattle.volume_images.proofs.WholeImages.{segments_idle, whole_home}
 use Rattle.rack_parts.proofs.GivenBack.{all_told, left_segment, left_size}
 use Rattle.rack_parts.proofs.Members.{a_value, here_within}
-use Rattle.rack.specs.Missing.{HadNoSegmentOf, HasSegmentOf, LeavesMissing, RefusesMissing}
+use Rattle.rack.specs.Missing.{HadNoSegmentOf, HasSegmentOf, LeavesMissing, NamesInView, RefusesMissing}
 use Rattle.rack.specs.Surveying.{Hinders, HindersNot, Surveys}
 use Rattle.rack.specs.Surveying as hinder
 use Rattle.rack.specs.Opening.{IsOut}
@@ -140,7 +140,12 @@ module _ {D : Type 0} (tells : Bool) (state : D → State) (config : Config) (b 
         accepted_there = (entry.image, entry.there, entry.says.whole, entry.says.size, own.view, map segment_head own.heads.items, entry.says.accepted)
 
         pub no_segment_at : (id : ℕ) → HindersNot id k (said_at s.said.items k) (fault_at s.faults.items k) → k ≢ id → HadNoSegmentOf config t id k v
-        no_segment_at id not other = (entry.image, entry.there, own.view, map segment_head own.heads.items, entry.says.accepted, λ has. not.none_of other own own_is (owner_among id own.heads.items has))
+        no_segment_at id not other = (entry.image, entry.there, own.view, map segment_head own.heads.items, entry.says.accepted, λ named. not.unnamed other own own_is named, λ has. not.none_of other own own_is (owner_among id own.heads.items has))
+
+        pub named_at : (id : ℕ) (said : Said) → said_at s.said.items k ≡ Some said → Contains said.view id → NamesInView config t id k v
+        named_at id said said_so named =
+            let same : said ≡ own = same_Some said own (sym said_so ∙ own_is) in
+            (entry.image, entry.there, own.view, entry.says.accepted.named.view, subst (λ (x : Said). Contains x.view id) same named)
 
         pub segment_at : (id : ℕ) (said : Said) (index : ℕ) → said_at s.said.items k ≡ Some said → slice_get said.heads.items index ≡ Some (Owned id) → HasSegmentOf config t id k v index
         segment_at id said index said_so head =
@@ -198,8 +203,8 @@ module _ (config : Config) (id : ℕ) (v : VolumeConf) where
   left_as_was e o n less = told_each LeavesNoMore (LeavesMissing config id v (Err e)) o n
       (λ x y no_more. record { others = λ name other c may. no_more name c may; own = inl (λ c may. no_more v.name c may); made = tt }) less
 
-  unfinished_left : (e : RackFault) (p : PartName) (old mid new : Told) → at_name v.name old.images ≡ None → LeavesNoMore old mid → Unfinished v.name id (shape_in config v) v.view p mid new → LeavesMissing config id v (Err (Format e)) old new
-  unfinished_left e p old mid new absent less left = record {
+  unfinished_left : (n : ℕ) (p : PartName) (old mid new : Told) → at_name v.name old.images ≡ None → LeavesNoMore old mid → Unfinished v.name id (shape_in config v) v.view p mid new → LeavesMissing config id v (Err (Format (rack_fault.Failed n p))) old new
+  unfinished_left n p old mid new absent less left = record {
     others = λ name other c may. less name c (subst (λ (o : Option Image). MayLeave o c) (left.back.others name other) may);
     own = inr (tt, absent, left.image, left.back.here, left.unfinished);
     made = tt;
@@ -216,9 +221,9 @@ module _ (config : Config) (id : ℕ) (v : VolumeConf) where
   pub failed_left : (e : RackFault) (old mid new : Told) → at_name v.name old.images ≡ None → LeavesNoMore old mid → LeavesImage (Err e) v.name id (shape_in config v) v.view mid new → LeavesMissing config id v (Err (Format e)) old new
   failed_left rack_fault.NoMemory old mid new absent less left = same_left (Format rack_fault.NoMemory) old mid new less left
   failed_left (rack_fault.Failed n part.Bay) old mid new absent less left = same_left (Format (rack_fault.Failed n part.Bay)) old mid new less left
-  failed_left (rack_fault.Failed n part.Label) old mid new absent less left = unfinished_left (rack_fault.Failed n part.Label) part.Label old mid new absent less left
-  failed_left (rack_fault.Failed n part.Home) old mid new absent less left = unfinished_left (rack_fault.Failed n part.Home) part.Home old mid new absent less left
-  failed_left (rack_fault.Failed n (part.Segment i)) old mid new absent less left = unfinished_left (rack_fault.Failed n (part.Segment i)) (part.Segment i) old mid new absent less left
+  failed_left (rack_fault.Failed n part.Label) old mid new absent less left = unfinished_left n part.Label old mid new absent less left
+  failed_left (rack_fault.Failed n part.Home) old mid new absent less left = unfinished_left n part.Home old mid new absent less left
+  failed_left (rack_fault.Failed n (part.Segment i)) old mid new absent less left = unfinished_left n (part.Segment i) old mid new absent less left
 
   abbrev whole : List Block
   whole = formatted id (shape_in config v) v.view
@@ -314,6 +319,13 @@ module _ {D : Type 0} (tells : Bool) (state : D → State) (config : Config) (b 
         v.0,
         ap (λ (n : ℕ). slice_get config.volumes.items n) (sym same) ∙ v.1,
         λ telling. by_told b.told (λ t. WasAccepted config t id v.0) (λ t told. subst (λ (n : ℕ). WasAccepted config t n v.0) same (accepted_there tells state config b b' s is k v.0 v.1 none telling t told)),
+      )
+  refuses id k lt f (hinder.in_view own other none said named) =
+      let v = volume_of k lt in (
+        other,
+        v.0,
+        v.1,
+        λ telling. by_told b.told (λ t. NamesInView config t id k v.0) (λ t told. named_at tells state config b b' s is k v.0 v.1 none telling t told id own said named),
       )
   refuses id k lt f (hinder.segment own index other none said head) =
       let v = volume_of k lt in (

@@ -25,6 +25,8 @@ use wol_disk::NoMemory;
 pub enum MissingFault {
     /// The volume has an image, which may be opened.
     There,
+    /// The view of another volume's image names the volume, whose log may have had newer blocks of it: its image was lost.
+    InView { volume: u32 },
     /// This segment of another volume's image is one of the volume's log.
     HasSegment { logger: u32, index: u32 },
     /// The image of this volume was refused, so that what it has isn't known: another volume's, or the volume's own, which is
@@ -75,6 +77,9 @@ fn hindrance_at(survey: &Survey, volume: u32, id: u32) -> Option<MissingFault>
     let Some(said) = &survey.said[volume as usize] else {
         return None;
     };
+    if said.view.ids().contains(&id) {
+        return Some(MissingFault::InView { volume });
+    }
     let index = segment_of(&said.heads, id)?;
     Some(MissingFault::HasSegment {
         logger: volume,
@@ -103,8 +108,8 @@ fn hindrance(survey: &Survey, id: u32) -> Option<MissingFault>
 }
 
 /// Makes the image of volume `id`, which has none: the view of the configuration, a home of zeros and free segments, and last the label.
-/// All other images are read before, and it is made only where each of them may be opened and has no segment of the volume's log: so the
-/// volume is all zeros then. Nothing is written to another image.
+/// All other images are read before, and it is made only where each of them may be opened, doesn't name the volume in its view, and has
+/// no segment of its log: so no block was logged there or is, and the volume is all zeros then. Nothing is written to another image.
 pub fn format_missing<R: Wait, B: Bay>(
     alloc: Global,
     rt: &R,

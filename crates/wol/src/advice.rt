@@ -71,9 +71,14 @@ pub fn advice(status: u8, cause: Cause) -> Option<&'static str>
                 "wol: a call on the folder or an image failed. Look for a second wol, links, rights, space, ulimit -f, -n; then start again.\n"
             }
         },
-        5 => {
-            "wol: an image is damaged or not the one in wol.toml. Put back the right one or wol.toml, or remove what a stop left unfinished.\n"
-        }
+        5 => match cause {
+            Cause::Formatting => {
+                "wol: an image is damaged or not the one in wol.toml. Put it back; where a stop left that of NAME unfinished, remove it.\n"
+            }
+            _ => {
+                "wol: an image is damaged or not the one in wol.toml. Put back the right images or the right wol.toml.\n"
+            }
+        },
         6 => {
             "wol: a volume logs on one that is missing or was refused. wol check tells which; mend that one first.\n"
         }

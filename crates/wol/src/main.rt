@@ -87,7 +87,7 @@ fn cause_of(
     match status {
         3 if watching.is_compressed() => Cause::Compressed,
         3 if watching.is_headed() => Cause::Heading,
-        4 if asked.formats => Cause::Formatting,
+        4 | 5 if asked.formats => Cause::Formatting,
         8 if !asked.uses_config => Cause::Unknown,
         8 if settings::is_missing(rt) => Cause::NoConfiguration,
         8 if config.read(&mut [0]).is_err() => Cause::Configuration,

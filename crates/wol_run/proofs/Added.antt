@@ -16,7 +16,7 @@ use Rattle.rack.specs.Missing.{RefusesMissing}
 use Rattle.rack.specs.Opens.{RefusesVolume, fault_in_image}
 use Rattle.rack.specs.Troubles.{trouble_of}
 use Rattle.rack.specs.declared.missing.MissingFault.{MissingFault}
-use Rattle.rack.specs.declared.missing.MissingFault.TheVariants.{There, HasSegment, Refused, Format}
+use Rattle.rack.specs.declared.missing.MissingFault.TheVariants.{There, InView, HasSegment, Refused, Format}
 use Rattle.report.specs.Troubles.{trouble_status}
 use Rattle.wol_run.specs.Adding.{missing_status}
 use Rattle.wol_run.proofs.FormatEndings.{status_four}
@@ -47,11 +47,13 @@ pub data MissingEnd (old new : BayState) (f : MissingFault) : ℕ → Type 0 whe
   failed : Rose old.faults new.faults → MissingEnd old new f 4
   memory : MissingEnd old new f 9
   there : f ≡ There → MissingEnd old new f 15
+  in_view : (k : ℕ) → f ≡ InView k → MissingEnd old new f 15
   segment : (k index : ℕ) → f ≡ HasSegment k index → MissingEnd old new f 15
   image : (k : ℕ) (g : VolumeFault) → f ≡ Refused k g → (trouble_status (trouble_of g) ≡ 5) ⊎ (trouble_status (trouble_of g) ≡ 12) → MissingEnd old new f (trouble_status (trouble_of g))
 
 pub missing_end : {D : Type 0} (tells : Bool) (state : D → State) (config : Config) (id : ℕ) (old new : BayState) (f : MissingFault) → RefusesMissing {D = D} tells state config id old new f → MissingEnd old new f (missing_status f)
 missing_end tells state config id old new There is = there refl
+missing_end tells state config id old new (InView k) is = in_view k refl
 missing_end tells state config id old new (HasSegment k index) is = segment k index refl
 missing_end tells state config id old new (Refused k g) is = by (trouble_status (trouble_of g)) refl (image_status tells state config old new k is.1 g is.3)
   where

@@ -31,7 +31,7 @@ use Rattle.comparison.specs.Compares.{EndsBehind}
 use Rattle.comparison.specs.Compares as behind
 use Rattle.replay.specs.Givens.{HasGivenAll, Refuses}
 use Rattle.replay.specs.NotOpened.{IsFirstClosed, LeavesAsOpened}
-use Rattle.rack.specs.Missing.{HasSegmentOf, RefusesMissing}
+use Rattle.rack.specs.Missing.{HasSegmentOf, NamesInView, RefusesMissing}
 use Rattle.rack.specs.declared.missing.MissingFault.{MissingFault}
 use Rattle.rack.specs.declared.missing.MissingFault.TheVariants.{Refused}
 use Rattle.rack.specs.Opens.{RefusesVolume, WasAccepted, WereThere}
@@ -265,13 +265,17 @@ module _ {D : Type 0} (tells : Bool) (state : D → State) (read : Option Config
           named_so : {IsSo : Config → Option ℕ → Type 0} → IsSo config (Some run.id) → AsksMissing read words IsSo
           named_so {IsSo} so = asks_missing (subst (IsSo config) (sym run.named) so)
 
-          it_is : (v : VolumeConf) (o : Option Told) → IfSome o (λ t. WasAccepted config t run.id v) → IfSome o (λ t. ((run.id ≡ run.id) × WasAccepted config t run.id v) ⊎ ((run.id ≢ run.id) × (index : ℕ) × HasSegmentOf config t run.id run.id v index))
+          it_is : (v : VolumeConf) (o : Option Told) → IfSome o (λ t. WasAccepted config t run.id v) → IfSome o (λ t. ((run.id ≡ run.id) × WasAccepted config t run.id v) ⊎ ((run.id ≢ run.id) × NamesInView config t run.id run.id v) ⊎ ((run.id ≢ run.id) × (index : ℕ) × HasSegmentOf config t run.id run.id v index))
           it_is v None has_ = tt
           it_is v (Some t) has_ = inl (refl, has_)
 
-          it_has : (k : ℕ) (v : VolumeConf) (index : ℕ) → k ≢ run.id → (o : Option Told) → IfSome o (λ t. HasSegmentOf config t run.id k v index) → IfSome o (λ t. ((k ≡ run.id) × WasAccepted config t run.id v) ⊎ ((k ≢ run.id) × (i : ℕ) × HasSegmentOf config t run.id k v i))
+          it_has : (k : ℕ) (v : VolumeConf) (index : ℕ) → k ≢ run.id → (o : Option Told) → IfSome o (λ t. HasSegmentOf config t run.id k v index) → IfSome o (λ t. ((k ≡ run.id) × WasAccepted config t run.id v) ⊎ ((k ≢ run.id) × NamesInView config t run.id k v) ⊎ ((k ≢ run.id) × (i : ℕ) × HasSegmentOf config t run.id k v i))
           it_has k v index other None has_ = tt
-          it_has k v index other (Some t) has_ = inr (other, index, has_)
+          it_has k v index other (Some t) has_ = inr (inr (other, index, has_))
+
+          it_names : (k : ℕ) (v : VolumeConf) → k ≢ run.id → (o : Option Told) → IfSome o (λ t. NamesInView config t run.id k v) → IfSome o (λ t. ((k ≡ run.id) × WasAccepted config t run.id v) ⊎ ((k ≢ run.id) × NamesInView config t run.id k v) ⊎ ((k ≢ run.id) × (i : ℕ) × HasSegmentOf config t run.id k v i))
+          it_names k v other None has_ = tt
+          it_names k v other (Some t) has_ = inr (inl (other, has_))
 
           -- an image that couldn't be read
           unread_image : (k : ℕ) (g : VolumeFault) → RefusesMissing tells state config run.id before.bay after.bay (Refused k g) → (trouble_status (trouble_of g) ≡ 5) ⊎ (trouble_status (trouble_of g) ≡ 12) → Cause (trouble_status (trouble_of g))
@@ -284,6 +288,9 @@ module _ {D : Type 0} (tells : Bool) (state : D → State) (read : Option Config
           of_missing f why n (end.there same) =
               let so = subst (RefusesMissing tells state config run.id before.bay after.bay) same why in
               row.not_made (named_so (run.id, so.0, so.1, λ telling. it_is so.0 before.bay.told (so.2 telling)))
+          of_missing f why n (end.in_view k same) =
+              let so = subst (RefusesMissing tells state config run.id before.bay after.bay) same why in
+              row.not_made (named_so (k, so.1, so.2, λ telling. it_names k so.1 so.0 before.bay.told (so.3 telling)))
           of_missing f why n (end.segment k index same) =
               let so = subst (RefusesMissing tells state config run.id before.bay after.bay) same why in
               row.not_made (named_so (k, so.1, so.2, λ telling. it_has k so.1 index so.0 before.bay.told (so.3 telling)))

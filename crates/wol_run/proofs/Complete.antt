@@ -72,6 +72,7 @@ module _ {D : Type 0} (tells : Bool) (state : D → State) (name : List ℕ) (le
   of_missing_end f n same (end.failed rose) = absurd (bay_calm rose)
   of_missing_end f n same end.memory = inl (inr same)
   of_missing_end f n same (end.there it) = inr (inr (inr same))
+  of_missing_end f n same (end.in_view k it) = inr (inr (inr same))
   of_missing_end f n same (end.segment k index it) = inr (inr (inr same))
   of_missing_end f n same (end.image k g it (inl five)) = inr (inl (same ∙ five))
   of_missing_end f n same (end.image k g it (inr twelve)) = inr (inr (inl (same ∙ twelve)))

@@ -11,7 +11,7 @@ use Rattle.volume_images.specs.Volumes.{shape_in}
 use Rattle.rack.specs.Missing.{LeavesMissing, RefusesMissing}
 use Rattle.rack.specs.Troubles.{trouble_of}
 use Rattle.rack.specs.declared.missing.MissingFault.{MissingFault}
-use Rattle.rack.specs.declared.missing.MissingFault.TheVariants.{There, HasSegment, Refused, Format}
+use Rattle.rack.specs.declared.missing.MissingFault.TheVariants.{There, InView, HasSegment, Refused, Format}
 use Rattle.report.specs.Faults.{fault_text, status_of}
 use Rattle.report.specs.Names.{name_at, printed_names}
 use Rattle.report.specs.Summaries.{format_text}
@@ -34,6 +34,9 @@ unknown_line name = line_of (codes "fault" ∷ decimal 15 ∷ codes "unknown" �
 abbrev pub missing_text : Config → (name : List ℕ) → MissingFault → List ℕ
 missing_text config name There =
     line_of (codes "fault" ∷ decimal 15 ∷ codes "there" ∷ name ∷ [])
+missing_text config name (InView volume) =
+    line_of (codes "fault" ∷ decimal 15 ∷ codes "in view of"
+    ∷ name_at (names_of config.volumes.items) volume ∷ [])
 missing_text config name (HasSegment logger index) =
     line_of (codes "fault" ∷ decimal 15 ∷ codes "records segment" ∷ decimal index ∷ codes "of"
     ∷ name_at (names_of config.volumes.items) logger ∷ [])
@@ -43,6 +46,7 @@ missing_text config name (Format e) = fault_text (printed_names config.volumes.i
 
 abbrev pub missing_status : MissingFault → ℕ
 missing_status There = 15
+missing_status (InView volume) = 15
 missing_status (HasSegment logger index) = 15
 missing_status (Refused volume f) = status_of (fault.Volume volume (trouble_of f))
 missing_status (Format e) = status_of (fault_of e)

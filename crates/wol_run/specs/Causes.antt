@@ -11,7 +11,7 @@ use Rattle.wol_config.specs.declared.config.VolumeConf.{VolumeConf}
 use Rattle.volume_images.specs.Left.{IsTold}
 use Rattle.volume_images.specs.Volumes.{images_read}
 use Rattle.rack.specs.Closes.{is_kept_home}
-use Rattle.rack.specs.Missing.{HasSegmentOf}
+use Rattle.rack.specs.Missing.{HasSegmentOf, NamesInView}
 use Rattle.rack.specs.Opens.{RefusesVolume, WasAccepted, WereThere}
 use Rattle.rack.specs.Owners.{IsBegun, WasOpened}
 use Rattle.rack.specs.Rests.{image_here}
@@ -164,13 +164,14 @@ pub record AsksMissing (read : Option Config) (words : List (List ℕ))
   pub is : IsCommand words (FormatMissing missing)
   pub so : IsSo config (number_named (names_of config.volumes.items) (missing_by missing))
 
--- an image that can't be made, since the volume has one or since another has a segment of its log; or
--- since no volume has the name
+-- an image that can't be made, since the volume has one, or since another names it in its view or has
+-- a segment of its log; or since no volume has the name
 abbrev pub MayNotMake : (tells : Bool) → (before after : Outside) → Config → Option ℕ → Type 0
 MayNotMake tells before after config None = ⊤
 MayNotMake tells before after config (Some id) =
     (k : ℕ) × (v : VolumeConf) × (slice_get config.volumes.items k ≡ Some v)
     × (IsTrue tells → IfSome before.bay.told (λ t. ((k ≡ id) × WasAccepted config t id v)
+    ⊎ ((k ≢ id) × NamesInView config t id k v)
     ⊎ ((k ≢ id) × (index : ℕ) × HasSegmentOf config t id k v index)))
 
 -- an image that can't be made, since that of this volume was refused for a cause of this status

@@ -31,8 +31,8 @@ use wol_io::{Sink, Source};
 ///
 /// 0: the image is whole. 2: the source's bytes are no configuration. 4: a call of the bay or of an image's part failed. 5, 12: another
 /// volume's image was refused, or the volume's own, which is there then; 12 is another's that isn't there. 7: the sink failed. 8: the
-/// source failed. 9: there was no memory. 15: no volume has the name, it has an image, or another image has a segment of its log. Of other
-/// images nothing was written, and but at 0, 4 and 9 nothing at all.
+/// source failed. 9: there was no memory. 15: no volume has the name, it has an image, or another image names it in its view or has a
+/// segment of its log. Of other images nothing was written, and but at 0, 4, 7 and 9 nothing at all; at 7 and 9 the image may be whole.
 pub fn format_missing<R: Wait, C: Source, K: Sink, B: Bay>(
     rt: &R,
     alloc: Global,
@@ -101,6 +101,15 @@ fn tell_missing<K: Sink>(
             out,
             &[Text(b"fault"), Number(15), Text(b"there"), Text(name)],
         ),
+        MissingFault::InView { volume } => {
+            let words = [
+                Text(b"fault"),
+                Number(15),
+                Text(b"in view of"),
+                Text(name_of(config, volume)),
+            ];
+            tell_words(alloc, out, &words)
+        }
         MissingFault::HasSegment { logger, index } => {
             let words = [
                 Text(b"fault"),

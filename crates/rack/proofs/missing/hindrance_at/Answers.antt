@@ -1,6 +1,6 @@
-use Rattle.rack.proofs.Basics.{◌≡◌, ◌∙◌, ◌<◌, ℕ, List, Option, None, Some, refl, sym, subst, get_or, slice_get, get_or_default, length, arith, rules}
+use Rattle.rack.proofs.Basics.{Contains, ◌≡◌, ◌∙◌, ◌<◌, ℕ, List, Option, None, Some, refl, sym, subst, get_or, slice_get, get_or_default, length, arith, rules}
 use Rattle.rack.proofs.Terms.{Owned, SegHead}
-use Rattle.rack.specs.Surveying.{Hinders, refused, segment, there}
+use Rattle.rack.specs.Surveying.{Hinders, in_view, refused, segment, there}
 use Rattle.rack.specs.Opening.{fault_at, said_at}
 use Rattle.rack.specs.declared.missing.MissingFault.TheVariants.{Refused}
 use Rattle.rack.proofs.missing.hindrance_at.Goals as goal
@@ -34,3 +34,13 @@ returns-clause-some c =
     (at_place c.args.survey.now.faults.items c.args.volume c.index-fault.result.now within c.index-fault.ensures ∙ none_here c.index-fault.result.now c.in_default-fault.not-Some)
     (at_place c.args.survey.now.said.items c.args.volume c.index.result.now (omega (arith, count, within)) c.index.ensures ∙ c.in-Some-index.is)
     (subst (λ (l : List SegHead). slice_get l c.in_ok-index.index ≡ Some (Owned c.args.id)) c.deref.ensures.value (c.in_ok-index.ensures.some c.in_ok-index.index refl))
+
+pub returns-then-contains-clause-some : goal.returns-then-contains-clause-some
+returns-then-contains-clause-some c =
+    let count = c.requires.count in
+    let within = c.requires.within in
+    let named : Contains c.ids.result.now c.args.id = let value = c.contains.ensures.value in let yes = c.if-contains.true in search (rules, value, yes) in
+    in_view c.in-Some-index.said c.if-volume-id.false
+    (at_place c.args.survey.now.faults.items c.args.volume c.index-fault.result.now within c.index-fault.ensures ∙ none_here c.index-fault.result.now c.in_default-fault.not-Some)
+    (at_place c.args.survey.now.said.items c.args.volume c.index.result.now (omega (arith, count, within)) c.index.ensures ∙ c.in-Some-index.is)
+    (subst (λ (l : List ℕ). Contains l c.args.id) c.ids.ensures.value named)
