@@ -30,7 +30,7 @@ echo "|---|---|---|---|"
 for seconds in 10 30; do saved "timeout $seconds s" week.csv timeout_ms ${seconds}000; done
 saved "**timeout 60 s, 1,000 J for a spin-up**" week.csv
 for seconds in 120 300 600; do saved "timeout $seconds s" week.csv timeout_ms ${seconds}000; done
-for joules in 0 4,000 8,000; do saved "$joules J for a spin-up" week.csv wake_mj "${joules//,/}000"; done
+for joules in 0 4,000 8,000; do saved "$joules J for a spin-up" week.csv wake_mj $((${joules//,/} * 1000)); done
 for change in "a quarter of the writes,--writes,0.25" "four times the writes,--writes,4" "a quarter of the reads,--reads,0.25" "twice the reads,--reads,2"; do
     IFS=, read -r what option factor <<<"$change"
     python3 "$week/week.py" "$option" "$factor" >changed.csv
