@@ -7,7 +7,9 @@ ghost use Rattle.volume_tests.specs.Rigs.{IsRig};
 use crate::rig::Rig;
 use log_segment::Item;
 use manager::{Place, ReadRefusal, Sources, StepFault, WriteRefusal};
-use reclaimer::{Drain, Fetched, Gone, drain_step, fetch, invalidate_one, put_home};
+use reclaimer::{
+    Drain, Fetched, Gone, drain_step, fetch, give_up_group, invalidate_one, put_group, put_home,
+};
 use std::sync::Wait;
 use wol_disk::Block;
 
@@ -86,6 +88,22 @@ impl Rig {
         ensures { IsRig self.new }
     {
         invalidate_one(rt, &mut self.manager, &self.shared)
+    }
+
+    /// Puts home what is due of many records.
+    pub fn put_group<R: Wait>(&mut self, rt: &R) -> Result<u32, StepFault>
+        requires { IsRig self.old }
+        ensures { IsRig self.new }
+    {
+        put_group(rt, &mut self.manager, &self.shared, &mut self.fetched)
+    }
+
+    /// Gives up what may go of a record, or a segment.
+    pub fn give_up_group<R: Wait>(&mut self, rt: &R) -> Result<Option<u32>, StepFault>
+        requires { IsRig self.old }
+        ensures { IsRig self.new }
+    {
+        give_up_group(rt, &mut self.manager, &self.shared)
     }
 
     pub fn drain_step<R: Wait>(&mut self, rt: &R) -> Result<Drain, StepFault>

@@ -8,7 +8,7 @@ use seg_pool::Pool;
 use spin_model::Spindle;
 use turn_lock::Pass;
 
-/// The manager, and what it shares with others. Home has 8 blocks, and the pool of volume 1 one segment.
+/// The manager, and what it shares with others. Home has 8 blocks, and the pool of volume 1 one segment or two.
 pub struct Rig {
     pub shared: Shared<CountingDisk>,
     pub manager: Manager<CountingDisk>,

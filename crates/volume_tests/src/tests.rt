@@ -6,3 +6,4 @@ mod offload;
 mod opening;
 mod reclaim;
 mod segments;
+mod twice;

@@ -1,9 +1,10 @@
 // Locks that have one pass each, and what lies under them.
 ghost use Rattle.log_segment.specs.Segment.{IsBlank};
-ghost use Rattle.std.specs.Prelude.{◌≡◌, []};
+ghost use Rattle.seg_pool.specs.Pools.{item_at};
+ghost use Rattle.std.specs.Prelude.{◌≡◌, ◌≢◌, ◌<◌, ℕ, [], None};
 ghost use Rattle.turn_lock.specs.Passes.{pass_lock, pass_mine};
 ghost use Rattle.volume_tests.specs.Counting.{counting_state};
-ghost use Rattle.volume_tests.specs.Locked.{HasOnePass, HasSpindle, HasKeptSpindle, HasPool};
+ghost use Rattle.volume_tests.specs.Locked.{HasOnePass, HasSpindle, HasKeptSpindle, HasPool, IsPool};
 
 use super::opening::open_segment;
 use crate::counting::CountingDisk;
@@ -19,6 +20,12 @@ use wol_disk::{Disk, MemDisk};
 
 /// How long a disk stays awake after its last use, in 100 ns: a minute.
 pub const TIMEOUT: u64 = 600_000_000;
+
+/// The number of a call that is never made.
+pub const NEVER: u64 = u64::MAX;
+
+/// Which of the two segments of a pool are there, and free. Each fails at the call with its number, from 0 since it was made.
+pub type Free = (Option<u64>, Option<u64>);
 
 /// How many blocks a segment has.
 pub const SEGMENT: u32 = 32;
@@ -86,27 +93,69 @@ pub fn kept_spindle<R: Abort>(
     }
 }
 
-/// The pool of a volume with one segment, which is free or not there, under its lock.
+// Puts a free segment at an index of the pool.
+fn add_segment<R: Abort>(
+    rt: &R,
+    alloc: Global,
+    pool: &mut Pool<FreeSegment<CountingDisk>>,
+    volume: u32,
+    index: u32,
+    stop: u64,
+)
+    requires pool { IsPool volume pool.old }
+    requires within { index < 2 }
+    requires empty { item_at pool.old index ≡ None }
+    ensures pool { IsPool volume pool.new }
+    ensures others { (i : ℕ) → i ≢ index → item_at pool.new i ≡ item_at pool.old i }
+{
+    pool.give(index, free_segment(rt, alloc, volume, stop));
+}
+
+// A pool of these segments.
+fn new_pool<R: Abort>(
+    rt: &R,
+    alloc: Global,
+    volume: u32,
+    free: Free,
+) -> Pool<FreeSegment<CountingDisk>>
+    ensures { IsPool volume result }
+{
+    let mut pool = Pool::new(alloc, 2, volume, SEGMENT).expect(rt, "a pool");
+    let (first, second) = free;
+    let Some(stop) = first else {
+        return pool;
+    };
+    add_segment(rt, alloc, &mut pool, volume, 0, stop);
+    let Some(stop) = second else {
+        return pool;
+    };
+    add_segment(rt, alloc, &mut pool, volume, 1, stop);
+    pool
+}
+
+/// The pool of a volume with these segments, under its lock.
 pub fn pool_of<R: Abort>(
     rt: &R,
     alloc: Global,
     volume: u32,
-    free: bool,
+    free: Free,
 ) -> (
     TurnLock<Pool<FreeSegment<CountingDisk>>>,
     Pass<Pool<FreeSegment<CountingDisk>>>,
 )
     ensures { HasPool volume 32 result.0 result.1 }
 {
-    let mut pool = Pool::new(alloc, 1, volume, SEGMENT).expect(rt, "a pool");
-    if free {
-        pool.give(0, free_segment(rt, alloc, volume));
-    }
+    let pool = new_pool(rt, alloc, volume, free);
     locked(rt, alloc, pool)
 }
 
-// A free segment in the image of this volume.
-fn free_segment<R: Abort>(rt: &R, alloc: Global, volume: u32) -> FreeSegment<CountingDisk>
+// A free segment in the image of this volume, whose disk fails at the call with this number since it was found free.
+fn free_segment<R: Abort>(
+    rt: &R,
+    alloc: Global,
+    volume: u32,
+    stop: u64,
+) -> FreeSegment<CountingDisk>
     ensures { IsBlank counting_state volume 32 result }
 {
     let mut disk = MemDisk::new(alloc, u64::from(SEGMENT)).expect(rt, "a disk");
@@ -114,6 +163,8 @@ fn free_segment<R: Abort>(rt: &R, alloc: Global, volume: u32) -> FreeSegment<Cou
     write_seg(&SegHead::Free, &mut head);
     disk.write(0, &[head]).expect(rt, "a written head");
     disk.sync().expect(rt, "a synced head");
+    // two calls were made of it
+    disk.fail(stop.saturating_add(2)).expect(rt, "a plan");
     let mut spindle = Spindle::new(volume, TIMEOUT);
     let token = spindle.need();
     let opened = open_segment(alloc, &token, Spun::new(volume, CountingDisk::new(disk)));

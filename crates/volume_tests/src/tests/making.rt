@@ -2,12 +2,15 @@
 ghost use Rattle.logger.specs.Lanes.{AreAccesses};
 ghost use Rattle.logger.specs.declared.lane.Lane.{Lane};
 ghost use Rattle.spin_model.specs.Operations.{has_token};
-ghost use Rattle.std.specs.Prelude.{◌≡◌, ◌∷◌, [], false, length};
+ghost use Rattle.std.specs.Prelude.{◌≡◌, ◌∷◌, [], Some, false, length};
 ghost use Rattle.turn_lock.specs.Passes.{pass_lock, pass_mine, IsFree};
+ghost use Rattle.volume_tests.specs.Counting.{counting_state};
+ghost use Rattle.wol_disk.specs.Disk.{only};
+ghost use Rattle.wol_disk.specs.Zeros.{zeros};
 ghost use Rattle.volume_tests.specs.Locked.{HasOnePass, HasTwoPasses, HasKeptSpindle};
 ghost use Rattle.volume_tests.specs.Rigs.{IsNewLane, IsRig};
 
-use super::locked::{kept_spindle, pool_of, spindle_of, unlocked};
+use super::locked::{Free, NEVER, kept_spindle, pool_of, spindle_of, unlocked};
 use crate::counting::CountingDisk;
 use crate::rig::Rig;
 use energy::Sums;
@@ -24,16 +27,14 @@ use std::sync::Wait;
 use turn_lock::{Pass, TurnLock};
 use wol_disk::MemDisk;
 
-/// What is left of a rig: the sums of both disks, how often home was synced, the segments of volume 1 that are held, how many
-/// of its segments are free, and how often one of these was synced.
+/// What is left of a rig: the sums of both disks, home's image, the segments of volume 1 that are held, and those that are free.
 #[derive(Drop)]
 pub struct Remains {
     pub home: Sums,
-    pub home_syncs: u64,
+    pub home_disk: CountingDisk,
     pub logger: Sums,
     pub held: Vec<(u32, Spun<CountingDisk>)>,
-    pub free: u32,
-    pub free_syncs: u64,
+    pub free: Vec<(u32, CountingDisk)>,
 }
 
 /// The sums of a disk that came up and went down so often, and was in standby for so long.
@@ -63,14 +64,14 @@ fn lanes<R: Abort>(
     spindle: Pass<Spindle>,
 ) -> Vec<Lane<CountingDisk>>
     requires pool_volume { (pass_lock pool).base.volume ≡ 1 }
-    requires few { length (pass_lock pool).base.holders ≡ 1 }
+    requires few { length (pass_lock pool).base.holders ≡ 2 }
     requires spindle_volume { (pass_lock spindle).base.volume ≡ 1 }
     requires settled { has_token (pass_mine spindle) ≡ false }
     requires accesses { AreAccesses (pass_mine spindle) }
     requires free { IsFree pool × IsFree spindle }
     ensures { (l : Lane _) × (result.items ≡ l ∷ []) × IsNewLane pool spindle l }
 {
-    match Lane::new(alloc, 1, 0, 1, pool, spindle) {
+    match Lane::new(alloc, 1, 0, 2, pool, spindle) {
         Ok(lane) => {
             let mut lanes = Vec::with_capacity(alloc, 1).expect(rt, "lanes");
             lanes.push_reserved(lane);
@@ -94,17 +95,27 @@ fn sleeping<R: Abort + Wait>(
     (lock, keeper, pass)
 }
 
-// A new rig, in which home's disk has gone to sleep and both disks count as awake.
-fn new_rig<R: Abort + Wait>(rt: &R, alloc: Global) -> Rig
+// Home's disk of zeros, which fails at the call with this number.
+fn home_disk<R: Abort>(rt: &R, alloc: Global, stop: u64) -> CountingDisk
+    ensures size { (counting_state result).size ≡ 8 }
+    ensures values { (counting_state result).values ≡ Some (only (zeros 8)) }
+{
+    let mut disk = MemDisk::new(alloc, 8).expect(rt, "home");
+    disk.fail(stop).expect(rt, "a plan");
+    CountingDisk::new(disk)
+}
+
+// A new rig with these segments, in which home's disk has gone to sleep and both disks count as awake. Home fails at the call
+// with this number.
+fn new_rig<R: Abort + Wait>(rt: &R, alloc: Global, home_stop: u64, free: Free) -> Rig
     ensures { IsRig result }
 {
     let (home_lock, keeper, home_pass) = sleeping(rt, alloc);
     let (logger_lock, logger_pass) = spindle_of(rt, alloc, 1);
-    let (own_pool_lock, own_pool) = pool_of(rt, alloc, 0, false);
-    let (pool_lock, pool_pass) = pool_of(rt, alloc, 1, true);
+    let (own_pool_lock, own_pool) = pool_of(rt, alloc, 0, (None, None));
+    let (pool_lock, pool_pass) = pool_of(rt, alloc, 1, free);
     let lanes = lanes(rt, alloc, pool_pass, logger_pass);
-    let disk = CountingDisk::new(MemDisk::new(alloc, 8).expect(rt, "home"));
-    let home = Spun::new(0, disk);
+    let home = Spun::new(0, home_disk(rt, alloc, home_stop));
     Rig {
         shared: Shared {
             pools: two(rt, alloc, own_pool_lock, pool_lock),
@@ -121,7 +132,17 @@ fn new_rig<R: Abort + Wait>(rt: &R, alloc: Global) -> Rig
 pub fn resting_rig<R: Abort + Wait>(rt: &R, alloc: Global) -> Rig
     ensures { IsRig result }
 {
-    let mut rig = new_rig(rt, alloc);
+    let mut rig = new_rig(rt, alloc, NEVER, (Some(NEVER), None));
+    rig.begin(false, true);
+    rig
+}
+
+/// The same with two segments. Home and the segments fail at the calls with these numbers.
+pub fn stopping_rig<R: Abort + Wait>(rt: &R, alloc: Global, stops: [u64; 3]) -> Rig
+    ensures { IsRig result }
+{
+    let [home, first, second] = stops;
+    let mut rig = new_rig(rt, alloc, home, (Some(first), Some(second)));
     rig.begin(false, true);
     rig
 }
@@ -155,20 +176,27 @@ pub fn apart<R: Abort>(rt: &R, alloc: Global, rig: Rig) -> Remains
     let mut pool = unlocked(rt, alloc, pool_lock, pool_pass);
     Remains {
         home: kept_sums(rt, alloc, home_lock, keeper, spindle),
-        home_syncs: home.into_inner().syncs(),
+        home_disk: home.into_inner(),
         logger: sums_of(rt, alloc, logger_lock, logger_pass),
         held,
-        free: pool.len(),
-        free_syncs: syncs_in(&mut pool),
+        free: free_in(rt, alloc, &mut pool),
     }
 }
 
-// How often a free segment was synced, where there is one.
-fn syncs_in(pool: &mut Pool<FreeSegment<CountingDisk>>) -> u64 {
-    match pool.take() {
-        Some((_, segment)) => segment.into_part().into_inner().syncs(),
-        None => 0,
+// The images of the free segments, with their indexes.
+fn free_in<R: Abort>(
+    rt: &R,
+    alloc: Global,
+    pool: &mut Pool<FreeSegment<CountingDisk>>,
+) -> Vec<(u32, CountingDisk)> {
+    let mut free = Vec::new(alloc);
+    for _segment in 0..2 {
+        if let Some((index, segment)) = pool.take() {
+            let part = segment.into_part();
+            free.push((index, part.into_inner())).expect(rt, "a place");
+        }
     }
+    free
 }
 
 // The one value of a row.

@@ -17,6 +17,6 @@ fn a_write_goes_to_the_log_of_an_awake_logger_and_home_stays_asleep(
     assert!(rt; out == [[7; 512], [8; 512]]);
     assert!(rt; remains.home == sums(0, 1, 100_000_000));
     assert!(rt; remains.logger == sums(0, 0, 0));
-    assert!(rt; remains.free == 0);
+    assert!(rt; remains.free.len() == 0);
     Ok(())
 }

@@ -84,7 +84,7 @@ fn what_a_newer_record_covers_is_given_up_while_home_sleeps(rt: HostRuntime) -> 
     assert!(rt; second_after == Some(Marks { older: 0, ..marks }));
     assert!(rt; gone == [Ok(Gone::Trimmed(1)), Ok(Gone::Nothing)]);
     assert!(rt; covered);
-    assert!(rt; remains.free == 0);
+    assert!(rt; remains.free.len() == 0);
     assert!(rt; remains.home == sums(0, 1, 100_000_000));
     Ok(())
 }
@@ -136,7 +136,7 @@ fn two_versions_go_home_and_are_gone_in_order(rt: HostRuntime) -> Result<(), Fai
     );
     assert!(rt; read == Ok(Sources { home: 4, logged: 0 }));
     assert!(rt; out == [[11; 512], [22; 512], [23; 512], [14; 512]]);
-    assert!(rt; remains.free == 1);
+    assert!(rt; remains.free.len() == 1);
     Ok(())
 }
 
@@ -177,7 +177,7 @@ fn a_drain_wakes_home_and_leaves_no_record(rt: HostRuntime) -> Result<(), Fail> 
     let last = rig.drain_step(&rt);
     let remains = apart(&rt, rt.alloc(), rig);
     assert!(rt; last == Ok(Drain::Bare));
-    assert!(rt; remains.free == 1);
+    assert!(rt; remains.free.len() == 1);
     assert!(rt; remains.home == sums(1, 1, 100_000_000));
     Ok(())
 }
@@ -218,8 +218,33 @@ fn a_drain_gives_a_segment_up_with_all_its_records(rt: HostRuntime) -> Result<()
     );
     assert!(rt; read == Ok(Sources { home: 3, logged: 0 }));
     assert!(rt; out == [[7; 512], [0; 512], [8; 512]]);
-    assert!(rt; remains.free == 1);
-    assert!(rt; remains.free_syncs == 6);
-    assert!(rt; remains.home_syncs == 1);
+    assert!(rt; remains.free.len() == 1);
+    assert!(rt; remains.free[0].1.syncs() == 6);
+    assert!(rt; remains.home_disk.syncs() == 1);
+    Ok(())
+}
+
+// The same segment in a turn that reclaims, with the loggers and home awake: home is synced once for all, and the segment once.
+#[test]
+fn a_reclaim_turn_syncs_home_once_and_a_segment_that_goes_once(
+    rt: HostRuntime,
+) -> Result<(), Fail> {
+    let mut rig = resting_rig(&rt, rt.alloc());
+    let items = [
+        Item { lbn: 0, count: 1 },
+        Item { lbn: 2, count: 1 },
+        Item { lbn: 5, count: 1 },
+    ];
+    let wrote = rig.write_run(&rt, &items, &[[7; 512], [8; 512], [9; 512]]);
+    rig.begin(true, true);
+    let put = [rig.put_group(&rt), rig.put_group(&rt)];
+    let gone = [rig.give_up_group(&rt), rig.give_up_group(&rt)];
+    let remains = apart(&rt, rt.alloc(), rig);
+    assert!(rt; wrote == Ok((3, Place::Log { logger: 1 })));
+    assert!(rt; put == [Ok(3), Ok(0)]);
+    assert!(rt; gone == [Ok(Some(3)), Ok(None)]);
+    assert!(rt; remains.free.len() == 1);
+    assert!(rt; remains.free[0].1.syncs() == 6);
+    assert!(rt; remains.home_disk.syncs() == 1);
     Ok(())
 }
