@@ -93,10 +93,10 @@ expect("each: status", 0, status)
 expect("each: no answer stands behind progress", [], [it for it in lines if it.startswith("wol:") and " read " in it])
 expect("each: four answers", 4, sum(it.startswith("read ") for it in lines))
 
-status, shown = run(["whatif"], [line, 0.5, b"\x04"], stdin_is_terminal=True)
+status, shown = run(["whatif"], [0.5, line, 0.5, b"\x04"], stdin_is_terminal=True)
 lines = screen(shown)
 expect("a trace that is typed: status", 0, status)
-expect("a trace that is typed: it is said", "wol: the trace comes from this terminal; < FILE takes it from a file. Ctrl-D ends it.", lines[0])
+expect("a trace that is typed: it is said", True, "wol: the trace comes from this terminal; < FILE takes it from a file. Ctrl-D ends it." in lines)
 
 status, shown = run(["check"], [])
 expect("no trace: nothing is said of one", [], [it for it in screen(shown) if it.startswith("wol:")])
